@@ -5,6 +5,7 @@ use Rattle.protocol.specs.Lines.{Line, is_line_end, joined, lines_of, rest_of, c
 use Rattle.protocol.specs.Pieces.{cons_first, split, without_empty, all_but_last, last_of}
 use Rattle.protocol.specs.Lines.Line.{Text}
 use Rattle.protocol.proofs.Found.{both}
+use Rattle.protocol.proofs.Splitting.{behind, behind-cons_first, HasPiece, behind_nothing, some_piece}
 
 -- one more byte of an open line
 joined-capped : (bs : List ℕ) (b : ℕ) → joined (capped bs) b ≡ capped (bs ++ b ∷ [])
@@ -14,32 +15,6 @@ joined-capped bs b =
     (λ z. rw (y, z, length-append bs (b ∷ []), le-leb (length bs + 1) 256 (omega (arith, ltb-true (length bs) 256 z))))
     (λ n. rw (y, n, length-append bs (b ∷ []), lt-leb (length bs + 1) 256 (omega (arith, ltb-false (length bs) 256 n)))))
     (λ n. rw (n, length-append bs (b ∷ []), lt-leb (length bs + 1) 256 (omega (arith, leb-false (length bs) 256 n))))
-
--- the pieces with bytes in front of the first
-abbrev behind : List ℕ → List (List ℕ) → List (List ℕ)
-behind bs [] = bs ∷ []
-behind bs (p ∷ ps) = (bs ++ p) ∷ ps
-
-behind-cons_first : (bs : List ℕ) (b : ℕ) (ps : List (List ℕ)) → behind bs (cons_first b ps) ≡ behind (bs ++ b ∷ []) ps
-behind-cons_first bs b [] = refl
-behind-cons_first bs b (p ∷ ps) = ap (λ l. l ∷ ps) (sym (append_assoc bs (b ∷ []) p))
-
--- There is always a piece.
-abbrev HasPiece : List (List ℕ) → Type 0
-HasPiece [] = ⊥
-HasPiece (p ∷ ps) = Unit {0}
-
-first_has_piece : (b : ℕ) (ps : List (List ℕ)) → HasPiece (cons_first b ps)
-first_has_piece b [] = tt
-first_has_piece b (p ∷ ps) = tt
-
-some_piece : (bytes : List ℕ) → HasPiece (split is_line_end bytes)
-some_piece [] = tt
-some_piece (b ∷ bytes) = both (is_line_end b) (λ y. rw y tt) (λ n. rw n (first_has_piece b (split is_line_end bytes)))
-
-behind_nothing : (ps : List (List ℕ)) → HasPiece ps → behind [] ps ≡ ps
-behind_nothing [] some = absurd some
-behind_nothing (p ∷ ps) some = refl
 
 all_but_last-cons : (p : List ℕ) (ps : List (List ℕ)) → HasPiece ps → all_but_last (p ∷ ps) ≡ p ∷ all_but_last ps
 all_but_last-cons p [] some = absurd some
@@ -64,24 +39,24 @@ pub cut_lines : (bs bytes : List ℕ) → cut_from (capped bs) bytes ≡ map cap
 cut_lines bs [] = refl
 cut_lines bs (b ∷ bytes) =
     both (is_line_end b)
-    (λ y. let more = rw (behind_nothing (split is_line_end bytes) (some_piece bytes)) at (cut_lines [] bytes) in
-    rw y (ap (λ l. ended_line (capped bs) ++ l) more ∙ sym (ended_piece bs (split is_line_end bytes) (some_piece bytes))))
+    (λ y. let more = rw (behind_nothing (split is_line_end bytes) (some_piece is_line_end bytes)) at (cut_lines [] bytes) in
+    rw y (ap (λ l. ended_line (capped bs) ++ l) more ∙ sym (ended_piece bs (split is_line_end bytes) (some_piece is_line_end bytes))))
     (λ n. rw (n, joined-capped bs b, behind-cons_first bs b (split is_line_end bytes)) (cut_lines (bs ++ b ∷ []) bytes))
 
 pub open_rest : (bs bytes : List ℕ) → open_after (capped bs) bytes ≡ capped (last_of (behind bs (split is_line_end bytes)))
 open_rest bs [] = ap capped (sym (append-nil bs))
 open_rest bs (b ∷ bytes) =
     both (is_line_end b)
-    (λ y. let more = rw (behind_nothing (split is_line_end bytes) (some_piece bytes)) at (open_rest [] bytes) in
-    rw y (more ∙ ap capped (sym (last_of-cons (bs ++ []) (split is_line_end bytes) (some_piece bytes)))))
+    (λ y. let more = rw (behind_nothing (split is_line_end bytes) (some_piece is_line_end bytes)) at (open_rest [] bytes) in
+    rw y (more ∙ ap capped (sym (last_of-cons (bs ++ []) (split is_line_end bytes) (some_piece is_line_end bytes)))))
     (λ n. rw (n, joined-capped bs b, behind-cons_first bs b (split is_line_end bytes)) (open_rest (bs ++ b ∷ []) bytes))
 
 -- the two laws
 pub lines_law : (bytes : List ℕ) → cut_from (Text []) bytes ≡ map capped (lines_of bytes)
-lines_law bytes = rw (behind_nothing (split is_line_end bytes) (some_piece bytes)) at (cut_lines [] bytes)
+lines_law bytes = rw (behind_nothing (split is_line_end bytes) (some_piece is_line_end bytes)) at (cut_lines [] bytes)
 
 pub rest_law : (bytes : List ℕ) → open_after (Text []) bytes ≡ capped (rest_of bytes)
-rest_law bytes = rw (behind_nothing (split is_line_end bytes) (some_piece bytes)) at (open_rest [] bytes)
+rest_law bytes = rw (behind_nothing (split is_line_end bytes) (some_piece is_line_end bytes)) at (open_rest [] bytes)
 
 -- in whatever pieces the bytes come
 pub cut_from-append : (line : Line) (bytes more : List ℕ) → cut_from line (bytes ++ more) ≡ cut_from line bytes ++ cut_from (open_after line bytes) more

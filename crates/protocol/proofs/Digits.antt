@@ -34,7 +34,7 @@ unwrapped : (f : ℕ → Option ℕ) (o : Option ℕ) (m : ℕ) → option_and_t
 unwrapped f None m e = absurd cc
 unwrapped f (Some k) m e = (k, refl, e)
 
-first_digit : (n b : ℕ) (bs : List ℕ) (m : ℕ) → hex_number n (b ∷ bs) ≡ Some m → (k : ℕ) × (hex_digit b ≡ Some k) × (hex_number (16 * n + k) bs ≡ Some m)
+pub first_digit : (n b : ℕ) (bs : List ℕ) (m : ℕ) → hex_number n (b ∷ bs) ≡ Some m → (k : ℕ) × (hex_digit b ≡ Some k) × (hex_number (16 * n + k) bs ≡ Some m)
 first_digit n b bs m e = unwrapped (λ d. hex_number (16 * n + d) bs) (hex_digit b) m e
 
 digit_low : (b k : ℕ) → hex_digit b ≡ Some k → k < 16

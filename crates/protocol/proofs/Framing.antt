@@ -36,7 +36,7 @@ one_reading n n' contents contents' bytes p p' =
     let e' : number_of p'.digits ≡ Some n' = p'.spelled in
     record { same_number = cc; same_contents = seam_right p.digits p'.digits contents contents' lengths whole }
 
-packet_length : (n : ℕ) (contents bytes : List ℕ) → IsPacket n contents bytes → length bytes ≡ 520
+pub packet_length : (n : ℕ) (contents bytes : List ℕ) → IsPacket n contents bytes → length bytes ≡ 520
 packet_length n contents bytes p =
     let whole : suc (suc (length p.digits + length contents)) ≡ length bytes = rw (length-append p.digits contents) at (ap length p.layout) in
     let six = p.six in
@@ -82,7 +82,7 @@ some_more : (more : List ℕ) → more ≢ [] → 0 < length more
 some_more [] some = absurd (some refl)
 some_more (b ∷ more) some = omega arith
 
-unfinished_short : (rest : List ℕ) → IsUnfinished rest → length rest < 520
+pub unfinished_short : (rest : List ℕ) → IsUnfinished rest → length rest < 520
 unfinished_short rest (more, some, inl p) =
     let size = packet_length p.0 p.1 (rest ++ more) p.2 in
     let lengths = length-append rest more in
@@ -121,7 +121,7 @@ one_stream bytes ps ps' ended ended' rest rest' s s' =
     let cut = one_cut 520 ps ps' (end_mark ended ++ rest) (end_mark ended' ++ rest') (packets_have_length ps s.each) (packets_have_length ps' s'.each) (s.whole ∙ sym s'.whole) (tail_short ended rest s.nothing_more s.unfinished) (tail_short ended' rest' s'.nothing_more s'.unfinished) in
     one_tail ps ps' ended ended' rest rest' cut.pieces cut.rest s.nothing_more s'.nothing_more s.unfinished s'.unfinished
 
-nothing_unfinished : IsUnfinished []
+pub nothing_unfinished : IsUnfinished []
 nothing_unfinished = (codes "END", λ e. absurd cc, inr refl)
 
 pub whole_stream : (packets : List (List ℕ)) (ended : Bool) → All IsSomePacket packets → IsPacketStream (concat packets ++ end_mark ended) packets ended []

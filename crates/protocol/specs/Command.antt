@@ -101,3 +101,58 @@ command_of_words (name ∷ ws) = named (uppercased name) ws
 abbrev pub command_of : Line → Command
 command_of (Text bs) = command_of_words (words bs)
 command_of TooLong = Bad
+
+-- ---- the same in words
+
+-- A word is some bytes, none of which is a space.
+pub record IsWord (word : List ℕ) : Type 0 where
+  pub some : word ≢ []
+  pub no_space : All (λ b. b ≢ 32) word
+
+-- The words of a line. One space or more stand between two of them, and any number before the first and after the last.
+pub data HasWords : List ℕ → List (List ℕ) → Type 0 where
+  nothing : HasWords [] []
+  space : (line : List ℕ) (ws : List (List ℕ)) → HasWords line ws → HasWords (32 ∷ line) ws
+  last_word : (word : List ℕ) → IsWord word → HasWords word (word ∷ [])
+  word_and_space : (word line : List ℕ) (ws : List (List ℕ)) → IsWord word → HasWords line ws → HasWords (word ++ 32 ∷ line) (word ∷ ws)
+
+-- The word is the name, in letters of either case.
+abbrev pub IsNamed : (name word : List ℕ) → Type 0
+IsNamed name word = uppercased word ≡ name
+
+-- the table of commands: which words are which command
+pub data IsRow : List (List ℕ) → Command → Type 0 where
+  -- (no word)
+  blank : IsRow [] Blank
+  -- HELLO, CAT, BYE, END
+  hello : (w : List ℕ) → IsNamed (codes "HELLO") w → IsRow (w ∷ []) Hello
+  cat : (w : List ℕ) → IsNamed (codes "CAT") w → IsRow (w ∷ []) Cat
+  bye : (w : List ℕ) → IsNamed (codes "BYE") w → IsRow (w ∷ []) Bye
+  end : (w : List ℕ) → IsNamed (codes "END") w → IsRow (w ∷ []) End
+  -- STATION station [network]
+  station : (w code : List ℕ) → IsNamed (codes "STATION") w → IsRow (w ∷ code ∷ []) (Station code None)
+  station_and_network : (w code network : List ℕ) → IsNamed (codes "STATION") w → IsRow (w ∷ code ∷ network ∷ []) (Station code (Some network))
+  -- SELECT [pattern]
+  select : (w : List ℕ) → IsNamed (codes "SELECT") w → IsRow (w ∷ []) (Select None)
+  select_pattern : (w pattern : List ℕ) → IsNamed (codes "SELECT") w → IsRow (w ∷ pattern ∷ []) (Select (Some pattern))
+  -- DATA [number [begin]]
+  data_ : (w : List ℕ) → IsNamed (codes "DATA") w → IsRow (w ∷ []) (Data None None)
+  data_number : (w number : List ℕ) (n : ℕ) → IsNamed (codes "DATA") w → number_of number ≡ Some n → IsRow (w ∷ number ∷ []) (Data (Some n) None)
+  data_begin : (w number begin : List ℕ) (n : ℕ) (b : ℤ) → IsNamed (codes "DATA") w → number_of number ≡ Some n → time_of begin ≡ Some b → IsRow (w ∷ number ∷ begin ∷ []) (Data (Some n) (Some b))
+  -- FETCH [number [begin]]
+  fetch : (w : List ℕ) → IsNamed (codes "FETCH") w → IsRow (w ∷ []) (Fetch None None)
+  fetch_number : (w number : List ℕ) (n : ℕ) → IsNamed (codes "FETCH") w → number_of number ≡ Some n → IsRow (w ∷ number ∷ []) (Fetch (Some n) None)
+  fetch_begin : (w number begin : List ℕ) (n : ℕ) (b : ℤ) → IsNamed (codes "FETCH") w → number_of number ≡ Some n → time_of begin ≡ Some b → IsRow (w ∷ number ∷ begin ∷ []) (Fetch (Some n) (Some b))
+  -- TIME [begin [end]]
+  time : (w : List ℕ) → IsNamed (codes "TIME") w → IsRow (w ∷ []) (Time None None)
+  time_begin : (w begin : List ℕ) (b : ℤ) → IsNamed (codes "TIME") w → time_of begin ≡ Some b → IsRow (w ∷ begin ∷ []) (Time (Some b) None)
+  time_window : (w begin last : List ℕ) (b l : ℤ) → IsNamed (codes "TIME") w → time_of begin ≡ Some b → time_of last ≡ Some l → IsRow (w ∷ begin ∷ last ∷ []) (Time (Some b) (Some l))
+
+-- Words ask for the command of their row; those that have no row are Bad.
+abbrev pub AsksFor : List (List ℕ) → Command → Type 0
+AsksFor ws c = IsRow ws c ⊎ (((d : Command) → Not (IsRow ws d)) × (c ≡ Bad))
+
+-- what a line asks, by its words; one of more than 256 bytes is Bad, whatever it holds
+abbrev pub Asks : Line → Command → Type 0
+Asks (Text bytes) c = (ws : List (List ℕ)) × HasWords bytes ws × AsksFor ws c
+Asks TooLong c = c ≡ Bad

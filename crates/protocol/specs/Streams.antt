@@ -87,10 +87,27 @@ stream_from r (b ∷ bytes) = stream_from (stream_byte r b) bytes
 abbrev pub stream_of : List ℕ → StreamRead
 stream_of bytes = stream_from (Going [] []) bytes
 
--- ---- a feed
+-- ---- a feed of records, in words and read byte by byte
 
 -- pieces of 512 bytes, and what is left over
 pub record IsFeed (bytes : List ℕ) (records : List (List ℕ)) (rest : List ℕ) : Type 0 where
   pub each : All (λ r. length r ≡ 512) records
   pub whole : concat records ++ rest ≡ bytes
   pub short : length rest < 512
+
+-- how far a feed is read: whole records, and what is left over
+pub record FeedRead : Type 0 where
+  pub records : List (List ℕ)
+  pub rest : List ℕ
+
+abbrev pub feed_byte : FeedRead → ℕ → FeedRead
+feed_byte f b =
+    if length f.rest == 511 then record { records = f.records ++ (f.rest ++ b ∷ []) ∷ []; rest = [] }
+    else record f { rest = f.rest ++ b ∷ [] }
+
+abbrev pub feed_from : FeedRead → List ℕ → FeedRead
+feed_from f [] = f
+feed_from f (b ∷ bytes) = feed_from (feed_byte f b) bytes
+
+abbrev pub feed_of : List ℕ → FeedRead
+feed_of bytes = feed_from (record { records = []; rest = [] }) bytes
