@@ -1,15 +1,18 @@
 -- Times, patterns, commands, lists of addresses and rings, computed.
-use Rattle.std.specs.Prelude.{Option, drop, ◌≡◌, refl, ℕ, true, false, List, [], ◌∷◌, length, Some, None, codes, map, filter_map, pos, neg_ℤ, is_some}
+use Rattle.std.specs.Prelude.{Option, drop, ◌≡◌, refl, ℕ, true, false, List, [], ◌∷◌, ◌++◌, length, replicate, Some, None, codes, map, filter_map, pos, neg_ℤ, is_some}
 use Rattle.protocol.specs.Access.{Token, allows}
 use Rattle.protocol.specs.Catalog.{Station}
 use Rattle.protocol.specs.Command.{Command, command_of_words, words}
-use Rattle.protocol.specs.Time.{time_of}
+use Rattle.protocol.specs.Time.{civil_of, time_of}
+use Rattle.protocol.specs.Packet.{number_of, digits, next_number, packet}
+use Rattle.protocol.specs.Streams.{stream_of, feed_of}
+use Rattle.protocol.specs.Streams.StreamRead.{Going, Ended, NoStream}
 use Rattle.protocol.specs.Command.Command.{Blank, Hello, Bye, Data, Station as StationCommand, Bad}
 use Rattle.protocol.specs.Pattern.{pattern_of}
 use Rattle.protocol.specs.declared.record.Kind.TheVariants.{D, C}
 use Rattle.protocol.specs.History.{first_position, is_held, Arrival, oldest_held, held_with_number, number_at}
 use Rattle.protocol.specs.World.{accepted}
-use Rattle.protocol.proofs.Rows.{a, b, c1, w_at, wlf}
+use Rattle.protocol.proofs.Dialogues.{insider, outsider, three_stations, wlf_at, wlf}
 
 -- times of commands, in units of 0.0001 s from 1970 on
 pub time-day : time_of (codes "2024,2,29") ≡ Some (pos 17091648000000)
@@ -61,16 +64,16 @@ pattern-none = refl
 abbrev pub token : ℕ → ℕ → List Token
 token address mask = record { address = address; mask = mask } ∷ []
 
-pub allows-all : allows (token 0x0A000000 0) b ≡ true
+pub allows-all : allows (token 0x0A000000 0) outsider ≡ true
 allows-all = refl
 
-pub allows-one : map (allows (token 0x0A000007 0xFFFFFFFF)) (a ∷ 0x0A000008 ∷ []) ≡ (true ∷ false ∷ [])
+pub allows-one : map (allows (token 0x0A000007 0xFFFFFFFF)) (insider ∷ 0x0A000008 ∷ []) ≡ (true ∷ false ∷ [])
 allows-one = refl
 
-pub allows-parted : map (allows (token 0x0A090009 0xFF00FF00)) (a ∷ 0x0A000107 ∷ []) ≡ (true ∷ false ∷ [])
+pub allows-parted : map (allows (token 0x0A090009 0xFF00FF00)) (insider ∷ 0x0A000107 ∷ []) ≡ (true ∷ false ∷ [])
 allows-parted = refl
 
-pub allows-nobody : allows [] a ≡ false
+pub allows-nobody : allows [] insider ≡ false
 allows-nobody = refl
 
 -- four arrivals at a station that holds three
@@ -78,7 +81,7 @@ abbrev pub ring : Station
 ring = record wlf { capacity = 3 }
 
 abbrev pub four : List Arrival
-four = filter_map (accepted c1) (w_at 1 ∷ w_at 2 ∷ w_at 3 ∷ w_at 4 ∷ [])
+four = filter_map (accepted three_stations) (wlf_at 1 ∷ wlf_at 2 ∷ wlf_at 3 ∷ wlf_at 4 ∷ [])
 
 pub ring-length : length four ≡ 4
 ring-length = refl
@@ -98,3 +101,34 @@ held_from place = first_position (λ p later a. is_held ring later a) place (dro
 
 pub ring-from : map held_from (0 ∷ 4 ∷ []) ≡ (Some 1 ∷ None ∷ [])
 ring-from = refl
+
+-- streams of packets, and where there is none
+abbrev pub one_packet : List ℕ
+one_packet = packet 0xA3 (replicate 512 7)
+
+pub stream-packet_and_end : stream_of (one_packet ++ codes "END") ≡ Ended (one_packet ∷ [])
+stream-packet_and_end = refl
+
+pub stream-unfinished : map stream_of ([] ∷ codes "S" ∷ codes "SL0a" ∷ codes "E" ∷ codes "EN" ∷ []) ≡ (Going [] [] ∷ Going [] (codes "S") ∷ Going [] (codes "SL0a") ∷ Going [] (codes "E") ∷ Going [] (codes "EN") ∷ [])
+stream-unfinished = refl
+
+pub stream-none : map stream_of (codes "SX" ∷ codes "EX" ∷ codes "END " ∷ codes "SL00G" ∷ codes " SL" ∷ []) ≡ replicate 5 NoStream
+stream-none = refl
+
+-- a feed of two records and three bytes
+pub feed-rest : feed_of (replicate 1027 7) ≡ record { records = replicate 2 (replicate 512 7); rest = replicate 3 7 }
+feed-rest = refl
+
+-- numbers, and the one after the last
+pub number-written : map digits (0 ∷ 0xA3 ∷ 0xFFFFFE ∷ []) ≡ (codes "000000" ∷ codes "0000A3" ∷ codes "FFFFFE" ∷ [])
+number-written = refl
+
+pub number-read : map number_of (codes "0" ∷ codes "fFfFfE" ∷ codes "0000000" ∷ [] ∷ []) ≡ (Some 0 ∷ Some 0xFFFFFE ∷ None ∷ None ∷ [])
+number-read = refl
+
+pub number-next : map next_number (0 ∷ 0xFFFFFF ∷ []) ≡ (1 ∷ 0 ∷ [])
+number-next = refl
+
+-- the shape of a time is another thing than its range
+pub time-shape : map (λ text. is_some (civil_of (codes text))) ("2024,2" ∷ "2024,2,29,24" ∷ "2023,2,29" ∷ "2024,2,29,0,0,0,0" ∷ "2024,,29" ∷ []) ≡ (false ∷ true ∷ true ∷ false ∷ false ∷ [])
+time-shape = refl
