@@ -1,5 +1,5 @@
 -- The table of commands, row by row.
-use Rattle.std.proofs.Common.{◌≡◌, ℕ, true, false, List, [], ◌∷◌, Option, Some, None, ℤ, refl, sym, ap, ◌∙◌, subst, inl, inr}
+use Rattle.std.proofs.Common.{◌≡◌, ℕ, true, List, [], ◌∷◌, Option, Some, None, ℤ, refl, sym, ap, ◌∙◌, subst, inl, inr}
 use Rattle.std.specs.Prelude.{◌↔◌, ◌⊎◌, codes}
 use Rattle.std.specs.Str.{bytes_eq}
 use Rattle.std.proofs.lemmas.Slice.Eq.{bytes_eq-Decides}
@@ -8,8 +8,8 @@ use Rattle.protocol.specs.Packet.{number_of}
 use Rattle.protocol.specs.Lines.{Line}
 use Rattle.protocol.specs.Lines.Line.{Text, TooLong}
 use Rattle.protocol.specs.Reading.{Not}
-use Rattle.protocol.specs.Command.{Command, words, uppercased, with_begin, with_number, numbered, window, since, timed, alone, station_command, select_command, named, command_of_words, command_of, IsNamed, IsRow, HasWords, AsksFor, Asks}
-use Rattle.protocol.specs.Command.Command.{Blank, Hello, Cat, Bye, End, Station, Select, Data, Fetch, Time, Bad}
+use Rattle.protocol.specs.Command.{Command, words, uppercased, with_begin, with_number, numbered, window, since, timed, alone, station_command, select_command, named, command_of_words, command_of, IsNamed, IsRow, AsksFor, Asks}
+use Rattle.protocol.specs.Command.Command.{Hello, Cat, Bye, End, Data, Fetch, Bad}
 use Rattle.protocol.specs.Command.IsRow.{blank, hello, cat, bye, end, station, station_and_network, select, select_pattern, data_, data_number, data_begin, fetch, fetch_number, fetch_begin, time, time_begin, time_window}
 use Rattle.protocol.proofs.Found.{both}
 use Rattle.protocol.proofs.Words.{words_law}

@@ -2,7 +2,7 @@
 use Rattle.std.proofs.Common.{◌≡◌, ℕ, ◌+◌, nat_le, nat_lt, List, [], ◌∷◌, ◌++◌, length, map, refl, sym, ap, ◌∙◌, append_assoc, append-nil, arith, length-append, le-leb}
 use Rattle.std.proofs.lemmas.Bool.{ltb-true, ltb-false, leb-false, lt-leb}
 use Rattle.protocol.specs.Lines.{Line, is_line_end, joined, lines_of, rest_of, capped, ended_line, cut_from, open_after}
-use Rattle.protocol.specs.Pieces.{cons_first, split, without_empty, all_but_last, last_of}
+use Rattle.protocol.specs.Pieces.{split, without_empty, all_but_last, last_of}
 use Rattle.protocol.specs.Lines.Line.{Text}
 use Rattle.protocol.proofs.Found.{both}
 use Rattle.protocol.proofs.Splitting.{behind, behind-cons_first, HasPiece, behind_nothing, some_piece}

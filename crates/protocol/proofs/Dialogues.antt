@@ -1,12 +1,11 @@
 -- Dialogues with a server of three stations, computed.
-use Rattle.std.specs.Prelude.{◌+◌, Option, slice_get, drop, ◌-◌, ◌≡◌, refl, ℕ, zero, suc, true, false, List, [], ◌∷◌, ◌++◌, length, Some, None, codes, replicate, map}
+use Rattle.std.specs.Prelude.{Option, slice_get, drop, ◌-◌, ◌≡◌, refl, ℕ, zero, suc, true, false, List, [], ◌∷◌, ◌++◌, length, Some, None, codes, replicate, map}
 use Rattle.protocol.specs.Catalog.{Station, Entry, Config}
 use Rattle.protocol.specs.Made.{layout_of}
-use Rattle.protocol.specs.Client.{Client, Taken, inbox}
+use Rattle.protocol.specs.Client.{Client, inbox}
 use Rattle.protocol.specs.Packet.{packet}
 use Rattle.protocol.specs.World.{Event, Handed, handed, accepted, world_after, client_of}
 use Rattle.protocol.specs.World.Event.{Open, Bytes, Take, Close, Arrive}
-use Rattle.protocol.specs.Alone.{handed_to, seen, alone, own_view}
 use Rattle.protocol.proofs.Vectors.{sample_fields, sample, with_at}
 
 -- the stations
@@ -165,9 +164,6 @@ four_packets = packet 0 (ape_at 1) ++ packet 0xFFFFFE (wlf_at 1) ++ packet 1 (ap
 abbrev pub in_order : List Handed
 in_order = ok ∷ ok ∷ ok ∷ ok ∷ nothing ∷ map (λ byte. gives (byte ∷ [])) four_packets ++ nothing ∷ []
 
-pub sent_in_order_of_arrival : handed three_stations (Open insider ∷ both_named ++ Arrive (ape_at 1) ∷ Arrive (wlf_at 1) ∷ Arrive (ape_at 2) ∷ Arrive (wlf_at 2) ∷ takes 2081 0 1) ≡ in_order
-sent_in_order_of_arrival = refl
-
 pub greeting_bytes : greeting.bytes ≡ (0x53 ∷ 0x65 ∷ 0x65 ∷ 0x64 ∷ 0x4c ∷ 0x69 ∷ 0x6e ∷ 0x6b ∷ 0x20 ∷ 0x76 ∷ 0x33 ∷ 0x2e ∷ 0x30 ∷ 0x20 ∷ 0x28 ∷ 0x73 ∷ 0x74 ∷ 0x61 ∷ 0x74 ∷ 0x69 ∷ 0x6f ∷ 0x6e ∷ 0x20 ∷ 0x61 ∷ 0x63 ∷ 0x63 ∷ 0x65 ∷ 0x73 ∷ 0x73 ∷ 0x29 ∷ 0x0d ∷ 0x0a ∷ 0x54 ∷ 0x65 ∷ 0x73 ∷ 0x74 ∷ 0x20 ∷ 0x43 ∷ 0x65 ∷ 0x6e ∷ 0x74 ∷ 0x72 ∷ 0x65 ∷ 0x0d ∷ 0x0a ∷ [])
 greeting_bytes = refl
 
@@ -251,49 +247,6 @@ wlf_bhn = layout_of (record sample_fields { station = codes "WLF"; channel = cod
 pub named_again_keeps_patterns : handed three_stations (Arrive (wlf_at 1) ∷ Arrive wlf_bhn ∷ Open outsider ∷ asks 0 (codes "STATION WLF GE" ∷ codes "SELECT BHZ" ∷ codes "STATION APE XX" ∷ codes "STATION WLF GE" ∷ codes "FETCH" ∷ codes "END" ∷ []) ++ takes 2 0 520) ≡
     (ok ∷ ok ∷ ok ∷ ok ∷ ok ∷ gives (packet 0xFFFFFE (wlf_at 1)) ∷ gives (codes "END") ∷ ended ∷ [])
 named_again_keeps_patterns = refl
-
--- the events of the two stations' row, among others
-abbrev pub own_events : List Event
-own_events = Open insider ∷ both_named ++ Arrive (ape_at 1) ∷ Arrive (wlf_at 1) ∷ Arrive (ape_at 2) ∷ Arrive (wlf_at 2) ∷ takes 2081 0 1
-
-abbrev pub shut : Entry
-shut = record { station = record { network = codes "ZZ"; code = codes "SHUT"; description = codes "Closed"; capacity = 1; first = 0 }; access = Some [] }
-
-abbrev pub four_stations : Config
-four_stations = record three_stations { entries = three_stations.entries ++ shut ∷ [] }
-
-abbrev pub shut_record : List ℕ
-shut_record = record_at (codes "ZZ") (codes "SHUT") 0
-
--- forty arrivals at a station that nobody sees, and three clients that come and go
-abbrev pub often : ℕ → Event → List Event
-often n e = replicate n e
-
-abbrev pub mixed : List Event
-mixed =
-    Open insider ∷ often 10 (Arrive shut_record) ++ Open outsider ∷ says (codes "DATA") 1 ∷ both_named ++ often 10 (Arrive shut_record) ++ Open insider ∷ says (codes "CAT") 2 ∷ Arrive (ape_at 1) ∷ Arrive (wlf_at 1)
-    ∷ Take 1 7 ∷ Take 2 520 ∷ Arrive (ape_at 2) ∷ often 10 (Arrive shut_record) ++ Close 1 ∷ Open outsider ∷ Arrive (wlf_at 2) ∷ Close 2 ∷ often 10 (Arrive shut_record) ++ Take 3 1 ∷ takes 1000 0 1 ++ Close 3 ∷ takes 1081 0 1
-
-abbrev pub taken : List Taken
-taken = map (λ h. record { bytes = h.bytes; ended = h.ended }) in_order
-
-pub same_among_others : handed_to 0 (handed four_stations mixed) ≡ taken
-same_among_others = refl
-
--- between each two events a hidden arrival and a client that comes and goes
-abbrev pub parted : ℕ → List Event → List Event
-parted n [] = []
-parted n (e ∷ es) = e ∷ Arrive shut_record ∷ Open 0xC0000201 ∷ Close n ∷ parted (n + 1) es
-
--- the same server without the hidden station
-pub same_between_hidden : handed_to 0 (handed four_stations (parted 1 own_events)) ≡ taken
-same_between_hidden = refl
-
-pub same_without_hidden : handed_to 0 (handed three_stations (parted 1 own_events)) ≡ taken
-same_without_hidden = refl
-
-pub same_alone : alone (own_view four_stations (parted 1 own_events) 0) (seen four_stations (parted 1 own_events) 0) ≡ taken
-same_alone = refl
 
 -- what a reader's plan asks, of a station with patterns and of one that isn't there
 pub plan_is_answered : handed three_stations (three ++ Open outsider ∷ asks 0 (codes "HELLO" ∷ codes "STATION WLF GE" ∷ codes "SELECT BH?" ∷ codes "SELECT !E" ∷ codes "FETCH" ∷ codes "STATION NONE GE" ∷ codes "END" ∷ []) ++ takes 4 0 520) ≡

@@ -1,9 +1,9 @@
 -- What may stand in a packet, byte by byte, is what a packet is.
-use Rattle.std.proofs.Common.{◌≡◌, ℕ, zero, suc, ◌+◌, ◌*◌, ◌-◌, ◌<◌, ◌≤◌, true, false, ◌==◌, ◌&&◌, List, [], ◌∷◌, ◌++◌, length, take, nat_lt, Option, Some, None, refl, sym, ap, ◌∙◌, subst, arith, add-zero, zero-add, append-nil, length-append, eqb-true, ne_eqb, inl}
+use Rattle.std.proofs.Common.{◌≡◌, ℕ, zero, suc, ◌+◌, ◌*◌, ◌-◌, ◌<◌, ◌≤◌, true, ◌==◌, ◌&&◌, List, [], ◌∷◌, ◌++◌, length, nat_lt, Option, Some, None, refl, sym, ap, ◌∙◌, subst, arith, add-zero, zero-add, length-append, eqb-true, ne_eqb, inl}
 use Rattle.std.proofs.lemmas.Bool.Decides.{nat_tests}
-use Rattle.std.specs.Prelude.{is_some, codes}
+use Rattle.std.specs.Prelude.{is_some}
 use Rattle.std.proofs.lemmas.Bool.{and_parts, lt-ltb}
-use Rattle.protocol.specs.Packet.{hex_digit, hex_number, number_of, IsPacket, IsSomePacket}
+use Rattle.protocol.specs.Packet.{hex_digit, hex_number, number_of, IsSomePacket}
 use Rattle.protocol.specs.Streams.{may_stand, may_continue, IsUnfinished}
 use Rattle.protocol.proofs.Digits.{first_digit}
 use Rattle.protocol.proofs.Found.{both}

@@ -2,7 +2,7 @@
 -- a civil date, as a command spells it.
 -- SEED Reference Manual 2.4, chapter 8, the data type BTIME; SeedLink 3, the times of DATA, FETCH and TIME.
 -- Left out: leap seconds (a second 60 is the next minute's first moment), fractions of a second in commands.
-use Rattle.std.specs.Prelude.{ℕ, ◌+◌, ◌*◌, ◌-◌, ◌/◌, ◌%◌, zero, suc, Bool, ◌&&◌, ◌||◌, not, nat_le, ◌==◌, if◌then◌else◌, List, [], ◌∷◌, length, ℤ, pos, ◌-ℤ◌, Option, Some, None, option_map, option_and_then}
+use Rattle.std.specs.Prelude.{ℕ, ◌+◌, ◌*◌, ◌-◌, ◌/◌, ◌%◌, zero, suc, Bool, ◌&&◌, ◌||◌, not, nat_le, ◌==◌, if◌then◌else◌, List, [], ◌∷◌, length, ℤ, pos, ◌-ℤ◌, Option, Some, None, option_and_then}
 use Rattle.protocol.specs.Pieces.{split}
 
 -- ---- ticks
