@@ -17,4 +17,3 @@ mixed =
 
 pub same_among_others : handed_to 0 (handed four_stations mixed) ≡ taken
 same_among_others = refl
-

@@ -24,4 +24,3 @@ taken = map (λ h. record { bytes = h.bytes; ended = h.ended }) in_order
 
 pub sent_in_order_of_arrival : handed three_stations own_events ≡ in_order
 sent_in_order_of_arrival = refl
-
