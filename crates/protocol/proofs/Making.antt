@@ -49,12 +49,12 @@ decides-in_range f =
       location = p.0.0.0.0.0.0.0.0.1.0.0.1;
       channel = p.0.0.0.0.0.0.0.0.1.0.1;
       network = p.0.0.0.0.0.0.0.0.1.1;
-      year = (p.0.0.0.0.0.0.0.1.0.0.0.0.0.0.0, p.0.0.0.0.0.0.0.1.0.0.0.0.0.0.1);
-      day = (p.0.0.0.0.0.0.0.1.0.0.0.0.0.1, p.0.0.0.0.0.0.0.1.0.0.0.0.1);
-      hour = p.0.0.0.0.0.0.0.1.0.0.0.1;
-      minute = p.0.0.0.0.0.0.0.1.0.0.1;
-      second = p.0.0.0.0.0.0.0.1.0.1;
-      fraction = p.0.0.0.0.0.0.0.1.1;
+      year = (p.0.0.0.0.0.0.0.1.0.0.0.0, p.0.0.0.0.0.0.0.1.0.0.0.1);
+      day = (p.0.0.0.0.0.0.0.1.0.0.1, p.0.0.0.0.0.0.0.1.0.1);
+      hour = p.0.0.0.0.0.0.0.1.1.0.0.0;
+      minute = p.0.0.0.0.0.0.0.1.1.0.0.1;
+      second = p.0.0.0.0.0.0.0.1.1.0.1;
+      fraction = p.0.0.0.0.0.0.0.1.1.1;
       samples = p.0.0.0.0.0.0.1;
       factor = p.0.0.0.0.0.1;
       multiplier = p.0.0.0.0.1;
@@ -63,20 +63,14 @@ decides-in_range f =
       size = p.0.1;
       contents = p.1;
     })
-    (λ h. ((((((((((h.sequence, h.quality), (((h.station, h.location), h.channel), h.network)), (((((((h.year.0, h.year.1), h.day.0), h.day.1), h.hour), h.minute), h.second), h.fraction)), h.samples), h.factor), h.multiplier), h.encoding), h.extra), h.size), h.contents))
+    (λ h. ((((((((((h.sequence, h.quality), (((h.station, h.location), h.channel), h.network)), ((((h.year.0, h.year.1), h.day.0), h.day.1), (((h.hour, h.minute), h.second), h.fraction))), h.samples), h.factor), h.multiplier), h.encoding), h.extra), h.size), h.contents))
     (Decides-and _ _ (Decides-and _ _ (Decides-and _ _ (Decides-and _ _ (Decides-and _ _ (Decides-and _ _ (Decides-and _ _ (Decides-and _ _ (Decides-and _ _ (Decides-and _ _
     (decides-lt f.sequence 1000000)
     (decides-quality f.quality))
     (Decides-and _ _ (Decides-and _ _ (Decides-and _ _ (decides-code 1 5 f.station) (decides-code 0 2 f.location)) (decides-code 1 3 f.channel)) (decides-code 1 2 f.network)))
-    (Decides-and _ _ (Decides-and _ _ (Decides-and _ _ (Decides-and _ _ (Decides-and _ _ (Decides-and _ _ (Decides-and _ _
-    (decides-le 1900 f.year)
-    (decides-le f.year 2100))
-    (decides-le 1 f.day))
-    (decides-le f.day 366))
-    (decides-le f.hour 23))
-    (decides-le f.minute 59))
-    (decides-le f.second 60))
-    (decides-le f.fraction 9999)))
+    (Decides-and _ _
+    (Decides-and _ _ (Decides-and _ _ (Decides-and _ _ (decides-le 1900 f.year) (decides-le f.year 2100)) (decides-le 1 f.day)) (decides-le f.day 366))
+    (Decides-and _ _ (Decides-and _ _ (Decides-and _ _ (decides-le f.hour 23) (decides-le f.minute 59)) (decides-le f.second 60)) (decides-le f.fraction 9999))))
     (decides-lt f.samples 65536))
     (decides-short f.factor))
     (decides-short f.multiplier))

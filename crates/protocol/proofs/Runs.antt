@@ -15,7 +15,7 @@ use Rattle.protocol.specs.Client.State.{Negotiating, Listing, Transfer, Ending}
 use Rattle.protocol.specs.World.{gone}
 use Rattle.protocol.specs.Alone.{OwnEvent, Lone, absent, own_step, alone_from}
 use Rattle.protocol.specs.Alone.OwnEvent.{OwnOpen, OwnBytes, OwnTake, OwnClose, Arrives}
-use Rattle.protocol.specs.Offers.{arrivals, lone_after, state_of, Offer, offer_in, offers_from, choice, choices, one_past, is_last, has_begun, takes_from, bytes_of}
+use Rattle.protocol.specs.Offers.{arrivals, lone_after, state_of, Offer, offer_in, offers_from, chosen_by, chosen_positions, one_past, is_last, has_begun, takes_from, bytes_of}
 use Rattle.protocol.proofs.Found.{both}
 use Rattle.protocol.proofs.Requests.{found_within, next_found}
 use Rattle.protocol.proofs.OfferChains.{Link, after_choice, Chain, made_of, made}
@@ -197,7 +197,7 @@ module _ (v : View) where
 -- how a run goes on from a transfer, with these bytes waiting
 pub record Goes (h : List Arrival) (f : Option Client) (os : List Offer) (ts : List Taken) (t : ℕ) (rs : List Request) (q : ℕ) (waiting : List ℕ) : Type 0 where
   pub chain : Chain rs h q os
-  pub stands : (rs' : List Request) (q' : ℕ) → state_of f ≡ Some (Transfer rs' q') → (rs' ≡ rs) × (q' ≡ one_past q (choices os))
+  pub stands : (rs' : List Request) (q' : ℕ) → state_of f ≡ Some (Transfer rs' q') → (rs' ≡ rs) × (q' ≡ one_past q (chosen_positions os))
   pub rest : List ℕ
   pub waits : (c : Client) → f ≡ Some c → rest ≡ c.waiting
   pub handed : bytes_of ts ++ rest ≡ waiting ++ flat_map made os
@@ -229,10 +229,10 @@ one_past_choice : (q : ℕ) (c : Option ℕ) (ps : List ℕ) → one_past q (con
 one_past_choice q None ps = refl
 one_past_choice q (Some p) ps = refl
 
-goes_offer : (h : List Arrival) (f : Option Client) (os : List Offer) (ts : List Taken) (t : ℕ) (rs : List Request) (q : ℕ) (left : List ℕ) (z : Offer) → Goes h f os ts t rs (after_choice q (choice z)) left → Link rs h q z → (is_last z ≡ true → os ≡ []) → (x : Taken) → x.bytes ++ left ≡ made z → (o : Option Offer) → o ≡ Some z → (begun : Bool) → begun ≡ true → Goes h f (cons_option o os) (x ∷ ts) (if begun then 0 else t + 1) rs q []
+goes_offer : (h : List Arrival) (f : Option Client) (os : List Offer) (ts : List Taken) (t : ℕ) (rs : List Request) (q : ℕ) (left : List ℕ) (z : Offer) → Goes h f os ts t rs (after_choice q (chosen_by z)) left → Link rs h q z → (is_last z ≡ true → os ≡ []) → (x : Taken) → x.bytes ++ left ≡ made z → (o : Option Offer) → o ≡ Some z → (begun : Bool) → begun ≡ true → Goes h f (cons_option o os) (x ∷ ts) (if begun then 0 else t + 1) rs q []
 goes_offer h f os ts t rs q left z more link last x parts o some begun yet = rw (some, yet) (record {
   chain = (link, last, more.chain);
-  stands = λ rs' q' same. let s = more.stands rs' q' same in (s.0, s.1 ∙ sym (one_past_choice q (choice z) (choices os)));
+  stands = λ rs' q' same. let s = more.stands rs' q' same in (s.0, s.1 ∙ sym (one_past_choice q (chosen_by z) (chosen_positions os)));
   rest = more.rest;
   waits = more.waits;
   handed = append_assoc x.bytes (bytes_of ts) more.rest ∙ ap (λ w. x.bytes ++ w) more.handed ∙ sym (append_assoc x.bytes left (flat_map made os)) ∙ ap (λ w. w ++ flat_map made os) parts;
@@ -305,7 +305,7 @@ module _ (v : View) where
 pub record Located (h : List Arrival) (f : Option Client) (os : List Offer) (ts : List Taken) (t : ℕ) : Type 0 where
   pub requests : List Request
   pub chain : Chain requests h 0 os
-  pub stands : (rs' : List Request) (q' : ℕ) → state_of f ≡ Some (Transfer rs' q') → (rs' ≡ requests) × (q' ≡ one_past 0 (choices os))
+  pub stands : (rs' : List Request) (q' : ℕ) → state_of f ≡ Some (Transfer rs' q') → (rs' ≡ requests) × (q' ≡ one_past 0 (chosen_positions os))
   pub rest : List ℕ
   pub waits : (c : Client) → f ≡ Some c → has_begun (Some c.state) ≡ true → rest ≡ c.waiting
   pub handed : bytes_of (drop t ts) ++ rest ≡ flat_map made os

@@ -7,6 +7,7 @@ use Rattle.protocol.specs.Record.{padded}
 use Rattle.protocol.specs.Access.{Token, allows}
 use Rattle.protocol.specs.Lines.{line_end}
 
+-- A station's settings. The capacity is how many records are held.
 pub record Station : Type 0 where
   pub network : List ℕ
   pub code : List ℕ
@@ -20,6 +21,7 @@ pub record Entry : Type 0 where
   pub station : Station
   pub access : Option (List Token)
 
+-- a server's settings, with the list of addresses for the stations that have none of their own
 pub record Config : Type 0 where
   pub title : List ℕ
   pub max_connections : ℕ
@@ -32,6 +34,7 @@ sees (Some own) global a = allows own a
 sees None (Some global) a = allows global a
 sees None None a = true
 
+-- what one address sees
 pub record View : Type 0 where
   pub title : List ℕ
   pub stations : List Station
@@ -53,10 +56,11 @@ abbrev pub find_station : View → List ℕ → Option (List ℕ) → Option Sta
 find_station v code (Some network) = find (has_codes network code) v.stations
 find_station v code None = find (λ s. bytes_eq s.code code) v.stations
 
--- the line of CAT for a station, and the last one
+-- a station's line of CAT
 abbrev pub station_line : Station → List ℕ
 station_line s = padded 2 s.network ++ 32 ∷ padded 5 s.code ++ 32 ∷ s.description ++ line_end
 
+-- the last line of CAT
 abbrev pub end_line : List ℕ
 end_line = codes "END" ++ line_end
 

@@ -1,4 +1,5 @@
--- One client over a view and a growing history.
+-- One client over a view and a growing history: what it may send, what it reads, and what it is handed.
+-- SeedLink 3, the dialogue and the transfer. Left out: time, and in which pieces TCP carries the bytes.
 use Rattle.std.specs.Prelude.{ℕ, ◌+◌, ◌-◌, Bool, true, false, ◌&&◌, nat_lt, if◌then◌else◌, List, [], ◌∷◌, ◌++◌, length, take, drop, map, Option, Some, None, codes, slice_get, option_map, unwrap_or}
 use Rattle.std.specs.List.{list_all}
 use Rattle.protocol.specs.Catalog.{View, listing}
@@ -29,9 +30,11 @@ pub record Client : Type 0 where
   -- bytes that are to be handed
   pub waiting : List ℕ
 
+-- a client that has just opened
 abbrev pub new_client : Client
 new_client = record { state = Negotiating (Uni []); open_line = Text []; unread = []; waiting = [] }
 
+-- the request that a wish becomes when its transfer starts
 abbrev pub request_of : List Arrival → Wish → Request
 request_of h w = record { station = w.station; patterns = w.patterns; action = w.action; from = first_wanted w.station h w.action }
 
@@ -85,6 +88,7 @@ read_on v h [] c = record c { unread = [] }
 read_on v h (b ∷ bytes) c =
     if reads c.state c.waiting then read_on v h bytes (read_byte v h b c) else record c { unread = left_unread c.state (b ∷ bytes) }
 
+-- how many unread bytes a client may have
 abbrev pub inbox : ℕ
 inbox = 1024
 
@@ -108,11 +112,12 @@ packet_for h p a (r ∷ rs) = if is_of r.station a then packet (number_at r.stat
 abbrev pub packet_of : List Arrival → List Request → ℕ → List ℕ
 packet_of h requests p = unwrap_or (option_map (λ a. packet_for h p a requests) (slice_get h p)) []
 
+-- The packet of the position that is next waits; where none is and nothing more can come, `END` waits in the end.
 abbrev pub chosen : List Arrival → List Request → ℕ → Client → Option ℕ → Client
 chosen h requests q c (Some p) = record c { state = Transfer requests (p + 1); waiting = packet_of h requests p }
 chosen h requests q c None = if list_all (is_over h) requests then record c { state = Ending; unread = []; waiting = codes "END" } else c
 
--- What is to be handed next is made to wait.
+-- what comes next, by the state: a line of the listing, or a packet
 abbrev pub filled_in : List Arrival → Client → State → Client
 filled_in h c (Listing (line ∷ lines) n) = record c { state = Listing lines n; waiting = line }
 filled_in h c (Transfer requests q) = chosen h requests q c (next h requests q)

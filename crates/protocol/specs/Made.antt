@@ -1,4 +1,6 @@
--- Records that a program makes, from fields.
+-- The record that fields spell: how a program makes one, and that it is read back as the fields.
+-- SEED Reference Manual 2.4, chapter 8: the fixed section of data header, blockette 1000, one further blockette.
+-- Left out: flags, the time correction, chains of more than two blockettes; the contents are bytes that are given.
 use Rattle.std.specs.Prelude.{◌≡◌, ◌≤◌, ◌<◌, ◌≤ℤ◌, ◌<ℤ◌, ◌⊎◌, ⊤, All, ℕ, zero, suc, ◌+◌, ◌-◌, ◌/◌, ◌%◌, Bool, true, false, ◌&&◌, ◌||◌, nat_le, nat_lt, ◌==◌, if◌then◌else◌, List, [], ◌∷◌, ◌++◌, length, replicate, ℤ, pos, ◌+ℤ◌, neg_ℤ, int_le, int_lt, nat_abs, Option, Some, None, is_some, Result, Ok, Err}
 use Rattle.std.specs.Ordering.{int_eq}
 use Rattle.std.specs.List.{list_all, concat}
@@ -7,11 +9,13 @@ use Rattle.protocol.specs.declared.record.ByteOrder.{ByteOrder}
 use Rattle.protocol.specs.declared.record.Kind.{Kind}
 use Rattle.protocol.specs.Record.{Facts, header_of, is_quality, kind_of_type}
 use Rattle.protocol.specs.declared.record.RecordFault.{RecordFault}
-use Rattle.protocol.specs.Time.{tick}
+use Rattle.protocol.specs.Time.{is_day, is_time_of_day, tick}
 use Rattle.protocol.specs.declared.record.ByteOrder.TheVariants.{Big, Little}
 use Rattle.protocol.specs.Record.{padded}
 use Rattle.protocol.specs.Reading.{IsQuality, Gives, HasFacts}
 
+-- The values of a record's fields. Codes are bytes without padding, the quality is a byte, and the numbers of the start are
+-- those of the header.
 pub record Fields : Type 0 where
   pub sequence : ℕ
   pub quality : ℕ
@@ -35,9 +39,13 @@ pub record Fields : Type 0 where
   pub extra : Option ℕ
   pub contents : List ℕ
 
+-- ---- which fields are in range
+
+-- `A` to `Z`, `0` to `9`
 abbrev pub is_code_byte : ℕ → Bool
 is_code_byte b = (nat_le 65 b && nat_le b 90) || (nat_le 48 b && nat_le b 57)
 
+-- a code of so many bytes
 abbrev pub is_code : (least most : ℕ) → List ℕ → Bool
 is_code least most bs = nat_le least (length bs) && nat_le (length bs) most && list_all is_code_byte bs
 
@@ -45,6 +53,7 @@ is_code least most bs = nat_le least (length bs) && nat_le (length bs) most && l
 abbrev pub is_short : ℤ → Bool
 is_short z = int_le (neg_ℤ (pos 32768)) z && int_lt z (pos 32768)
 
+-- no further blockette, or one whose type gives a record without samples its type
 abbrev pub is_extra : Option ℕ → Bool
 is_extra None = true
 is_extra (Some type) = is_some (kind_of_type type)
@@ -54,18 +63,21 @@ has_codes_in_range f = is_code 1 5 f.station && is_code 0 2 f.location && is_cod
 
 abbrev pub has_start_in_range : Fields → Bool
 has_start_in_range f =
-    nat_le 1900 f.year && nat_le f.year 2100 && nat_le 1 f.day && nat_le f.day 366 && nat_le f.hour 23 && nat_le f.minute 59 && nat_le f.second 60 && nat_le f.fraction 9999
+    is_day f.year f.day && is_time_of_day f.hour f.minute f.second f.fraction
 
 abbrev pub is_in_range : Fields → Bool
 is_in_range f =
     nat_lt f.sequence 1000000 && is_quality f.quality && has_codes_in_range f && has_start_in_range f && nat_lt f.samples 65536 && is_short f.factor && is_short f.multiplier
     && nat_lt f.encoding 256 && is_extra f.extra && nat_le (length f.contents) 448 && list_all (λ b. nat_lt b 256) f.contents
 
+-- ---- the bytes of a record
+
 -- the last n decimal digits of a number
 abbrev pub decimal : ℕ → ℕ → List ℕ
 decimal zero k = []
 decimal (suc n) k = decimal n (k / 10) ++ (48 + k % 10) ∷ []
 
+-- a number of 16 bits
 abbrev pub two_bytes : ByteOrder → ℕ → List ℕ
 two_bytes Big n = n / 256 ∷ n % 256 ∷ []
 two_bytes Little n = n % 256 ∷ n / 256 ∷ []
@@ -74,6 +86,7 @@ two_bytes Little n = n % 256 ∷ n / 256 ∷ []
 abbrev pub short_bytes : ByteOrder → ℤ → List ℕ
 short_bytes o z = two_bytes o (if int_lt z (pos 0) then nat_abs (z +ℤ pos 65536) else nat_abs z)
 
+-- the byte of the blockette 1000 that names the order
 abbrev pub word_order_byte : ByteOrder → ℕ
 word_order_byte Big = 1
 word_order_byte Little = 0
@@ -110,6 +123,8 @@ layout_of f =
     concat
     (decimal 6 f.sequence ∷ (f.quality ∷ 32 ∷ []) ∷ padded 5 f.station ∷ padded 2 f.location ∷ padded 3 f.channel ∷ padded 2 f.network
     ∷ numbers_of f.order f ∷ [])
+
+-- ---- the record that is read back as the fields
 
 abbrev pub start_asked : Fields → ℤ
 start_asked f = tick f.year f.day f.hour f.minute f.second f.fraction

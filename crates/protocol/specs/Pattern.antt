@@ -1,4 +1,5 @@
--- Selectors: patterns over location, channel and type.
+-- Selectors: patterns over a record's location, channel and type.
+-- SeedLink 3, SELECT. Left out: several patterns in one command.
 use Rattle.std.specs.Prelude.{◌≡◌, ◌≤◌, ◌⊎◌, ◌++◌, length, All, Any, ℕ, Bool, true, false, ◌&&◌, ◌||◌, not, nat_le, ◌==◌, if◌then◌else◌, List, [], ◌∷◌, Option, Some, None, option_and_then}
 use Rattle.std.specs.List.{list_any, list_all}
 use Rattle.protocol.specs.declared.record.Kind.{Kind}

@@ -1,4 +1,6 @@
--- What a record says, in the words of the standard: its facts, and the faults that it has.
+-- What a record says, in the words of the standard: its facts, and the faults that it has. A law says that the record is read so.
+-- SEED Reference Manual 2.4, chapter 8: the fixed section of data header, the chain of blockettes, blockette 1000.
+-- Left out: what Record leaves out too.
 use Rattle.std.specs.Prelude.{◌≡◌, ◌≢◌, ℕ, ◌+◌, ◌*◌, ◌<◌, ◌≤◌, ◌⊎◌, ⊤, List, [], ◌∷◌, ◌++◌, take, replicate, slice_index, slice_range, pos, ◌+ℤ◌, All, Any}
 use Rattle.protocol.specs.declared.record.ByteOrder.{ByteOrder}
 use Rattle.protocol.specs.Record.{Facts, Ratio, start_of, ticks_of, word}

@@ -34,11 +34,12 @@ word Little r i = slice_index r i + 256 * slice_index r (i + 1)
 abbrev pub signed : ℕ → ℤ
 signed n = if nat_lt n 32768 then pos n else negsuc (65535 - n)
 
--- the bytes without the spaces at their end
+-- a byte before bytes that have no space at their end
 abbrev pub cons_trimmed : ℕ → List ℕ → List ℕ
 cons_trimmed b [] = if b == 32 then [] else b ∷ []
 cons_trimmed b (c ∷ bs) = b ∷ c ∷ bs
 
+-- the bytes without the spaces at their end
 abbrev pub trimmed : List ℕ → List ℕ
 trimmed [] = []
 trimmed (b ∷ bs) = cons_trimmed b (trimmed bs)
@@ -57,6 +58,7 @@ has_date o r = is_day (word o r 20) (word o r 22)
 abbrev pub order_of : List ℕ → Option ByteOrder
 order_of r = if has_date Big r then Some Big else if has_date Little r then Some Little else None
 
+-- its ticks
 abbrev pub start_of : ByteOrder → List ℕ → ℤ
 start_of o r = tick (word o r 20) (word o r 22) (slice_index r 24) (slice_index r 25) (slice_index r 26) (word o r 28)
 
@@ -148,6 +150,7 @@ kind_of o r offsets = if nat_lt 0 (word o r 30) then (if word o r 32 == 0 then L
 
 -- ---- the facts, or the first fault
 
+-- the facts of a record with these blockettes
 abbrev pub facts_in : ByteOrder → List ℕ → List ℕ → Facts
 facts_in o r offsets =
     record {
@@ -169,6 +172,7 @@ is_sequence_byte b = b == 0 || b == 32 || (nat_le 48 b && nat_le b 57)
 abbrev pub is_quality : ℕ → Bool
 is_quality b = b == 68 || b == 82 || b == 81 || b == 77
 
+-- The start has a time of a day.
 abbrev pub has_time : ByteOrder → List ℕ → Bool
 has_time o r = is_time_of_day (slice_index r 24) (slice_index r 25) (slice_index r 26) (word o r 28)
 
@@ -181,6 +185,7 @@ fault_number Blockettes = 4
 fault_number No1000 = 5
 fault_number Length = 6
 
+-- its name
 abbrev pub fault_name : RecordFault → List ℕ
 fault_name Sequence = codes "Sequence"
 fault_name Quality = codes "Quality"
@@ -189,15 +194,17 @@ fault_name Blockettes = codes "Blockettes"
 fault_name No1000 = codes "No1000"
 fault_name Length = codes "Length"
 
--- The byte at 6 of the first blockette 1000 is the record's length, as a power of two
+-- The byte at 6 of the first blockette 1000 gives the record's length, as a power of two: 2^9 is 512.
 abbrev pub read_length : ByteOrder → List ℕ → List ℕ → Option ℕ → Result Facts RecordFault
 read_length o r offsets None = Err No1000
 read_length o r offsets (Some at) = if slice_index r (at + 6) == 9 then Ok (facts_in o r offsets) else Err Length
 
+-- the chain, which is to be well formed
 abbrev pub read_chain : ByteOrder → List ℕ → Option (List ℕ) → Result Facts RecordFault
 read_chain o r None = Err Blockettes
 read_chain o r (Some offsets) = read_length o r offsets (first_of_type o r 1000 offsets)
 
+-- the start, which is to be a time in some order of bytes
 abbrev pub read_in : List ℕ → Option ByteOrder → Result Facts RecordFault
 read_in r None = Err Time
 read_in r (Some o) = if has_time o r then read_chain o r (chain_of o r) else Err Time

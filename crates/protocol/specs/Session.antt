@@ -1,4 +1,6 @@
 -- Negotiation: what each command answers and changes, by the stations that the client sees.
+-- SeedLink 3, the dialogue in uni-station and multi-station mode. Left out: the texts of other servers (the replies to HELLO
+-- and CAT, and which station uni-station mode takes, are this project's).
 use Rattle.std.specs.Prelude.{ℕ, ◌+◌, nat_lt, if◌then◌else◌, List, [], ◌∷◌, ◌++◌, length, Option, Some, None, codes, slice_get, slice_set, filter_map}
 use Rattle.protocol.specs.Catalog.{Station, View, find_station, has_codes}
 use Rattle.protocol.specs.Lines.{line_end}

@@ -1,4 +1,5 @@
 -- All clients of a server over one history.
+-- SeedLink 3 says nothing of several clients. Left out: a connection that the server refuses, which is no event.
 use Rattle.std.specs.Prelude.{ℕ, zero, suc, List, [], ◌∷◌, ◌++◌, Bool, true, if◌then◌else◌, Option, Some, None, option_map, slice_get, Result, Ok, Err}
 use Rattle.std.specs.List.{list_any}
 use Rattle.protocol.specs.Record.{Facts, header_of}
@@ -7,6 +8,8 @@ use Rattle.protocol.specs.Catalog.{Config, View, view_of, has_codes}
 use Rattle.protocol.specs.History.{Arrival}
 use Rattle.protocol.specs.Client.{Client, Taken, new_client, received, offered, taken_of, after_take}
 
+-- What happens at a server, each to one client by its number, but for an arrival: a connection from an address, bytes from
+-- a client, a client that is ready to take so many bytes, a connection's end, and a record from a feeder.
 pub data Event : Type 0 where
   Open : (address : ℕ) → Event
   Bytes : (client : ℕ) → (bytes : List ℕ) → Event
@@ -19,6 +22,7 @@ pub record Connection : Type 0 where
   pub view : View
   pub client : Option Client
 
+-- the arrivals so far, and the connections
 pub record World : Type 0 where
   pub history : List Arrival
   -- the k-th that was opened, from 0
@@ -36,6 +40,7 @@ abbrev pub arrival_with : Config → List ℕ → Result Facts RecordFault → O
 arrival_with config r (Err f) = None
 arrival_with config r (Ok x) = if is_configured config x then Some (record { bytes = r; facts = x }) else None
 
+-- A record is accepted where it has facts and some station has its codes.
 abbrev pub accepted : Config → List ℕ → Option Arrival
 accepted config r = arrival_with config r (header_of r)
 
@@ -47,14 +52,17 @@ arrived h (Some a) = h ++ a ∷ []
 abbrev pub changed : (View → Client → Client) → Connection → Connection
 changed f k = record k { client = option_map (f k.view) k.client }
 
+-- the connection without its client
 abbrev pub closed : Connection → Connection
 closed k = record k { client = None }
 
+-- the connections with that of a number changed
 abbrev pub at : List Connection → ℕ → (Connection → Connection) → List Connection
 at [] k f = []
 at (c ∷ cs) zero f = f c ∷ cs
 at (c ∷ cs) (suc k) f = c ∷ at cs k f
 
+-- the world after an event
 abbrev pub step : Config → World → Event → World
 step config w (Open a) = record w { connections = w.connections ++ record { view = view_of config a; client = Some new_client } ∷ [] }
 step config w (Bytes k bytes) = record w { connections = at w.connections k (changed (λ v c. received v w.history bytes c)) }
@@ -70,6 +78,7 @@ world_from config w (e ∷ es) = world_from config (step config w e) es
 abbrev pub world_after : Config → List Event → World
 world_after config es = world_from config empty_world es
 
+-- what a Take handed to a client, and whether it was told that its connection is over
 pub record Handed : Type 0 where
   pub client : ℕ
   pub bytes : List ℕ
@@ -96,5 +105,6 @@ handed_from config w [] = []
 handed_from config w (Take k n ∷ es) = told k (taken_by w.history (client_of (slice_get w.connections k)) n) ∷ handed_from config (step config w (Take k n)) es
 handed_from config w (e ∷ es) = handed_from config (step config w e) es
 
+-- what each Take hands, from a server's start
 abbrev pub handed : Config → List Event → List Handed
 handed config es = handed_from config empty_world es
