@@ -124,6 +124,11 @@ lists_as_without_hidden = refl
 pub hidden_station_is_unknown : handed three_stations (Open outsider ∷ asks 0 (codes "STATION APE" ∷ codes "STATION APE GE" ∷ codes "STATION NONE GE" ∷ [])) ≡ (ok ∷ error ∷ error ∷ [])
 hidden_station_is_unknown = refl
 
+-- Without a network it is the first of that code that is seen: the hidden one's arrivals are nothing to the client.
+pub named_without_network_is_seen : handed three_stations (Open outsider ∷ asks 0 (codes "STATION APE" ∷ codes "DATA" ∷ codes "END" ∷ []) ++ Arrive (ape_at 1) ∷ Arrive (vault_at 1) ∷ Arrive (ape_at 2) ∷ takes 2 0 520) ≡
+    (ok ∷ ok ∷ nothing ∷ gives (packet 0 (vault_at 1)) ∷ nothing ∷ [])
+named_without_network_is_seen = refl
+
 -- the first station that is seen
 pub data_is_of_first_seen : handed three_stations (Open outsider ∷ says (codes "DATA") 0 ∷ Arrive (wlf_at 1) ∷ Arrive (ape_at 1) ∷ takes 2 0 520) ≡ (gives (packet 0xFFFFFE (wlf_at 1)) ∷ nothing ∷ [])
 data_is_of_first_seen = refl
@@ -138,6 +143,10 @@ fetch_from_number_past_the_wrap = refl
 pub fetch_from_overwritten : handed three_stations (three ++ Open outsider ∷ says (codes "FETCH FFFFFE") 0 ∷ takes 4 0 520) ≡
     (gives (packet 0xFFFFFF (wlf_at 2)) ∷ gives (packet 0 (wlf_at 3)) ∷ gives (codes "END") ∷ ended ∷ [])
 fetch_from_overwritten = refl
+
+-- A hidden arrival after the last one doesn't keep a FETCH from its end.
+pub fetch_ends_beside_hidden : handed three_stations (Arrive (wlf_at 1) ∷ Arrive (ape_at 1) ∷ Open outsider ∷ says (codes "FETCH") 0 ∷ takes 3 0 520) ≡ (gives (packet 0xFFFFFE (wlf_at 1)) ∷ gives (codes "END") ∷ ended ∷ [])
+fetch_ends_beside_hidden = refl
 
 pub data_from_next_number : handed three_stations (three ++ Open outsider ∷ says (codes "DATA 1") 0 ∷ Take 0 520 ∷ Arrive (wlf_at 4) ∷ takes 2 0 520) ≡ (nothing ∷ gives (packet 1 (wlf_at 4)) ∷ nothing ∷ [])
 data_from_next_number = refl

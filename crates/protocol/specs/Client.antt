@@ -13,6 +13,7 @@ use Rattle.protocol.specs.Session.{Negotiated, Outcome, Wish, outcome_of}
 use Rattle.protocol.specs.Session.Negotiated.{Uni}
 use Rattle.protocol.specs.Session.Outcome.{Stays, Lists, Starts, Ends}
 
+-- what a client is in the middle of; it is ending once it said BYE or its transfer is complete
 pub data State : Type 0 where
   Negotiating : Negotiated → State
   -- the lines that are still to be sent, and what was negotiated before
@@ -33,6 +34,8 @@ pub record Client : Type 0 where
 -- a client that has just opened
 abbrev pub new_client : Client
 new_client = record { state = Negotiating (Uni []); open_line = Text []; unread = []; waiting = [] }
+
+-- ---- obeying lines
 
 -- the request that a wish becomes when its transfer starts
 abbrev pub request_of : List Arrival → Wish → Request
@@ -61,6 +64,8 @@ obey_in v h line c Ending = c
 abbrev pub obey : View → List Arrival → Line → Client → Client
 obey v h (Text []) c = c
 obey v h line c = obey_in v h line c c.state
+
+-- ---- reading what came
 
 abbrev pub is_nothing : List ℕ → Bool
 is_nothing [] = true
@@ -102,6 +107,8 @@ received v h bytes c =
     if nat_lt (inbox - length c.unread) (length bytes) then c
     else if is_ending c.state then c
     else read_on v h (c.unread ++ bytes) c
+
+-- ---- handing what waits
 
 -- the packet of the arrival a at position p, by the station whose arrival it is
 abbrev pub packet_for : List Arrival → ℕ → Arrival → List Request → List ℕ

@@ -35,6 +35,8 @@ empty_world = record { history = []; connections = [] }
 abbrev pub is_configured : Config → Facts → Bool
 is_configured config x = list_any (λ e. has_codes x.network x.station e.station) config.entries
 
+-- ---- arrivals
+
 -- the arrival that a record is, where it is accepted
 abbrev pub arrival_with : Config → List ℕ → Result Facts RecordFault → Option Arrival
 arrival_with config r (Err f) = None
@@ -47,6 +49,8 @@ accepted config r = arrival_with config r (header_of r)
 abbrev pub arrived : List Arrival → Option Arrival → List Arrival
 arrived h None = h
 arrived h (Some a) = h ++ a ∷ []
+
+-- ---- connections
 
 -- the connection with a client that was open changed
 abbrev pub changed : (View → Client → Client) → Connection → Connection
@@ -61,6 +65,8 @@ abbrev pub at : List Connection → ℕ → (Connection → Connection) → List
 at [] k f = []
 at (c ∷ cs) zero f = f c ∷ cs
 at (c ∷ cs) (suc k) f = c ∷ at cs k f
+
+-- ---- events one after the other
 
 -- the world after an event
 abbrev pub step : Config → World → Event → World
@@ -77,6 +83,8 @@ world_from config w (e ∷ es) = world_from config (step config w e) es
 
 abbrev pub world_after : Config → List Event → World
 world_after config es = world_from config empty_world es
+
+-- ---- what is handed
 
 -- what a Take handed to a client, and whether it was told that its connection is over
 pub record Handed : Type 0 where
