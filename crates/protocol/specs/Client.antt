@@ -22,6 +22,7 @@ pub data State : Type 0 where
   Transfer : List Request → (from : ℕ) → State
   Ending : State
 
+-- a client that is open
 pub record Client : Type 0 where
   pub state : State
   -- the bytes since the last line end that was read
@@ -67,6 +68,7 @@ obey v h line c = obey_in v h line c c.state
 
 -- ---- reading what came
 
+-- There are no bytes.
 abbrev pub is_nothing : List ℕ → Bool
 is_nothing [] = true
 is_nothing _ = false
@@ -97,6 +99,7 @@ read_on v h (b ∷ bytes) c =
 abbrev pub inbox : ℕ
 inbox = 1024
 
+-- The client is in its end.
 abbrev pub is_ending : State → Bool
 is_ending Ending = true
 is_ending _ = false
@@ -130,6 +133,7 @@ filled_in h c (Listing (line ∷ lines) n) = record c { state = Listing lines n;
 filled_in h c (Transfer requests q) = chosen h requests q c (next h requests q)
 filled_in h c _ = c
 
+-- the client with what comes next waiting, where nothing waited
 abbrev pub filled : List Arrival → Client → (waiting : List ℕ) → Client
 filled h c waiting = if is_nothing waiting then filled_in h c c.state else c
 
@@ -152,6 +156,7 @@ pub record Taken : Type 0 where
   pub bytes : List ℕ
   pub ended : Bool
 
+-- the first n bytes that wait
 abbrev pub taken_of : Client → ℕ → Taken
 taken_of c n = record { bytes = take n c.waiting; ended = is_nothing c.waiting && is_ending c.state }
 

@@ -32,14 +32,17 @@ words line = without_empty (split (λ b. b == 32) line)
 abbrev pub uppercase : ℕ → ℕ
 uppercase b = if nat_le 97 b && nat_le b 122 then b - 32 else b
 
+-- each letter in upper case
 abbrev pub uppercased : List ℕ → List ℕ
 uppercased [] = []
 uppercased (b ∷ bs) = uppercase b ∷ uppercased bs
 
+-- the command of a number and a begin, where both are there
 abbrev pub with_begin : (Option ℕ → Option ℤ → Command) → Option ℕ → Option ℤ → Command
 with_begin make (Some n) (Some t) = make (Some n) (Some t)
 with_begin make _ _ = Bad
 
+-- the command of a number alone, where it is there
 abbrev pub with_number : (Option ℕ → Option ℤ → Command) → Option ℕ → Command
 with_number make (Some n) = make (Some n) None
 with_number make None = Bad
@@ -51,10 +54,12 @@ numbered make (n ∷ []) = with_number make (number_of n)
 numbered make (n ∷ begin ∷ []) = with_begin make (number_of n) (time_of begin)
 numbered make _ = Bad
 
+-- TIME with a begin and an end, where both are there
 abbrev pub window : Option ℤ → Option ℤ → Command
 window (Some b) (Some l) = Time (Some b) (Some l)
 window _ _ = Bad
 
+-- TIME with a begin alone, where it is there
 abbrev pub since : Option ℤ → Command
 since (Some b) = Time (Some b) None
 since None = Bad
@@ -66,20 +71,24 @@ timed (b ∷ []) = since (time_of b)
 timed (b ∷ l ∷ []) = window (time_of b) (time_of l)
 timed _ = Bad
 
+-- a command that takes no further word
 abbrev pub alone : Command → List (List ℕ) → Command
 alone c [] = c
 alone c _ = Bad
 
+-- STATION: station [network]
 abbrev pub station_command : List (List ℕ) → Command
 station_command (code ∷ []) = Station code None
 station_command (code ∷ network ∷ []) = Station code (Some network)
 station_command _ = Bad
 
+-- SELECT: [pattern]
 abbrev pub select_command : List (List ℕ) → Command
 select_command [] = Select None
 select_command (p ∷ []) = Select (Some p)
 select_command _ = Bad
 
+-- the command of a name in upper case, with the words behind it
 abbrev pub named : List ℕ → List (List ℕ) → Command
 named name ws =
     if bytes_eq name (codes "HELLO") then alone Hello ws
@@ -93,6 +102,7 @@ named name ws =
     else if bytes_eq name (codes "TIME") then timed ws
     else Bad
 
+-- what words ask
 abbrev pub command_of_words : List (List ℕ) → Command
 command_of_words [] = Blank
 command_of_words (name ∷ ws) = named (uppercased name) ws

@@ -58,13 +58,16 @@ abbrev pub is_extra : Option ℕ → Bool
 is_extra None = true
 is_extra (Some type) = is_some (kind_of_type type)
 
+-- The codes are of letters and digits, and as long as they may be.
 abbrev pub has_codes_in_range : Fields → Bool
 has_codes_in_range f = is_code 1 5 f.station && is_code 0 2 f.location && is_code 1 3 f.channel && is_code 1 2 f.network
 
+-- The start is a day and a time of a day.
 abbrev pub has_start_in_range : Fields → Bool
 has_start_in_range f =
     is_day f.year f.day && is_time_of_day f.hour f.minute f.second f.fraction
 
+-- Each field is in its range; there are at most 448 bytes of contents.
 abbrev pub is_in_range : Fields → Bool
 is_in_range f =
     nat_lt f.sequence 1000000 && is_quality f.quality && has_codes_in_range f && has_start_in_range f && nat_lt f.samples 65536 && is_short f.factor && is_short f.multiplier
@@ -91,6 +94,7 @@ abbrev pub word_order_byte : ByteOrder → ℕ
 word_order_byte Big = 1
 word_order_byte Little = 0
 
+-- n bytes 0
 abbrev pub zeros : ℕ → List ℕ
 zeros n = replicate n 0
 
@@ -99,10 +103,12 @@ abbrev pub extra_offset : Option ℕ → ℕ
 extra_offset None = 0
 extra_offset (Some type) = 56
 
+-- the eight bytes of the blockette behind the blockette 1000, or of none
 abbrev pub extra_bytes : ByteOrder → Option ℕ → List ℕ
 extra_bytes o None = zeros 8
 extra_bytes o (Some type) = two_bytes o type ++ zeros 6
 
+-- how many blockettes there are
 abbrev pub blockette_count : Option ℕ → ℕ
 blockette_count None = 1
 blockette_count (Some type) = 2
@@ -126,6 +132,7 @@ layout_of f =
 
 -- ---- the record that is read back as the fields
 
+-- the ticks of the start
 abbrev pub start_asked : Fields → ℤ
 start_asked f = tick f.year f.day f.hour f.minute f.second f.fraction
 
@@ -135,6 +142,7 @@ has_fields f x =
     bytes_eq x.network f.network && bytes_eq x.station f.station && bytes_eq x.location (padded 2 f.location) && bytes_eq x.channel (padded 3 f.channel)
     && int_eq x.start (start_asked f) && (x.samples == f.samples)
 
+-- The record is read as the fields.
 abbrev pub reads_back : Fields → Result Facts RecordFault → Bool
 reads_back f (Err fault) = false
 reads_back f (Ok x) = has_fields f x
@@ -150,9 +158,11 @@ made f = if is_in_range f && reads_back f (header_of (layout_of f)) then Some (l
 abbrev pub IsCodeByte : ℕ → Type 0
 IsCodeByte b = ((65 ≤ b) × (b ≤ 90)) ⊎ ((48 ≤ b) × (b ≤ 57))
 
+-- a code of so many bytes
 abbrev pub IsCode : (least most : ℕ) → List ℕ → Type 0
 IsCode least most bs = (least ≤ length bs) × (length bs ≤ most) × All IsCodeByte bs
 
+-- a number of 16 bits with a sign
 abbrev pub IsShort : ℤ → Type 0
 IsShort z = (neg_ℤ (pos 32768) ≤ℤ z) × (z <ℤ pos 32768)
 
@@ -161,6 +171,7 @@ abbrev pub IsExtra : Option ℕ → Type 0
 IsExtra None = ⊤
 IsExtra (Some type) = (k : Kind) × Gives type k
 
+-- Each field is in its range.
 pub record IsInRange (f : Fields) : Type 0 where
   pub sequence : f.sequence < 1000000
   pub quality : IsQuality f.quality

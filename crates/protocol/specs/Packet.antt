@@ -27,6 +27,7 @@ number_of bs = if nat_le 1 (length bs) && nat_le (length bs) 6 then hex_number 0
 abbrev pub numbers : ℕ
 numbers = 0x1000000
 
+-- the number after a number
 abbrev pub next_number : ℕ → ℕ
 next_number n = (n + 1) % numbers
 
@@ -52,5 +53,6 @@ pub record IsPacket (number : ℕ) (contents bytes : List ℕ) : Type 0 where
   pub size : length contents ≡ 512
   pub layout : codes "SL" ++ digits ++ contents ≡ bytes
 
+-- a packet of some number and record
 abbrev pub IsSomePacket : List ℕ → Type 0
 IsSomePacket bytes = (number : ℕ) × (contents : List ℕ) × IsPacket number contents bytes

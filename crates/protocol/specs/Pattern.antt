@@ -6,12 +6,14 @@ use Rattle.protocol.specs.declared.record.Kind.{Kind}
 use Rattle.protocol.specs.Record.{Facts}
 use Rattle.protocol.specs.declared.record.Kind.TheVariants.{D, E, C, O, T, L}
 
+-- What a pattern says of a record's location, channel and type, each if it is given. A negated one says what not to send.
 pub record Pattern : Type 0 where
   pub negated : Bool
   pub location : Option (List ℕ)
   pub channel : Option (List ℕ)
   pub kind : Option Kind
 
+-- a digit, or a letter of either case
 abbrev pub is_letter_or_digit : ℕ → Bool
 is_letter_or_digit b = (nat_le 48 b && nat_le b 57) || (nat_le 65 b && nat_le b 90) || (nat_le 97 b && nat_le b 122)
 
@@ -23,6 +25,7 @@ is_channel_byte b = is_letter_or_digit b || b == 63
 abbrev pub is_location_byte : ℕ → Bool
 is_location_byte b = is_channel_byte b || b == 45
 
+-- the type that a letter names
 abbrev pub kind_of_letter : ℕ → Option Kind
 kind_of_letter b =
     if b == 68 then Some D else if b == 69 then Some E else if b == 67 then Some C
@@ -71,11 +74,13 @@ pattern_of (b ∷ bs) = if b == 33 then body_of true bs else body_of false (b �
 abbrev pub byte_matches : ℕ → ℕ → Bool
 byte_matches p b = p == 63 || (if p == 45 then b == 32 else p == b)
 
+-- byte after byte
 abbrev pub bytes_match : List ℕ → List ℕ → Bool
 bytes_match [] bs = true
 bytes_match (p ∷ ps) [] = false
 bytes_match (p ∷ ps) (b ∷ bs) = byte_matches p b && bytes_match ps bs
 
+-- the same type
 abbrev pub same_kind : Kind → Kind → Bool
 same_kind D D = true
 same_kind E E = true
@@ -90,10 +95,12 @@ abbrev pub part_matches : Option (List ℕ) → List ℕ → Bool
 part_matches None bs = true
 part_matches (Some ps) bs = bytes_match ps bs
 
+-- the same of a type
 abbrev pub kind_matches : Option Kind → Kind → Bool
 kind_matches None k = true
 kind_matches (Some p) k = same_kind p k
 
+-- Location, channel and type match, as far as they are given.
 abbrev pub matches : Facts → Pattern → Bool
 matches x p = part_matches p.location x.location && part_matches p.channel x.channel && kind_matches p.kind x.kind
 
@@ -103,12 +110,15 @@ passes ps x =
     (not (list_any (λ p. not p.negated) ps) || list_any (λ p. not p.negated && matches x p) ps) && not (list_any (λ p. p.negated && matches x p) ps)
 
 -- ---- the same in words
+-- It says what to send.
 abbrev pub IsPositive : Pattern → Type 0
 IsPositive p = p.negated ≡ false
 
+-- It says what not to send.
 abbrev pub IsNegative : Pattern → Type 0
 IsNegative p = p.negated ≡ true
 
+-- The record is one that the pattern speaks of.
 abbrev pub Matches : Facts → Pattern → Type 0
 Matches x p = matches x p ≡ true
 
@@ -116,6 +126,7 @@ Matches x p = matches x p ≡ true
 abbrev pub Passes : List Pattern → Facts → Type 0
 Passes ps x = ((Any IsPositive ps → ⊥) ⊎ Any (λ p. IsPositive p × Matches x p) ps) × (Any (λ p. IsNegative p × Matches x p) ps → ⊥)
 
+-- a digit, or a letter of either case
 abbrev pub IsLetterOrDigit : ℕ → Type 0
 IsLetterOrDigit b = ((48 ≤ b) × (b ≤ 57)) ⊎ ((65 ≤ b) × (b ≤ 90)) ⊎ ((97 ≤ b) × (b ≤ 122))
 
@@ -123,6 +134,7 @@ IsLetterOrDigit b = ((48 ≤ b) × (b ≤ 57)) ⊎ ((65 ≤ b) × (b ≤ 90)) �
 abbrev pub IsChannelByte : ℕ → Type 0
 IsChannelByte b = IsLetterOrDigit b ⊎ (b ≡ 63)
 
+-- a letter, a digit, `?` or `-`
 abbrev pub IsLocationByte : ℕ → Type 0
 IsLocationByte b = IsChannelByte b ⊎ (b ≡ 45)
 
@@ -131,6 +143,7 @@ pub record IsChannel (bs : List ℕ) : Type 0 where
   pub size : length bs ≡ 3
   pub bytes : All IsChannelByte bs
 
+-- two bytes of a location
 pub record IsLocation (bs : List ℕ) : Type 0 where
   pub size : length bs ≡ 2
   pub bytes : All IsLocationByte bs

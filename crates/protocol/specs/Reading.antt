@@ -10,6 +10,7 @@ use Rattle.protocol.specs.declared.record.ByteOrder.TheVariants.{Big, Little}
 use Rattle.protocol.specs.declared.record.Kind.TheVariants.{D, E, C, O, T, L}
 use Rattle.protocol.specs.declared.record.RecordFault.TheVariants.{Sequence, Quality, Time, Blockettes, No1000, Length}
 
+-- It is not so.
 abbrev pub Not : Type 0 → Type 0
 Not P = P → ⊥
 
@@ -21,6 +22,7 @@ IsSequenceByte b = (b ≡ 0) ⊎ (b ≡ 32) ⊎ ((48 ≤ b) × (b ≤ 57))
 abbrev pub IsQuality : ℕ → Type 0
 IsQuality b = (b ≡ 68) ⊎ (b ≡ 82) ⊎ (b ≡ 81) ⊎ (b ≡ 77)
 
+-- In that order of bytes the start has a year of 1900 to 2100 and a day of 1 to 366.
 abbrev pub HasDate : ByteOrder → List ℕ → Type 0
 HasDate o r = (1900 ≤ word o r 20) × (word o r 20 ≤ 2100) × (1 ≤ word o r 22) × (word o r 22 ≤ 366)
 
@@ -29,6 +31,7 @@ abbrev pub IsOrderOf : List ℕ → ByteOrder → Type 0
 IsOrderOf r Big = HasDate Big r
 IsOrderOf r Little = Not (HasDate Big r) × HasDate Little r
 
+-- The time is none of a day.
 abbrev pub IsLate : ByteOrder → List ℕ → Type 0
 IsLate o r = (23 < slice_index r 24) ⊎ (59 < slice_index r 25) ⊎ (60 < slice_index r 26) ⊎ (9999 < word o r 28)
 
@@ -60,6 +63,7 @@ pub record IsFirst (P : ℕ → Type 0) (offsets : List ℕ) (at : ℕ) : Type 0
   pub here : P at
   pub not_before : All (λ other. Not (P other)) before
 
+-- A blockette 1000 begins there.
 abbrev pub Is1000 : ByteOrder → List ℕ → ℕ → Type 0
 Is1000 o r at = word o r at ≡ 1000
 
@@ -78,6 +82,7 @@ Gives type O = type ≡ 2000
 Gives type T = type ≡ 500
 Gives type L = ⊥
 
+-- A blockette that gives a type begins there.
 abbrev pub GivesKind : ByteOrder → List ℕ → ℕ → Type 0
 GivesKind o r at = (k : Kind) × Gives (word o r at) k
 
@@ -138,6 +143,7 @@ fault_number Blockettes = 4
 fault_number No1000 = 5
 fault_number Length = 6
 
+-- the first fault that is true of the record
 pub record IsFirstFault (r : List ℕ) (f : RecordFault) : Type 0 where
   pub here : IsTrueOf r f
   pub none_before : (g : RecordFault) → fault_number g < fault_number f → Not (IsTrueOf r g)

@@ -73,6 +73,7 @@ pub record Ratio : Type 0 where
   pub over : ℕ
   pub under : ℕ
 
+-- such a fraction
 abbrev pub ratio : ℕ → ℕ → Ratio
 ratio over under = record { over = over; under = under }
 

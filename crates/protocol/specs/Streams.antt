@@ -7,6 +7,7 @@ use Rattle.protocol.specs.Packet.{hex_digit, IsSomePacket}
 
 -- ---- a stream of packets, in words
 
+-- the bytes of an end, where there is one
 abbrev pub end_mark : Bool → List ℕ
 end_mark true = codes "END"
 end_mark false = []
@@ -49,6 +50,7 @@ pub data Piece : Type 0 where
   Beginning : Piece
   NoPiece : Piece
 
+-- `E` or `EN`
 abbrev pub begins_end : List ℕ → Bool
 begins_end bytes = bytes_eq bytes (codes "E") || bytes_eq bytes (codes "EN")
 
@@ -68,6 +70,7 @@ pub data StreamRead : Type 0 where
   -- No stream begins so.
   NoStream : StreamRead
 
+-- the stream so far with that piece
 abbrev pub joined_piece : List (List ℕ) → List ℕ → Piece → StreamRead
 joined_piece packets bytes WholePacket = Going (packets ++ bytes ∷ []) []
 joined_piece packets bytes TheEnd = Ended packets
@@ -80,10 +83,12 @@ stream_byte (Going packets rest) b = joined_piece packets (rest ++ b ∷ []) (pi
 stream_byte (Ended packets) b = NoStream
 stream_byte NoStream b = NoStream
 
+-- how far it is read after more bytes
 abbrev pub stream_from : StreamRead → List ℕ → StreamRead
 stream_from r [] = r
 stream_from r (b ∷ bytes) = stream_from (stream_byte r b) bytes
 
+-- how far bytes are read as a stream
 abbrev pub stream_of : List ℕ → StreamRead
 stream_of bytes = stream_from (Going [] []) bytes
 
@@ -100,14 +105,17 @@ pub record FeedRead : Type 0 where
   pub records : List (List ℕ)
   pub rest : List ℕ
 
+-- one more byte, which may make a record whole
 abbrev pub feed_byte : FeedRead → ℕ → FeedRead
 feed_byte f b =
     if length f.rest == 511 then record { records = f.records ++ (f.rest ++ b ∷ []) ∷ []; rest = [] }
     else record f { rest = f.rest ++ b ∷ [] }
 
+-- how far it is read after more bytes
 abbrev pub feed_from : FeedRead → List ℕ → FeedRead
 feed_from f [] = f
 feed_from f (b ∷ bytes) = feed_from (feed_byte f b) bytes
 
+-- how far bytes are read as a feed
 abbrev pub feed_of : List ℕ → FeedRead
 feed_of bytes = feed_from (record { records = []; rest = [] }) bytes

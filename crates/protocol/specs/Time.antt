@@ -31,6 +31,7 @@ btime_tick year day hour minute second fraction =
 
 -- ---- the calendar
 
+-- a year with a February 29
 abbrev pub is_leap : ℕ → Bool
 is_leap y = (y % 4 == 0) && (not (y % 100 == 0) || y % 400 == 0)
 
@@ -68,6 +69,7 @@ is_civil t =
 abbrev pub civil_tick : CivilTime → Option ℤ
 civil_tick t = if is_civil t then Some (tick t.year (days_of_year_before t.year t.month + t.day) t.hour t.minute t.second 0) else None
 
+-- the number of a decimal digit
 abbrev pub decimal_digit : ℕ → Option ℕ
 decimal_digit b = if nat_le 48 b && nat_le b 57 then Some (b - 48) else None
 
@@ -80,6 +82,7 @@ decimal_number n (b ∷ bs) = option_and_then (λ d. decimal_number (10 * n + d)
 abbrev pub digits_between : (low high : ℕ) → List ℕ → Option ℕ
 digits_between low high bs = if nat_le low (length bs) && nat_le (length bs) high then decimal_number 0 bs else None
 
+-- one number more, where all are there
 abbrev pub cons_some : Option ℕ → Option (List ℕ) → Option (List ℕ)
 cons_some (Some n) (Some ns) = Some (n ∷ ns)
 cons_some _ _ = None
@@ -89,6 +92,7 @@ abbrev pub short_numbers : List (List ℕ) → Option (List ℕ)
 short_numbers [] = Some []
 short_numbers (p ∷ ps) = cons_some (digits_between 1 2 p) (short_numbers ps)
 
+-- a civil time of six numbers
 abbrev pub civil : (year month day hour minute second : ℕ) → CivilTime
 civil year month day hour minute second = record { year = year; month = month; day = day; hour = hour; minute = minute; second = second }
 

@@ -28,6 +28,7 @@ pub record World : Type 0 where
   -- the k-th that was opened, from 0
   pub connections : List Connection
 
+-- the world at a server's start
 abbrev pub empty_world : World
 empty_world = record { history = []; connections = [] }
 
@@ -46,6 +47,7 @@ arrival_with config r (Ok x) = if is_configured config x then Some (record { byt
 abbrev pub accepted : Config → List ℕ → Option Arrival
 accepted config r = arrival_with config r (header_of r)
 
+-- the history with an arrival more, where it was accepted
 abbrev pub arrived : List Arrival → Option Arrival → List Arrival
 arrived h None = h
 arrived h (Some a) = h ++ a ∷ []
@@ -81,6 +83,7 @@ abbrev pub world_from : Config → World → List Event → World
 world_from config w [] = w
 world_from config w (e ∷ es) = world_from config (step config w e) es
 
+-- the world after events, from a server's start
 abbrev pub world_after : Config → List Event → World
 world_after config es = world_from config empty_world es
 
@@ -96,14 +99,17 @@ pub record Handed : Type 0 where
 abbrev pub gone : Taken
 gone = record { bytes = []; ended = true }
 
+-- the client of a connection, where it is open
 abbrev pub client_of : Option Connection → Option Client
 client_of None = None
 client_of (Some k) = k.client
 
+-- what a Take hands to a client, where it is open
 abbrev pub taken_by : List Arrival → Option Client → ℕ → Taken
 taken_by h None n = gone
 taken_by h (Some c) n = taken_of (offered h c) n
 
+-- what a Take handed to the k-th client
 abbrev pub told : ℕ → Taken → Handed
 told k t = record { client = k; bytes = t.bytes; ended = t.ended }
 
