@@ -1,5 +1,5 @@
 -- Times, patterns, commands, lists of addresses and rings, computed.
-use Rattle.std.specs.Prelude.{Option, drop, ◌≡◌, refl, ℕ, true, false, List, [], ◌∷◌, ◌++◌, length, replicate, Some, None, codes, map, filter_map, pos, neg_ℤ, is_some}
+use Rattle.std.specs.Prelude.{Option, drop, ◌≡◌, refl, ℕ, true, false, List, [], ◌∷◌, ◌++◌, length, replicate, Some, None, codes, map, filter, filter_map, pos, neg_ℤ, is_some}
 use Rattle.protocol.specs.Access.{Token, allows}
 use Rattle.protocol.specs.Catalog.{Station}
 use Rattle.protocol.specs.Command.{Command, command_of_words, words}
@@ -8,8 +8,10 @@ use Rattle.protocol.specs.Packet.{number_of, digits, next_number, packet}
 use Rattle.protocol.specs.Streams.{stream_of, feed_of}
 use Rattle.protocol.specs.Streams.StreamRead.{Going, Ended, NoStream}
 use Rattle.protocol.specs.Command.Command.{Blank, Hello, Bye, Data, Station as StationCommand, Bad}
-use Rattle.protocol.specs.Pattern.{pattern_of}
-use Rattle.protocol.specs.declared.record.Kind.TheVariants.{D, C}
+use Rattle.protocol.specs.Pattern.{pattern_of, passes}
+use Rattle.protocol.specs.declared.record.Kind.{Kind}
+use Rattle.protocol.specs.Record.{Facts}
+use Rattle.protocol.specs.declared.record.Kind.TheVariants.{D, E, C, O, T, L}
 use Rattle.protocol.specs.History.{first_position, is_held, Arrival, oldest_held, held_with_number, number_at}
 use Rattle.protocol.specs.World.{accepted}
 use Rattle.protocol.proofs.Dialogues.{insider, outsider, three_stations, wlf_at, wlf}
@@ -59,6 +61,22 @@ pattern-type = refl
 pub pattern-none : map (λ text. is_some (pattern_of (codes text))) ("" ∷ "!" ∷ "BH" ∷ ".Q" ∷ "Q" ∷ "d" ∷ "B-Z" ∷ "BHZD" ∷ "BHZ-D" ∷ "00B.Z" ∷ "00BHZD" ∷ "00BHZ.Q" ∷ "!!E" ∷ "BHZ.?" ∷ []) ≡
     (false ∷ false ∷ false ∷ false ∷ false ∷ false ∷ false ∷ false ∷ false ∷ false ∷ false ∷ false ∷ false ∷ false ∷ [])
 pattern-none = refl
+
+-- Of records of every type those of which patterns let some pass: a negative pattern alone is no positive one, and outweighs
+-- the positive ones. `-` is a space and not itself.
+abbrev pub of_type : List ℕ → Kind → Facts
+of_type location kind =
+    record { network = codes "GE"; station = codes "APE"; location = location; channel = codes "BHZ"; start = pos 0; stop = pos 0; kind = kind; samples = 0 }
+
+abbrev pub let_pass : List (List ℕ) → List Kind
+let_pass texts = filter (λ k. passes (filter_map pattern_of texts) (of_type (codes "  ") k)) (D ∷ E ∷ C ∷ O ∷ T ∷ L ∷ [])
+
+pub passes-types : map let_pass ([] ∷ (codes "!E" ∷ []) ∷ (codes "D" ∷ codes "T" ∷ []) ∷ (codes "BH?" ∷ codes "!D" ∷ codes "!E" ∷ []) ∷ (codes "BHN" ∷ []) ∷ (codes "--BHZ.E" ∷ []) ∷ []) ≡
+    ((D ∷ E ∷ C ∷ O ∷ T ∷ L ∷ []) ∷ (D ∷ C ∷ O ∷ T ∷ L ∷ []) ∷ (D ∷ T ∷ []) ∷ (C ∷ O ∷ T ∷ L ∷ []) ∷ [] ∷ (E ∷ []) ∷ [])
+passes-types = refl
+
+pub passes-dash : map (λ location. passes (filter_map pattern_of (codes "--BHZ" ∷ [])) (of_type location D)) (codes "  " ∷ codes "--" ∷ codes " 0" ∷ []) ≡ (true ∷ false ∷ false ∷ [])
+passes-dash = refl
 
 -- addresses and masks
 abbrev pub token : ℕ → ℕ → List Token

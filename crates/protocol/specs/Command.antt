@@ -124,7 +124,8 @@ pub data HasWords : List ℕ → List (List ℕ) → Type 0 where
   nothing : HasWords [] []
   space : (line : List ℕ) (ws : List (List ℕ)) → HasWords line ws → HasWords (32 ∷ line) ws
   last_word : (word : List ℕ) → IsWord word → HasWords word (word ∷ [])
-  word_and_space : (word line : List ℕ) (ws : List (List ℕ)) → IsWord word → HasWords line ws → HasWords (word ++ 32 ∷ line) (word ∷ ws)
+  word_and_space : (word line : List ℕ) (ws : List (List ℕ)) → IsWord word → HasWords line ws →
+      HasWords (word ++ 32 ∷ line) (word ∷ ws)
 
 -- The word is the name, in letters of either case.
 abbrev pub IsNamed : (name word : List ℕ) → Type 0
@@ -141,22 +142,29 @@ pub data IsRow : List (List ℕ) → Command → Type 0 where
   end : (w : List ℕ) → IsNamed (codes "END") w → IsRow (w ∷ []) End
   -- STATION station [network]
   station : (w code : List ℕ) → IsNamed (codes "STATION") w → IsRow (w ∷ code ∷ []) (Station code None)
-  station_and_network : (w code network : List ℕ) → IsNamed (codes "STATION") w → IsRow (w ∷ code ∷ network ∷ []) (Station code (Some network))
+  station_and_network : (w code network : List ℕ) → IsNamed (codes "STATION") w →
+      IsRow (w ∷ code ∷ network ∷ []) (Station code (Some network))
   -- SELECT [pattern]
   select : (w : List ℕ) → IsNamed (codes "SELECT") w → IsRow (w ∷ []) (Select None)
   select_pattern : (w pattern : List ℕ) → IsNamed (codes "SELECT") w → IsRow (w ∷ pattern ∷ []) (Select (Some pattern))
   -- DATA [number [begin]]
   data_ : (w : List ℕ) → IsNamed (codes "DATA") w → IsRow (w ∷ []) (Data None None)
-  data_number : (w number : List ℕ) (n : ℕ) → IsNamed (codes "DATA") w → number_of number ≡ Some n → IsRow (w ∷ number ∷ []) (Data (Some n) None)
-  data_begin : (w number begin : List ℕ) (n : ℕ) (b : ℤ) → IsNamed (codes "DATA") w → number_of number ≡ Some n → time_of begin ≡ Some b → IsRow (w ∷ number ∷ begin ∷ []) (Data (Some n) (Some b))
+  data_number : (w number : List ℕ) (n : ℕ) → IsNamed (codes "DATA") w → number_of number ≡ Some n →
+      IsRow (w ∷ number ∷ []) (Data (Some n) None)
+  data_begin : (w number begin : List ℕ) (n : ℕ) (b : ℤ) → IsNamed (codes "DATA") w → number_of number ≡ Some n →
+      time_of begin ≡ Some b → IsRow (w ∷ number ∷ begin ∷ []) (Data (Some n) (Some b))
   -- FETCH [number [begin]]
   fetch : (w : List ℕ) → IsNamed (codes "FETCH") w → IsRow (w ∷ []) (Fetch None None)
-  fetch_number : (w number : List ℕ) (n : ℕ) → IsNamed (codes "FETCH") w → number_of number ≡ Some n → IsRow (w ∷ number ∷ []) (Fetch (Some n) None)
-  fetch_begin : (w number begin : List ℕ) (n : ℕ) (b : ℤ) → IsNamed (codes "FETCH") w → number_of number ≡ Some n → time_of begin ≡ Some b → IsRow (w ∷ number ∷ begin ∷ []) (Fetch (Some n) (Some b))
+  fetch_number : (w number : List ℕ) (n : ℕ) → IsNamed (codes "FETCH") w → number_of number ≡ Some n →
+      IsRow (w ∷ number ∷ []) (Fetch (Some n) None)
+  fetch_begin : (w number begin : List ℕ) (n : ℕ) (b : ℤ) → IsNamed (codes "FETCH") w → number_of number ≡ Some n →
+      time_of begin ≡ Some b → IsRow (w ∷ number ∷ begin ∷ []) (Fetch (Some n) (Some b))
   -- TIME [begin [end]]
   time : (w : List ℕ) → IsNamed (codes "TIME") w → IsRow (w ∷ []) (Time None None)
-  time_begin : (w begin : List ℕ) (b : ℤ) → IsNamed (codes "TIME") w → time_of begin ≡ Some b → IsRow (w ∷ begin ∷ []) (Time (Some b) None)
-  time_window : (w begin last : List ℕ) (b l : ℤ) → IsNamed (codes "TIME") w → time_of begin ≡ Some b → time_of last ≡ Some l → IsRow (w ∷ begin ∷ last ∷ []) (Time (Some b) (Some l))
+  time_begin : (w begin : List ℕ) (b : ℤ) → IsNamed (codes "TIME") w → time_of begin ≡ Some b →
+      IsRow (w ∷ begin ∷ []) (Time (Some b) None)
+  time_window : (w begin last : List ℕ) (b l : ℤ) → IsNamed (codes "TIME") w → time_of begin ≡ Some b →
+      time_of last ≡ Some l → IsRow (w ∷ begin ∷ last ∷ []) (Time (Some b) (Some l))
 
 -- Words ask for the command of their row; those that have no row are Bad.
 abbrev pub AsksFor : List (List ℕ) → Command → Type 0

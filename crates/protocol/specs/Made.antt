@@ -70,7 +70,8 @@ has_start_in_range f =
 -- Each field is in its range; there are at most 448 bytes of contents.
 abbrev pub is_in_range : Fields → Bool
 is_in_range f =
-    nat_lt f.sequence 1000000 && is_quality f.quality && has_codes_in_range f && has_start_in_range f && nat_lt f.samples 65536 && is_short f.factor && is_short f.multiplier
+    nat_lt f.sequence 1000000 && is_quality f.quality && has_codes_in_range f && has_start_in_range f &&
+    nat_lt f.samples 65536 && is_short f.factor && is_short f.multiplier
     && nat_lt f.encoding 256 && is_extra f.extra && nat_le (length f.contents) 448 && list_all (λ b. nat_lt b 256) f.contents
 
 -- ---- the bytes of a record
@@ -118,9 +119,11 @@ abbrev pub numbers_of : ByteOrder → Fields → List ℕ
 numbers_of o f =
     concat
     (two_bytes o f.year ∷ two_bytes o f.day ∷ (f.hour ∷ f.minute ∷ f.second ∷ 0 ∷ []) ∷ two_bytes o f.fraction
-    ∷ two_bytes o f.samples ∷ short_bytes o f.factor ∷ short_bytes o f.multiplier ∷ zeros 3 ∷ (blockette_count f.extra ∷ []) ∷ zeros 4
+    ∷ two_bytes o f.samples ∷ short_bytes o f.factor ∷ short_bytes o f.multiplier
+    ∷ zeros 3 ∷ (blockette_count f.extra ∷ []) ∷ zeros 4
     ∷ two_bytes o (if nat_lt 0 f.samples then 64 else 0) ∷ two_bytes o 48
-    ∷ two_bytes o 1000 ∷ two_bytes o (extra_offset f.extra) ∷ (f.encoding ∷ word_order_byte o ∷ 9 ∷ 0 ∷ []) ∷ extra_bytes o f.extra
+    ∷ two_bytes o 1000 ∷ two_bytes o (extra_offset f.extra) ∷ (f.encoding ∷ word_order_byte o ∷ 9 ∷ 0 ∷ [])
+    ∷ extra_bytes o f.extra
     ∷ f.contents ∷ zeros (448 - length f.contents) ∷ [])
 
 -- the record of the fields: its sequence number, its quality and a space, its codes and its numbers
@@ -139,7 +142,8 @@ start_asked f = tick f.year f.day f.hour f.minute f.second f.fraction
 -- The record says what the fields say. Its location and channel keep their spaces.
 abbrev pub has_fields : Fields → Facts → Bool
 has_fields f x =
-    bytes_eq x.network f.network && bytes_eq x.station f.station && bytes_eq x.location (padded 2 f.location) && bytes_eq x.channel (padded 3 f.channel)
+    bytes_eq x.network f.network && bytes_eq x.station f.station && bytes_eq x.location (padded 2 f.location) &&
+    bytes_eq x.channel (padded 3 f.channel)
     && int_eq x.start (start_asked f) && (x.samples == f.samples)
 
 -- The record is read as the fields.

@@ -37,7 +37,8 @@ digit n = if nat_lt n 10 then 48 + n else 55 + n
 
 -- six of them
 abbrev pub digits : ℕ → List ℕ
-digits n = digit (n / 16 ^ 5 % 16) ∷ digit (n / 16 ^ 4 % 16) ∷ digit (n / 16 ^ 3 % 16) ∷ digit (n / 16 ^ 2 % 16) ∷ digit (n / 16 % 16) ∷ digit (n % 16) ∷ []
+digits n = digit (n / 16 ^ 5 % 16) ∷ digit (n / 16 ^ 4 % 16) ∷ digit (n / 16 ^ 3 % 16) ∷ digit (n / 16 ^ 2 % 16) ∷
+    digit (n / 16 % 16) ∷ digit (n % 16) ∷ []
 
 -- ---- packets
 

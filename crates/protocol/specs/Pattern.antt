@@ -107,7 +107,8 @@ matches x p = part_matches p.location x.location && part_matches p.channel x.cha
 -- No positive pattern is there or one matches, and no negative one matches.
 abbrev pub passes : List Pattern → Facts → Bool
 passes ps x =
-    (not (list_any (λ p. not p.negated) ps) || list_any (λ p. not p.negated && matches x p) ps) && not (list_any (λ p. p.negated && matches x p) ps)
+    (not (list_any (λ p. not p.negated) ps) || list_any (λ p. not p.negated && matches x p) ps) &&
+    not (list_any (λ p. p.negated && matches x p) ps)
 
 -- ---- the same in words
 -- It says what to send.
@@ -162,7 +163,8 @@ pub data Body : List ℕ → Option (List ℕ) → Option (List ℕ) → Option 
   channel_alone : (c : List ℕ) → IsChannel c → Body c None (Some c) None
   channel_and_type : (c : List ℕ) (k : Kind) → IsChannel c → Body (c ++ 46 ∷ letter k ∷ []) None (Some c) (Some k)
   place_alone : (l c : List ℕ) → IsLocation l → IsChannel c → Body (l ++ c) (Some l) (Some c) None
-  place_and_type : (l c : List ℕ) (k : Kind) → IsLocation l → IsChannel c → Body (l ++ c ++ 46 ∷ letter k ∷ []) (Some l) (Some c) (Some k)
+  place_and_type : (l c : List ℕ) (k : Kind) → IsLocation l → IsChannel c →
+      Body (l ++ c ++ 46 ∷ letter k ∷ []) (Some l) (Some c) (Some k)
   type_alone : (k : Kind) → Body (letter k ∷ []) None None (Some k)
   type_behind_dot : (k : Kind) → Body (46 ∷ letter k ∷ []) None None (Some k)
 

@@ -89,12 +89,14 @@ GivesKind o r at = (k : Kind) × Gives (word o r at) k
 -- The first blockette that gives a kind gives this one; where none does, it is D.
 abbrev pub IsGivenKind : ByteOrder → List ℕ → List ℕ → Kind → Type 0
 IsGivenKind o r offsets k =
-    ((at : ℕ) × IsFirst (GivesKind o r) offsets at × Gives (word o r at) k) ⊎ (All (λ at. Not (GivesKind o r at)) offsets × (k ≡ D))
+    ((at : ℕ) × IsFirst (GivesKind o r) offsets at × Gives (word o r at) k) ⊎
+    (All (λ at. Not (GivesKind o r at)) offsets × (k ≡ D))
 
 -- with samples, by the rate factor at 32; without, by the blockettes
 abbrev pub IsKind : ByteOrder → List ℕ → List ℕ → Kind → Type 0
 IsKind o r offsets k =
-    ((0 < word o r 30) × (word o r 32 ≢ 0) × (k ≡ D)) ⊎ ((0 < word o r 30) × (word o r 32 ≡ 0) × (k ≡ L)) ⊎ ((word o r 30 ≡ 0) × IsGivenKind o r offsets k)
+    ((0 < word o r 30) × (word o r 32 ≢ 0) × (k ≡ D)) ⊎ ((0 < word o r 30) × (word o r 32 ≡ 0) × (k ≡ L)) ⊎
+    ((word o r 30 ≡ 0) × IsGivenKind o r offsets k)
 
 -- the greatest whole number that is not above the ratio
 pub record IsRoundedDown (x : Ratio) (j : ℕ) : Type 0 where
@@ -130,9 +132,11 @@ IsTrueOf r Sequence = Any (λ b. Not (IsSequenceByte b)) (take 6 r)
 IsTrueOf r Quality = Not (IsQuality (slice_index r 6))
 IsTrueOf r Time = ((o : ByteOrder) → Not (IsOrderOf r o)) ⊎ ((o : ByteOrder) × IsOrderOf r o × IsLate o r)
 IsTrueOf r Blockettes = (o : ByteOrder) × IsOrderOf r o × ((offsets : List ℕ) → Not (IsChain o r offsets))
-IsTrueOf r No1000 = (o : ByteOrder) × (offsets : List ℕ) × IsOrderOf r o × IsChain o r offsets × All (λ at. Not (Is1000 o r at)) offsets
+IsTrueOf r No1000 = (o : ByteOrder) × (offsets : List ℕ) × IsOrderOf r o × IsChain o r offsets ×
+    All (λ at. Not (Is1000 o r at)) offsets
 IsTrueOf r Length =
-    (o : ByteOrder) × (offsets : List ℕ) × (at : ℕ) × IsOrderOf r o × IsChain o r offsets × IsFirst (Is1000 o r) offsets at × (slice_index r (at + 6) ≢ 9)
+    (o : ByteOrder) × (offsets : List ℕ) × (at : ℕ) × IsOrderOf r o × IsChain o r offsets × IsFirst (Is1000 o r) offsets at ×
+    (slice_index r (at + 6) ≢ 9)
 
 -- the order in which faults are looked for
 abbrev pub fault_number : RecordFault → ℕ

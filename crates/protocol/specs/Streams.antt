@@ -25,7 +25,8 @@ pub record IsPacketStream (bytes : List ℕ) (packets : List (List ℕ)) (ended 
 
 -- Some stream begins with the bytes.
 abbrev pub BeginsStream : List ℕ → Type 0
-BeginsStream bytes = (more : List ℕ) × (packets : List (List ℕ)) × (ended : Bool) × IsPacketStream (bytes ++ more) packets ended []
+BeginsStream bytes = (more : List ℕ) × (packets : List (List ℕ)) × (ended : Bool) ×
+    IsPacketStream (bytes ++ more) packets ended []
 
 -- ---- the same stream, read byte by byte
 

@@ -27,7 +27,9 @@ is_time_of_day hour minute second fraction = nat_le hour 23 && nat_le minute 59 
 -- the ticks of the numbers of a BTIME, or None where one is out of range
 abbrev pub btime_tick : (year day hour minute second fraction : ℕ) → Option ℤ
 btime_tick year day hour minute second fraction =
-    if is_day year day && is_time_of_day hour minute second fraction then Some (tick year day hour minute second fraction) else None
+    if is_day year day && is_time_of_day hour minute second fraction
+    then Some (tick year day hour minute second fraction)
+    else None
 
 -- ---- the calendar
 
@@ -62,7 +64,8 @@ pub record CivilTime : Type 0 where
 -- The year is one of 1900 to 2100, the date exists, and the time is one of a day.
 abbrev pub is_civil : CivilTime → Bool
 is_civil t =
-    nat_le 1900 t.year && nat_le t.year 2100 && nat_le 1 t.month && nat_le t.month 12 && nat_le 1 t.day && nat_le t.day (days_in t.year t.month)
+    nat_le 1900 t.year && nat_le t.year 2100 && nat_le 1 t.month && nat_le t.month 12 && nat_le 1 t.day &&
+    nat_le t.day (days_in t.year t.month)
     && is_time_of_day t.hour t.minute t.second 0
 
 -- its ticks, or None where it is out of range

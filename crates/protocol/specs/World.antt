@@ -116,7 +116,8 @@ told k t = record { client = k; bytes = t.bytes; ended = t.ended }
 -- what each Take hands, in order
 abbrev pub handed_from : Config → World → List Event → List Handed
 handed_from config w [] = []
-handed_from config w (Take k n ∷ es) = told k (taken_by w.history (client_of (slice_get w.connections k)) n) ∷ handed_from config (step config w (Take k n)) es
+handed_from config w (Take k n ∷ es) =
+    told k (taken_by w.history (client_of (slice_get w.connections k)) n) ∷ handed_from config (step config w (Take k n)) es
 handed_from config w (e ∷ es) = handed_from config (step config w e) es
 
 -- what each Take hands, from a server's start
