@@ -84,12 +84,16 @@ fn told(read: Result<Header<'_>, RecordFault>) -> u64 {
     }
 }
 
+/// Goes over four records, of which the last sum picks the next one and changes another, so that none is known before it is
+/// read.
 fn read_headers(rounds: u64) -> u64 {
-    let mut record = sample();
+    let mut records = [sample(); 4];
     let mut sum: u64 = 0;
     for _ in 0..rounds {
-        record[25] = (sum % 60) as u8;
-        sum = sum.wrapping_mul(3) ^ told(mseed_header::read(&record));
+        let place = (sum % 4) as usize;
+        records[(place + 1) % 4][25] = (sum % 60) as u8;
+        records[(place + 2) % 4][10] = 65 + (sum % 26) as u8;
+        sum = sum.wrapping_mul(3) ^ told(mseed_header::read(&records[place]));
     }
     sum
 }
