@@ -1,0 +1,3 @@
+mod Cuts
+mod Dots
+mod Walks

@@ -1,0 +1,15 @@
+-- Stations that are named by their places in a configuration.
+use Rattle.std.specs.Prelude.{ℕ, List, [], map, slice_get, option_map, unwrap_or}
+use Rattle.protocol.specs.Catalog.{Config, Entry, Station, View}
+
+-- the station of a place that is not there
+abbrev pub nowhere : Station
+nowhere = record { network = []; code = []; description = []; capacity = 0; first = 0 }
+
+-- the station at a place
+abbrev pub station_at : List Entry → ℕ → Station
+station_at entries place = unwrap_or (option_map (λ e. e.station) (slice_get entries place)) nowhere
+
+-- the view that the places are
+abbrev pub view_in : Config → List ℕ → View
+view_in config places = record { title = config.title; stations = map (station_at config.entries) places }

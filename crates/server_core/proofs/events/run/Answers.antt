@@ -1,0 +1,18 @@
+use Rattle.std.proofs.Common.{◌≡◌, ◌∙◌, ap, subst, arith, map, drop, List, []}
+use Rattle.std.proofs.lemmas.Grind.{common_steps}
+use Rattle.protocol.specs.World.{Event}
+use Rattle.protocol.specs.Alone.{handed_to}
+use Rattle.protocol.proofs.Alone.{isolated}
+use Rattle.server_core.specs.Runs.{event_value, handed_value}
+use Rattle.server_core.proofs.Running.{GoesWell, goes-on-well, next-event, ends-well}
+use Rattle.server_core.proofs.events.run.Goals as goal
+
+pub loop-event-preserved : goal.loop-event-preserved
+loop-event-preserved c =
+    goes-on-well c.args.config c.loop-event.server c.act.new.server _ _ _ (event_value c.event-item.result) _ c.in_ok-act.ensures.stands c.in_ok-act.ensures.handed
+    (subst (λ (left : List Event). GoesWell c.args.config c.loop-event.server (map handed_value c.loop-event.out.items) (map event_value c.args.events.now) left) (next-event c.args.events.now c.loop-event.event-index c.event-item.result (omega arith) c.event-item.is) c.loop-event.invariant)
+
+pub returns-clause-isolation : goal.returns-clause-isolation
+returns-clause-isolation c = λ k.
+    let none : map event_value (drop c.loop-event.event-index c.args.events.now) ≡ [] = grind (arith, common_steps) in
+    ap (handed_to k) (ends-well c.args.config c.loop-event.server _ _ _ none c.loop-event.invariant) ∙ isolated c.args.config (map event_value c.args.events.now) k

@@ -1,0 +1,25 @@
+use Rattle.std.proofs.Common.{◌≡◌, ◌≤◌, ◌∙◌, arith, refl, sym, subst, length, ap}
+use Rattle.protocol.specs.Client.{received}
+use Rattle.server_core.specs.Refusals.{receipt}
+use Rattle.server_core.specs.Standing.{StandsAt, Serving}
+use Rattle.server_core.proofs.Standings.{client-stands, nobody-stands, seat_seen, nobody_seen}
+use Rattle.server_core.proofs.server.Server.receive.Goals as goal
+
+pub returns-then-number-len-clause-stands : goal.returns-then-number-len-clause-stands
+returns-then-number-len-clause-stands c = λ config w stands.
+    rw (← c.number-number.ensures) (client-stands (λ v x. received v w.history c.args.bytes.now x) (record { config = c.self.inside.config; sessions = c.self.inside.sessions.items }) (record { config = c.self.inside.config; sessions = c.receive_at.new.sessions.items }) c.number-number.result refl
+    c.receive_at.ensures.count config w (c.receive_at.ensures.changed w.history) (subst (λ s. StandsAt s config w) (sym c.self.view_is) stands))
+
+pub returns-then-number-len-clause-answer : goal.returns-then-number-len-clause-answer
+returns-then-number-len-clause-answer c = λ config w stands.
+    rw (← c.number-number.ensures) (c.receive_at.ensures.answer ∙ ap (receipt (length c.args.bytes.now)) (seat_seen (record { config = c.self.inside.config; sessions = c.self.inside.sessions.items }) c.number-number.result config w (subst (λ s. StandsAt s config w) (sym c.self.view_is) stands)))
+
+pub returns-else-number-len-clause-stands : goal.returns-else-number-len-clause-stands
+returns-else-number-len-clause-stands c = λ config w stands.
+    let past : length c.args.self.now.sessions ≤ c.args.client = let same : length c.self.inside.sessions.items ≡ length c.args.self.now.sessions = ap (λ (s : Serving). length s.sessions) c.self.view_is in omega arith in
+    nobody-stands (λ v x. received v w.history c.args.bytes.now x) c.args.self.now c.args.client past config w stands
+
+pub returns-else-number-len-clause-answer : goal.returns-else-number-len-clause-answer
+returns-else-number-len-clause-answer c = λ config w stands.
+    let past : length c.args.self.now.sessions ≤ c.args.client = let same : length c.self.inside.sessions.items ≡ length c.args.self.now.sessions = ap (λ (s : Serving). length s.sessions) c.self.view_is in omega arith in
+    ap (receipt (length c.args.bytes.now)) (sym (nobody_seen c.args.self.now c.args.client past config w stands))

@@ -1,0 +1,6 @@
+pub mod Orders
+pub mod Sessions
+pub mod Standing
+pub mod Handings
+pub mod Runs
+pub mod Refusals

@@ -1,0 +1,22 @@
+-- Events and what is handed, as the definitions have them.
+use Rattle.std.specs.Prelude.{List, [], ◌∷◌, slice_get}
+use Rattle.std.specs.Net.Addr.{ipv4_bits}
+use Rattle.protocol.specs.World.{Event as ProtocolEvent, Handed as ProtocolHanded, World, told, taken_by, client_of}
+use Rattle.protocol.specs.World.Event.{Open as ProtocolOpen, Bytes as ProtocolBytes, Take as ProtocolTake, Close as ProtocolClose}
+use Rattle.server_core.specs.declared.events.Event.{Event}
+use Rattle.server_core.specs.declared.events.Event.TheVariants.{Open, Bytes, Take, Close}
+use Rattle.server_core.specs.declared.events.Handed.{Handed}
+
+abbrev pub event_value : Event → ProtocolEvent
+event_value (Open address) = ProtocolOpen (ipv4_bits address)
+event_value (Bytes client bytes) = ProtocolBytes client bytes.items
+event_value (Take client count) = ProtocolTake client count
+event_value (Close client) = ProtocolClose client
+
+abbrev pub handed_value : Handed → ProtocolHanded
+handed_value x = record { client = x.client; bytes = x.bytes.items; ended = x.ended }
+
+-- what an event hands in a world
+abbrev pub handed_by : World → ProtocolEvent → List ProtocolHanded
+handed_by w (ProtocolTake k n) = told k (taken_by w.history (client_of (slice_get w.connections k)) n) ∷ []
+handed_by w _ = []

@@ -1,0 +1,86 @@
+//! A whole list of events.
+ghost use Rattle.std.specs.Prelude.{◌≡◌, ℕ, List, [], ◌∷◌, ◌++◌, map, IfOk, OnOk};
+ghost use Rattle.protocol.specs.Catalog.{Config as ProtocolConfig};
+ghost use Rattle.protocol.specs.World.{World, step, handed};
+ghost use Rattle.protocol.specs.Alone.{alone, own_view, seen, handed_to};
+ghost use Rattle.server_core.specs.Standing.{StandsAt};
+ghost use Rattle.server_core.specs.Runs.{event_value, handed_value, handed_by};
+
+use crate::client::Client;
+use crate::server::Server;
+use catalog::Config;
+use std::alloc::{AllocError, Global};
+use std::net::Ipv4Addr;
+
+/// What happens at a server. Clients are numbered from 0 in the order in which they open; an event of a client that is not
+/// open changes nothing.
+#[derive(Drop)]
+pub enum Event {
+    /// A connection opens from an address.
+    Open(Ipv4Addr),
+    /// A client sends bytes.
+    Bytes(usize, Vec<u8>),
+    /// A client takes at most so many bytes of what waits.
+    Take(usize, usize),
+    /// A client's connection ends.
+    Close(usize),
+}
+
+/// What a take hands.
+#[derive(Drop)]
+pub struct Handed {
+    pub client: usize,
+    pub bytes: Vec<u8>,
+    /// Whether the client is told that its connection is over.
+    pub ended: bool,
+}
+
+fn act(
+    alloc: Global,
+    server: &mut Server,
+    event: &Event,
+    out: &mut Vec<Handed>,
+) -> Result<(), AllocError>
+    ensures stands { OnOk result ((config : ProtocolConfig) (w : World) → StandsAt server.old config w → StandsAt server.new config (step config w (event_value event.now))) }
+    ensures handed { OnOk result ((config : ProtocolConfig) (w : World) → StandsAt server.old config w →
+        map handed_value out.new.items ≡ map handed_value out.old.items ++ handed_by w (event_value event.now)) }
+{
+    match event {
+        Event::Open(address) => {
+            server.open(alloc, *address)?;
+            Ok(())
+        }
+        Event::Bytes(client, bytes) => {
+            let _ = server.receive(Client::new(*client), bytes.as_slice());
+            Ok(())
+        }
+        Event::Take(client, count) => {
+            let handing = server.take(alloc, *client, *count)?;
+            out.push(Handed {
+                client: *client,
+                bytes: handing.bytes,
+                ended: handing.ended,
+            })?;
+            Ok(())
+        }
+        Event::Close(client) => {
+            let _ = server.close(Client::new(*client));
+            Ok(())
+        }
+    }
+}
+
+/// What is handed to each client over a list of events, at a new server. Only memory can lack.
+#[tactic(auto, using(crate::proofs::Running::run_lemmas))]
+pub fn run(alloc: Global, config: Config, events: &[Event]) -> Result<Vec<Handed>, AllocError>
+    ensures handed { IfOk result (λ hs. map handed_value hs.items ≡ handed config (map event_value events.now)) }
+    ensures isolation { IfOk result (λ hs. (k : ℕ) → let es = map event_value events.now in
+        handed_to k (map handed_value hs.items) ≡ alone (own_view config es k) (seen config es k)) }
+{
+    let mut server = Server::new(alloc, config);
+    let mut out = Vec::new(alloc);
+    for event in events {
+        act(alloc, &mut server, event, &mut out)?;
+    }
+    Ok(out)
+}

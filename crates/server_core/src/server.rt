@@ -1,0 +1,150 @@
+//! All clients of a server.
+ghost use Rattle.std.specs.Prelude.{OnErr, option_map, ◌≡◌, ◌<◌, ◌≤◌, ℕ, List, [], ◌∷◌, ◌++◌, length, slice_get, slice_set, IfOk, OnOk, Some, None, is_some, is_ok};
+ghost use Rattle.std.specs.Result.{result_ok};
+ghost use Rattle.std.specs.Net.Addr.{ipv4_bits};
+ghost use Rattle.protocol.specs.Catalog.{Config as ProtocolConfig};
+ghost use Rattle.protocol.specs.Client.{offered};
+ghost use Rattle.protocol.specs.World.{World, step, empty_world, taken_by, client_of};
+ghost use Rattle.protocol.specs.World.Event.{Open, Bytes, Take, Close};
+
+use crate::client::{Client, Gone, Offer, Refusal};
+use crate::seats;
+use crate::session::{Handing, Session};
+use catalog::Config;
+use std::alloc::{AllocError, Global};
+use std::marker::Model;
+use std::net::Ipv4Addr;
+
+/// All clients of a server, each at its number.
+#[derive(Drop)]
+pub struct Server {
+    config: Config,
+    sessions: Vec<Option<Session>>,
+}
+
+impl Model for Server {
+    ghost use Rattle.server_core.specs.Standing.{Serving};
+
+    ghost Value = { Serving };
+
+    ghost view = { λ s. record { config = s.config; sessions = s.sessions.items } };
+}
+
+impl Server {
+    ghost use Rattle.server_core.specs.Sessions.{Sitting};
+    ghost use Rattle.server_core.specs.Standing.{StandsAt};
+    ghost use Rattle.server_core.specs.Handings.{taken_value};
+    ghost use Rattle.server_core.specs.Refusals.{room_of, receipt, offer_of};
+
+    /// A server that no one has come to.
+    pub fn new(alloc: Global, config: Config) -> Server
+        ensures { StandsAt result config empty_world }
+    {
+        Server {
+            config,
+            sessions: Vec::new(alloc),
+        }
+    }
+
+    /// A client comes from an address, and has the next number. Only memory can lack, and then nothing changes.
+    pub fn open(&mut self, alloc: Global, address: Ipv4Addr) -> Result<Client, AllocError>
+        ensures ok { OnOk result ((config : ProtocolConfig) (w : World) → StandsAt self.old config w → StandsAt self.new config (step config w (Open (ipv4_bits address)))) }
+        ensures number { IfOk result (λ c. c ≡ length self.old.sessions) }
+        ensures err { OnErr result (self.new ≡ self.old) }
+    {
+        let view = self.config.view(alloc, address)?;
+        let number = self.sessions.len();
+        self.sessions.push(Some(Session::new(view)))?;
+        Ok(Client::new(number))
+    }
+
+    /// How many bytes a client may send: 1,024 less the unread ones.
+    pub fn room(&self, client: Client) -> Result<usize, Gone>
+        ensures { (config : ProtocolConfig) (w : World) → StandsAt self.now config w → result_ok result ≡ option_map room_of (client_of (slice_get w.connections client)) }
+    {
+        seats::room_at(self.sessions.as_slice(), client.number()).ok_or(Gone)
+    }
+
+    /// Bytes come from a client, and its lines are obeyed as far as they may be. Bytes that do not fit are refused as a whole,
+    /// and nothing changes. In its end they are taken and dropped.
+    pub fn receive(&mut self, client: Client, bytes: &[u8]) -> Result<(), Refusal>
+        ensures stands { (config : ProtocolConfig) (w : World) → StandsAt self.old config w → StandsAt self.new config (step config w (Bytes client bytes.now)) }
+        ensures answer { (config : ProtocolConfig) (w : World) → StandsAt self.old config w → result ≡ receipt (length bytes.now) (client_of (slice_get w.connections client)) }
+    {
+        let number = client.number();
+        if number < self.sessions.len() {
+            seats::receive_at(&self.config, &mut self.sessions, number, bytes)
+        } else {
+            Err(Refusal::Gone)
+        }
+    }
+
+    /// Where nothing waits for a client, what comes next is made to wait, and stays until it is taken. It answers whether bytes
+    /// wait then, or the client's connection is over, or neither.
+    pub fn offer(&mut self, client: Client) -> Result<Offer, Gone>
+        ensures stands { (config : ProtocolConfig) (w : World) → StandsAt self.old config w → StandsAt self.new config (step config w (Take client 0)) }
+        ensures answer { (config : ProtocolConfig) (w : World) → StandsAt self.old config w → result_ok result ≡ option_map (λ c. offer_of (offered w.history c)) (client_of (slice_get w.connections client)) }
+    {
+        let number = client.number();
+        if number < self.sessions.len() {
+            seats::offer_at(&self.config, &mut self.sessions, number).ok_or(Gone)
+        } else {
+            Err(Gone)
+        }
+    }
+
+    /// The bytes that wait for a client.
+    pub fn waiting(&self, client: Client) -> Result<&[u8], Gone>
+        ensures { (config : ProtocolConfig) (w : World) → StandsAt self.now config w → option_map (λ bytes. bytes.now) (result_ok result) ≡ option_map (λ c. c.waiting) (client_of (slice_get w.connections client)) }
+    {
+        seats::waiting_at(self.sessions.as_slice(), client.number()).ok_or(Gone)
+    }
+
+    /// What waits next for a client is handed, at most so many bytes of it: an offer, and what is taken of it.
+    pub(crate) fn take(
+        &mut self,
+        alloc: Global,
+        number: usize,
+        count: usize,
+    ) -> Result<Handing, AllocError>
+        ensures ok { OnOk result ((config : ProtocolConfig) (w : World) → StandsAt self.old config w → StandsAt self.new config (step config w (Take number count))) }
+        ensures taken { IfOk result (λ x. (config : ProtocolConfig) (w : World) → StandsAt self.old config w → taken_value x ≡ taken_by w.history (client_of (slice_get w.connections number)) count) }
+    {
+        if number < self.sessions.len() {
+            let handing = seats::take_at(alloc, &self.config, &mut self.sessions, number, count)?;
+            Ok(handing)
+        } else {
+            Ok(Handing {
+                bytes: Vec::new(alloc),
+                ended: true,
+            })
+        }
+    }
+
+    /// The first bytes that wait for a client, 1 to all of them, were handed. When none is left, its further lines are obeyed.
+    pub fn took(&mut self, client: Client, count: usize) -> Result<(), Gone>
+        requires { (s : Sitting) → slice_get self.old.sessions client ≡ Some (Some s) → (0 < count) × (count ≤ length s.waiting) }
+        ensures stands { (config : ProtocolConfig) (w : World) → StandsAt self.old config w → StandsAt self.new config (step config w (Take client count)) }
+        ensures answer { (config : ProtocolConfig) (w : World) → StandsAt self.old config w → is_ok result ≡ is_some (client_of (slice_get w.connections client)) }
+    {
+        let number = client.number();
+        if number < self.sessions.len() {
+            seats::took_at(&self.config, &mut self.sessions, number, count)
+        } else {
+            Err(Gone)
+        }
+    }
+
+    /// A client's connection ends, and the client is gone for good.
+    pub fn close(&mut self, client: Client) -> Result<(), Gone>
+        ensures stands { (config : ProtocolConfig) (w : World) → StandsAt self.old config w → StandsAt self.new config (step config w (Close client)) }
+        ensures answer { (config : ProtocolConfig) (w : World) → StandsAt self.old config w → is_ok result ≡ is_some (client_of (slice_get w.connections client)) }
+    {
+        let number = client.number();
+        if number < self.sessions.len() {
+            seats::close_at(&mut self.sessions, number)
+        } else {
+            Err(Gone)
+        }
+    }
+}
