@@ -67,19 +67,54 @@ fn commands_by_their_names(rt: HostRuntime) {
 }
 
 #[test]
-fn lines_that_are_no_command(rt: HostRuntime) {
+fn words_of_each_command_in_either_case(rt: HostRuntime) {
+    for (text, name) in [
+        ("STATION WLF", "station"),
+        ("station WLF GE", "station"),
+        ("SELECT BHZ", "select"),
+        ("select BHZ", "select"),
+        ("DATA 0 2024,2,29", "data"),
+        ("data 0 2024,2,29", "data"),
+        ("FETCH 0 2024,2,29", "fetch"),
+        ("fetch 0 2024,2,29", "fetch"),
+        ("TIME 2024,2,29 2024,3,1", "time"),
+        ("time 2024,2,29 2024,3,1", "time"),
+    ] {
+        assert_eq!(rt; name_asked(Line::Text(text.as_bytes())), name, "{text}");
+    }
+}
+
+#[test]
+fn too_few_or_too_many_words_in_either_case(rt: HostRuntime) {
     for text in [
         "HELLO x",
         "hello x",
         "CAT x",
+        "cat x",
         "BYE x",
+        "bye x",
+        "END x",
         "end x",
         "STATION",
+        "station",
+        "STATION WLF GE x",
         "station WLF GE x",
         "SELECT BH? x",
+        "select BH? x",
         "DATA 0 2024,2,29 x",
+        "data 0 2024,2,29 x",
+        "FETCH 0 2024,2,29 x",
         "fetch 0 2024,2,29 x",
         "TIME 2024,2,29 2024,3,1 x",
+        "time 2024,2,29 2024,3,1 x",
+    ] {
+        assert_eq!(rt; name_asked(Line::Text(text.as_bytes())), "bad", "{text}");
+    }
+}
+
+#[test]
+fn lines_that_are_no_command(rt: HostRuntime) {
+    for text in [
         "DATA 1000000",
         "DATA G",
         "DATA 2024,2,29",
