@@ -115,6 +115,7 @@ impl Config {
         ensures ok { IfOk result (λ c. title_read (parse_document bytes.now) ≡ Ok c.title) }
         ensures text { OnOk result (IsUtf8 bytes.now) }
         ensures fault { IfErr result (λ e. e ≢ ConfigFault.OutOfMemory → IsUtf8 bytes.now → title_read (parse_document bytes.now) ≡ Err e) }
+        ensures no_text { IfErr result (λ e. e ≢ ConfigFault.OutOfMemory → ¬ IsUtf8 bytes.now → e ≡ ConfigFault.Toml) }
     {
         let table = match toml::table_from_slice(alloc, bytes) {
             Ok(table) => table,
