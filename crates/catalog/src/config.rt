@@ -1,5 +1,5 @@
 //! What a server is set up with.
-ghost use Rattle.std.specs.Prelude.{◌≡◌, ◌≢◌, ◌≤◌, [], length, IfOk, IfErr, Ok, Err, OnOk, option_map, option_and_then, codes};
+ghost use Rattle.std.specs.Prelude.{◌≡◌, ◌≢◌, ◌≤◌, All, length, slice_get, IfOk, IfErr, Some, Ok, Err, OnOk, option_map, option_and_then, codes};
 ghost use Rattle.std.specs.Str.{IsUtf8};
 ghost use Rattle.std.specs.List.{list_all};
 ghost use Rattle.toml.specs.Parse.{parse_document};
@@ -7,53 +7,41 @@ ghost use Rattle.toml.specs.View.{table_view};
 ghost use Rattle.toml.specs.Data.{as_str, get_member};
 ghost use Rattle.catalog.specs.Reading.{is_printable, is_title, title_within, title_of_text, title_of, title_read};
 ghost use Rattle.std.specs.Net.Addr.{ipv4_bits};
-ghost use Rattle.protocol.specs.Catalog.{view_of};
-ghost use Rattle.catalog.specs.Places.{view_in};
+ghost use Rattle.protocol.specs.Catalog.{sees, view_of};
+ghost use Rattle.catalog.specs.Places.{view_in, IsPlace};
 
 use crate::fault::ConfigFault;
+use crate::station::Station;
+use crate::view::View;
+use access_list::AccessList;
 use std::alloc::{AllocError, Global};
 use std::marker::Model;
 use std::net::Ipv4Addr;
 use toml::Table;
 
-/// The settings of a server. So far these are its title alone, and it has no station.
+/// The settings of a server.
 #[derive(Drop)]
 pub struct Config {
     title: Vec<u8>,
+    max_connections: usize,
+    access: Option<AccessList>,
+    stations: Vec<Station>,
 }
 
 impl Model for Config {
-    ghost use Rattle.std.specs.Prelude.{◌≤◌, [], None, length};
+    ghost use Rattle.std.specs.Prelude.{◌≤◌, length};
     ghost use Rattle.protocol.specs.Catalog.{Config as ProtocolConfig};
 
     ghost Value = { ProtocolConfig };
 
-    ghost view = { λ c. record { title = c.title.items; max_connections = 100; access = None; entries = [] } };
+    ghost view = { λ c. record {
+      title = c.title.items;
+      max_connections = c.max_connections;
+      access = c.access;
+      entries = c.stations.items;
+    } };
 
-    ghost invariant = { λ c. length c.title.items ≤ 100 };
-}
-
-/// The stations that an address sees, by their places in the configuration, in order.
-#[derive(Drop)]
-pub struct View {
-    places: Vec<usize>,
-}
-
-impl Model for View {
-    ghost use Rattle.std.specs.Prelude.{List, ℕ};
-
-    ghost Value = { List ℕ };
-
-    ghost view = { λ v. v.places.items };
-}
-
-impl View {
-    /// The places, rising.
-    pub fn places(&self) -> &[usize]
-        ensures { result.now ≡ self.now }
-    {
-        self.places.as_slice()
-    }
+    ghost invariant = { λ c. (length c.title.items ≤ 100) × (1 ≤ c.max_connections) × (c.max_connections ≤ 10000) };
 }
 
 fn is_printable(byte: u8) -> bool
@@ -128,7 +116,12 @@ impl Config {
         };
         let title = title_of(&table)?;
         match title.to_vec(alloc) {
-            Ok(title) => Ok(Config { title }),
+            Ok(title) => Ok(Config {
+                title,
+                max_connections: 100,
+                access: None,
+                stations: Vec::new(alloc),
+            }),
             Err(_) => Err(ConfigFault::OutOfMemory),
         }
     }
@@ -141,16 +134,44 @@ impl Config {
         self.title.as_slice()
     }
 
-    /// What an address sees. Only memory can lack.
+    /// How many clients may be connected at a time, 1 to 10,000.
+    pub fn max_connections(&self) -> usize
+        ensures value { result ≡ self.now.max_connections }
+        ensures some { 1 ≤ result }
+        ensures limit { result ≤ 10000 }
+    {
+        self.max_connections
+    }
+
+    /// The stations, in order.
+    pub fn stations(&self) -> &[Station]
+        ensures { result.now ≡ self.now.entries }
+    {
+        self.stations.as_slice()
+    }
+
+    /// Whether an address may use the station at a place: the station's own list decides, without one the global list, and
+    /// without either everybody may.
+    pub fn sees(&self, place: usize, address: Ipv4Addr) -> bool
+        requires { IsPlace self.now place }
+        ensures { option_map (λ e. sees e.access self.now.access (ipv4_bits address)) (slice_get self.now.entries place) ≡ Some result }
+    {
+        let station = &self.stations[place];
+        station.is_open_to(&self.access, address)
+    }
+
+    /// What an address sees: the stations that it may use, in order. Only memory can lack.
+    #[tactic(auto, using(crate::proofs::Views::view_lemmas))]
     pub fn view(&self, alloc: Global, address: Ipv4Addr) -> Result<View, AllocError>
         ensures view { IfOk result (λ v. view_in self.now v ≡ view_of self.now (ipv4_bits address)) }
-        ensures none { IfOk result (λ v. v ≡ []) }
+        ensures places { IfOk result (λ v. All (IsPlace self.now) v) }
     {
-        // There is no station yet that the address could see.
-        let _ = &self.title;
-        let _ = address;
-        Ok(View {
-            places: Vec::new(alloc),
-        })
+        let mut places = Vec::new(alloc);
+        for (place, station) in self.stations.iter().enumerate() {
+            if station.is_open_to(&self.access, address) {
+                places.push(place)?;
+            }
+        }
+        Ok(View::of(places))
     }
 }

@@ -3,8 +3,12 @@
 
 pub mod config;
 pub mod fault;
+pub mod station;
 #[cfg(test)]
 mod tests;
+pub mod view;
 
-pub use config::{Config, View};
+pub use config::Config;
 pub use fault::ConfigFault;
+pub use station::Station;
+pub use view::View;
