@@ -34,8 +34,8 @@ impl Full {
     }
 }
 
-/// At most 16 selectors, in the order in which they were added.
-#[derive(Drop)]
+/// At most 16 selectors, in the order in which they were added; by default none.
+#[derive(Default, Drop)]
 pub struct Selectors {
     selectors: ArrayVec<Selector, CAPACITY>,
 }
@@ -72,6 +72,13 @@ impl Selectors {
         ensures { IsTrue result ↔ (self.now ≡ []) }
     {
         self.selectors.is_empty()
+    }
+
+    /// Whether 16 are there.
+    pub fn is_full(&self) -> bool
+        ensures { IsTrue result ↔ (length self.now ≡ 16) }
+    {
+        self.selectors.is_full()
     }
 
     /// Adds one behind the others. It fails exactly where 16 are there, and then they stay as they are.

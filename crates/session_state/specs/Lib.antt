@@ -1,0 +1,6 @@
+pub mod Naming
+pub mod Choices
+pub mod Changes
+pub mod Asking
+pub mod Sessions
+pub mod Refusals

@@ -1,0 +1,530 @@
+//! One client's side of the server.
+ghost use Rattle.std.specs.Prelude.{◌≡◌, ◌≢◌, ◌≤◌, ◌<◌, ◌+◌, ◌-◌, ◌&&◌, IfOk, OnErr, List, [], ◌∷◌, ◌++◌, length, drop, nat_lt, not, is_ok, true, false, codes};
+ghost use Rattle.protocol.specs.Catalog.{View as ProtocolView};
+ghost use Rattle.protocol.specs.Lines.{open_after, cut_from};
+ghost use Rattle.protocol.specs.History.{Arrival};
+ghost use Rattle.protocol.specs.Session.{Negotiated, greeting, ok_line, error_line};
+ghost use Rattle.protocol.specs.Client.{read_byte, read_on, received, offered, after_take, new_client, reads, is_ending, is_nothing, follow};
+
+use crate::asked::{Asked, asked_by};
+use crate::choices::Choice;
+use crate::modes::{Change, Effect, Mode, make_change};
+use crate::refusals::NoRoom;
+use crate::replies::{
+    Waiting, put_bytes, put_end_line, put_error, put_greeting, put_ok, put_station_line,
+};
+use arrayvec::ArrayVec;
+use catalog::{Config, View};
+use selector::Selectors;
+use sl_lines::LineCutter;
+use std::marker::Model;
+
+/// What a session is in the middle of.
+#[derive(Clone, Copy, Debug, PartialEq, Eq)]
+pub enum State {
+    /// Commands are read while nothing waits.
+    Negotiating,
+    /// So many lines of CAT were made to wait.
+    Listing(usize),
+    /// A transfer is to start.
+    Starting,
+    /// A transfer, which may choose arrivals from this one on.
+    Transfer(u64),
+    /// The client said BYE, or all was sent.
+    Ending,
+}
+
+/// Whether reading came to an end.
+#[derive(Clone, Copy, Debug, PartialEq, Eq)]
+pub enum Settled {
+    /// All was read that may be read now.
+    Rest,
+    /// A transfer is to start; what follows is read once it has.
+    Start,
+}
+
+/// A client's state.
+#[derive(Drop)]
+pub struct Session {
+    view: View,
+    mode: Mode,
+    state: State,
+    cutter: LineCutter,
+    unread: ArrayVec<u8, 1024>,
+    read: usize,
+    waiting: Waiting,
+    sent: usize,
+}
+
+impl Model for Session {
+    ghost use Rattle.std.specs.Prelude.{◌≤◌, drop, length};
+    ghost use Rattle.session_state.specs.Sessions.{Sitting};
+
+    ghost Value = { Sitting };
+
+    ghost view = { λ s. record {
+      places = s.view;
+      mode = s.mode;
+      state = s.state;
+      open_line = s.cutter;
+      unread = drop s.read s.unread.items;
+      waiting = drop s.sent s.waiting.items;
+    } };
+
+    ghost invariant = { λ s. (s.read ≤ length s.unread.items) × (s.sent ≤ length s.waiting.items) };
+}
+
+/// What others see of a session.
+impl Session {
+    ghost use Rattle.protocol.specs.Catalog.{Config as ProtocolConfig};
+    ghost use Rattle.session_state.specs.Choices.{chosen_of};
+    ghost use Rattle.session_state.specs.Sessions.{client_in};
+
+    /// The session of a client that has just come, with what it sees.
+    pub fn new(view: View) -> Session
+        ensures client { (config : ProtocolConfig) (h : List Arrival) → client_in config h result ≡ new_client }
+        ensures places { result.places ≡ view }
+    {
+        Session {
+            view,
+            mode: Mode::Uni(Selectors::new()),
+            state: State::Negotiating,
+            cutter: LineCutter::new(),
+            unread: ArrayVec::new(),
+            read: 0,
+            waiting: ArrayVec::new(),
+            sent: 0,
+        }
+    }
+
+    /// How many bytes may be received, from 0 to 1,024.
+    pub fn room(&self) -> usize
+        ensures value { result ≡ 1024 - length self.now.unread }
+        ensures whole { result + length self.now.unread ≡ 1024 }
+    {
+        1024 - (self.unread.len() - self.read)
+    }
+
+    /// The bytes that wait, at most 520.
+    pub fn waiting(&self) -> &[u8]
+        ensures { result.now ≡ self.now.waiting }
+    {
+        &self.waiting.as_slice()[self.sent..]
+    }
+
+    /// What it is in the middle of.
+    pub fn state(&self) -> State
+        ensures { result ≡ self.now.state }
+    {
+        self.state
+    }
+
+    /// The stations that were named, in that order. Those with an action are the requests of a transfer.
+    pub fn choices(&self) -> &[Choice]
+        ensures { result.now ≡ chosen_of self.now.mode }
+    {
+        self.mode.choices()
+    }
+
+    /// Whether nothing waits.
+    #[tactic(auto, using(crate::proofs::Following::nothing_drop))]
+    pub fn is_empty(&self) -> bool
+        ensures { result ≡ is_nothing self.now.waiting }
+    {
+        self.sent == self.waiting.len()
+    }
+
+    /// Whether the client said BYE, or all was sent.
+    pub fn is_ending(&self) -> bool
+        ensures { (config : ProtocolConfig) (h : List Arrival) → result ≡ is_ending (client_in config h self.now).state }
+    {
+        match self.state {
+            State::Negotiating => false,
+            State::Listing(_) => false,
+            State::Starting => false,
+            State::Transfer(_) => false,
+            State::Ending => true,
+        }
+    }
+}
+
+/// One step each.
+impl Session {
+    ghost use Rattle.protocol.specs.Catalog.{Config as ProtocolConfig};
+    ghost use Rattle.session_state.specs.Choices.{negotiated_in};
+    ghost use Rattle.session_state.specs.Changes.{changed_by, outcome_after};
+    ghost use Rattle.session_state.specs.Sessions.{sitting_view, effected, kept_unread, listed_in};
+
+    fn turn_to(&mut self, state: State)
+        ensures { self.new ≡ record self.old { state = state } }
+    {
+        let _ = &self.mode;
+        self.state = state;
+    }
+
+    fn greet(&mut self, config: &Config)
+        ensures { self.new ≡ record self.old { waiting = greeting (sitting_view config.now self.old) } }
+    {
+        put_greeting(&mut self.waiting, config, &self.view);
+        self.sent = 0;
+    }
+
+    fn say_ok(&mut self)
+        ensures { self.new ≡ record self.old { waiting = ok_line } }
+    {
+        put_ok(&mut self.waiting);
+        self.sent = 0;
+    }
+
+    fn say_error(&mut self)
+        ensures { self.new ≡ record self.old { waiting = error_line } }
+    {
+        put_error(&mut self.waiting);
+        self.sent = 0;
+    }
+
+    fn take_effect(&mut self, effect: Effect)
+        ensures { self.new ≡ effected self.old effect }
+    {
+        match effect {
+            Effect::Done => self.say_ok(),
+            Effect::Refused => self.say_error(),
+            Effect::Starts => self.turn_to(State::Starting),
+        }
+    }
+
+    fn make(&mut self, config: &Config, change: Change) -> Effect
+        ensures mode { self.new ≡ record self.old { mode = self.new.mode } }
+        ensures effect { outcome_after result (negotiated_in config.now self.new.mode) ≡ changed_by (sitting_view config.now self.old) config.now (negotiated_in config.now self.old.mode) change }
+    {
+        let _ = &self.state;
+        make_change(&mut self.mode, &self.view, config, change)
+    }
+
+    fn next_byte(&mut self) -> u8
+        requires { 0 < length self.old.unread }
+        ensures byte { self.old.unread ≡ result ∷ self.new.unread }
+        ensures rest { self.new ≡ record self.old { unread = self.new.unread } }
+    {
+        let byte = self.unread.as_slice()[self.read];
+        self.read += 1;
+        byte
+    }
+
+    fn has_unread(&self) -> bool
+        ensures { result ≡ nat_lt 0 (length self.now.unread) }
+    {
+        self.read < self.unread.len()
+    }
+
+    /// In its end a client's unread bytes are dropped.
+    fn drop_if_ending(&mut self)
+        ensures { self.new ≡ record self.old { unread = kept_unread self.old.state self.old.unread } }
+    {
+        if let State::Ending = self.state {
+            self.read = self.unread.len();
+        }
+    }
+
+    /// Bytes behind those that are unread, which move to the front.
+    fn append(&mut self, bytes: &[u8])
+        requires { length self.old.unread + length bytes.now ≤ 1024 }
+        ensures { self.new ≡ record self.old { unread = self.old.unread ++ bytes.now } }
+    {
+        let mut rest = ArrayVec::new();
+        let _ = rest.try_extend_from_slice(&self.unread.as_slice()[self.read..]);
+        let _ = rest.try_extend_from_slice(bytes);
+        self.unread = rest;
+        self.read = 0;
+    }
+
+    fn skip(&mut self, count: usize)
+        requires { count ≤ length self.old.waiting }
+        ensures { self.new ≡ record self.old { waiting = drop count self.old.waiting } }
+    {
+        let _all = self.waiting.len();
+        self.sent += count;
+    }
+
+    /// The listing is over once its last line was taken.
+    fn end_listing(&mut self)
+        ensures { self.new ≡ record self.old { state = listed_in self.old.places self.old.state } }
+    {
+        if let State::Listing(made) = self.state {
+            if made > self.view.places().len() {
+                self.state = State::Negotiating;
+            }
+        }
+    }
+}
+
+/// Reading what came.
+impl Session {
+    ghost use Rattle.protocol.specs.Catalog.{Config as ProtocolConfig};
+    ghost use Rattle.session_state.specs.Choices.{negotiated_in};
+    ghost use Rattle.session_state.specs.Asking.{outcome_by, outcome_of_lines, says_bye, is_leaving};
+    ghost use Rattle.session_state.specs.Sessions.{client_in, sitting_view, HasPlaces, HasFirsts, Comes, never_starts};
+    ghost use Rattle.session_state.specs.declared.session.State.TheVariants.{Negotiating, Starting, Transfer};
+    ghost use Rattle.session_state.specs.declared.session.Settled.TheVariants.{Rest, Start};
+
+    /// What the line asks that a byte ends, where it ends one.
+    #[tactic(auto, using(crate::proofs::Following::ask_lemmas))]
+    fn ask(&mut self, config: &Config, byte: u8) -> Asked
+        requires { HasPlaces config.now self.old }
+        ensures line { self.new ≡ record self.old { open_line = open_after self.old.open_line (byte ∷ []) } }
+        ensures outcome { (n : Negotiated) → outcome_of_lines (sitting_view config.now self.old) n (cut_from self.old.open_line (byte ∷ [])) ≡ outcome_by config.now (sitting_view config.now self.old) n result }
+        ensures leaving { says_bye (cut_from self.old.open_line (byte ∷ [])) ≡ is_leaving result }
+    {
+        let _ = &self.state;
+        match self.cutter.push(byte) {
+            Some(line) => asked_by(&self.view, config, line),
+            None => Asked::Nothing,
+        }
+    }
+
+    /// The command is obeyed, while nothing waits in negotiation.
+    #[tactic(auto, using(crate::proofs::Following::answer_lemmas))]
+    fn answer(&mut self, config: &Config, asked: Asked)
+        requires negotiating { self.old.state ≡ Negotiating }
+        requires nothing_waits { self.old.waiting ≡ [] }
+        ensures client { (h : List Arrival) → client_in config.now h self.new
+            ≡ follow (sitting_view config.now self.old) h (client_in config.now h self.old) (negotiated_in config.now self.old.mode) (outcome_by config.now (sitting_view config.now self.old) (negotiated_in config.now self.old.mode) asked) }
+        ensures places { self.new.places ≡ self.old.places }
+        ensures unread { self.new.unread ≡ self.old.unread }
+    {
+        match asked {
+            Asked::Nothing => {}
+            Asked::Greeting => self.greet(config),
+            Asked::Listing => self.turn_to(State::Listing(0)),
+            Asked::Leaving => self.turn_to(State::Ending),
+            Asked::Changing(change) => {
+                let effect = self.make(config, change);
+                self.take_effect(effect);
+            }
+            Asked::Refused => self.say_error(),
+        }
+    }
+
+    /// One more byte is read, while nothing waits in negotiation.
+    #[tactic(auto, using(crate::proofs::Following::reads_byte))]
+    fn read_command(&mut self, config: &Config, byte: u8)
+        requires places { HasPlaces config.now self.old }
+        requires negotiating { self.old.state ≡ Negotiating }
+        requires nothing_waits { self.old.waiting ≡ [] }
+        ensures client { (h : List Arrival) → client_in config.now h self.new
+            ≡ read_byte (sitting_view config.now self.old) h byte (client_in config.now h self.old) }
+        ensures places { self.new.places ≡ self.old.places }
+        ensures unread { self.new.unread ≡ self.old.unread }
+    {
+        let _ = &self.view;
+        let asked = self.ask(config, byte);
+        self.answer(config, asked);
+    }
+
+    /// One more byte is read in a transfer, where BYE alone acts.
+    #[tactic(auto, using(crate::proofs::Following::passing_lemmas))]
+    fn read_past(&mut self, config: &Config, byte: u8, next: u64)
+        requires places { HasPlaces config.now self.old }
+        requires transfer { self.old.state ≡ Transfer next }
+        ensures client { (h : List Arrival) → client_in config.now h self.new
+            ≡ read_byte (sitting_view config.now self.old) h byte (client_in config.now h self.old) }
+        ensures places { self.new.places ≡ self.old.places }
+        ensures unread { self.new.unread ≡ self.old.unread }
+        ensures stays { never_starts self.new.state ≡ true }
+    {
+        let _ = &self.view;
+        let asked = self.ask(config, byte);
+        if asked.is_leaving() {
+            self.turn_to(State::Ending);
+        }
+    }
+
+    #[tactic(auto, using(crate::proofs::Following::no_bytes))]
+    fn is_reading(&self) -> bool
+        ensures may { result ≡ true → (config : ProtocolConfig) (h : List Arrival) → reads (client_in config h self.now).state self.now.waiting ≡ true }
+        ensures may_not { result ≡ false → self.now.state ≢ Starting → (config : ProtocolConfig) (h : List Arrival) → reads (client_in config h self.now).state self.now.waiting ≡ false }
+        ensures negotiating { result ≡ true → self.now.state ≡ Negotiating → self.now.waiting ≡ [] }
+        ensures not_starting { result ≡ true → self.now.state ≢ Starting }
+    {
+        match self.state {
+            State::Negotiating => self.is_empty(),
+            State::Listing(_) => false,
+            State::Starting => false,
+            State::Transfer(_) => true,
+            State::Ending => false,
+        }
+    }
+}
+
+/// What others do with a session.
+impl Session {
+    ghost use Rattle.protocol.specs.Catalog.{Config as ProtocolConfig};
+    ghost use Rattle.protocol.specs.Session.{Negotiated};
+    ghost use Rattle.session_state.specs.Choices.{chosen_of, kept_in};
+    ghost use Rattle.session_state.specs.Sessions.{client_in, sitting_view, is_listing, line_made, HasPlaces, HasFirsts, Comes, never_starts};
+    ghost use Rattle.session_state.specs.declared.session.State.TheVariants.{Negotiating, Listing, Starting, Transfer, Ending};
+    ghost use Rattle.session_state.specs.declared.session.Settled.TheVariants.{Rest, Start};
+
+    /// One more byte is read, where one may be.
+    fn read_byte(&mut self, config: &Config, byte: u8)
+        requires places { HasPlaces config.now self.old }
+        requires nothing_waits { self.old.state ≡ Negotiating → self.old.waiting ≡ [] }
+        requires not_starting { self.old.state ≢ Starting }
+        requires reads { (h : List Arrival) → reads (client_in config.now h self.old).state self.old.waiting ≡ true }
+        ensures client { (h : List Arrival) → client_in config.now h self.new
+            ≡ read_byte (sitting_view config.now self.old) h byte (client_in config.now h self.old) }
+        ensures places { self.new.places ≡ self.old.places }
+        ensures unread { self.new.unread ≡ self.old.unread }
+        ensures stays { never_starts self.old.state ≡ true → never_starts self.new.state ≡ true }
+    {
+        match self.state {
+            State::Negotiating => self.read_command(config, byte),
+            State::Transfer(next) => self.read_past(config, byte, next),
+            State::Listing(_) => {}
+            State::Starting => {}
+            State::Ending => {}
+        }
+    }
+
+    fn settled(&self) -> Settled
+        ensures start { result ≡ Start → self.now.state ≡ Starting }
+        ensures rest { result ≡ Rest → self.now.state ≢ Starting }
+    {
+        match self.state {
+            State::Starting => Settled::Start,
+            State::Negotiating => Settled::Rest,
+            State::Listing(_) => Settled::Rest,
+            State::Transfer(_) => Settled::Rest,
+            State::Ending => Settled::Rest,
+        }
+    }
+
+    /// What was received is read as far as it may be, up to a command that starts a transfer.
+    pub fn settle(&mut self, config: &Config) -> Settled
+        requires { HasPlaces config.now self.old }
+        ensures client { (h : List Arrival) → Comes result config.now h self.new
+            (read_on (sitting_view config.now self.old) h self.old.unread (client_in config.now h self.old)) }
+        ensures places { self.new.places ≡ self.old.places }
+        ensures stays { never_starts self.old.state ≡ true → result ≡ Rest }
+    {
+        while self.has_unread() && self.is_reading() {
+            let byte = self.next_byte();
+            self.read_byte(config, byte);
+        }
+        self.drop_if_ending();
+        self.settled()
+    }
+
+    /// Bytes come. Where there is no room for all of them they are refused as a whole, and nothing changes. In its end a session
+    /// takes and drops them.
+    #[tactic(auto, using(crate::proofs::Receiving::receive_lemmas))]
+    pub fn receive(&mut self, config: &Config, bytes: &[u8]) -> Result<Settled, NoRoom>
+        requires { HasPlaces config.now self.old }
+        ensures client { IfOk result (λ settled. (h : List Arrival) → Comes settled config.now h self.new
+            (received (sitting_view config.now self.old) h bytes.now (client_in config.now h self.old))) }
+        ensures refused { OnErr result ((h : List Arrival) → client_in config.now h self.new ≡ received (sitting_view config.now self.old) h bytes.now (client_in config.now h self.old)) }
+        ensures unchanged { OnErr result (self.new ≡ self.old) }
+        ensures room { is_ok result ≡ not (nat_lt (1024 - length self.old.unread) (length bytes.now)) }
+        ensures places { self.new.places ≡ self.old.places }
+    {
+        if bytes.len() > self.room() {
+            return Err(NoRoom);
+        }
+        if self.is_ending() {
+            return Ok(Settled::Rest);
+        }
+        self.append(bytes);
+        Ok(self.settle(config))
+    }
+
+    /// The transfer begins, once each request's first arrival is kept, and what follows is read.
+    #[tactic(auto, using(crate::proofs::Receiving::begin_lemmas))]
+    pub fn begin(&mut self, config: &Config)
+        requires places { HasPlaces config.now self.old }
+        requires starting { self.old.state ≡ Starting }
+        ensures client { (h : List Arrival) → HasFirsts config.now h self.old → client_in config.now h self.new
+            ≡ read_on (sitting_view config.now self.old) h self.old.unread (client_in config.now h self.old) }
+        ensures places { self.new.places ≡ self.old.places }
+    {
+        self.turn_to(State::Transfer(0));
+        let _settled = self.settle(config);
+    }
+
+    /// The first bytes that wait, 1 to all of them, were handed. When none is left, further lines are read.
+    #[tactic(auto, using(crate::proofs::Taking::took_lemmas))]
+    pub fn took(&mut self, config: &Config, count: usize) -> Settled
+        requires places { HasPlaces config.now self.old }
+        requires some { 0 < count }
+        requires waiting { count ≤ length self.old.waiting }
+        ensures client { (h : List Arrival) → Comes result config.now h self.new
+            (after_take (sitting_view config.now self.old) h (client_in config.now h self.old) count) }
+        ensures places { self.new.places ≡ self.old.places }
+    {
+        self.skip(count);
+        if self.is_empty() {
+            self.end_listing();
+            self.settle(config)
+        } else {
+            Settled::Rest
+        }
+    }
+
+    #[tactic(auto, using(crate::proofs::Taking::line_lemmas))]
+    fn make_line(&mut self, config: &Config, made: usize)
+        requires { HasPlaces config.now self.old }
+        ensures { self.new ≡ line_made config.now made self.old }
+    {
+        let places = self.view.places();
+        if made < places.len() {
+            put_station_line(&mut self.waiting, &config.stations()[places[made]]);
+        } else if made == places.len() {
+            put_end_line(&mut self.waiting);
+        } else {
+            return;
+        }
+        self.sent = 0;
+        self.state = State::Listing(made + 1);
+    }
+
+    /// The next line of a listing is made to wait, while nothing waits. In another state nothing changes.
+    pub fn next_line(&mut self, config: &Config)
+        requires places { HasPlaces config.now self.old }
+        requires nothing_waits { self.old.waiting ≡ [] }
+        ensures client { is_listing self.old.state ≡ true → (h : List Arrival) → client_in config.now h self.new ≡ offered h (client_in config.now h self.old) }
+        ensures unchanged { is_listing self.old.state ≡ false → self.new ≡ self.old }
+        ensures places { self.new.places ≡ self.old.places }
+    {
+        if let State::Listing(made) = self.state {
+            self.make_line(config, made);
+        }
+    }
+
+    /// A packet, or other bytes up to 520, is made to wait, after which a transfer may choose arrivals from that one on.
+    pub fn put(&mut self, bytes: &[u8], next: u64)
+        requires { length bytes.now ≤ 520 }
+        ensures { self.new ≡ record self.old { state = Transfer next; waiting = bytes.now } }
+    {
+        put_bytes(&mut self.waiting, bytes);
+        self.sent = 0;
+        self.state = State::Transfer(next);
+    }
+
+    /// All was sent: `END` is made to wait, and what is unread is dropped.
+    pub fn finish(&mut self)
+        ensures { self.new ≡ record self.old { state = Ending; unread = []; waiting = codes "END" } }
+    {
+        put_bytes(&mut self.waiting, b"END");
+        self.sent = 0;
+        self.read = self.unread.len();
+        self.state = State::Ending;
+    }
+
+    /// Keeps from which arrival on the i-th named station's records are wanted.
+    pub fn keep(&mut self, i: usize, first: u64)
+        requires { i < length (chosen_of self.old.mode) }
+        ensures { self.new ≡ record self.old { mode = kept_in self.old.mode i first } }
+    {
+        let _ = &self.state;
+        self.mode.keep(i, first);
+    }
+}
