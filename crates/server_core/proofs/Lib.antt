@@ -1,6 +1,3 @@
-pub mod Asking
-pub mod Following
-pub mod Settling
-pub mod Taking
+pub mod Offering
 pub mod Standings
 pub mod Running

@@ -1,6 +1,5 @@
-pub mod Orders
-pub mod Sessions
 pub mod Standing
+pub mod Transfers
 pub mod Handings
 pub mod Runs
 pub mod Refusals

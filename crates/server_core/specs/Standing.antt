@@ -1,10 +1,10 @@
 -- What a server stands for: a world of clients over one history.
-use Rattle.std.specs.Prelude.{◌≡◌, ◌≢◌, ℕ, List, length, slice_get, Option, Some, None, option_map}
+use Rattle.std.specs.Prelude.{◌≡◌, ◌≢◌, ℕ, List, [], length, slice_get, Option, Some, None, option_map}
 use Rattle.protocol.specs.Catalog.{Config, View}
 use Rattle.protocol.specs.Client.{Client, after_take, offered}
 use Rattle.protocol.specs.History.{Arrival}
 use Rattle.protocol.specs.World.{Event, World, Connection, world_after}
-use Rattle.server_core.specs.Sessions.{Sitting, client_in, sitting_view}
+use Rattle.session_state.specs.Sessions.{Sitting, HasPlaces, client_in, sitting_view}
 
 -- a server: its configuration, and the session of the k-th client while that is open
 pub record Serving : Type 0 where
@@ -16,15 +16,19 @@ pub record Seat : Type 0 where
   pub view : View
   pub client : Client
 
--- the seat of a session
-abbrev pub seat_of : Config → Sitting → Seat
-seat_of config s = record { view = sitting_view config s; client = client_in config s }
+-- The server holds what is held of the history. No record can arrive yet, so that the history is empty.
+abbrev pub HoldsOf : List Arrival → Type 0
+HoldsOf h = h ≡ []
+
+-- the seat of a session after the history
+abbrev pub seat_of : Config → List Arrival → Sitting → Seat
+seat_of config h s = record { view = sitting_view config s; client = client_in config h s }
 
 -- the seat of a number, of a server's sessions
-abbrev pub seated : Config → Option (Option Sitting) → Option Seat
-seated config None = None
-seated config (Some None) = None
-seated config (Some (Some s)) = Some (seat_of config s)
+abbrev pub seated : Config → List Arrival → Option (Option Sitting) → Option Seat
+seated config h None = None
+seated config h (Some None) = None
+seated config h (Some (Some s)) = Some (seat_of config h s)
 
 -- the seat of a connection that is open
 abbrev pub seat_with : View → Option Client → Option Seat
@@ -45,19 +49,25 @@ goes_on f (Some x) = Some (record x { client = f x.view x.client })
 abbrev pub seat_client : Option Seat → Option Client
 seat_client o = option_map (λ s. s.client) o
 
--- The server has the configuration, a session for each connection, and at each number the same view and client.
+-- The stations of each session are there.
+abbrev pub PlacesAreThere : Config → List (Option Sitting) → Type 0
+PlacesAreThere config sessions = (k : ℕ) (s : Sitting) → slice_get sessions k ≡ Some (Some s) → HasPlaces config s
+
+-- The server has the configuration, what is held of the history, a session for each connection, and at each number the same
+-- view and client.
 pub record StandsAt (server : Serving) (config : Config) (w : World) : Type 0 where
   pub config_is : server.config ≡ config
+  pub holds : HoldsOf w.history
   pub count : length server.sessions ≡ length w.connections
-  pub clients : (k : ℕ) → seated config (slice_get server.sessions k) ≡ seat_at (slice_get w.connections k)
+  pub clients : (k : ℕ) → seated config w.history (slice_get server.sessions k) ≡ seat_at (slice_get w.connections k)
 
 -- It stands for the world after events.
 abbrev pub Stands : Serving → Config → List Event → Type 0
 Stands server config events = StandsAt server config (world_after config events)
 
 -- Only the k-th session goes on.
-pub record OnlyGoesOn (config : Config) (old new : List (Option Sitting)) (k : ℕ) (f : View → Client → Client) : Type 0 where
-  pub here : seated config (slice_get new k) ≡ goes_on f (seated config (slice_get old k))
+pub record OnlyGoesOn (config : Config) (h : List Arrival) (old new : List (Option Sitting)) (k : ℕ) (f : View → Client → Client) : Type 0 where
+  pub here : seated config h (slice_get new k) ≡ goes_on f (seated config h (slice_get old k))
   pub others : (j : ℕ) → j ≢ k → slice_get new j ≡ slice_get old j
 
 -- the client after a Take; contracts need not look into it

@@ -3,11 +3,9 @@
 
 pub mod client;
 pub mod events;
-mod orders;
-mod replies;
 mod seats;
 pub mod server;
-mod session;
+mod serving;
 #[cfg(test)]
 mod tests;
 

@@ -4,14 +4,15 @@ ghost use Rattle.protocol.specs.Catalog.{Config as ProtocolConfig};
 ghost use Rattle.protocol.specs.History.{Arrival};
 ghost use Rattle.protocol.specs.Client.{received, after_take, offered};
 ghost use Rattle.protocol.specs.World.{taken_by};
-ghost use Rattle.server_core.specs.Sessions.{Sitting};
-ghost use Rattle.server_core.specs.Standing.{OnlyGoesOn, seated, seat_client, taking};
+ghost use Rattle.session_state.specs.Sessions.{Sitting};
+ghost use Rattle.server_core.specs.Standing.{HoldsOf, OnlyGoesOn, PlacesAreThere, seated, seat_client, taking};
 ghost use Rattle.server_core.specs.Handings.{taken_value};
 ghost use Rattle.server_core.specs.Refusals.{room_of, receipt, offer_of};
 
 use crate::client::{Gone, Offer, Refusal};
-use crate::session::{Handing, Session};
+use crate::serving::{self, Handing};
 use catalog::Config;
+use session_state::Session;
 use std::alloc::{AllocError, Global};
 
 #[tactic(auto, using(crate::proofs::Standings::seat_lemmas))]
@@ -21,12 +22,14 @@ fn receive_in(
     number: usize,
     bytes: &[u8],
 ) -> Result<(), Refusal>
-    requires { number < length sessions.old }
-    ensures changed { (h : List Arrival) → OnlyGoesOn config.now sessions.old sessions.new number (λ v c. received v h bytes.now c) }
-    ensures answer { result ≡ receipt (length bytes.now) (seat_client (seated config.now (slice_get sessions.old number))) }
+    requires number { number < length sessions.old }
+    requires places { PlacesAreThere config.now sessions.old }
+    ensures changed { (h : List Arrival) → HoldsOf h → OnlyGoesOn config.now h sessions.old sessions.new number (λ v c. received v h bytes.now c) }
+    ensures places { PlacesAreThere config.now sessions.new }
+    ensures answer { (h : List Arrival) → result ≡ receipt (length bytes.now) (seat_client (seated config.now h (slice_get sessions.old number))) }
 {
     match &mut sessions[number] {
-        Some(session) => session.receive(config, bytes),
+        Some(session) => serving::receive(config, session, bytes),
         None => Err(Refusal::Gone),
     }
 }
@@ -38,9 +41,11 @@ pub fn receive_at(
     number: usize,
     bytes: &[u8],
 ) -> Result<(), Refusal>
-    requires { number < length sessions.old.items }
-    ensures changed { (h : List Arrival) → OnlyGoesOn config.now sessions.old.items sessions.new.items number (λ v c. received v h bytes.now c) }
-    ensures answer { result ≡ receipt (length bytes.now) (seat_client (seated config.now (slice_get sessions.old.items number))) }
+    requires number { number < length sessions.old.items }
+    requires places { PlacesAreThere config.now sessions.old.items }
+    ensures changed { (h : List Arrival) → HoldsOf h → OnlyGoesOn config.now h sessions.old.items sessions.new.items number (λ v c. received v h bytes.now c) }
+    ensures places { PlacesAreThere config.now sessions.new.items }
+    ensures answer { (h : List Arrival) → result ≡ receipt (length bytes.now) (seat_client (seated config.now h (slice_get sessions.old.items number))) }
     ensures count { length sessions.new.items ≡ length sessions.old.items }
 {
     receive_in(config, sessions.as_mut_slice(), number, bytes)
@@ -53,13 +58,15 @@ fn take_in(
     number: usize,
     count: usize,
 ) -> Result<Handing, AllocError>
-    requires { number < length sessions.old }
-    ensures changed { OnOk result ((h : List Arrival) → OnlyGoesOn config.now sessions.old sessions.new number (taking h count)) }
-    ensures taken { IfOk result (λ x. (h : List Arrival) → taken_value x ≡ taken_by h (seat_client (seated config.now (slice_get sessions.old number))) count) }
+    requires number { number < length sessions.old }
+    requires places { PlacesAreThere config.now sessions.old }
+    ensures changed { OnOk result ((h : List Arrival) → HoldsOf h → OnlyGoesOn config.now h sessions.old sessions.new number (taking h count)) }
+    ensures places { PlacesAreThere config.now sessions.new }
+    ensures taken { IfOk result (λ x. (h : List Arrival) → HoldsOf h → taken_value x ≡ taken_by h (seat_client (seated config.now h (slice_get sessions.old number))) count) }
 {
     match &mut sessions[number] {
         Some(session) => {
-            let handing = session.take(alloc, config, count)?;
+            let handing = serving::take(alloc, config, session, count)?;
             Ok(handing)
         }
         None => Ok(Handing {
@@ -77,9 +84,11 @@ pub fn take_at(
     number: usize,
     count: usize,
 ) -> Result<Handing, AllocError>
-    requires { number < length sessions.old.items }
-    ensures changed { OnOk result ((h : List Arrival) → OnlyGoesOn config.now sessions.old.items sessions.new.items number (taking h count)) }
-    ensures taken { IfOk result (λ x. (h : List Arrival) → taken_value x ≡ taken_by h (seat_client (seated config.now (slice_get sessions.old.items number))) count) }
+    requires number { number < length sessions.old.items }
+    requires places { PlacesAreThere config.now sessions.old.items }
+    ensures changed { OnOk result ((h : List Arrival) → HoldsOf h → OnlyGoesOn config.now h sessions.old.items sessions.new.items number (taking h count)) }
+    ensures places { PlacesAreThere config.now sessions.new.items }
+    ensures taken { IfOk result (λ x. (h : List Arrival) → HoldsOf h → taken_value x ≡ taken_by h (seat_client (seated config.now h (slice_get sessions.old.items number))) count) }
     ensures count { length sessions.new.items ≡ length sessions.old.items }
 {
     let handing = take_in(alloc, config, sessions.as_mut_slice(), number, count)?;
@@ -93,13 +102,15 @@ fn took_in(
     count: usize,
 ) -> Result<(), Gone>
     requires number { number < length sessions.old }
+    requires places { PlacesAreThere config.now sessions.old }
     requires count { (s : Sitting) → slice_get sessions.old number ≡ Some (Some s) → (0 < count) × (count ≤ length s.waiting) }
-    ensures changed { (h : List Arrival) → OnlyGoesOn config.now sessions.old sessions.new number (taking h count) }
-    ensures answer { is_ok result ≡ is_some (seat_client (seated config.now (slice_get sessions.old number))) }
+    ensures changed { (h : List Arrival) → HoldsOf h → OnlyGoesOn config.now h sessions.old sessions.new number (taking h count) }
+    ensures places { PlacesAreThere config.now sessions.new }
+    ensures answer { (h : List Arrival) → is_ok result ≡ is_some (seat_client (seated config.now h (slice_get sessions.old number))) }
 {
     match &mut sessions[number] {
         Some(session) => {
-            session.took(config, count);
+            serving::took(config, session, count);
             Ok(())
         }
         None => Err(Gone),
@@ -114,9 +125,11 @@ pub fn took_at(
     count: usize,
 ) -> Result<(), Gone>
     requires number { number < length sessions.old.items }
+    requires places { PlacesAreThere config.now sessions.old.items }
     requires count { (s : Sitting) → slice_get sessions.old.items number ≡ Some (Some s) → (0 < count) × (count ≤ length s.waiting) }
-    ensures changed { (h : List Arrival) → OnlyGoesOn config.now sessions.old.items sessions.new.items number (taking h count) }
-    ensures answer { is_ok result ≡ is_some (seat_client (seated config.now (slice_get sessions.old.items number))) }
+    ensures changed { (h : List Arrival) → HoldsOf h → OnlyGoesOn config.now h sessions.old.items sessions.new.items number (taking h count) }
+    ensures places { PlacesAreThere config.now sessions.new.items }
+    ensures answer { (h : List Arrival) → is_ok result ≡ is_some (seat_client (seated config.now h (slice_get sessions.old.items number))) }
     ensures count { length sessions.new.items ≡ length sessions.old.items }
 {
     took_in(config, sessions.as_mut_slice(), number, count)
@@ -125,7 +138,8 @@ pub fn took_at(
 fn close_in(sessions: &mut [Option<Session>], number: usize) -> Result<(), Gone>
     requires { number < length sessions.old }
     ensures sessions { sessions.new ≡ slice_set sessions.old number None }
-    ensures answer { (config : ProtocolConfig) → is_ok result ≡ is_some (seat_client (seated config (slice_get sessions.old number))) }
+    ensures places { (config : ProtocolConfig) → PlacesAreThere config sessions.old → PlacesAreThere config sessions.new }
+    ensures answer { (config : ProtocolConfig) (h : List Arrival) → is_ok result ≡ is_some (seat_client (seated config h (slice_get sessions.old number))) }
 {
     let is_open = sessions[number].is_some();
     sessions[number] = None;
@@ -136,19 +150,22 @@ fn close_in(sessions: &mut [Option<Session>], number: usize) -> Result<(), Gone>
 pub fn close_at(sessions: &mut Vec<Option<Session>>, number: usize) -> Result<(), Gone>
     requires { number < length sessions.old.items }
     ensures sessions { sessions.new.items ≡ slice_set sessions.old.items number None }
-    ensures answer { (config : ProtocolConfig) → is_ok result ≡ is_some (seat_client (seated config (slice_get sessions.old.items number))) }
+    ensures places { (config : ProtocolConfig) → PlacesAreThere config sessions.old.items → PlacesAreThere config sessions.new.items }
+    ensures answer { (config : ProtocolConfig) (h : List Arrival) → is_ok result ≡ is_some (seat_client (seated config h (slice_get sessions.old.items number))) }
 {
     close_in(sessions.as_mut_slice(), number)
 }
 
 #[tactic(auto, using(crate::proofs::Standings::seat_lemmas))]
 fn offer_in(config: &Config, sessions: &mut [Option<Session>], number: usize) -> Option<Offer>
-    requires { number < length sessions.old }
-    ensures changed { (h : List Arrival) → OnlyGoesOn config.now sessions.old sessions.new number (λ v c. offered h c) }
-    ensures answer { (h : List Arrival) → result ≡ option_map (λ c. offer_of (offered h c)) (seat_client (seated config.now (slice_get sessions.old number))) }
+    requires number { number < length sessions.old }
+    requires places { PlacesAreThere config.now sessions.old }
+    ensures changed { (h : List Arrival) → HoldsOf h → OnlyGoesOn config.now h sessions.old sessions.new number (λ v c. offered h c) }
+    ensures places { PlacesAreThere config.now sessions.new }
+    ensures answer { (h : List Arrival) → HoldsOf h → result ≡ option_map (λ c. offer_of (offered h c)) (seat_client (seated config.now h (slice_get sessions.old number))) }
 {
     match &mut sessions[number] {
-        Some(session) => Some(session.offer(config)),
+        Some(session) => Some(serving::offer(config, session)),
         None => None,
     }
 }
@@ -159,9 +176,11 @@ pub fn offer_at(
     sessions: &mut Vec<Option<Session>>,
     number: usize,
 ) -> Option<Offer>
-    requires { number < length sessions.old.items }
-    ensures changed { (h : List Arrival) → OnlyGoesOn config.now sessions.old.items sessions.new.items number (λ v c. offered h c) }
-    ensures answer { (h : List Arrival) → result ≡ option_map (λ c. offer_of (offered h c)) (seat_client (seated config.now (slice_get sessions.old.items number))) }
+    requires number { number < length sessions.old.items }
+    requires places { PlacesAreThere config.now sessions.old.items }
+    ensures changed { (h : List Arrival) → HoldsOf h → OnlyGoesOn config.now h sessions.old.items sessions.new.items number (λ v c. offered h c) }
+    ensures places { PlacesAreThere config.now sessions.new.items }
+    ensures answer { (h : List Arrival) → HoldsOf h → result ≡ option_map (λ c. offer_of (offered h c)) (seat_client (seated config.now h (slice_get sessions.old.items number))) }
     ensures count { length sessions.new.items ≡ length sessions.old.items }
 {
     offer_in(config, sessions.as_mut_slice(), number)
@@ -169,7 +188,7 @@ pub fn offer_at(
 
 /// The bytes that wait for a client, where it is open.
 pub fn waiting_at(sessions: &[Option<Session>], number: usize) -> Option<&[u8]>
-    ensures { (config : ProtocolConfig) → option_map (λ bytes. bytes.now) result ≡ option_map (λ c. c.waiting) (seat_client (seated config (slice_get sessions.now number))) }
+    ensures { (config : ProtocolConfig) (h : List Arrival) → option_map (λ bytes. bytes.now) result ≡ option_map (λ c. c.waiting) (seat_client (seated config h (slice_get sessions.now number))) }
 {
     match sessions.get(number) {
         Some(Some(session)) => Some(session.waiting()),
@@ -180,7 +199,7 @@ pub fn waiting_at(sessions: &[Option<Session>], number: usize) -> Option<&[u8]>
 
 /// How many bytes a client may send, where it is open.
 pub fn room_at(sessions: &[Option<Session>], number: usize) -> Option<usize>
-    ensures { (config : ProtocolConfig) → result ≡ option_map room_of (seat_client (seated config (slice_get sessions.now number))) }
+    ensures { (config : ProtocolConfig) (h : List Arrival) → result ≡ option_map room_of (seat_client (seated config h (slice_get sessions.now number))) }
 {
     match sessions.get(number) {
         Some(Some(session)) => Some(session.room()),

@@ -9,8 +9,9 @@ ghost use Rattle.protocol.specs.World.Event.{Open, Bytes, Take, Close};
 
 use crate::client::{Client, Gone, Offer, Refusal};
 use crate::seats;
-use crate::session::{Handing, Session};
+use crate::serving::Handing;
 use catalog::Config;
+use session_state::Session;
 use std::alloc::{AllocError, Global};
 use std::marker::Model;
 use std::net::Ipv4Addr;
@@ -23,15 +24,17 @@ pub struct Server {
 }
 
 impl Model for Server {
-    ghost use Rattle.server_core.specs.Standing.{Serving};
+    ghost use Rattle.server_core.specs.Standing.{Serving, PlacesAreThere};
 
     ghost Value = { Serving };
 
     ghost view = { λ s. record { config = s.config; sessions = s.sessions.items } };
+
+    ghost invariant = { λ s. PlacesAreThere s.config s.sessions.items };
 }
 
 impl Server {
-    ghost use Rattle.server_core.specs.Sessions.{Sitting};
+    ghost use Rattle.session_state.specs.Sessions.{Sitting};
     ghost use Rattle.server_core.specs.Standing.{StandsAt};
     ghost use Rattle.server_core.specs.Handings.{taken_value};
     ghost use Rattle.server_core.specs.Refusals.{room_of, receipt, offer_of};

@@ -5,9 +5,13 @@
 //! reading, until it is told from which arrival on each request wants records.
 #![tactic(auto)]
 
-pub mod asked;
+mod asked;
 pub mod choices;
-pub mod modes;
-pub mod refusals;
-pub mod replies;
+mod modes;
+mod refusals;
+mod replies;
 pub mod session;
+
+pub use choices::{Action, Choice};
+pub use refusals::NoRoom;
+pub use session::{Session, Settled, State};

@@ -406,6 +406,7 @@ impl Session {
             (read_on (sitting_view config.now self.old) h self.old.unread (client_in config.now h self.old)) }
         ensures places { self.new.places ≡ self.old.places }
         ensures stays { never_starts self.old.state ≡ true → result ≡ Rest }
+        ensures starting { result ≡ Start → self.new.state ≡ Starting }
     {
         while self.has_unread() && self.is_reading() {
             let byte = self.next_byte();
@@ -424,6 +425,7 @@ impl Session {
             (received (sitting_view config.now self.old) h bytes.now (client_in config.now h self.old))) }
         ensures refused { OnErr result ((h : List Arrival) → client_in config.now h self.new ≡ received (sitting_view config.now self.old) h bytes.now (client_in config.now h self.old)) }
         ensures unchanged { OnErr result (self.new ≡ self.old) }
+        ensures starting { IfOk result (λ settled. settled ≡ Start → self.new.state ≡ Starting) }
         ensures room { is_ok result ≡ not (nat_lt (1024 - length self.old.unread) (length bytes.now)) }
         ensures places { self.new.places ≡ self.old.places }
     {
@@ -458,6 +460,7 @@ impl Session {
         requires waiting { count ≤ length self.old.waiting }
         ensures client { (h : List Arrival) → Comes result config.now h self.new
             (after_take (sitting_view config.now self.old) h (client_in config.now h self.old) count) }
+        ensures starting { result ≡ Start → self.new.state ≡ Starting }
         ensures places { self.new.places ≡ self.old.places }
     {
         self.skip(count);

@@ -4,6 +4,6 @@ use Rattle.server_core.proofs.Standings.{whole-written}
 use Rattle.server_core.proofs.seats.take_at.Goals as goal
 
 pub returns-clause-changed : goal.returns-clause-changed
-returns-clause-changed c = λ h.
+returns-clause-changed c = λ h holds.
     rw (whole-written c.args.sessions.now.len c.take_in.new.sessions c.args.sessions.now.items (grind (arith, common_steps)) (grind (arith, common_steps)))
-    (rw c.as_mut_slice.ensures.value at (c.in_ok-handing.ensures.changed h))
+    (rw c.as_mut_slice.ensures.value at (c.in_ok-handing.ensures.changed h holds))

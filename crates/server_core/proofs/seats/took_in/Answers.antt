@@ -17,23 +17,23 @@ took-requires-clause-waiting c =
     (c.requires.count _ there).1
 
 pub returns-in-Some-clause-changed : goal.returns-in-Some-clause-changed
-returns-in-Some-clause-changed c = λ h.
+returns-in-Some-clause-changed c = λ h holds.
     let there : slice_get c.args.sessions.now c.args.number ≡ Some (Some c.in-Some.session) = grind (arith, gets) in
     let counts = c.requires.count _ there in
-    some-took c.args.config.now h c.args.sessions.now c.args.number c.args.count c.in-Some.session c.took.new.self there counts.0 counts.1 (c.took.ensures.client h) c.took.ensures.places
+    some-took c.args.config.now h c.args.sessions.now c.args.number c.args.count c.in-Some.session c.took.new.session there counts.0 counts.1 (c.took.ensures.client h holds) c.took.ensures.places
 
 pub returns-in-Some-clause-answer : goal.returns-in-Some-clause-answer
-returns-in-Some-clause-answer c =
+returns-in-Some-clause-answer c = λ h.
     let there : slice_get c.args.sessions.now c.args.number ≡ Some (Some c.in-Some.session) = grind (arith, gets) in
-    ap (λ o. is_some (seat_client (seated c.args.config.now o))) (sym there)
+    ap (λ o. is_some (seat_client (seated c.args.config.now h o))) (sym there)
 
 pub returns-in-None-clause-changed : goal.returns-in-None-clause-changed
-returns-in-None-clause-changed c = λ h.
+returns-in-None-clause-changed c = λ h holds.
     let none : slice_get c.args.sessions.now c.args.number ≡ Some None = grind (arith, gets) in
     let same : slice_set c.args.sessions.now c.args.number (slice_index_or c.args.sessions.now c.args.number c.index-sessions-number.result) ≡ c.args.sessions.now = grind (arith, common_steps) in
-    rw same (none-goes c.args.config.now c.args.sessions.now c.args.number _ none)
+    rw same (none-goes c.args.config.now h c.args.sessions.now c.args.number _ none)
 
 pub returns-in-None-clause-answer : goal.returns-in-None-clause-answer
-returns-in-None-clause-answer c =
+returns-in-None-clause-answer c = λ h.
     let none : slice_get c.args.sessions.now c.args.number ≡ Some None = grind (arith, gets) in
-    ap (λ o. is_some (seat_client (seated c.args.config.now o))) (sym none)
+    ap (λ o. is_some (seat_client (seated c.args.config.now h o))) (sym none)

@@ -11,7 +11,7 @@ returns-then-number-len-clause-stands c = λ config w stands.
 pub returns-then-number-len-clause-answer : goal.returns-then-number-len-clause-answer
 returns-then-number-len-clause-answer c = λ config w stands.
     rw (← c.number-number.ensures)
-    (c.close_at.ensures.answer c.self.inside.config ∙ ap is_some (seat_seen (record { config = c.self.inside.config; sessions = c.self.inside.sessions.items }) c.number-number.result config w (subst (λ s. StandsAt s config w) (sym c.self.view_is) stands)))
+    (c.close_at.ensures.answer c.self.inside.config w.history ∙ ap is_some (seat_seen (record { config = c.self.inside.config; sessions = c.self.inside.sessions.items }) c.number-number.result config w (subst (λ s. StandsAt s config w) (sym c.self.view_is) stands)))
 
 pub returns-else-number-len-clause-stands : goal.returns-else-number-len-clause-stands
 returns-else-number-len-clause-stands c = λ config w stands.

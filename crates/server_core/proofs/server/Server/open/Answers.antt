@@ -1,8 +1,8 @@
-use Rattle.std.proofs.Common.{◌≡◌, arith, refl, sym, subst, ◌∙◌, ap, length}
+use Rattle.std.proofs.Common.{◌≡◌, arith, refl, sym, subst, ◌∙◌, ap, length, List, ℕ, All}
 use Rattle.std.specs.Net.Addr.{ipv4_bits}
-use Rattle.catalog.specs.Places.{view_in}
-use Rattle.server_core.specs.Standing.{StandsAt, Serving}
-use Rattle.server_core.proofs.Standings.{open-stands}
+use Rattle.catalog.specs.Places.{view_in, IsPlace}
+use Rattle.server_core.specs.Standing.{StandsAt, Serving, PlacesAreThere}
+use Rattle.server_core.proofs.Standings.{open-stands, places-pushed}
 use Rattle.server_core.proofs.server.Server.open.Goals as goal
 
 pub returns : goal.returns
@@ -16,3 +16,6 @@ returns c = record {
       c.new-2.ensures ∙ count;
   err = tt;
 }
+
+pub invariant_of-self-2 : goal.invariant_of-self-2
+invariant_of-self-2 c = subst (PlacesAreThere c.self.inside.config) (sym c.in_ok-push.ensures.items) (places-pushed c.self.inside.config c.self.inside.sessions.items c.new.result c.self.invariant (subst (λ (p : List ℕ). All (IsPlace c.self.inside.config) p) (sym c.new.ensures.places) c.in_ok-view.ensures.places))

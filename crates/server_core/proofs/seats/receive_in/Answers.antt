@@ -1,0 +1,23 @@
+use Rattle.std.proofs.Common.{◌≡◌, ◌∙◌, ap, sym, arith, Some, None, length, slice_get, slice_index_or, slice_set}
+use Rattle.std.proofs.lemmas.Option.{gets}
+use Rattle.std.proofs.lemmas.Grind.{common_steps}
+use Rattle.server_core.specs.Refusals.{receipt}
+use Rattle.server_core.specs.Standing.{seated, seat_client}
+use Rattle.server_core.proofs.Standings.{none-goes}
+use Rattle.server_core.proofs.seats.receive_in.Goals as goal
+
+pub returns-in-Some-clause-answer : goal.returns-in-Some-clause-answer
+returns-in-Some-clause-answer c = λ h.
+    let there : slice_get c.args.sessions.now c.args.number ≡ Some (Some c.in-Some.session) = grind (arith, gets) in
+    c.receive.ensures.answer h ∙ ap (λ o. receipt (length c.args.bytes.now) (seat_client (seated c.args.config.now h o))) (sym there)
+
+pub returns-in-None-clause-changed : goal.returns-in-None-clause-changed
+returns-in-None-clause-changed c = λ h holds.
+    let none : slice_get c.args.sessions.now c.args.number ≡ Some None = grind (arith, gets) in
+    let same : slice_set c.args.sessions.now c.args.number (slice_index_or c.args.sessions.now c.args.number c.index-sessions-number.result) ≡ c.args.sessions.now = grind (arith, common_steps) in
+    rw same (none-goes c.args.config.now h c.args.sessions.now c.args.number _ none)
+
+pub returns-in-None-clause-answer : goal.returns-in-None-clause-answer
+returns-in-None-clause-answer c = λ h.
+    let none : slice_get c.args.sessions.now c.args.number ≡ Some None = grind (arith, gets) in
+    ap (λ o. receipt (length c.args.bytes.now) (seat_client (seated c.args.config.now h o))) (sym none)
