@@ -1,8 +1,8 @@
 //! A whole list of events.
-ghost use Rattle.std.specs.Prelude.{◌≡◌, ℕ, List, [], ◌∷◌, ◌++◌, map, IfOk, OnOk};
-ghost use Rattle.protocol.specs.Catalog.{Config as ProtocolConfig};
-ghost use Rattle.protocol.specs.World.{World, step, handed};
-ghost use Rattle.protocol.specs.Alone.{alone, own_view, seen, handed_to};
+ghost use Rattle.std.specs.Prelude.{◌≡◌, ℕ, List, [], ◌∷◌, ◌++◌, map, Bool, true, Some, IfOk, OnOk};
+ghost use Rattle.protocol.specs.Catalog.{Config as ProtocolConfig, Entry, sees};
+ghost use Rattle.protocol.specs.World.{Event as ProtocolEvent, World, step, handed};
+ghost use Rattle.protocol.specs.Alone.{address_of, alone, own_view, seen, handed_to, restricted};
 ghost use Rattle.server_core.specs.Standing.{StandsAt};
 ghost use Rattle.server_core.specs.Runs.{event_value, handed_value, handed_by};
 
@@ -71,11 +71,21 @@ fn act(
 }
 
 /// What is handed to each client over a list of events, at a new server. Only memory can lack.
+///
+/// Each client is handed what a client alone would be handed, from its own events and the arrivals at the stations that it sees
+/// (`isolation`). So two clients with the same view, the same events and the same arrivals are handed the same, at whatever
+/// servers (`alike`), and a server without stations that a client does not see hands it the same (`hidden_stations`).
 #[tactic(auto, using(crate::proofs::Running::run_lemmas))]
 pub fn run(alloc: Global, config: Config, events: &[Event]) -> Result<Vec<Handed>, AllocError>
     ensures handed { IfOk result (λ hs. map handed_value hs.items ≡ handed config (map event_value events.now)) }
     ensures isolation { IfOk result (λ hs. (k : ℕ) → let es = map event_value events.now in
         handed_to k (map handed_value hs.items) ≡ alone (own_view config es k) (seen config es k)) }
+    ensures alike { IfOk result (λ hs. (other : ProtocolConfig) (others : List ProtocolEvent) (k j : ℕ) → let es = map event_value events.now in
+        own_view config es k ≡ own_view other others j → seen config es k ≡ seen other others j →
+        handed_to k (map handed_value hs.items) ≡ handed_to j (handed other others)) }
+    ensures hidden_stations { IfOk result (λ hs. (keep : Entry → Bool) (k : ℕ) → let es = map event_value events.now in
+        ((a : ℕ) (e : Entry) → address_of es k ≡ Some a → sees e.access config.access a ≡ true → keep e ≡ true) →
+        handed_to k (handed (restricted keep config) es) ≡ handed_to k (map handed_value hs.items)) }
 {
     let mut server = Server::new(alloc, config);
     let mut out = Vec::new(alloc);

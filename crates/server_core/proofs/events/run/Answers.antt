@@ -1,8 +1,9 @@
-use Rattle.std.proofs.Common.{◌≡◌, ◌∙◌, ap, subst, arith, map, drop, List, []}
+use Rattle.std.proofs.Common.{◌≡◌, ◌∙◌, ap, sym, subst, arith, map, drop, List, []}
 use Rattle.std.proofs.lemmas.Grind.{common_steps}
 use Rattle.protocol.specs.World.{Event}
 use Rattle.protocol.specs.Alone.{handed_to}
 use Rattle.protocol.proofs.Alone.{isolated}
+use Rattle.protocol.proofs.Views.{alike, without_hidden}
 use Rattle.server_core.specs.Runs.{event_value, handed_value}
 use Rattle.server_core.proofs.Running.{GoesWell, goes-on-well, next-event, ends-well}
 use Rattle.server_core.proofs.events.run.Goals as goal
@@ -16,3 +17,13 @@ pub returns-clause-isolation : goal.returns-clause-isolation
 returns-clause-isolation c = λ k.
     let none : map event_value (drop c.loop-event.event-index c.args.events.now) ≡ [] = grind (arith, common_steps) in
     ap (handed_to k) (ends-well c.args.config c.loop-event.server _ _ _ none c.loop-event.invariant) ∙ isolated c.args.config (map event_value c.args.events.now) k
+
+pub returns-clause-alike : goal.returns-clause-alike
+returns-clause-alike c = λ other others k j view own.
+    let none : map event_value (drop c.loop-event.event-index c.args.events.now) ≡ [] = grind (arith, common_steps) in
+    ap (handed_to k) (ends-well c.args.config c.loop-event.server _ _ _ none c.loop-event.invariant) ∙ alike c.args.config other (map event_value c.args.events.now) others k j view own
+
+pub returns-clause-hidden_stations : goal.returns-clause-hidden_stations
+returns-clause-hidden_stations c = λ keep k kept.
+    let none : map event_value (drop c.loop-event.event-index c.args.events.now) ≡ [] = grind (arith, common_steps) in
+    without_hidden c.args.config keep (map event_value c.args.events.now) k kept ∙ sym (ap (handed_to k) (ends-well c.args.config c.loop-event.server _ _ _ none c.loop-event.invariant))
