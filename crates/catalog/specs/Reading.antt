@@ -1,45 +1,88 @@
--- What the text of a configuration says, as far as it is read so far: its title.
--- The configuration is TOML; its table is that which the reader of TOML's own definition gives. Left out: every other key.
-use Rattle.std.specs.Prelude.{ℕ, Bool, ◌&&◌, nat_le, if◌then◌else◌, List, length, Option, Some, None, option_and_then, Result, Ok, Err, codes}
-use Rattle.std.specs.List.{list_all}
-use Rattle.toml.specs.Data.{Members, get_member, as_str}
+-- What the text of a configuration says: the settings of a server, or the first step of the reading that fails.
+-- The configuration is TOML; its table is that which the reader of TOML's own definition gives. Left out: other keys, which are
+-- ignored.
+use Rattle.std.specs.Prelude.{ℕ, Bool, ◌&&◌, nat_le, is_some, if◌then◌else◌, List, [], ◌∷◌, ◌++◌, length, Option, Some, None, Result, Ok, Err, codes}
+use Rattle.std.specs.List.{list_all, list_any}
+use Rattle.toml.specs.Data.{Data, Members, as_table}
+use Rattle.protocol.specs.Catalog.{Config, Entry, Station, has_codes}
+use Rattle.catalog.specs.Keys.{elements_at, table_in}
+use Rattle.catalog.specs.Settings.{access_of, title_of, connections_of, network_of, code_of, description_of, capacity_of, first_of}
+use Rattle.catalog.specs.Steps.{◌>>=◌, within_if}
 use Rattle.catalog.specs.declared.fault.ConfigFault.{ConfigFault}
-use Rattle.catalog.specs.declared.fault.ConfigFault.TheVariants.{Toml, Missing, Limit, OutOfMemory}
+use Rattle.catalog.specs.declared.fault.ConfigFault.TheVariants.{Toml, Missing, Duplicate}
 
--- a byte of printable ASCII
-abbrev pub is_printable : ℕ → Bool
-is_printable b = nat_le 32 b && nat_le b 126
+-- ---- one station
 
--- 1 to 100 of them
-abbrev pub is_title : List ℕ → Bool
-is_title text = nat_le 1 (length text) && nat_le (length text) 100 && list_all is_printable text
+-- the settings of a station, key after key
+unfoldable pub entry_of : Members → Result Entry ConfigFault
+entry_of members = do
+  network ← network_of members
+  code ← code_of members
+  description ← description_of members
+  capacity ← capacity_of members
+  first ← first_of members
+  access ← access_of members
+  Ok (record {
+    station = record { network = network; code = code; description = description; capacity = capacity; first = first };
+    access = access;
+  })
 
--- the title that a text is
-abbrev pub title_within : List ℕ → Result (List ℕ) ConfigFault
-title_within text = if is_title text then Ok text else Err Limit
+-- an earlier station has the same network and code
+abbrev pub is_repeated : List Entry → Station → Bool
+is_repeated earlier station = list_any (λ e. has_codes station.network station.code e.station) earlier
 
--- where a text is there; a value of another kind counts as missing
-abbrev pub title_of_text : Option (List ℕ) → Result (List ℕ) ConfigFault
-title_of_text None = Err Missing
-title_of_text (Some text) = title_within text
+abbrev pub not_repeated : List Entry → Entry → Result Entry ConfigFault
+not_repeated earlier e = if is_repeated earlier e.station then Err Duplicate else Ok e
 
--- the title of a table
-abbrev pub title_of : Members → Result (List ℕ) ConfigFault
-title_of members = title_of_text (option_and_then as_str (get_member (codes "title") members))
+-- the station that a value describes, behind earlier ones
+unfoldable pub station_of : List Entry → Data → Result Entry ConfigFault
+station_of earlier d = do
+  members ← table_in d
+  e ← entry_of members
+  not_repeated earlier e
 
--- the title that a text's table gives, where the text is read
-abbrev pub title_read : Option Members → Result (List ℕ) ConfigFault
-title_read None = Err Toml
-title_read (Some members) = title_of members
+-- ---- all of them
 
-abbrev pub fault_number : ConfigFault → ℕ
-fault_number Toml = 20
-fault_number Missing = 21
-fault_number Limit = 22
-fault_number OutOfMemory = 25
+-- earlier stations, and those that values describe
+abbrev pub stations_read : List Entry → List Data → Result (List Entry) ConfigFault
+stations_read earlier [] = Ok earlier
+stations_read earlier (d ∷ ds) = station_of earlier d >>= (λ e. stations_read (earlier ++ e ∷ []) ds)
 
-abbrev pub fault_name : ConfigFault → List ℕ
-fault_name Toml = codes "Toml"
-fault_name Missing = codes "Missing"
-fault_name Limit = codes "Limit"
-fault_name OutOfMemory = codes "OutOfMemory"
+abbrev pub is_table : Data → Bool
+is_table d = is_some (as_table d)
+
+-- an element that is no table counts as missing
+abbrev pub tables_alone : List Data → Result (List Data) ConfigFault
+tables_alone ds = if list_all is_table ds then Ok ds else Err Missing
+
+-- 1 to 1,024 of them
+abbrev pub is_few : ℕ → Bool
+is_few count = nat_le 1 count && nat_le count 1024
+
+-- `station`: an array of so many tables
+unfoldable pub station_values : Members → Result (List Data) ConfigFault
+station_values members = do
+  values ← elements_at (codes "station") members
+  tables ← tables_alone values
+  within_if (is_few (length tables)) tables
+
+unfoldable pub stations_of : Members → Result (List Entry) ConfigFault
+stations_of members = do
+  values ← station_values members
+  stations_read [] values
+
+-- ---- the whole
+
+-- the settings of a server, key after key
+unfoldable pub config_of : Members → Result Config ConfigFault
+config_of members = do
+  title ← title_of members
+  access ← access_of members
+  connections ← connections_of members
+  entries ← stations_of members
+  Ok (record { title = title; max_connections = connections; access = access; entries = entries })
+
+-- the settings that a text's table gives, where the text is read
+abbrev pub config_read : Option Members → Result Config ConfigFault
+config_read None = Err Toml
+config_read (Some members) = config_of members

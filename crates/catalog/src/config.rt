@@ -1,16 +1,16 @@
 //! What a server is set up with.
-ghost use Rattle.std.specs.Prelude.{◌≡◌, ◌≢◌, ◌≤◌, All, length, slice_get, IfOk, IfErr, Some, Ok, Err, OnOk, option_map, option_and_then, codes};
+ghost use Rattle.std.specs.Prelude.{◌≡◌, ◌≢◌, ◌≤◌, All, length, slice_get, option_map, IfOk, IfErr, OnOk, Ok, Err, Some, None};
 ghost use Rattle.std.specs.Str.{IsUtf8};
-ghost use Rattle.std.specs.List.{list_all};
+ghost use Rattle.std.specs.Net.Addr.{ipv4_bits};
 ghost use Rattle.toml.specs.Parse.{parse_document};
 ghost use Rattle.toml.specs.View.{table_view};
-ghost use Rattle.toml.specs.Data.{as_str, get_member};
-ghost use Rattle.catalog.specs.Reading.{is_printable, is_title, title_within, title_of_text, title_of, title_read};
-ghost use Rattle.std.specs.Net.Addr.{ipv4_bits};
 ghost use Rattle.protocol.specs.Catalog.{sees, view_of};
 ghost use Rattle.catalog.specs.Places.{view_in, IsPlace};
+ghost use Rattle.catalog.specs.Reading.{config_of, config_read};
 
 use crate::fault::ConfigFault;
+use crate::listing::stations_of;
+use crate::settings::{access_of, connections_of, title_of};
 use crate::station::Station;
 use crate::view::View;
 use access_list::AccessList;
@@ -44,86 +44,69 @@ impl Model for Config {
     ghost invariant = { λ c. (length c.title.items ≤ 100) × (1 ≤ c.max_connections) × (c.max_connections ≤ 10000) };
 }
 
-fn is_printable(byte: u8) -> bool
-    ensures { result ≡ is_printable byte }
+/// The table of a configuration's text.
+fn table_of(alloc: Global, bytes: &[u8]) -> Result<Table, ConfigFault>
+    ensures ok { IfOk result (λ table. parse_document bytes.now ≡ Some (table_view table)) }
+    ensures text { OnOk result (IsUtf8 bytes.now) }
+    ensures toml { IfErr result (λ e. e ≢ ConfigFault.OutOfMemory → e ≡ ConfigFault.Toml) }
+    ensures fault { IfErr result (λ e. e ≢ ConfigFault.OutOfMemory → IsUtf8 bytes.now → parse_document bytes.now ≡ None) }
 {
-    32 <= byte && byte <= 126
-}
-
-fn are_printable(text: &[u8]) -> bool
-    ensures { result ≡ list_all is_printable text.now }
-{
-    text.iter().all(|byte| is_printable(*byte))
-}
-
-fn is_title(text: &[u8]) -> bool
-    ensures { result ≡ is_title text.now }
-{
-    1 <= text.len() && text.len() <= 100 && are_printable(text)
-}
-
-/// The text at a key, where a text is there.
-fn text_at<'a>(table: &'a Table, key: &str) -> Option<&'a str>
-    ensures { option_map (λ s. s.now) result ≡ option_and_then as_str (get_member key.now (table_view table.now)) }
-{
-    match table.get(key) {
-        Some(value) => value.as_str(),
-        None => None,
-    }
-}
-
-fn title_within(text: &str) -> Result<&[u8], ConfigFault>
-    ensures ok { IfOk result (λ title. title_within text.now ≡ Ok title.now) }
-    ensures fault { IfErr result (λ e. title_within text.now ≡ Err e) }
-    ensures short { IfOk result (λ title. length title.now ≤ 100) }
-{
-    let title = text.as_bytes();
-    if is_title(title) {
-        Ok(title)
-    } else {
-        Err(ConfigFault::Limit)
-    }
-}
-
-fn title_of(table: &Table) -> Result<&[u8], ConfigFault>
-    ensures ok { IfOk result (λ title. title_of (table_view table.now) ≡ Ok title.now) }
-    ensures fault { IfErr result (λ e. title_of (table_view table.now) ≡ Err e) }
-    ensures short { IfOk result (λ title. length title.now ≤ 100) }
-{
-    match text_at(table, "title") {
-        Some(text) => title_within(text),
-        None => Err(ConfigFault::Missing),
+    match toml::table_from_slice(alloc, bytes) {
+        Ok(table) => Ok(table),
+        Err(error) => {
+            if error.is_memory() {
+                Err(ConfigFault::OutOfMemory)
+            } else {
+                Err(ConfigFault::Toml)
+            }
+        }
     }
 }
 
 impl Config {
-    /// Reads the text of a configuration, which is TOML in UTF-8: the key `title` has a text of 1 to 100 bytes of printable
-    /// ASCII. Other keys are ignored.
+    /// Reads the text of a configuration, which is TOML in UTF-8. Its keys are judged in this order, and the first that fails
+    /// is told: `title`, `access`, `max_connections`, `station`, and then for each station in order `network`, `code`,
+    /// `description`, `capacity`, `first`, `access`, and whether an earlier station has the same network and code. Other keys
+    /// are ignored.
+    ///
+    /// - `title` has 1 to 100 bytes of printable ASCII.
+    /// - `access`, of the server or of a station, is a list of addresses and masks, and may be missing.
+    /// - `max_connections` is 1 to 10,000, and 100 where it is missing.
+    /// - `station` is an array of 1 to 1,024 tables.
+    /// - `network` has 1 to 2 and `code` 1 to 5 of `A` to `Z` and `0` to `9`.
+    /// - `description` has at most 60 bytes of printable ASCII.
+    /// - `capacity` is 1 to 65,536.
+    /// - `first` has 1 to 6 hexadecimal digits of either case, and is 0 where it is missing.
+    ///
+    /// It fails with Toml where the bytes are no UTF-8 or no TOML; with Missing where a key that has to be there is missing, or
+    /// one has a value of another kind; with Limit where a value is outside these limits; with Access where an access list is
+    /// refused; with Duplicate; and with OutOfMemory only where there is no memory.
     pub fn read(alloc: Global, bytes: &[u8]) -> Result<Config, ConfigFault>
-        ensures ok { IfOk result (λ c. title_read (parse_document bytes.now) ≡ Ok c.title) }
+        ensures ok { IfOk result (λ config. config_read (parse_document bytes.now) ≡ Ok config) }
         ensures text { OnOk result (IsUtf8 bytes.now) }
-        ensures fault { IfErr result (λ e. e ≢ ConfigFault.OutOfMemory → IsUtf8 bytes.now → title_read (parse_document bytes.now) ≡ Err e) }
+        ensures fault { IfErr result (λ e. e ≢ ConfigFault.OutOfMemory → IsUtf8 bytes.now → config_read (parse_document bytes.now) ≡ Err e) }
         ensures no_text { IfErr result (λ e. e ≢ ConfigFault.OutOfMemory → ¬ IsUtf8 bytes.now → e ≡ ConfigFault.Toml) }
     {
-        let table = match toml::table_from_slice(alloc, bytes) {
-            Ok(table) => table,
-            Err(error) => {
-                if error.is_memory() {
-                    return Err(ConfigFault::OutOfMemory);
-                }
-                return Err(ConfigFault::Toml);
-            }
-        };
-        let title = title_of(&table)?;
-        match title.to_vec(alloc) {
-            Ok(title) => Ok(Config {
-                title,
-                max_connections: 100,
-                access: None,
-                stations: Vec::new(alloc),
-            }),
-            Err(_) => Err(ConfigFault::OutOfMemory),
-        }
+        let table = table_of(alloc, bytes)?;
+        Config::of_table(alloc, &table)
+    }
+
+    /// The settings that a table has.
+    #[tactic(auto, unfolding(crate::specs::Reading::config_of))]
+    fn of_table(alloc: Global, table: &Table) -> Result<Config, ConfigFault>
+        ensures ok { IfOk result (λ config. config_of (table_view table.now) ≡ Ok config) }
+        ensures fault { IfErr result (λ e. e ≢ ConfigFault.OutOfMemory → config_of (table_view table.now) ≡ Err e) }
+    {
+        let title = title_of(alloc, table)?;
+        let access = access_of(alloc, table)?;
+        let max_connections = connections_of(table)?;
+        let stations = stations_of(alloc, table)?;
+        Ok(Config {
+            title,
+            max_connections,
+            access,
+            stations,
+        })
     }
 
     /// The title, of at most 100 bytes.

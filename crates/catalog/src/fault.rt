@@ -1,28 +1,35 @@
 //! Why a configuration is refused.
 ghost use Rattle.std.specs.Prelude.{◌≡◌};
-ghost use Rattle.catalog.specs.Reading.{fault_number, fault_name};
+ghost use Rattle.catalog.specs.Faults.{fault_number, fault_name, fault_cause};
 
+use access_list::AccessFault;
 use thiserror::Error;
 
-/// Why a text is no configuration, the first that holds.
+/// Why a text is no configuration: the fault of the first step of its reading that fails, or want of memory.
 #[derive(Clone, Copy, Debug, PartialEq, Eq, Drop, Error)]
 pub enum ConfigFault {
     /// The text is no TOML, or no UTF-8.
     #[error("the text is no TOML")]
     Toml,
-    /// A key that has to be there is missing, or has a value of another kind.
+    /// A key that has to be there is missing, or a key has a value of another kind.
     #[error("a key is missing or has a value of another kind")]
     Missing,
     /// A value is outside its limits.
     #[error("a value is outside its limits")]
     Limit,
+    /// An earlier station has the same network and code.
+    #[error("two stations have the same network and code")]
+    Duplicate,
+    /// The text of an access list is refused, for this cause: an address or a mask.
+    #[error("an access list is refused: {0}")]
+    Access(AccessFault),
     /// Memory lacks.
     #[error("out of memory")]
     OutOfMemory,
 }
 
 impl ConfigFault {
-    /// The number by which the program reports it.
+    /// The number by which the program reports it: 20 to 25.
     pub fn number(self) -> u8
         ensures { result ≡ fault_number self }
     {
@@ -30,6 +37,8 @@ impl ConfigFault {
             ConfigFault::Toml => 20,
             ConfigFault::Missing => 21,
             ConfigFault::Limit => 22,
+            ConfigFault::Duplicate => 23,
+            ConfigFault::Access(_) => 24,
             ConfigFault::OutOfMemory => 25,
         }
     }
@@ -42,7 +51,19 @@ impl ConfigFault {
             ConfigFault::Toml => "Toml",
             ConfigFault::Missing => "Missing",
             ConfigFault::Limit => "Limit",
+            ConfigFault::Duplicate => "Duplicate",
+            ConfigFault::Access(_) => "Access",
             ConfigFault::OutOfMemory => "OutOfMemory",
+        }
+    }
+
+    /// Why an access list is refused, where that is the fault.
+    pub fn cause(self) -> Option<AccessFault>
+        ensures { result ≡ fault_cause self }
+    {
+        match self {
+            ConfigFault::Access(cause) => Some(cause),
+            _ => None,
         }
     }
 }

@@ -3,9 +3,13 @@
 
 pub mod config;
 pub mod fault;
+mod keys;
+mod listing;
+mod settings;
 pub mod station;
 #[cfg(test)]
 mod tests;
+mod texts;
 pub mod view;
 
 pub use config::Config;

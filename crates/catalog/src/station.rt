@@ -1,12 +1,18 @@
 //! Stations of a configuration.
-ghost use Rattle.std.specs.Prelude.{◌≡◌, ◌≤◌, length};
+ghost use Rattle.std.specs.Prelude.{◌≡◌, ◌≢◌, ◌≤◌, length, IfOk, IfErr, Ok, Err};
 ghost use Rattle.std.specs.Net.Addr.{ipv4_bits};
-ghost use Rattle.protocol.specs.Catalog.{sees};
+ghost use Rattle.toml.specs.View.{table_view};
+ghost use Rattle.protocol.specs.Catalog.{has_codes, sees};
+ghost use Rattle.catalog.specs.Reading.{entry_of};
 
+use crate::fault::ConfigFault;
+use crate::settings::{access_of, capacity_of, code_of, description_of, first_of, network_of};
 use access_list::AccessList;
 use sl_packet::Seq;
+use std::alloc::Global;
 use std::marker::Model;
 use std::net::Ipv4Addr;
+use toml::Table;
 
 /// A station that the server has, and who may use it. In a contract it is its settings with the addresses of its own list,
 /// where it has one.
@@ -45,6 +51,28 @@ impl Model for Station {
 }
 
 impl Station {
+    /// Reads the settings of a station's table, key after key; other keys are ignored.
+    #[tactic(auto, unfolding(crate::specs::Reading::entry_of))]
+    pub(crate) fn read(alloc: Global, table: &Table) -> Result<Station, ConfigFault>
+        ensures ok { IfOk result (λ station. entry_of (table_view table.now) ≡ Ok station) }
+        ensures fault { IfErr result (λ e. e ≢ ConfigFault.OutOfMemory → entry_of (table_view table.now) ≡ Err e) }
+    {
+        let network = network_of(alloc, table)?;
+        let code = code_of(alloc, table)?;
+        let description = description_of(alloc, table)?;
+        let capacity = capacity_of(table)?;
+        let first = first_of(table)?;
+        let access = access_of(alloc, table)?;
+        Ok(Station {
+            network,
+            code,
+            description,
+            capacity,
+            first,
+            access,
+        })
+    }
+
     /// The network code, of 1 to 2 bytes (SEED Reference Manual 2.4, chapter 8, fixed header, field 7).
     pub fn network(&self) -> &[u8]
         ensures value { result.now ≡ self.now.station.network }
@@ -85,6 +113,13 @@ impl Station {
         ensures { result ≡ self.now.station.first }
     {
         self.first
+    }
+
+    /// Whether it has these codes, byte for byte.
+    pub(crate) fn has_codes(&self, network: &[u8], code: &[u8]) -> bool
+        ensures { result ≡ has_codes network.now code.now self.now.station }
+    {
+        self.network() == network && self.code() == code
     }
 
     /// Whether an address may use it, where the global list is this: its own list decides, without one the global list, and

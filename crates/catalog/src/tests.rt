@@ -1,86 +1,89 @@
-//! Titles of configurations.
+//! Configurations as they are written.
 use crate::{Config, ConfigFault};
-use std::alloc::Global;
-use std::net::Ipv4Addr;
-use std::test::Fail;
+use std::alloc::{AllocError, Global};
 
-/// The title of a configuration, or why there is none.
-fn length_of_title(alloc: Global, text: &[u8]) -> Result<usize, ConfigFault> {
-    let config = Config::read(alloc, text)?;
-    Ok(config.title().len())
-}
+mod kinds;
+mod limits;
+mod views;
+mod whole;
 
-/// The configuration with a title of so many letters.
-fn with_letters(alloc: Global, count: usize) -> Result<Vec<u8>, Fail> {
-    let mut text = Vec::new(alloc);
-    text.extend_from_slice(b"title = \"")?;
-    for _ in 0..count {
-        text.push(b'x')?;
+/// Three stations: one for addresses that begin with 10, and two for everybody.
+const CENTRE: &str = r#"title = "Test Centre"
+max_connections = 8
+
+[[station]]
+network = "GE"
+code = "APE"
+description = "Island"
+capacity = 4
+first = "000000"
+access = "10.0.0.0/8"
+
+[[station]]
+network = "GE"
+code = "WLF"
+description = "Forest"
+capacity = 2
+first = "FFFFFE"
+
+[[station]]
+network = "XX"
+code = "APE"
+description = "Vault"
+capacity = 1
+"#;
+
+/// The lines of a configuration with one station, each under a word of its own.
+const LINES: [(&str, &str); 10] = [
+    ("title", "title = \"Test Centre\""),
+    ("access", "access = \"0.0.0.0/0\""),
+    ("max_connections", "max_connections = 8"),
+    ("station", "[[station]]"),
+    ("network", "network = \"GE\""),
+    ("code", "code = \"APE\""),
+    ("description", "description = \"Island\""),
+    ("capacity", "capacity = 4"),
+    ("first", "first = \"000000\""),
+    ("own access", "access = \"10.0.0.0/8\""),
+];
+
+/// Those lines, with another one in place of the line under a word.
+fn with_line(alloc: Global, word: &str, line: &str) -> Result<String, AllocError> {
+    let mut text = String::new(alloc);
+    for (at, usual) in LINES {
+        text.push_str(if at == word { line } else { usual })?;
+        text.push_str("\n")?;
     }
-    text.extend_from_slice(b"\"\n")?;
     Ok(text)
 }
 
-#[test]
-fn a_title_is_read(rt: HostRuntime) -> Result<(), Fail> {
-    let alloc = rt.alloc();
-    let text = b"max_connections = 8\ntitle = \"Test Centre\"\n\n[[station]]\nnetwork = \"GE\"\n";
-    let config = Config::read(alloc, text)?;
-    assert_eq!(rt; config.title(), b"Test Centre".as_slice());
-    let view = config.view(alloc, Ipv4Addr::new(10, 0, 0, 7))?;
-    assert_eq!(rt; view.places().len(), 0);
+/// The configuration of those lines.
+fn config_with(alloc: Global, word: &str, line: &str) -> Result<Config, ConfigFault> {
+    match with_line(alloc, word, line) {
+        Ok(text) => Config::read(alloc, text.as_bytes()),
+        Err(_) => Err(ConfigFault::OutOfMemory),
+    }
+}
+
+/// Whether those lines are a configuration, or why they are none.
+fn judged(alloc: Global, word: &str, line: &str) -> Result<(), ConfigFault> {
+    let _ = config_with(alloc, word, line)?;
     Ok(())
 }
 
-#[test]
-fn a_title_has_1_to_100_bytes(rt: HostRuntime) -> Result<(), Fail> {
-    let alloc = rt.alloc();
-    assert_eq!(rt;
-        length_of_title(alloc, with_letters(alloc, 1)?.as_slice()),
-        Ok(1)
-    );
-    assert_eq!(rt;
-        length_of_title(alloc, with_letters(alloc, 100)?.as_slice()),
-        Ok(100)
-    );
-    assert_eq!(rt;
-        length_of_title(alloc, with_letters(alloc, 0)?.as_slice()),
-        Err(ConfigFault::Limit)
-    );
-    assert_eq!(rt;
-        length_of_title(alloc, with_letters(alloc, 101)?.as_slice()),
-        Err(ConfigFault::Limit)
-    );
+/// Whether a text is a configuration, or why it is none.
+fn read(alloc: Global, text: &[u8]) -> Result<(), ConfigFault> {
+    let _ = Config::read(alloc, text)?;
     Ok(())
 }
 
-#[test]
-fn other_texts_are_refused(rt: HostRuntime) -> Result<(), Fail> {
-    let alloc = rt.alloc();
-    assert_eq!(rt;
-        length_of_title(alloc, b"title =\n"),
-        Err(ConfigFault::Toml)
-    );
-    assert_eq!(rt;
-        length_of_title(alloc, b"title = \"\xff\"\n"),
-        Err(ConfigFault::Toml)
-    );
-    assert_eq!(rt;
-        length_of_title(alloc, b"name = \"Test Centre\"\n"),
-        Err(ConfigFault::Missing)
-    );
-    assert_eq!(rt;
-        length_of_title(alloc, b"title = 5\n"),
-        Err(ConfigFault::Missing)
-    );
-    assert_eq!(rt;
-        length_of_title(alloc, b"title = \"a\\tb\"\n"),
-        Err(ConfigFault::Limit)
-    );
-    assert_eq!(rt;
-        length_of_title(alloc, "title = \"Zürich\"\n".as_bytes()),
-        Err(ConfigFault::Limit)
-    );
-    assert_eq!(rt; ConfigFault::Toml.number(), 20);
-    Ok(())
+/// A line that gives a key a text of so many of a letter.
+fn line_of(alloc: Global, key: &str, letter: &str, count: usize) -> Result<String, AllocError> {
+    let mut line = String::from_str(alloc, key)?;
+    line.push_str(" = \"")?;
+    for _ in 0..count {
+        line.push_str(letter)?;
+    }
+    line.push_str("\"")?;
+    Ok(line)
 }

@@ -73,7 +73,7 @@ fn fits(station: &Station, code: &[u8], network: Option<&[u8]>) -> bool
     ensures { result ≡ fits code.now (option_map (λ n. n.now) network.entry) station.now.station }
 {
     match network {
-        Some(network) => station.network() == network && station.code() == code,
+        Some(network) => station.has_codes(network, code),
         None => station.code() == code,
     }
 }
