@@ -82,18 +82,24 @@ fn is_done(choice: &Choice) -> bool
 {
     match choice.action {
         None => true,
-        Some(Action::Data {
-            number: _number,
-            begin: _begin,
-        }) => false,
-        Some(Action::Fetch {
-            number: _number,
-            begin: _begin,
-        }) => true,
-        Some(Action::Time {
-            begin: _begin,
-            last: _last,
-        }) => false,
+        Some(
+            Action::Data {
+                number: _number,
+                begin: _begin,
+            },
+        ) => false,
+        Some(
+            Action::Fetch {
+                number: _number,
+                begin: _begin,
+            },
+        ) => true,
+        Some(
+            Action::Time {
+                begin: _begin,
+                last: _last,
+            },
+        ) => false,
     }
 }
 

@@ -1,45 +1,100 @@
-//! Dialogues with a server that has a title and no station.
+//! Dialogues with a server that has three stations.
 use crate::{Event, Handed, Offer, Refusal, Server, run};
 use catalog::Config;
 use std::alloc::Global;
 use std::net::Ipv4Addr;
 use std::test::Fail;
 
+mod commands;
+mod stations;
+
 const GREETING: &[u8] = b"SeedLink v3.0 (station access)\r\nTest Centre\r\n";
 
-fn config(alloc: Global) -> Result<Config, Fail> {
-    Ok(Config::read(alloc, b"title = \"Test Centre\"\n")?)
+/// An address that sees all three stations.
+fn inside() -> Ipv4Addr {
+    Ipv4Addr::new(10, 0, 0, 7)
 }
 
-/// What the first client is handed by so many takes of 520 bytes after it sent these pieces.
-fn handed(alloc: Global, pieces: &[&[u8]], takes: usize) -> Result<Vec<Handed>, Fail> {
+/// An address that does not see GE APE.
+fn outside() -> Ipv4Addr {
+    Ipv4Addr::new(172, 16, 0, 9)
+}
+
+/// A station for addresses that begin with 10, and two for everybody.
+const CENTRE: &[u8] = br#"title = "Test Centre"
+max_connections = 8
+
+[[station]]
+network = "GE"
+code = "APE"
+description = "Island"
+capacity = 4
+first = "000000"
+access = "10.0.0.0/8"
+
+[[station]]
+network = "GE"
+code = "WLF"
+description = "Forest"
+capacity = 2
+first = "FFFFFE"
+
+[[station]]
+network = "XX"
+code = "APE"
+description = "Vault"
+capacity = 1
+"#;
+
+fn config(alloc: Global) -> Result<Config, Fail> {
+    Ok(Config::read(alloc, CENTRE)?)
+}
+
+/// What the client of an address is handed by takes of so many bytes after it sent these pieces, at a server of that
+/// configuration.
+fn handed_at(
+    alloc: Global,
+    text: &[u8],
+    address: Ipv4Addr,
+    pieces: &[&[u8]],
+    takes: usize,
+    count: usize,
+) -> Result<Vec<Handed>, Fail> {
     let mut events = Vec::new(alloc);
-    events.push(Event::Open(Ipv4Addr::new(10, 0, 0, 7)))?;
+    events.push(Event::Open(address))?;
     for piece in pieces {
         events.push(Event::Bytes(0, piece.to_vec(alloc)?))?;
     }
     for _ in 0..takes {
-        events.push(Event::Take(0, 520))?;
+        events.push(Event::Take(0, count))?;
     }
-    Ok(run(alloc, config(alloc)?, events.as_slice())?)
+    Ok(run(alloc, Config::read(alloc, text)?, events.as_slice())?)
 }
 
-/// The same, one after the other.
-fn bytes(alloc: Global, pieces: &[&[u8]], takes: usize) -> Result<Vec<u8>, Fail> {
+fn joined(alloc: Global, takes: &[Handed]) -> Result<Vec<u8>, Fail> {
     let mut all = Vec::new(alloc);
-    for take in handed(alloc, pieces, takes)?.as_slice() {
+    for take in takes {
         all.extend_from_slice(take.bytes.as_slice())?;
     }
     Ok(all)
 }
 
-fn ends(alloc: Global, pieces: &[&[u8]], takes: usize) -> Result<bool, Fail> {
-    Ok(
-        handed(alloc, pieces, takes)?
-            .as_slice()
-            .iter()
-            .any(|take| take.ended),
-    )
+/// All that the client of an address is handed by takes of 520 bytes after it sent a text.
+fn answers(alloc: Global, address: Ipv4Addr, text: &[u8]) -> Result<Vec<u8>, Fail> {
+    let takes = handed_at(alloc, CENTRE, address, &[text], 60, 520)?;
+    joined(alloc, takes.as_slice())
+}
+
+/// All that a client inside is handed by so many takes of 520 bytes after it sent these pieces.
+fn bytes(alloc: Global, pieces: &[&[u8]], takes: usize) -> Result<Vec<u8>, Fail> {
+    let takes = handed_at(alloc, CENTRE, inside(), pieces, takes, 520)?;
+    joined(alloc, takes.as_slice())
+}
+
+/// Whether the client of an address is told that its connection is over.
+fn ends(alloc: Global, address: Ipv4Addr, text: &[u8]) -> Result<bool, Fail> {
+    let takes = handed_at(alloc, CENTRE, address, &[text], 60, 520)?;
+    Ok(takes.as_slice().iter().any(|take| take.ended))
 }
 
 #[test]
@@ -51,26 +106,15 @@ fn hello_is_greeted(rt: HostRuntime) -> Result<(), Fail> {
         bytes(alloc, &[b"HEL", b"LO\r", b"\n", b"\r\r"], 2)?.as_slice(),
         GREETING
     );
-    assert!(rt; !ends(alloc, &[b"HELLO\r"], 2)?);
+    assert!(rt; !ends(alloc, inside(), b"HELLO\r")?);
     Ok(())
 }
 
 #[test]
 fn bye_ends_the_connection(rt: HostRuntime) -> Result<(), Fail> {
     let alloc = rt.alloc();
-    assert!(rt; ends(alloc, &[b"BYE\r\nHELLO\r\n"], 1)?);
+    assert!(rt; ends(alloc, inside(), b"BYE\r\nHELLO\r\n")?);
     assert_eq!(rt; bytes(alloc, &[b"BYE\r\nHELLO\r\n"], 2)?.len(), 0);
-    Ok(())
-}
-
-#[test]
-fn commands_are_answered_without_a_station(rt: HostRuntime) -> Result<(), Fail> {
-    let alloc = rt.alloc();
-    let all: &[&[u8]] = &[
-        b"CAT\rINFO ID\rSELECT BH?\rSELECT\rSELECT BH\rDATA\rSTATION APE\rSELECT BHZ\rEND\r",
-    ];
-    let answers = b"END\r\nERROR\r\nOK\r\nOK\r\nERROR\r\nERROR\r\nERROR\r\nERROR\r\nERROR\r\n";
-    assert_eq!(rt; bytes(alloc, all, 10)?.as_slice(), answers.as_slice());
     Ok(())
 }
 
@@ -104,7 +148,7 @@ fn each_split_of_a_dialogue_is_answered_alike(rt: HostRuntime) -> Result<(), Fai
 fn a_piece_that_has_no_room_is_refused_whole(rt: HostRuntime) -> Result<(), Fail> {
     let alloc = rt.alloc();
     let mut server = Server::new(alloc, config(alloc)?);
-    let client = server.open(alloc, Ipv4Addr::new(10, 0, 0, 7))?;
+    let client = server.open(alloc, inside())?;
     let many = [b'A'; 1025];
     server.receive(client, b"HELLO\r")?;
     assert_eq!(rt; server.receive(client, &many), Err(Refusal::NoRoom));
@@ -119,8 +163,8 @@ fn a_piece_that_has_no_room_is_refused_whole(rt: HostRuntime) -> Result<(), Fail
 fn a_client_that_closed_is_gone(rt: HostRuntime) -> Result<(), Fail> {
     let alloc = rt.alloc();
     let mut server = Server::new(alloc, config(alloc)?);
-    let first = server.open(alloc, Ipv4Addr::new(10, 0, 0, 7))?;
-    let second = server.open(alloc, Ipv4Addr::new(172, 16, 0, 9))?;
+    let first = server.open(alloc, inside())?;
+    let second = server.open(alloc, outside())?;
     assert_eq!(rt; second.number(), 1);
     server.close(first)?;
     assert_eq!(rt; server.receive(first, b"HELLO\r"), Err(Refusal::Gone));
