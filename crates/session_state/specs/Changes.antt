@@ -1,7 +1,6 @@
 -- What a command changes of what was negotiated, and what it leads to.
 -- SeedLink 3, the dialogue in uni-station and multi-station mode.
 use Rattle.std.specs.Prelude.{ℕ, nat_lt, if◌then◌else◌, List, [], ◌∷◌, ◌++◌, length, Option, Some, None, option_map, filter_map}
-
 use Rattle.protocol.specs.Catalog.{Config, View}
 use Rattle.protocol.specs.Pattern.{Pattern}
 use Rattle.protocol.specs.Session.{Choice, Negotiated, Outcome, act, choices_of, choose_station, end_multi, error_line, ok_line, select, select_in, select_uni, wish_of, with_pattern, max_patterns}

@@ -67,7 +67,10 @@ pub fn asked_by(view: &View, config: &Config, line: Line<'_>) -> Asked
             pattern: Some(text),
         } => selecting(text),
         Order::End => Asked::Changing(Change::Finish),
-        Order::Data { number, begin } => Asked::Changing(Change::Act(Action::Data { number, begin })),
+        Order::Data { number, begin } => Asked::Changing(Change::Act(Action::Data {
+            number,
+            begin,
+        })),
         Order::Fetch { number, begin } => {
             Asked::Changing(Change::Act(Action::Fetch { number, begin }))
         }

@@ -15,7 +15,7 @@ pub returns-clause-client : goal.returns-clause-client
 returns-clause-client c = λ h.
     settles c.args.config.now h c.loop-self.self c.drop_if_ending.new.self c.args.self.now c.settled.result c.settled.ensures.start c.settled.ensures.rest c.drop_if_ending.ensures
     (λ apart. elim c.loop-self-test.branch [
-        then-loop-self-test+else-is_reading w ↦ read_on-stopped c.args.config.now _ h c.loop-self.self (w.is_reading.ensures.may_not w.if-is_reading.false apart c.args.config.now h)
+      | then-loop-self-test+else-is_reading w ↦ read_on-stopped c.args.config.now _ h c.loop-self.self (w.is_reading.ensures.may_not w.if-is_reading.false apart c.args.config.now h)
       | else-loop-self-test w ↦ read_on-nothing c.args.config.now _ h c.loop-self.self (sym c.has_unread.ensures ∙ w.loop-self-test.false)
-      ])
+    ])
     c.loop-self.invariant
