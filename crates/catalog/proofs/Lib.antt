@@ -1,3 +1,4 @@
+mod Distinct
 mod Elements
 mod Finds
 mod Views

@@ -1,5 +1,5 @@
 -- Stations that are named by their places in a configuration.
-use Rattle.std.specs.Prelude.{ℕ, ◌<◌, List, [], length, map, slice_get, option_map, unwrap_or}
+use Rattle.std.specs.Prelude.{◌≡◌, ℕ, ◌<◌, List, [], length, map, slice_get, option_map, unwrap_or}
 use Rattle.protocol.specs.Catalog.{Config, Entry, Station, View}
 
 -- the station of a place that is not there
@@ -17,3 +17,11 @@ view_in config places = record { title = config.title; stations = map (station_a
 -- a place at which the configuration has a station
 abbrev pub IsPlace : Config → ℕ → Type 0
 IsPlace config place = place < length config.entries
+
+-- two stations have the same network and code
+abbrev pub SameCodes : Station → Station → Type 0
+SameCodes s t = (s.network ≡ t.network) × (s.code ≡ t.code)
+
+-- no two places have such stations
+abbrev pub HasDistinctCodes : List Entry → Type 0
+HasDistinctCodes entries = (i j : ℕ) → i < length entries → j < length entries → SameCodes (station_at entries i) (station_at entries j) → i ≡ j

@@ -5,7 +5,7 @@ ghost use Rattle.std.specs.Net.Addr.{ipv4_bits};
 ghost use Rattle.toml.specs.Parse.{parse_document};
 ghost use Rattle.toml.specs.View.{table_view};
 ghost use Rattle.protocol.specs.Catalog.{sees, view_of};
-ghost use Rattle.catalog.specs.Places.{view_in, IsPlace};
+ghost use Rattle.catalog.specs.Places.{view_in, HasDistinctCodes, IsPlace};
 ghost use Rattle.catalog.specs.Reading.{config_of, config_read};
 
 use crate::fault::ConfigFault;
@@ -31,6 +31,7 @@ pub struct Config {
 impl Model for Config {
     ghost use Rattle.std.specs.Prelude.{◌≤◌, length};
     ghost use Rattle.protocol.specs.Catalog.{Config as ProtocolConfig};
+    ghost use Rattle.catalog.specs.Places.{HasDistinctCodes};
 
     ghost Value = { ProtocolConfig };
 
@@ -41,7 +42,9 @@ impl Model for Config {
       entries = c.stations.items;
     } };
 
-    ghost invariant = { λ c. (length c.title.items ≤ 100) × (1 ≤ c.max_connections) × (c.max_connections ≤ 10000) };
+    ghost invariant = { λ c.
+        (length c.title.items ≤ 100) × (1 ≤ c.max_connections) × (c.max_connections ≤ 10000) ×
+        HasDistinctCodes c.stations.items };
 }
 
 /// The table of a configuration's text.
@@ -131,6 +134,13 @@ impl Config {
         ensures { result.now ≡ self.now.entries }
     {
         self.stations.as_slice()
+    }
+
+    /// No two of its stations have the same network and code: a call that does nothing, for its contract.
+    pub fn codes_are_distinct(&self)
+        ensures { HasDistinctCodes self.now.entries }
+    {
+        let _ = &self.stations;
     }
 
     /// Whether an address may use the station at a place: the station's own list decides, without one the global list, and

@@ -1,7 +1,8 @@
 //! The stations that a configuration lists.
-ghost use Rattle.std.specs.Prelude.{◌≡◌, ◌≢◌, [], length, map, IfOk, IfErr, Ok, Err};
+ghost use Rattle.std.specs.Prelude.{◌≡◌, ◌≢◌, [], length, map, IfOk, IfErr, Ok, Err, false};
 ghost use Rattle.std.specs.List.{list_all};
 ghost use Rattle.toml.specs.View.{table_view, view};
+ghost use Rattle.catalog.specs.Places.{HasDistinctCodes};
 ghost use Rattle.catalog.specs.Reading.{is_few, is_repeated, is_table, station_of, station_values, stations_of, stations_read};
 
 use crate::fault::ConfigFault;
@@ -17,6 +18,7 @@ const STATIONS: usize = 1024;
 #[tactic(auto, unfolding(crate::specs::Reading::stations_of))]
 pub fn stations_of(alloc: Global, table: &Table) -> Result<Vec<Station>, ConfigFault>
     ensures ok { IfOk result (λ stations. stations_of (table_view table.now) ≡ Ok stations.items) }
+    ensures distinct { IfOk result (λ stations. HasDistinctCodes stations.items) }
     ensures fault { IfErr result (λ e. e ≢ ConfigFault.OutOfMemory → stations_of (table_view table.now) ≡ Err e) }
 {
     let values = station_values(table)?;
@@ -54,8 +56,10 @@ fn are_tables(values: &[Value]) -> bool
 }
 
 /// The stations that values describe.
+#[tactic(auto, using(crate::proofs::Distinct::distinct_lemmas))]
 fn stations_read(alloc: Global, values: &[Value]) -> Result<Vec<Station>, ConfigFault>
     ensures ok { IfOk result (λ stations. stations_read [] (map view values.now) ≡ Ok stations.items) }
+    ensures distinct { IfOk result (λ stations. HasDistinctCodes stations.items) }
     ensures fault { IfErr result (λ e. e ≢ ConfigFault.OutOfMemory → stations_read [] (map view values.now) ≡ Err e) }
 {
     let mut stations = Vec::new(alloc);
@@ -72,6 +76,7 @@ fn stations_read(alloc: Global, values: &[Value]) -> Result<Vec<Station>, Config
 #[tactic(auto, unfolding(crate::specs::Reading::station_of))]
 fn station_of(alloc: Global, earlier: &[Station], value: &Value) -> Result<Station, ConfigFault>
     ensures ok { IfOk result (λ s. station_of earlier.now (view value.now) ≡ Ok s) }
+    ensures apart { IfOk result (λ s. is_repeated earlier.now s.station ≡ false) }
     ensures fault { IfErr result (λ e. e ≢ ConfigFault.OutOfMemory → station_of earlier.now (view value.now) ≡ Err e) }
 {
     let table = table_in(value)?;

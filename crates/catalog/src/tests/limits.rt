@@ -32,110 +32,142 @@ fn judged_stations(alloc: Global, count: usize) -> Result<(), ConfigFault> {
     }
 }
 
+/// The number of the first record that a line spells.
+fn first_of(alloc: Global, line: &str) -> Result<Option<u32>, ConfigFault> {
+    let config = config_with(alloc, "first", line)?;
+    Ok(
+        config
+            .stations()
+            .first()
+            .map(|station| station.first().value()),
+    )
+}
+
 #[test]
 fn texts_have_so_many_bytes(rt: HostRuntime) {
-    let alloc = rt.alloc();
-    let limit = Err(ConfigFault::Limit);
-    assert_eq!(rt; judged_letters(alloc, "title", 0), limit);
-    assert_eq!(rt; judged_letters(alloc, "title", 1), Ok(()));
-    assert_eq!(rt; judged_letters(alloc, "title", 100), Ok(()));
-    assert_eq!(rt; judged_letters(alloc, "title", 101), limit);
-    assert_eq!(rt; judged_letters(alloc, "network", 0), limit);
-    assert_eq!(rt; judged_letters(alloc, "network", 1), Ok(()));
-    assert_eq!(rt; judged_letters(alloc, "network", 2), Ok(()));
-    assert_eq!(rt; judged_letters(alloc, "network", 3), limit);
-    assert_eq!(rt; judged_letters(alloc, "code", 0), limit);
-    assert_eq!(rt; judged_letters(alloc, "code", 1), Ok(()));
-    assert_eq!(rt; judged_letters(alloc, "code", 5), Ok(()));
-    assert_eq!(rt; judged_letters(alloc, "code", 6), limit);
-    assert_eq!(rt; judged_letters(alloc, "description", 0), Ok(()));
-    assert_eq!(rt; judged_letters(alloc, "description", 60), Ok(()));
-    assert_eq!(rt; judged_letters(alloc, "description", 61), limit);
+    for (key, count) in [
+        ("title", 1),
+        ("title", 100),
+        ("network", 1),
+        ("network", 2),
+        ("code", 1),
+        ("code", 5),
+        ("description", 0),
+        ("description", 60),
+    ] {
+        assert_eq!(rt;
+            judged_letters(rt.alloc(), key, count),
+            Ok(()),
+            "{key} {count}"
+        );
+    }
+    for (key, count) in [
+        ("title", 0),
+        ("title", 101),
+        ("network", 0),
+        ("network", 3),
+        ("code", 0),
+        ("code", 6),
+        ("description", 61),
+    ] {
+        assert_eq!(rt;
+            judged_letters(rt.alloc(), key, count),
+            Err(ConfigFault::Limit),
+            "{key} {count}"
+        );
+    }
 }
 
 #[test]
 fn texts_have_certain_bytes(rt: HostRuntime) {
-    let alloc = rt.alloc();
-    let limit = Err(ConfigFault::Limit);
-    assert_eq!(rt; judged(alloc, "title", "title = \" ~\""), Ok(()));
-    assert_eq!(rt; judged(alloc, "title", "title = \"a\\u001fb\""), limit);
-    assert_eq!(rt; judged(alloc, "title", "title = \"a\\u007fb\""), limit);
-    assert_eq!(rt; judged(alloc, "title", "title = \"Zürich\""), limit);
-    assert_eq!(rt;
-        judged(alloc, "description", "description = \" ~\""),
-        Ok(())
-    );
-    assert_eq!(rt;
-        judged(alloc, "description", "description = \"\\t\""),
-        limit
-    );
-    assert_eq!(rt;
-        judged(alloc, "description", "description = \"\\u007f\""),
-        limit
-    );
-    assert_eq!(rt; judged(alloc, "network", "network = \"A0\""), Ok(()));
-    assert_eq!(rt; judged(alloc, "network", "network = \"Z9\""), Ok(()));
-    assert_eq!(rt; judged(alloc, "network", "network = \"ge\""), limit);
-    assert_eq!(rt; judged(alloc, "network", "network = \"G \""), limit);
-    assert_eq!(rt; judged(alloc, "code", "code = \"AZ09\""), Ok(()));
-    assert_eq!(rt; judged(alloc, "code", "code = \"@\""), limit);
-    assert_eq!(rt; judged(alloc, "code", "code = \"[\""), limit);
-    assert_eq!(rt; judged(alloc, "code", "code = \"/\""), limit);
-    assert_eq!(rt; judged(alloc, "code", "code = \":\""), limit);
+    for (key, line) in [
+        ("title", "title = \" ~\""),
+        ("description", "description = \" ~\""),
+        ("network", "network = \"A0\""),
+        ("network", "network = \"Z9\""),
+        ("code", "code = \"AZ09\""),
+    ] {
+        assert_eq!(rt; judged(rt.alloc(), key, line), Ok(()), "{line}");
+    }
+    for (key, line) in [
+        ("title", "title = \"a\\u001fb\""),
+        ("title", "title = \"a\\u007fb\""),
+        ("title", "title = \"Zürich\""),
+        ("description", "description = \"\\t\""),
+        ("description", "description = \"\\u007f\""),
+        ("network", "network = \"ge\""),
+        ("network", "network = \"G \""),
+        ("code", "code = \"@\""),
+        ("code", "code = \"[\""),
+        ("code", "code = \"/\""),
+        ("code", "code = \":\""),
+    ] {
+        assert_eq!(rt;
+            judged(rt.alloc(), key, line),
+            Err(ConfigFault::Limit),
+            "{line}"
+        );
+    }
 }
 
 #[test]
 fn numbers_have_limits(rt: HostRuntime) -> Result<(), Fail> {
-    let alloc = rt.alloc();
-    let limit = Err(ConfigFault::Limit);
-    assert_eq!(rt;
-        judged(alloc, "max_connections", "max_connections = -1"),
-        limit
-    );
-    assert_eq!(rt;
-        judged(alloc, "max_connections", "max_connections = 0"),
-        limit
-    );
-    assert_eq!(rt;
-        judged(alloc, "max_connections", "max_connections = 1"),
-        Ok(())
-    );
-    let config = config_with(alloc, "max_connections", "max_connections = 10000")?;
+    for (key, line) in [
+        ("max_connections", "max_connections = 1"),
+        ("max_connections", "max_connections = 10000"),
+        ("capacity", "capacity = 1"),
+        ("capacity", "capacity = 65536"),
+    ] {
+        assert_eq!(rt; judged(rt.alloc(), key, line), Ok(()), "{line}");
+    }
+    for (key, line) in [
+        ("max_connections", "max_connections = -1"),
+        ("max_connections", "max_connections = 0"),
+        ("max_connections", "max_connections = 10001"),
+        ("capacity", "capacity = -1"),
+        ("capacity", "capacity = 0"),
+        ("capacity", "capacity = 65537"),
+        ("capacity", "capacity = 9223372036854775807"),
+    ] {
+        assert_eq!(rt;
+            judged(rt.alloc(), key, line),
+            Err(ConfigFault::Limit),
+            "{line}"
+        );
+    }
+    let config = config_with(rt.alloc(), "max_connections", "max_connections = 10000")?;
     assert_eq!(rt; config.max_connections(), 10_000);
+    let config = config_with(rt.alloc(), "capacity", "capacity = 65536")?;
     assert_eq!(rt;
-        judged(alloc, "max_connections", "max_connections = 10001"),
-        limit
-    );
-    assert_eq!(rt; judged(alloc, "capacity", "capacity = -1"), limit);
-    assert_eq!(rt; judged(alloc, "capacity", "capacity = 0"), limit);
-    assert_eq!(rt; judged(alloc, "capacity", "capacity = 1"), Ok(()));
-    let config = config_with(alloc, "capacity", "capacity = 65536")?;
-    assert_eq!(rt; config.stations().len(), 1);
-    assert_eq!(rt; config.stations()[0].capacity(), 65_536);
-    assert_eq!(rt; judged(alloc, "capacity", "capacity = 65537"), limit);
-    assert_eq!(rt;
-        judged(alloc, "capacity", "capacity = 9223372036854775807"),
-        limit
+        config.stations().first().map(|station| station.capacity()),
+        Some(65_536)
     );
     Ok(())
 }
 
 #[test]
-fn the_first_number_has_1_to_6_digits_of_either_case(rt: HostRuntime) -> Result<(), Fail> {
-    let alloc = rt.alloc();
-    let limit = Err(ConfigFault::Limit);
-    assert_eq!(rt; judged(alloc, "first", "first = \"\""), limit);
-    let config = config_with(alloc, "first", "first = \"a\"")?;
-    assert_eq!(rt; config.stations().len(), 1);
-    assert_eq!(rt; config.stations()[0].first().value(), 10);
-    let config = config_with(alloc, "first", "first = \"FfFfFe\"")?;
-    assert_eq!(rt; config.stations().len(), 1);
-    assert_eq!(rt; config.stations()[0].first().value(), 0xFF_FFFE);
-    assert_eq!(rt; judged(alloc, "first", "first = \"0000000\""), limit);
-    assert_eq!(rt; judged(alloc, "first", "first = \"00000G\""), limit);
-    assert_eq!(rt; judged(alloc, "first", "first = \"0x1\""), limit);
-    assert_eq!(rt; judged(alloc, "first", "first = \" 1\""), limit);
-    Ok(())
+fn the_first_number_has_1_to_6_digits_of_either_case(rt: HostRuntime) {
+    for (line, number) in [
+        ("first = \"0\"", 0),
+        ("first = \"a\"", 10),
+        ("first = \"A\"", 10),
+        ("first = \"FfFfFe\"", 0xFF_FFFE),
+    ] {
+        assert_eq!(rt; first_of(rt.alloc(), line), Ok(Some(number)), "{line}");
+    }
+    for line in [
+        "first = \"\"",
+        "first = \"0000000\"",
+        "first = \"00000G\"",
+        "first = \"0x1\"",
+        "first = \" 1\"",
+    ] {
+        assert_eq!(rt;
+            first_of(rt.alloc(), line),
+            Err(ConfigFault::Limit),
+            "{line}"
+        );
+    }
 }
 
 #[test]

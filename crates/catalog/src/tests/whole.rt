@@ -76,67 +76,52 @@ fn each_refusal_has_its_number(rt: HostRuntime) {
 
 #[test]
 fn what_is_no_toml_is_refused(rt: HostRuntime) {
-    let alloc = rt.alloc();
-    assert_eq!(rt; read(alloc, b"title = \"\xff\"\n"), Err(ConfigFault::Toml));
-    assert_eq!(rt;
-        read(alloc, b"title \"Test Centre\"\n"),
-        Err(ConfigFault::Toml)
-    );
-    assert_eq!(rt;
-        judged(alloc, "code", "network = \"GE\""),
-        Err(ConfigFault::Toml)
-    );
-    assert_eq!(rt; read(alloc, b""), Err(ConfigFault::Missing));
+    for text in [
+        b"title =".as_slice(),
+        b"title = \"\xff\"\n",
+        b"title \"Test Centre\"\n",
+        b"title = \"t\"\ntitle = \"t\"\n",
+        b"title = \"t\"\n[[station]\n",
+    ] {
+        assert_eq!(rt; read(rt.alloc(), text), Err(ConfigFault::Toml));
+    }
+    assert_eq!(rt; read(rt.alloc(), b""), Err(ConfigFault::Missing));
 }
 
 #[test]
 fn the_first_fault_is_told(rt: HostRuntime) {
-    let alloc = rt.alloc();
-    // The title comes before the list, that before the number, and that before the stations.
-    assert_eq!(rt;
-        read(alloc, b"access = \"x\"\nmax_connections = 0\n"),
-        Err(ConfigFault::Missing)
-    );
-    assert_eq!(rt;
-        read(
-            alloc,
-            b"title = \"t\"\naccess = \"x\"\nmax_connections = 0\n"
+    for (text, fault) in [
+        (
+            b"access = \"x\"\nmax_connections = 0\n".as_slice(),
+            ConfigFault::Missing,
         ),
-        Err(ConfigFault::Access(AccessFault::Address))
-    );
-    assert_eq!(rt;
-        read(
-            alloc,
-            b"title = \"t\"\naccess = \"1.2.3.4/x\"\nmax_connections = 0\n"
+        (
+            b"title = \"t\"\naccess = \"x\"\nmax_connections = 0\n",
+            ConfigFault::Access(AccessFault::Address),
         ),
-        Err(ConfigFault::Access(AccessFault::Mask))
-    );
-    assert_eq!(rt;
-        read(alloc, b"title = \"t\"\nmax_connections = 0\nstation = 1\n"),
-        Err(ConfigFault::Limit)
-    );
-    // Of a station the keys are judged in order, and of two stations the first.
-    assert_eq!(rt;
-        read(
-            alloc,
-            b"title = \"t\"\n[[station]]\nnetwork = 6\ncode = \"\"\n"
+        (
+            b"title = \"t\"\naccess = \"1.2.3.4/x\"\nmax_connections = 0\n",
+            ConfigFault::Access(AccessFault::Mask),
         ),
-        Err(ConfigFault::Missing)
-    );
-    assert_eq!(rt;
-        read(
-            alloc,
-            b"title = \"t\"\n[[station]]\nnetwork = \"GE\"\ncode = \"\"\n"
+        (
+            b"title = \"t\"\nmax_connections = 0\nstation = 1\n",
+            ConfigFault::Limit,
         ),
-        Err(ConfigFault::Limit)
-    );
-    assert_eq!(rt;
-        read(
-            alloc,
-            b"title = \"t\"\n[[station]]\nnetwork = \"ge\"\n[[station]]\n"
+        (
+            b"title = \"t\"\n[[station]]\nnetwork = 6\ncode = \"\"\n",
+            ConfigFault::Missing,
         ),
-        Err(ConfigFault::Limit)
-    );
+        (
+            b"title = \"t\"\n[[station]]\nnetwork = \"GE\"\ncode = \"\"\n",
+            ConfigFault::Limit,
+        ),
+        (
+            b"title = \"t\"\n[[station]]\nnetwork = \"ge\"\n[[station]]\n",
+            ConfigFault::Limit,
+        ),
+    ] {
+        assert_eq!(rt; read(rt.alloc(), text), Err(fault));
+    }
 }
 
 #[test]
