@@ -1,0 +1,3 @@
+mod Lines
+mod Numbers
+mod Takes
