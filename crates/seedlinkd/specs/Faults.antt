@@ -1,5 +1,8 @@
--- The numbers and names by which the program reports a script or a replay that failed.
+-- The numbers and names by which the program reports a script or a replay that failed, and any other failure of its own.
 use Rattle.std.specs.Prelude.{ℕ, List, codes}
+use Rattle.catalog.specs.Reading.{fault_number, fault_name}
+use Rattle.seedlinkd.specs.declared.failure.Failure.{Failure}
+use Rattle.seedlinkd.specs.declared.failure.Failure.TheVariants as failure
 use Rattle.seedlinkd.specs.declared.faults.ScriptFault.{ScriptFault}
 use Rattle.seedlinkd.specs.declared.faults.ScriptFault.TheVariants as script
 use Rattle.seedlinkd.specs.declared.faults.ReplayFault.{ReplayFault}
@@ -24,3 +27,17 @@ replay_fault_name replay.OutOfMemory = codes "OutOfMemory"
 replay_fault_name replay.Read = codes "Read"
 replay_fault_name replay.Write = codes "Write"
 replay_fault_name replay.Script = codes "Script"
+
+abbrev pub failure_number : Failure → ℕ
+failure_number failure.OutOfMemory = 25
+failure_number failure.Write = 43
+failure_number failure.File = 44
+failure_number (failure.Config fault) = fault_number fault
+failure_number (failure.Replay fault) = replay_fault_number fault
+
+abbrev pub failure_name : Failure → List ℕ
+failure_name failure.OutOfMemory = codes "OutOfMemory"
+failure_name failure.Write = codes "Write"
+failure_name failure.File = codes "File"
+failure_name (failure.Config fault) = fault_name fault
+failure_name (failure.Replay fault) = replay_fault_name fault

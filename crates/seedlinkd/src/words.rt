@@ -1,5 +1,5 @@
 //! The words of the command line.
-ghost use Rattle.std.specs.Prelude.{◌≡◌, Some, false, IfOk, IfErr, map};
+ghost use Rattle.std.specs.Prelude.{◌≡◌, Some, false, IfOk, IfErr, map, string_bytes};
 ghost use Rattle.std.specs.Option.{option_map};
 ghost use Rattle.clap.specs.Words.{app_of, found_of, kind_of, rows_of, subcommand_rows_of, rule_of};
 ghost use Rattle.clap.specs.declared.Command.TheViews.{out-Command};
@@ -101,9 +101,9 @@ fn refused(alloc: Global, error: clap::Error) -> WordsFault
 }
 
 /// The job that the words ask, of which the first is the program's name: `replay CONFIG SCRIPT`.
-pub fn read_words<'a>(alloc: Global, words: &'a [&'a str]) -> Result<Job<'a>, WordsFault>
-    ensures ok { IfOk result (λ job. job_of (map (λ s. s.now) words.entry.now) ≡ Some (asked job)) }
-    ensures err { IfErr result (λ fault. IsJob (map (λ s. s.now) words.entry.now) → fault ≡ OutOfMemory) }
+pub fn read_words<'a>(alloc: Global, words: &'a [String]) -> Result<Job<'a>, WordsFault>
+    ensures ok { IfOk result (λ job. job_of (map string_bytes words.entry.now) ≡ Some (asked job)) }
+    ensures err { IfErr result (λ fault. IsJob (map string_bytes words.entry.now) → fault ≡ OutOfMemory) }
 {
     let Ok(command) = program(alloc) else {
         return Err(WordsFault::OutOfMemory);
