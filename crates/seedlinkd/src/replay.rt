@@ -13,6 +13,9 @@ use server_core::run;
 use sl_io::{ReadFault, Sink, Source, read_all, write_all};
 use std::alloc::Global;
 
+#[cfg(test)]
+mod tests;
+
 /// What a server with that configuration writes of a script.
 fn output_for(alloc: Global, config: Config, text: &[u8]) -> Result<Vec<u8>, ScriptFault>
     ensures ok { IfOk result (λ output. replayed config text.now ≡ Some output.items) }

@@ -10,7 +10,8 @@ mod devices;
 mod refused;
 
 /// The hexadecimal digits of the 45 bytes that HELLO is answered.
-const GREETING: &str = "536565644c696e6b2076332e30202873746174696f6e20616363657373290d0a546573742043656e7472650d0a";
+const GREETING: &str =
+    "536565644c696e6b2076332e30202873746174696f6e20616363657373290d0a546573742043656e7472650d0a";
 
 pub(crate) fn config(alloc: Global) -> Result<Config, Fail> {
     Ok(Config::read(alloc, b"title = \"Test Centre\"\n")?)
@@ -92,7 +93,10 @@ fn worked_scripts(rt: HostRuntime) -> Result<(), Fail> {
 
 #[test]
 fn a_line_is_any_bytes(rt: HostRuntime) -> Result<(), Fail> {
-    let got = written(rt.alloc(), b"open 10.0.0.7\nline 0 \xff\x80 \x00\ntake 0 520\n")?;
+    let got = written(
+        rt.alloc(),
+        b"open 10.0.0.7\nline 0 \xff\x80 \x00\ntake 0 520\n",
+    )?;
     assert!(rt; got.as_slice() == b"0 4552524f520d0a\n".as_slice());
     Ok(())
 }
@@ -170,7 +174,10 @@ fn two_hundred_clients_take_turns(rt: HostRuntime) -> Result<(), Fail> {
         }
     }
     for client in 0..200 {
-        writeln!(script, "take {client} 520\nline {client} E\ntake {client} 520")?;
+        writeln!(
+            script,
+            "take {client} 520\nline {client} E\ntake {client} 520"
+        )?;
         writeln!(output, "{client} {GREETING}\n{client} - end")?;
     }
     let got = written(rt.alloc(), script.as_bytes())?;
