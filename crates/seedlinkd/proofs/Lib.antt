@@ -1,0 +1,5 @@
+mod JobRows
+mod Lines
+mod Numbers
+mod Rows
+mod Takes

@@ -1,0 +1,58 @@
+-- What the words of a command line ask, by the definitions of `clap`: which subcommand they name, and which text stands at
+-- each of its arguments.
+use Rattle.std.specs.Prelude.{◌≡◌, ℕ, Bool, true, List, [], ◌∷◌, Option, Some, None, if◌then◌else◌, codes, IsSome}
+use Rattle.std.specs.Option.{option_map}
+use Rattle.std.specs.Str.{bytes_eq}
+use Rattle.std.specs.Borrow.{Bor}
+use Rattle.clap.specs.Words.{App, Row, Rule, Text, new_app, new_rule, with_rule, with_subcommand, first_of, subcommand_of, takes}
+use Rattle.seedlinkd.specs.declared.words.Job.{Job}
+use Rattle.seedlinkd.specs.declared.words.Job.TheVariants as job
+use Rattle.seedlinkd.specs.declared.words.WordsFault.{WordsFault}
+use Rattle.seedlinkd.specs.declared.words.WordsFault.TheVariants.{OutOfMemory, Refused}
+
+-- ---- the command line
+
+-- a text that has to be there
+abbrev pub wanted : Text → Rule
+wanted name = record (new_rule name) { required = true }
+
+-- `replay CONFIG SCRIPT`
+abbrev pub replay_app : App
+replay_app = with_rule (with_rule (new_app (codes "replay")) (wanted (codes "CONFIG"))) (wanted (codes "SCRIPT"))
+
+-- the program, which wants a subcommand
+abbrev pub named_app : App
+named_app = let a = new_app (codes "seedlinkd") in record a { top = record a.top { subcommand_required = true } }
+
+abbrev pub program_app : App
+program_app = with_subcommand named_app replay_app.top
+
+-- ---- jobs
+
+-- A job as texts.
+pub data Asked : Type 0 where
+  Replay : (config : List ℕ) → (script : List ℕ) → Asked
+
+abbrev pub asked : Job → Asked
+asked (job.Replay config script) = Replay config.now script.now
+
+-- a job of two texts, where both are there
+abbrev pub with_both : (List ℕ → List ℕ → Asked) → Option (List ℕ) → Option (List ℕ) → Option Asked
+with_both make (Some a) (Some b) = Some (make a b)
+with_both make _ _ = None
+
+abbrev pub replay_asked : List Row → Option Asked
+replay_asked rows = with_both Replay (first_of (codes "CONFIG") rows) (first_of (codes "SCRIPT") rows)
+
+-- the job of a subcommand with its arguments
+abbrev pub asked_by : Option (Text × List Row) → Option Asked
+asked_by None = None
+asked_by (Some p) = if bytes_eq p.0 (codes "replay") then replay_asked p.1 else None
+
+-- the job that words ask
+abbrev pub job_of : List Text → Option Asked
+job_of words = asked_by (subcommand_of program_app words)
+
+-- the words are a job: `clap` takes them, and all of its texts are there
+abbrev pub IsJob : List Text → Type 0
+IsJob words = (takes program_app words ≡ true) × IsSome (job_of words)

@@ -1,0 +1,6 @@
+pub mod Faults
+pub mod Jobs
+pub mod Output
+pub mod Replaying
+pub mod Script
+pub mod ScriptValues

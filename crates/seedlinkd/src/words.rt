@@ -1,0 +1,121 @@
+//! The words of the command line.
+ghost use Rattle.std.specs.Prelude.{◌≡◌, Some, false, IfOk, IfErr, map, string_bytes};
+ghost use Rattle.std.specs.Option.{option_map};
+ghost use Rattle.clap.specs.Words.{app_of, found_of, kind_of, rows_of, subcommand_rows_of, rule_of};
+ghost use Rattle.clap.specs.declared.Command.TheViews.{out-Command};
+ghost use Rattle.seedlinkd.specs.Jobs.{IsJob, asked, asked_by, job_of, program_app, replay_app, replay_asked, wanted};
+ghost use Rattle.seedlinkd.specs.declared.words.WordsFault.TheVariants.{OutOfMemory};
+
+use clap::error::ErrorKind;
+use clap::{Arg, ArgMatches, Command};
+use std::alloc::{AllocError, Global};
+use thiserror::Error;
+
+#[cfg(test)]
+mod tests;
+
+/// What the program is asked to do.
+#[derive(Clone, Copy, Debug, PartialEq, Eq)]
+pub enum Job<'a> {
+    /// `replay CONFIG SCRIPT`: the events of a script at a server with that configuration.
+    Replay { config: &'a str, script: &'a str },
+}
+
+/// Why words are no job.
+#[derive(Debug, Drop, Error)]
+pub enum WordsFault {
+    /// There is no memory to read them.
+    #[error("out of memory")]
+    OutOfMemory,
+    /// They are none that the program takes, or ask for help. The text is for the user.
+    #[error("{text}")]
+    Refused { text: String, is_help: bool },
+}
+
+/// A text that has to be there.
+fn wanted<'a>(alloc: Global, name: &'a str, help: &'a str) -> Arg<'a>
+    ensures rule { rule_of result ≡ wanted name.entry.now }
+    ensures own { result.global ≡ false }
+{
+    Arg::new(alloc, name).required(true).help(help)
+}
+
+/// `replay CONFIG SCRIPT`.
+fn replay_command<'a>(alloc: Global) -> Result<Command<'a>, AllocError>
+    ensures app { IfOk result (λ c. app_of c ≡ replay_app) }
+    ensures own { IfOk result (λ c. (out-Command c).has_globals ≡ false) }
+{
+    let command = Command::new(alloc, "replay").about(
+        "Writes what each take of a script is handed",
+    );
+    let config = wanted(alloc, "CONFIG", "The configuration, in TOML");
+    let script = wanted(alloc, "SCRIPT", "The script, an event a line");
+    let with_config = command.arg(config)?;
+    let with_both = with_config.arg(script)?;
+    Ok(with_both)
+}
+
+/// The program and its subcommands.
+fn program<'a>(alloc: Global) -> Result<Command<'a>, AllocError>
+    ensures { IfOk result (λ c. app_of c ≡ program_app) }
+{
+    let command = Command::new(alloc, "seedlinkd")
+        .about("A SeedLink 3 server whose stations are open to stated addresses only")
+        .subcommand_required(true);
+    let replay = replay_command(alloc)?;
+    let whole = command.subcommand(replay)?;
+    Ok(whole)
+}
+
+fn replay_job<'a>(arguments: &ArgMatches<'a>) -> Option<Job<'a>>
+    ensures { option_map asked result ≡ replay_asked (rows_of (found_of arguments.now)) }
+{
+    let config = arguments.get_str("CONFIG")?;
+    let script = arguments.get_str("SCRIPT")?;
+    Some(Job::Replay { config, script })
+}
+
+fn job_in<'a>(matches: &ArgMatches<'a>) -> Option<Job<'a>>
+    ensures { option_map asked result ≡ asked_by (subcommand_rows_of matches.now) }
+{
+    let (name, arguments) = matches.subcommand()?;
+    if name == "replay" {
+        replay_job(arguments)
+    } else {
+        None
+    }
+}
+
+/// What the user is told of words that are not taken.
+fn refused(alloc: Global, error: clap::Error) -> WordsFault
+    ensures { kind_of error ≡ ErrorKind.OutOfMemory → result ≡ OutOfMemory }
+{
+    let is_help = !error.use_stderr();
+    if error.kind() == ErrorKind::OutOfMemory {
+        return WordsFault::OutOfMemory;
+    }
+    match error.to_string(alloc) {
+        Ok(text) => WordsFault::Refused { text, is_help },
+        Err(_) => WordsFault::OutOfMemory,
+    }
+}
+
+/// The job that the words ask, of which the first is the program's name: `replay CONFIG SCRIPT`.
+pub fn read_words<'a>(alloc: Global, words: &'a [String]) -> Result<Job<'a>, WordsFault>
+    ensures ok { IfOk result (λ job. job_of (map string_bytes words.entry.now) ≡ Some (asked job)) }
+    ensures err { IfErr result (λ fault. IsJob (map string_bytes words.entry.now) → fault ≡ OutOfMemory) }
+{
+    let Ok(command) = program(alloc) else {
+        return Err(WordsFault::OutOfMemory);
+    };
+    match command.try_get_matches_from(words) {
+        Ok(matches) => match job_in(&matches) {
+            Some(job) => Ok(job),
+            None => Err(WordsFault::Refused {
+                text: String::new(alloc),
+                is_help: false,
+            }),
+        },
+        Err(error) => Err(refused(alloc, error)),
+    }
+}
