@@ -1,5 +1,6 @@
 mod JobRows
 mod Lines
 mod Numbers
+mod Refusing
 mod Rows
 mod Takes

@@ -1,10 +1,10 @@
 -- What the words of a command line ask, by the definitions of `clap`: which subcommand they name, and which text stands at
 -- each of its arguments.
-use Rattle.std.specs.Prelude.{◌≡◌, ℕ, Bool, true, List, [], ◌∷◌, Option, Some, None, if◌then◌else◌, codes, IsSome}
-use Rattle.std.specs.Option.{option_map}
+use Rattle.std.specs.Prelude.{◌≡◌, ◌⊎◌, ℕ, Bool, true, false, List, [], ◌∷◌, Option, Some, None, if◌then◌else◌, codes, IsSome}
 use Rattle.std.specs.Str.{bytes_eq}
-use Rattle.std.specs.Borrow.{Bor}
-use Rattle.clap.specs.Words.{App, Row, Rule, Text, new_app, new_rule, with_rule, with_subcommand, first_of, subcommand_of, takes}
+use Rattle.clap.specs.Words.{App, Kinds, IsAmong, Row, Rule, Text, new_app, new_rule, with_rule, with_subcommand, first_of, subcommand_of, takes}
+use Rattle.clap.specs.declared.error.ErrorKind.{ErrorKind}
+use Rattle.clap.specs.declared.error.ErrorKind.TheVariants.{DisplayHelp, DisplayVersion}
 use Rattle.seedlinkd.specs.declared.words.Job.{Job}
 use Rattle.seedlinkd.specs.declared.words.Job.TheVariants as job
 use Rattle.seedlinkd.specs.declared.words.WordsFault.{WordsFault}
@@ -56,3 +56,22 @@ job_of words = asked_by (subcommand_of program_app words)
 -- the words are a job: `clap` takes them, and all of its texts are there
 abbrev pub IsJob : List Text → Type 0
 IsJob words = (takes program_app words ≡ true) × IsSome (job_of words)
+
+-- ---- words that are no job
+
+-- the user asked to be shown something, and made no mistake
+abbrev pub is_shown : ErrorKind → Bool
+is_shown DisplayHelp = true
+is_shown DisplayVersion = true
+is_shown _ = false
+
+-- what is told is help, or is none, as is said
+abbrev pub HelpIs : Bool → WordsFault → Type 0
+HelpIs asked OutOfMemory = Unit {0}
+HelpIs asked (Refused text is_help) = is_help ≡ asked
+
+-- Words are told as help where that is what they ask, by the kinds of refusal that `clap` has for them, and as a mistake
+-- where that is what they are, or where it has none and they are no job all the same.
+abbrev pub IsTold : Kinds → WordsFault → Type 0
+IsTold kinds OutOfMemory = Unit {0}
+IsTold kinds (Refused text is_help) = ((kinds ≡ []) × (is_help ≡ false)) ⊎ ((k : ErrorKind) × IsAmong k kinds × (is_help ≡ is_shown k))

@@ -1,9 +1,9 @@
 //! The words of the command line.
 ghost use Rattle.std.specs.Prelude.{◌≡◌, Some, false, IfOk, IfErr, map, string_bytes};
 ghost use Rattle.std.specs.Option.{option_map};
-ghost use Rattle.clap.specs.Words.{app_of, found_of, kind_of, rows_of, subcommand_rows_of, rule_of};
+ghost use Rattle.clap.specs.Words.{app_of, fault_of, found_of, kind_of, rows_of, subcommand_rows_of, rule_of};
 ghost use Rattle.clap.specs.declared.Command.TheViews.{out-Command};
-ghost use Rattle.seedlinkd.specs.Jobs.{IsJob, asked, asked_by, job_of, program_app, replay_app, replay_asked, wanted};
+ghost use Rattle.seedlinkd.specs.Jobs.{HelpIs, IsJob, IsTold, asked, asked_by, is_shown, job_of, program_app, replay_app, replay_asked, wanted};
 ghost use Rattle.seedlinkd.specs.declared.words.WordsFault.TheVariants.{OutOfMemory};
 
 use clap::error::ErrorKind;
@@ -86,24 +86,40 @@ fn job_in<'a>(matches: &ArgMatches<'a>) -> Option<Job<'a>>
     }
 }
 
+/// Whether the user asked to be shown something, and made no mistake.
+fn is_shown(kind: ErrorKind) -> bool
+    ensures { result ≡ is_shown kind }
+{
+    matches!(kind, ErrorKind::DisplayHelp | ErrorKind::DisplayVersion)
+}
+
 /// What the user is told of words that are not taken.
 fn refused(alloc: Global, error: clap::Error) -> WordsFault
-    ensures { kind_of error ≡ ErrorKind.OutOfMemory → result ≡ OutOfMemory }
+    ensures memory { kind_of error ≡ ErrorKind.OutOfMemory → result ≡ OutOfMemory }
+    ensures help { HelpIs (is_shown (kind_of error)) result }
 {
-    let is_help = !error.use_stderr();
-    if error.kind() == ErrorKind::OutOfMemory {
+    let kind = error.kind();
+    if kind == ErrorKind::OutOfMemory {
         return WordsFault::OutOfMemory;
     }
     match error.to_string(alloc) {
-        Ok(text) => WordsFault::Refused { text, is_help },
+        Ok(text) => WordsFault::Refused {
+            text,
+            is_help: is_shown(kind),
+        },
         Err(_) => WordsFault::OutOfMemory,
     }
 }
 
-/// The job that the words ask, of which the first is the program's name: `replay CONFIG SCRIPT`.
+/// The job that the words ask, of which the first is the program's name: `replay CONFIG SCRIPT`. Which words name which
+/// job, and which are taken, is said by the definitions of `clap`.
+///
+/// It fails with Refused where they are no job, with the text that `clap` has for the user and whether that is help, and
+/// with OutOfMemory only where there is no memory.
 pub fn read_words<'a>(alloc: Global, words: &'a [String]) -> Result<Job<'a>, WordsFault>
     ensures ok { IfOk result (λ job. job_of (map string_bytes words.entry.now) ≡ Some (asked job)) }
     ensures err { IfErr result (λ fault. IsJob (map string_bytes words.entry.now) → fault ≡ OutOfMemory) }
+    ensures told { IfErr result (IsTold (fault_of program_app (map string_bytes words.entry.now))) }
 {
     let Ok(command) = program(alloc) else {
         return Err(WordsFault::OutOfMemory);
