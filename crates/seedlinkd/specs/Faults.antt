@@ -1,6 +1,8 @@
 -- The numbers and names by which the program reports a script or a replay that failed, and any other failure of its own.
 use Rattle.std.specs.Prelude.{ℕ, List, codes}
+use Rattle.protocol.specs.Record.{fault_number as record_fault_number, fault_name as record_fault_name}
 use Rattle.catalog.specs.Reading.{fault_number, fault_name}
+use Rattle.seedlinkd.specs.Checks.{check_fault_number, check_fault_name}
 use Rattle.seedlinkd.specs.declared.failure.Failure.{Failure}
 use Rattle.seedlinkd.specs.declared.failure.Failure.TheVariants as failure
 use Rattle.seedlinkd.specs.declared.faults.ScriptFault.{ScriptFault}
@@ -34,6 +36,9 @@ failure_number failure.Write = 43
 failure_number failure.File = 44
 failure_number (failure.Config fault) = fault_number fault
 failure_number (failure.Replay fault) = replay_fault_number fault
+failure_number (failure.Check fault) = check_fault_number fault
+failure_number (failure.Record fault) = record_fault_number fault
+failure_number failure.Partial = 41
 
 abbrev pub failure_name : Failure → List ℕ
 failure_name failure.OutOfMemory = codes "OutOfMemory"
@@ -41,3 +46,6 @@ failure_name failure.Write = codes "Write"
 failure_name failure.File = codes "File"
 failure_name (failure.Config fault) = fault_name fault
 failure_name (failure.Replay fault) = replay_fault_name fault
+failure_name (failure.Check fault) = check_fault_name fault
+failure_name (failure.Record fault) = record_fault_name fault
+failure_name failure.Partial = codes "Partial"

@@ -1,6 +1,6 @@
 -- What the words of a command line ask, by the definitions of `clap`: which subcommand they name, and which text stands at
 -- each of its arguments.
-use Rattle.std.specs.Prelude.{◌≡◌, ◌⊎◌, ℕ, Bool, true, false, List, [], ◌∷◌, Option, Some, None, if◌then◌else◌, codes, IsSome}
+use Rattle.std.specs.Prelude.{◌≡◌, ◌⊎◌, ℕ, Bool, true, false, List, [], ◌∷◌, Option, Some, None, option_map, if◌then◌else◌, codes, IsSome}
 use Rattle.std.specs.Str.{bytes_eq}
 use Rattle.clap.specs.Words.{App, Kinds, IsAmong, Row, Rule, Text, new_app, new_rule, with_rule, with_subcommand, first_of, subcommand_of, takes}
 use Rattle.clap.specs.declared.error.ErrorKind.{ErrorKind}
@@ -16,6 +16,10 @@ use Rattle.seedlinkd.specs.declared.words.WordsFault.TheVariants.{OutOfMemory, R
 abbrev pub wanted : Text → Rule
 wanted name = record (new_rule name) { required = true }
 
+-- `check FILE`
+abbrev pub check_app : App
+check_app = with_rule (new_app (codes "check")) (wanted (codes "FILE"))
+
 -- `replay CONFIG SCRIPT`
 abbrev pub replay_app : App
 replay_app = with_rule (with_rule (new_app (codes "replay")) (wanted (codes "CONFIG"))) (wanted (codes "SCRIPT"))
@@ -25,15 +29,17 @@ abbrev pub named_app : App
 named_app = let a = new_app (codes "seedlinkd") in record a { top = record a.top { subcommand_required = true } }
 
 abbrev pub program_app : App
-program_app = with_subcommand named_app replay_app.top
+program_app = with_subcommand (with_subcommand named_app check_app.top) replay_app.top
 
 -- ---- jobs
 
 -- A job as texts.
 pub data Asked : Type 0 where
+  Check : (file : List ℕ) → Asked
   Replay : (config : List ℕ) → (script : List ℕ) → Asked
 
 abbrev pub asked : Job → Asked
+asked (job.Check file) = Check file.now
 asked (job.Replay config script) = Replay config.now script.now
 
 -- a job of two texts, where both are there
@@ -41,13 +47,19 @@ abbrev pub with_both : (List ℕ → List ℕ → Asked) → Option (List ℕ) �
 with_both make (Some a) (Some b) = Some (make a b)
 with_both make _ _ = None
 
+-- a job of one text, where it is there
+abbrev pub check_asked : List Row → Option Asked
+check_asked rows = option_map Check (first_of (codes "FILE") rows)
+
 abbrev pub replay_asked : List Row → Option Asked
 replay_asked rows = with_both Replay (first_of (codes "CONFIG") rows) (first_of (codes "SCRIPT") rows)
 
 -- the job of a subcommand with its arguments
 abbrev pub asked_by : Option (Text × List Row) → Option Asked
 asked_by None = None
-asked_by (Some p) = if bytes_eq p.0 (codes "replay") then replay_asked p.1 else None
+asked_by (Some p) =
+    if bytes_eq p.0 (codes "check") then check_asked p.1
+    else if bytes_eq p.0 (codes "replay") then replay_asked p.1 else None
 
 -- the job that words ask
 abbrev pub job_of : List Text → Option Asked

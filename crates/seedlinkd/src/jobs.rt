@@ -1,5 +1,6 @@
 //! Jobs over files and the standard output. Files are read in blocks, and what is written goes out in as few calls as the
 //! system takes.
+use crate::check::check_records;
 use crate::failure::Failure;
 use crate::replay::replay;
 use crate::words::Job;
@@ -11,7 +12,18 @@ use std::{fs, io};
 /// Does what a job asks.
 pub fn run_job<R: Files + Print + AllocGlobal>(rt: &R, job: Job<'_>) -> Result<(), Failure> {
     match job {
+        Job::Check { file } => check_file(rt, file),
         Job::Replay { config, script } => replay_files(rt, config, script),
+    }
+}
+
+/// Writes a line for each record of a file. It fails where one is refused, or where the file ends inside one.
+fn check_file<R: Files + Print + AllocGlobal>(rt: &R, path: &str) -> Result<(), Failure> {
+    let mut file = Outer::new(open(rt, path)?);
+    let mut out = Outer::new(io::writer(rt));
+    match check_records(rt.alloc(), &mut file, &mut out)? {
+        None => Ok(()),
+        Some(number) => Err(Failure::of_records(number)),
     }
 }
 

@@ -3,12 +3,15 @@
 //! has the one line `seedlinkd: N Name`; and with status 2 where its words are none that it takes.
 #![tactic(auto)]
 
+mod check;
 mod failure;
 mod faults;
 mod jobs;
+mod listing;
 mod output;
 mod replay;
 mod script;
+mod texts;
 mod words;
 
 use failure::Failure;

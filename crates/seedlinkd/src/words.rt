@@ -3,7 +3,7 @@ ghost use Rattle.std.specs.Prelude.{◌≡◌, Some, false, IfOk, IfErr, map, st
 ghost use Rattle.std.specs.Option.{option_map};
 ghost use Rattle.clap.specs.Words.{app_of, fault_of, found_of, kind_of, rows_of, subcommand_rows_of, rule_of};
 ghost use Rattle.clap.specs.declared.Command.TheViews.{out-Command};
-ghost use Rattle.seedlinkd.specs.Jobs.{HelpIs, IsJob, IsTold, asked, asked_by, is_shown, job_of, program_app, replay_app, replay_asked, wanted};
+ghost use Rattle.seedlinkd.specs.Jobs.{HelpIs, IsJob, IsTold, asked, asked_by, check_app, check_asked, is_shown, job_of, program_app, replay_app, replay_asked, wanted};
 ghost use Rattle.seedlinkd.specs.declared.words.WordsFault.TheVariants.{OutOfMemory};
 
 use clap::error::ErrorKind;
@@ -17,6 +17,8 @@ mod tests;
 /// What the program is asked to do.
 #[derive(Clone, Copy, Debug, PartialEq, Eq)]
 pub enum Job<'a> {
+    /// `check FILE`: a line for each record of a file.
+    Check { file: &'a str },
     /// `replay CONFIG SCRIPT`: the events of a script at a server with that configuration.
     Replay { config: &'a str, script: &'a str },
 }
@@ -38,6 +40,17 @@ fn wanted<'a>(alloc: Global, name: &'a str, help: &'a str) -> Arg<'a>
     ensures own { result.global ≡ false }
 {
     Arg::new(alloc, name).required(true).help(help)
+}
+
+/// `check FILE`.
+fn check_command<'a>(alloc: Global) -> Result<Command<'a>, AllocError>
+    ensures app { IfOk result (λ c. app_of c ≡ check_app) }
+    ensures own { IfOk result (λ c. (out-Command c).has_globals ≡ false) }
+{
+    let command = Command::new(alloc, "check").about("Lists the records of a file, a line each");
+    let file = wanted(alloc, "FILE", "The file, of records of 512 bytes");
+    let with_file = command.arg(file)?;
+    Ok(with_file)
 }
 
 /// `replay CONFIG SCRIPT`.
@@ -62,9 +75,18 @@ fn program<'a>(alloc: Global) -> Result<Command<'a>, AllocError>
     let command = Command::new(alloc, "seedlinkd")
         .about("A SeedLink 3 server whose stations are open to stated addresses only")
         .subcommand_required(true);
+    let check = check_command(alloc)?;
     let replay = replay_command(alloc)?;
-    let whole = command.subcommand(replay)?;
+    let with_check = command.subcommand(check)?;
+    let whole = with_check.subcommand(replay)?;
     Ok(whole)
+}
+
+fn check_job<'a>(arguments: &ArgMatches<'a>) -> Option<Job<'a>>
+    ensures { option_map asked result ≡ check_asked (rows_of (found_of arguments.now)) }
+{
+    let file = arguments.get_str("FILE")?;
+    Some(Job::Check { file })
 }
 
 fn replay_job<'a>(arguments: &ArgMatches<'a>) -> Option<Job<'a>>
@@ -79,7 +101,9 @@ fn job_in<'a>(matches: &ArgMatches<'a>) -> Option<Job<'a>>
     ensures { option_map asked result ≡ asked_by (subcommand_rows_of matches.now) }
 {
     let (name, arguments) = matches.subcommand()?;
-    if name == "replay" {
+    if name == "check" {
+        check_job(arguments)
+    } else if name == "replay" {
         replay_job(arguments)
     } else {
         None
@@ -111,8 +135,8 @@ fn refused(alloc: Global, error: clap::Error) -> WordsFault
     }
 }
 
-/// The job that the words ask, of which the first is the program's name: `replay CONFIG SCRIPT`. Which words name which
-/// job, and which are taken, is said by the definitions of `clap`.
+/// The job that the words ask, of which the first is the program's name: `check FILE` or
+/// `replay CONFIG SCRIPT`. Which words name which job, and which are taken, is said by the definitions of `clap`.
 ///
 /// It fails with Refused where they are no job, with the text that `clap` has for the user and whether that is help, and
 /// with OutOfMemory only where there is no memory.

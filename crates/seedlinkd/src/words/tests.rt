@@ -39,6 +39,18 @@ fn replay_has_two_texts(rt: HostRuntime) -> Result<(), Fail> {
 }
 
 #[test]
+fn check_has_one_text(rt: HostRuntime) -> Result<(), Fail> {
+    let words = strings(rt.alloc(), &["seedlinkd", "check", "records.mseed"])?;
+    let job = read_words(rt.alloc(), words.as_slice())?;
+    assert!(rt;
+        job == Job::Check {
+            file: "records.mseed"
+        }
+    );
+    Ok(())
+}
+
+#[test]
 fn a_double_dash_ends_the_flags(rt: HostRuntime) -> Result<(), Fail> {
     let words = strings(rt.alloc(), &["seedlinkd", "replay", "--", "-a", "--help"])?;
     let job = read_words(rt.alloc(), words.as_slice())?;
@@ -66,8 +78,10 @@ fn help_is_told(rt: HostRuntime) -> Result<(), Fail> {
 
 #[test]
 fn other_words_are_refused(rt: HostRuntime) -> Result<(), Fail> {
-    let all: [&[&str]; 7] = [
+    let all: [&[&str]; 9] = [
         &[],
+        &["seedlinkd", "check"],
+        &["seedlinkd", "check", "a", "b"],
         &["seedlinkd"],
         &["seedlinkd", "play", "island.toml", "hello.script"],
         &["seedlinkd", "replay"],
