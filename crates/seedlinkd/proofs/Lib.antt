@@ -1,0 +1,10 @@
+mod Checking
+mod JobRows
+mod Joining
+mod Lines
+mod Numbers
+mod Pieces
+mod Readings
+mod Refusing
+mod Rows
+mod Takes

@@ -1,0 +1,51 @@
+-- The numbers and names by which the program reports a script or a replay that failed, and any other failure of its own.
+use Rattle.std.specs.Prelude.{ℕ, List, codes}
+use Rattle.protocol.specs.Record.{fault_number as record_fault_number, fault_name as record_fault_name}
+use Rattle.catalog.specs.Reading.{fault_number, fault_name}
+use Rattle.seedlinkd.specs.Checks.{check_fault_number, check_fault_name}
+use Rattle.seedlinkd.specs.declared.failure.Failure.{Failure}
+use Rattle.seedlinkd.specs.declared.failure.Failure.TheVariants as failure
+use Rattle.seedlinkd.specs.declared.faults.ScriptFault.{ScriptFault}
+use Rattle.seedlinkd.specs.declared.faults.ScriptFault.TheVariants as script
+use Rattle.seedlinkd.specs.declared.faults.ReplayFault.{ReplayFault}
+use Rattle.seedlinkd.specs.declared.faults.ReplayFault.TheVariants as replay
+
+abbrev pub script_fault_number : ScriptFault → ℕ
+script_fault_number script.OutOfMemory = 25
+script_fault_number script.Script = 45
+
+abbrev pub script_fault_name : ScriptFault → List ℕ
+script_fault_name script.OutOfMemory = codes "OutOfMemory"
+script_fault_name script.Script = codes "Script"
+
+abbrev pub replay_fault_number : ReplayFault → ℕ
+replay_fault_number replay.OutOfMemory = 25
+replay_fault_number replay.Read = 42
+replay_fault_number replay.Write = 43
+replay_fault_number replay.Script = 45
+
+abbrev pub replay_fault_name : ReplayFault → List ℕ
+replay_fault_name replay.OutOfMemory = codes "OutOfMemory"
+replay_fault_name replay.Read = codes "Read"
+replay_fault_name replay.Write = codes "Write"
+replay_fault_name replay.Script = codes "Script"
+
+abbrev pub failure_number : Failure → ℕ
+failure_number failure.OutOfMemory = 25
+failure_number failure.Write = 43
+failure_number failure.File = 44
+failure_number (failure.Config fault) = fault_number fault
+failure_number (failure.Replay fault) = replay_fault_number fault
+failure_number (failure.Check fault) = check_fault_number fault
+failure_number (failure.Record fault) = record_fault_number fault
+failure_number failure.Partial = 41
+
+abbrev pub failure_name : Failure → List ℕ
+failure_name failure.OutOfMemory = codes "OutOfMemory"
+failure_name failure.Write = codes "Write"
+failure_name failure.File = codes "File"
+failure_name (failure.Config fault) = fault_name fault
+failure_name (failure.Replay fault) = replay_fault_name fault
+failure_name (failure.Check fault) = check_fault_name fault
+failure_name (failure.Record fault) = record_fault_name fault
+failure_name failure.Partial = codes "Partial"

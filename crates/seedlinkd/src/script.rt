@@ -1,0 +1,69 @@
+//! Scripts: texts that spell a list of events, a line an event.
+ghost use Rattle.std.specs.Prelude.{◌≡◌, List, ℕ, ◌∷◌, Some, None, map, IfOk, OnOk, IfErr};
+ghost use Rattle.server_core.specs.Runs.{event_value};
+ghost use Rattle.seedlinkd.specs.Script.{events_of, events_of_lines, is_line_feed, is_skipped};
+ghost use Rattle.seedlinkd.specs.ScriptValues.{with_events};
+ghost use Rattle.seedlinkd.specs.declared.faults.ScriptFault.TheVariants.{Script};
+
+mod cuts;
+mod line;
+mod numbers;
+
+use crate::faults::ScriptFault;
+use line::event_of;
+use server_core::Event;
+use std::alloc::Global;
+
+fn is_line_feed(byte: u8) -> bool
+    ensures { result ≡ is_line_feed byte }
+{
+    byte == b'\n'
+}
+
+/// Whether a line spells nothing: it is empty, or begins with `#`.
+fn is_skipped(line: &[u8]) -> bool
+    ensures { result ≡ is_skipped line.now }
+{
+    match line {
+        [] => true,
+        [first, ..] => *first == b'#',
+    }
+}
+
+/// Puts the event of a line behind the events before it, where the line spells one.
+fn read_line(alloc: Global, line: &[u8], events: &mut Vec<Event>) -> Result<(), ScriptFault>
+    ensures ok { OnOk result ((ls : List (List ℕ)) →
+        with_events (map event_value events.old.items) (events_of_lines (line.now ∷ ls))
+        ≡ with_events (map event_value events.new.items) (events_of_lines ls)) }
+    ensures script { IfErr result (λ fault. fault ≡ Script → (ls : List (List ℕ)) → events_of_lines (line.now ∷ ls) ≡ None) }
+{
+    if is_skipped(line) {
+        return Ok(());
+    }
+    let event = event_of(alloc, line)?;
+    events.push(event)?;
+    Ok(())
+}
+
+/// The events of a script. Each line ends with a line feed, which the last may lack. A line is `open ADDRESS`,
+/// `bytes C HEX`, `line C TEXT`, `take C N` or `close C`, with one space between its words; an empty line and one that
+/// begins with `#` are skipped. C and N are numbers of 1 to 10 decimal digits: C is a client, counted by the lines `open`
+/// from 0, and N is at most 1,000,000. HEX is one or more pairs of hexadecimal digits in either case. TEXT is all that
+/// follows the space, and a carriage return is put behind it. No record can arrive by a script yet.
+///
+/// It fails with Script exactly where some line is none of these, memory aside.
+pub fn events_of(alloc: Global, text: &[u8]) -> Result<Vec<Event>, ScriptFault>
+    ensures ok { IfOk result (λ events. events_of text.now ≡ Some (map event_value events.items)) }
+    ensures script { IfErr result (λ fault. fault ≡ Script → events_of text.now ≡ None) }
+{
+    let mut events = Vec::new(alloc);
+    let lines = text.split(
+        |byte|
+            ensures { result ≡ is_line_feed byte.now }
+        { is_line_feed(*byte) },
+    );
+    for line in lines {
+        read_line(alloc, line, &mut events)?;
+    }
+    Ok(events)
+}
