@@ -1,4 +1,4 @@
-//! Scripts and what they write, at a server that has a title and no station.
+//! Scripts and what they write, at a server that has three stations.
 use super::replay;
 use crate::faults::{ReplayFault, ScriptFault};
 use catalog::Config;
@@ -13,8 +13,34 @@ mod refused;
 const GREETING: &str =
     "536565644c696e6b2076332e30202873746174696f6e20616363657373290d0a546573742043656e7472650d0a";
 
+/// A station for addresses that begin with 10, and two for everybody.
+const CENTRE: &[u8] = br#"title = "Test Centre"
+max_connections = 8
+
+[[station]]
+network = "GE"
+code = "APE"
+description = "Island"
+capacity = 4
+first = "000000"
+access = "10.0.0.0/8"
+
+[[station]]
+network = "GE"
+code = "WLF"
+description = "Forest"
+capacity = 2
+first = "FFFFFE"
+
+[[station]]
+network = "XX"
+code = "APE"
+description = "Vault"
+capacity = 1
+"#;
+
 pub(crate) fn config(alloc: Global) -> Result<Config, Fail> {
-    Ok(Config::read(alloc, b"title = \"Test Centre\"\n")?)
+    Ok(Config::read(alloc, CENTRE)?)
 }
 
 /// What a script writes.
@@ -51,7 +77,16 @@ fn push_bytes(script: &mut String, bytes: &[u8]) -> Result<(), Fail> {
 
 #[test]
 fn worked_scripts(rt: HostRuntime) -> Result<(), Fail> {
-    let rows: [(&str, &str); 9] = [
+    let rows: [(&str, &str); 11] = [
+        // Who may not use a station is not told of it.
+        (
+            "open 172.16.0.9\nline 0 CAT\ntake 0 520\ntake 0 520\ntake 0 520\ntake 0 520\n",
+            "0 474520574c46202020466f726573740d0a\n0 5858204150452020205661756c740d0a\n0 454e440d0a\n0 -\n",
+        ),
+        (
+            "open 172.16.0.9\nline 0 STATION APE GE\ntake 0 520\nline 0 STATION APE\ntake 0 520\nline 0 FETCH\ntake 0 520\nline 0 END\ntake 0 520\ntake 0 1\n",
+            "0 4552524f520d0a\n0 4f4b0d0a\n0 4f4b0d0a\n0 454e44\n0 - end\n",
+        ),
         (
             "open 10.0.0.7\nline 0 HELLO\ntake 0 520\ntake 0 520\n",
             "0 G\n0 -\n",
