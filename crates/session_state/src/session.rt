@@ -1,23 +1,20 @@
 //! One client's side of the server.
 ghost use Rattle.std.specs.Prelude.{◌≡◌, ◌≢◌, ◌≤◌, ◌<◌, ◌+◌, ◌-◌, ◌&&◌, IfOk, OnErr, List, [], ◌∷◌, ◌++◌, length, drop, nat_lt, not, is_ok, true, false, codes};
-ghost use Rattle.protocol.specs.Catalog.{View as ProtocolView};
-ghost use Rattle.protocol.specs.Lines.{open_after, cut_from};
 ghost use Rattle.protocol.specs.History.{Arrival};
-ghost use Rattle.protocol.specs.Session.{Negotiated, greeting, ok_line, error_line};
-ghost use Rattle.protocol.specs.Client.{read_byte, read_on, received, offered, after_take, new_client, reads, is_ending, is_nothing, follow};
+ghost use Rattle.protocol.specs.Client.{read_on, received, offered, after_take, new_client, is_ending, is_nothing};
 
-use crate::asked::{Asked, asked_by};
 use crate::choices::Choice;
-use crate::modes::{Change, Effect, Mode, make_change};
+use crate::modes::Mode;
 use crate::refusals::NoRoom;
-use crate::replies::{
-    Waiting, put_bytes, put_end_line, put_error, put_greeting, put_ok, put_station_line,
-};
+use crate::replies::{Waiting, put_bytes};
 use arrayvec::ArrayVec;
 use catalog::{Config, View};
 use selector::Selectors;
 use sl_lines::LineCutter;
 use std::marker::Model;
+
+mod reading;
+mod steps;
 
 /// What a session is in the middle of.
 #[derive(Clone, Copy, Debug, PartialEq, Eq)]
@@ -148,243 +145,13 @@ impl Session {
     }
 }
 
-/// One step each.
-impl Session {
-    ghost use Rattle.protocol.specs.Catalog.{Config as ProtocolConfig};
-    ghost use Rattle.session_state.specs.Choices.{negotiated_in};
-    ghost use Rattle.session_state.specs.Changes.{changed_by, outcome_after};
-    ghost use Rattle.session_state.specs.Sessions.{sitting_view, effected, kept_unread, listed_in};
-
-    fn turn_to(&mut self, state: State)
-        ensures { self.new ≡ record self.old { state = state } }
-    {
-        let _ = &self.mode;
-        self.state = state;
-    }
-
-    fn greet(&mut self, config: &Config)
-        ensures { self.new ≡ record self.old { waiting = greeting (sitting_view config.now self.old) } }
-    {
-        put_greeting(&mut self.waiting, config, &self.view);
-        self.sent = 0;
-    }
-
-    fn say_ok(&mut self)
-        ensures { self.new ≡ record self.old { waiting = ok_line } }
-    {
-        put_ok(&mut self.waiting);
-        self.sent = 0;
-    }
-
-    fn say_error(&mut self)
-        ensures { self.new ≡ record self.old { waiting = error_line } }
-    {
-        put_error(&mut self.waiting);
-        self.sent = 0;
-    }
-
-    fn take_effect(&mut self, effect: Effect)
-        ensures { self.new ≡ effected self.old effect }
-    {
-        match effect {
-            Effect::Done => self.say_ok(),
-            Effect::Refused => self.say_error(),
-            Effect::Starts => self.turn_to(State::Starting),
-        }
-    }
-
-    fn make(&mut self, config: &Config, change: Change) -> Effect
-        ensures mode { self.new ≡ record self.old { mode = self.new.mode } }
-        ensures effect { outcome_after result (negotiated_in config.now self.new.mode) ≡ changed_by (sitting_view config.now self.old) config.now (negotiated_in config.now self.old.mode) change }
-    {
-        let _ = &self.state;
-        make_change(&mut self.mode, &self.view, config, change)
-    }
-
-    fn next_byte(&mut self) -> u8
-        requires { 0 < length self.old.unread }
-        ensures byte { self.old.unread ≡ result ∷ self.new.unread }
-        ensures rest { self.new ≡ record self.old { unread = self.new.unread } }
-    {
-        let byte = self.unread.as_slice()[self.read];
-        self.read += 1;
-        byte
-    }
-
-    fn has_unread(&self) -> bool
-        ensures { result ≡ nat_lt 0 (length self.now.unread) }
-    {
-        self.read < self.unread.len()
-    }
-
-    /// In its end a client's unread bytes are dropped.
-    fn drop_if_ending(&mut self)
-        ensures { self.new ≡ record self.old { unread = kept_unread self.old.state self.old.unread } }
-    {
-        if let State::Ending = self.state {
-            self.read = self.unread.len();
-        }
-    }
-
-    /// Bytes behind those that are unread, which move to the front.
-    fn append(&mut self, bytes: &[u8])
-        requires { length self.old.unread + length bytes.now ≤ 1024 }
-        ensures { self.new ≡ record self.old { unread = self.old.unread ++ bytes.now } }
-    {
-        let mut rest = ArrayVec::new();
-        let _ = rest.try_extend_from_slice(&self.unread.as_slice()[self.read..]);
-        let _ = rest.try_extend_from_slice(bytes);
-        self.unread = rest;
-        self.read = 0;
-    }
-
-    fn skip(&mut self, count: usize)
-        requires { count ≤ length self.old.waiting }
-        ensures { self.new ≡ record self.old { waiting = drop count self.old.waiting } }
-    {
-        let _all = self.waiting.len();
-        self.sent += count;
-    }
-
-    /// The listing is over once its last line was taken.
-    fn end_listing(&mut self)
-        ensures { self.new ≡ record self.old { state = listed_in self.old.places self.old.state } }
-    {
-        if let State::Listing(made) = self.state {
-            if made > self.view.places().len() {
-                self.state = State::Negotiating;
-            }
-        }
-    }
-}
-
-/// Reading what came.
-impl Session {
-    ghost use Rattle.protocol.specs.Catalog.{Config as ProtocolConfig};
-    ghost use Rattle.session_state.specs.Choices.{negotiated_in};
-    ghost use Rattle.session_state.specs.Asking.{outcome_by, outcome_of_lines, says_bye, is_leaving};
-    ghost use Rattle.session_state.specs.Sessions.{client_in, sitting_view, HasPlaces, HasFirsts, Comes, never_starts};
-    ghost use Rattle.session_state.specs.declared.session.State.TheVariants.{Negotiating, Starting, Transfer};
-    ghost use Rattle.session_state.specs.declared.session.Settled.TheVariants.{Rest, Start};
-
-    /// What the line asks that a byte ends, where it ends one.
-    #[tactic(auto, using(crate::proofs::Following::ask_lemmas))]
-    fn ask(&mut self, config: &Config, byte: u8) -> Asked
-        requires { HasPlaces config.now self.old }
-        ensures line { self.new ≡ record self.old { open_line = open_after self.old.open_line (byte ∷ []) } }
-        ensures outcome { (n : Negotiated) → outcome_of_lines (sitting_view config.now self.old) n (cut_from self.old.open_line (byte ∷ [])) ≡ outcome_by config.now (sitting_view config.now self.old) n result }
-        ensures leaving { says_bye (cut_from self.old.open_line (byte ∷ [])) ≡ is_leaving result }
-    {
-        let _ = &self.state;
-        match self.cutter.push(byte) {
-            Some(line) => asked_by(&self.view, config, line),
-            None => Asked::Nothing,
-        }
-    }
-
-    /// The command is obeyed, while nothing waits in negotiation.
-    #[tactic(auto, using(crate::proofs::Following::answer_lemmas))]
-    fn answer(&mut self, config: &Config, asked: Asked)
-        requires negotiating { self.old.state ≡ Negotiating }
-        requires nothing_waits { self.old.waiting ≡ [] }
-        ensures client { (h : List Arrival) → client_in config.now h self.new
-            ≡ follow (sitting_view config.now self.old) h (client_in config.now h self.old) (negotiated_in config.now self.old.mode) (outcome_by config.now (sitting_view config.now self.old) (negotiated_in config.now self.old.mode) asked) }
-        ensures places { self.new.places ≡ self.old.places }
-        ensures unread { self.new.unread ≡ self.old.unread }
-    {
-        match asked {
-            Asked::Nothing => {}
-            Asked::Greeting => self.greet(config),
-            Asked::Listing => self.turn_to(State::Listing(0)),
-            Asked::Leaving => self.turn_to(State::Ending),
-            Asked::Changing(change) => {
-                let effect = self.make(config, change);
-                self.take_effect(effect);
-            }
-            Asked::Refused => self.say_error(),
-        }
-    }
-
-    /// One more byte is read, while nothing waits in negotiation.
-    #[tactic(auto, using(crate::proofs::Following::reads_byte))]
-    fn read_command(&mut self, config: &Config, byte: u8)
-        requires places { HasPlaces config.now self.old }
-        requires negotiating { self.old.state ≡ Negotiating }
-        requires nothing_waits { self.old.waiting ≡ [] }
-        ensures client { (h : List Arrival) → client_in config.now h self.new
-            ≡ read_byte (sitting_view config.now self.old) h byte (client_in config.now h self.old) }
-        ensures places { self.new.places ≡ self.old.places }
-        ensures unread { self.new.unread ≡ self.old.unread }
-    {
-        let _ = &self.view;
-        let asked = self.ask(config, byte);
-        self.answer(config, asked);
-    }
-
-    /// One more byte is read in a transfer, where BYE alone acts.
-    #[tactic(auto, using(crate::proofs::Following::passing_lemmas))]
-    fn read_past(&mut self, config: &Config, byte: u8, next: u64)
-        requires places { HasPlaces config.now self.old }
-        requires transfer { self.old.state ≡ Transfer next }
-        ensures client { (h : List Arrival) → client_in config.now h self.new
-            ≡ read_byte (sitting_view config.now self.old) h byte (client_in config.now h self.old) }
-        ensures places { self.new.places ≡ self.old.places }
-        ensures unread { self.new.unread ≡ self.old.unread }
-        ensures stays { never_starts self.new.state ≡ true }
-    {
-        let _ = &self.view;
-        let asked = self.ask(config, byte);
-        if asked.is_leaving() {
-            self.turn_to(State::Ending);
-        }
-    }
-
-    #[tactic(auto, using(crate::proofs::Following::no_bytes))]
-    fn is_reading(&self) -> bool
-        ensures may { result ≡ true → (config : ProtocolConfig) (h : List Arrival) → reads (client_in config h self.now).state self.now.waiting ≡ true }
-        ensures may_not { result ≡ false → self.now.state ≢ Starting → (config : ProtocolConfig) (h : List Arrival) → reads (client_in config h self.now).state self.now.waiting ≡ false }
-        ensures negotiating { result ≡ true → self.now.state ≡ Negotiating → self.now.waiting ≡ [] }
-        ensures not_starting { result ≡ true → self.now.state ≢ Starting }
-    {
-        match self.state {
-            State::Negotiating => self.is_empty(),
-            State::Listing(_) => false,
-            State::Starting => false,
-            State::Transfer(_) => true,
-            State::Ending => false,
-        }
-    }
-}
-
 /// What others do with a session.
 impl Session {
     ghost use Rattle.protocol.specs.Catalog.{Config as ProtocolConfig};
-    ghost use Rattle.protocol.specs.Session.{Negotiated};
     ghost use Rattle.session_state.specs.Choices.{chosen_of, kept_in};
     ghost use Rattle.session_state.specs.Sessions.{client_in, sitting_view, is_listing, line_made, HasPlaces, HasFirsts, Comes, never_starts};
     ghost use Rattle.session_state.specs.declared.session.State.TheVariants.{Negotiating, Listing, Starting, Transfer, Ending};
     ghost use Rattle.session_state.specs.declared.session.Settled.TheVariants.{Rest, Start};
-
-    /// One more byte is read, where one may be.
-    fn read_byte(&mut self, config: &Config, byte: u8)
-        requires places { HasPlaces config.now self.old }
-        requires nothing_waits { self.old.state ≡ Negotiating → self.old.waiting ≡ [] }
-        requires not_starting { self.old.state ≢ Starting }
-        requires reads { (h : List Arrival) → reads (client_in config.now h self.old).state self.old.waiting ≡ true }
-        ensures client { (h : List Arrival) → client_in config.now h self.new
-            ≡ read_byte (sitting_view config.now self.old) h byte (client_in config.now h self.old) }
-        ensures places { self.new.places ≡ self.old.places }
-        ensures unread { self.new.unread ≡ self.old.unread }
-        ensures stays { never_starts self.old.state ≡ true → never_starts self.new.state ≡ true }
-    {
-        match self.state {
-            State::Negotiating => self.read_command(config, byte),
-            State::Transfer(next) => self.read_past(config, byte, next),
-            State::Listing(_) => {}
-            State::Starting => {}
-            State::Ending => {}
-        }
-    }
 
     fn settled(&self) -> Settled
         ensures start { result ≡ Start → self.now.state ≡ Starting }
@@ -470,23 +237,6 @@ impl Session {
         } else {
             Settled::Rest
         }
-    }
-
-    #[tactic(auto, using(crate::proofs::Taking::line_lemmas))]
-    fn make_line(&mut self, config: &Config, made: usize)
-        requires { HasPlaces config.now self.old }
-        ensures { self.new ≡ line_made config.now made self.old }
-    {
-        let places = self.view.places();
-        if made < places.len() {
-            put_station_line(&mut self.waiting, &config.stations()[places[made]]);
-        } else if made == places.len() {
-            put_end_line(&mut self.waiting);
-        } else {
-            return;
-        }
-        self.sent = 0;
-        self.state = State::Listing(made + 1);
     }
 
     /// The next line of a listing is made to wait, while nothing waits. In another state nothing changes.
