@@ -4,6 +4,7 @@ use Rattle.access_list.specs.declared.fault.AccessFault.{AccessFault}
 use Rattle.catalog.specs.declared.fault.ConfigFault.{ConfigFault}
 use Rattle.catalog.specs.declared.fault.ConfigFault.TheVariants.{Toml, Missing, Limit, Duplicate, Access, OutOfMemory}
 
+-- the number by which it is reported
 abbrev pub fault_number : ConfigFault → ℕ
 fault_number Toml = 20
 fault_number Missing = 21
@@ -12,6 +13,7 @@ fault_number Duplicate = 23
 fault_number (Access cause) = 24
 fault_number OutOfMemory = 25
 
+-- the name by which it is reported
 abbrev pub fault_name : ConfigFault → List ℕ
 fault_name Toml = codes "Toml"
 fault_name Missing = codes "Missing"

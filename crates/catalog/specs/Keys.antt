@@ -10,16 +10,19 @@ abbrev pub elements : Items → List Data
 elements no_items = []
 elements (item d ds) = d ∷ elements ds
 
--- what a value is, where it is a text, a whole number, an array, a table
+-- the text that a value is
 abbrev pub text_in : Data → Result (List ℕ) ConfigFault
 text_in d = of_kind (as_str d)
 
+-- the whole number that it is
 abbrev pub number_in : Data → Result ℤ ConfigFault
 number_in d = of_kind (as_integer d)
 
+-- the elements of the array that it is
 abbrev pub elements_in : Data → Result (List Data) ConfigFault
 elements_in d = of_kind (option_map elements (as_array d))
 
+-- the table that it is
 abbrev pub table_in : Data → Result Members ConfigFault
 table_in d = of_kind (as_table d)
 

@@ -31,6 +31,7 @@ entry_of members = do
 abbrev pub is_repeated : List Entry → Station → Bool
 is_repeated earlier station = list_any (λ e. has_codes station.network station.code e.station) earlier
 
+-- a station whose codes are not there yet
 abbrev pub not_repeated : List Entry → Entry → Result Entry ConfigFault
 not_repeated earlier e = if is_repeated earlier e.station then Err Duplicate else Ok e
 
@@ -48,6 +49,7 @@ abbrev pub stations_read : List Entry → List Data → Result (List Entry) Conf
 stations_read earlier [] = Ok earlier
 stations_read earlier (d ∷ ds) = station_of earlier d >>= (λ e. stations_read (earlier ++ e ∷ []) ds)
 
+-- an element that is a table
 abbrev pub is_table : Data → Bool
 is_table d = is_some (as_table d)
 
@@ -66,6 +68,7 @@ station_values members = do
   tables ← tables_alone values
   within_if (is_few (length tables)) tables
 
+-- the stations of a configuration's table
 unfoldable pub stations_of : Members → Result (List Entry) ConfigFault
 stations_of members = do
   values ← station_values members

@@ -13,11 +13,12 @@ use Rattle.catalog.specs.declared.fault.ConfigFault.TheVariants.{Access}
 
 -- ---- of both
 
--- the list that an access text spells, or why it is refused
+-- why an access text is refused is told with its cause
 abbrev pub access_told : Result (List Token) AccessFault → Result (List Token) ConfigFault
 access_told (Ok tokens) = Ok tokens
 access_told (Err cause) = Err (Access cause)
 
+-- the list that an access text spells, or why it is refused
 abbrev pub access_spelled : List ℕ → Result (List Token) ConfigFault
 access_spelled text = access_told (list_of text)
 
