@@ -24,6 +24,7 @@ replay_app = with_rule (with_rule (new_app (codes "replay")) (wanted (codes "CON
 abbrev pub named_app : App
 named_app = let a = new_app (codes "seedlinkd") in record a { top = record a.top { subcommand_required = true } }
 
+-- the program and its subcommands
 abbrev pub program_app : App
 program_app = with_subcommand named_app replay_app.top
 
@@ -33,6 +34,7 @@ program_app = with_subcommand named_app replay_app.top
 pub data Asked : Type 0 where
   Replay : (config : List ℕ) → (script : List ℕ) → Asked
 
+-- the job that the code has
 abbrev pub asked : Job → Asked
 asked (job.Replay config script) = Replay config.now script.now
 
@@ -41,6 +43,7 @@ abbrev pub with_both : (List ℕ → List ℕ → Asked) → Option (List ℕ) �
 with_both make (Some a) (Some b) = Some (make a b)
 with_both make _ _ = None
 
+-- the job of `replay`, by what was found of its arguments
 abbrev pub replay_asked : List Row → Option Asked
 replay_asked rows = with_both Replay (first_of (codes "CONFIG") rows) (first_of (codes "SCRIPT") rows)
 

@@ -9,9 +9,11 @@ use Rattle.seedlinkd.specs.declared.script.cuts.Addressed.{Addressed}
 use Rattle.seedlinkd.specs.declared.faults.ScriptFault.{ScriptFault}
 use Rattle.seedlinkd.specs.declared.faults.ScriptFault.TheVariants.{Script}
 
+-- a cut text
 abbrev pub cut_value : Cut → ScriptCut
 cut_value cut = record { front = cut.front.now; rest = cut.rest.now }
 
+-- a text that begins with a client's number
 abbrev pub addressed_value : Addressed → ScriptAddressed
 addressed_value x = record { client = x.client; rest = x.rest.now }
 
