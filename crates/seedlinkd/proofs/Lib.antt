@@ -1,6 +1,8 @@
+mod Examples
 mod JobRows
 mod Lines
 mod Numbers
 mod Refusing
-mod Rows
+mod SpaceLemmas
+mod TableLemmas
 mod Takes

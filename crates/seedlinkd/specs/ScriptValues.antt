@@ -1,5 +1,5 @@
 -- What the code makes of a script, as the definitions have it.
-use Rattle.std.specs.Prelude.{◌≡◌, ℕ, List, [], ◌++◌, Option, Some, None, Result, MatchResult}
+use Rattle.std.specs.Prelude.{◌≡◌, List, ◌++◌, Option, Some, None, Result, MatchResult}
 use Rattle.protocol.specs.World.{Event as ProtocolEvent}
 use Rattle.server_core.specs.Runs.{event_value}
 use Rattle.server_core.specs.declared.events.Event.{Event}
