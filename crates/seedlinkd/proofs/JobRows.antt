@@ -1,5 +1,5 @@
 -- Worked words of a command line.
-use Rattle.std.specs.Prelude.{◌≡◌, refl, List, [], ◌∷◌, Some, None, true, false, codes}
+use Rattle.std.specs.Prelude.{◌≡◌, refl, List, [], ◌∷◌, Some, true, false, codes}
 use Rattle.clap.specs.Words.{Text, takes}
 use Rattle.clap.proofs.OnLiterals.{clap_on_literals}
 use Rattle.seedlinkd.specs.Jobs.{Asked, job_of, program_app}

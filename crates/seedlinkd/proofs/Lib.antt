@@ -1,4 +1,5 @@
 mod Checking
+mod Examples
 mod JobRows
 mod Joining
 mod Lines
@@ -6,5 +7,6 @@ mod Numbers
 mod Pieces
 mod Readings
 mod Refusing
-mod Rows
+mod SpaceLemmas
+mod TableLemmas
 mod Takes

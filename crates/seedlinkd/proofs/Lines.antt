@@ -1,5 +1,5 @@
 -- The lines of a text, one after the other, and the events so far.
-use Rattle.std.proofs.Common.{◌≡◌, ℕ, ◌+◌, ◌<◌, List, [], ◌∷◌, ◌++◌, length, drop, get_or, sym, ap, ◌∙◌, append-nil, drop-cons, add-one}
+use Rattle.std.proofs.Common.{◌≡◌, ℕ, ◌+◌, ◌<◌, List, [], ◌∷◌, length, drop, get_or, ap, ◌∙◌, append-nil, drop-cons, add-one}
 use Rattle.std.specs.Prelude.{Option, Some, None}
 use Rattle.protocol.specs.World.{Event}
 use Rattle.seedlinkd.specs.Script.{events_of_lines}

@@ -1,6 +1,6 @@
 -- What is told of words that `clap` refuses.
-use Rattle.std.proofs.Common.{◌≡◌, ◌⊎◌, inl, inr, Bool, true, refl}
-use Rattle.clap.specs.Words.{HasKind, IsAmong, Kinds, is_simple_and_free}
+use Rattle.std.proofs.Common.{◌≡◌, ◌⊎◌, inl, inr, true, refl}
+use Rattle.clap.specs.Words.{IsAmong, Kinds, is_simple_and_free}
 use Rattle.clap.specs.declared.error.ErrorKind.{ErrorKind}
 use Rattle.clap.specs.declared.error.ErrorKind.TheVariants as kind
 use Rattle.clap.proofs.OnLiterals.{clap_on_literals}

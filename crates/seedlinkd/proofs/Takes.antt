@@ -1,6 +1,5 @@
 -- The lines of takes, one after the other.
-use Rattle.std.proofs.Common.{◌≡◌, ℕ, ◌+◌, ◌<◌, List, [], ◌∷◌, ◌++◌, map, length, drop, get_or, refl, sym, ap, ◌∙◌, append_assoc, append-nil, drop-cons, add-one}
-use Rattle.protocol.specs.World.{Handed as ProtocolHanded}
+use Rattle.std.proofs.Common.{◌≡◌, ℕ, ◌+◌, ◌<◌, List, ◌∷◌, ◌++◌, map, length, drop, get_or, sym, ap, ◌∙◌, append_assoc, drop-cons, add-one}
 use Rattle.server_core.specs.Runs.{handed_value}
 use Rattle.server_core.specs.declared.events.Handed.{Handed}
 use Rattle.seedlinkd.specs.Output.{handed_line, output_of}

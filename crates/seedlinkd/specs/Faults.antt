@@ -10,26 +10,31 @@ use Rattle.seedlinkd.specs.declared.faults.ScriptFault.TheVariants as script
 use Rattle.seedlinkd.specs.declared.faults.ReplayFault.{ReplayFault}
 use Rattle.seedlinkd.specs.declared.faults.ReplayFault.TheVariants as replay
 
+-- the number of a text that is no script
 abbrev pub script_fault_number : ScriptFault → ℕ
 script_fault_number script.OutOfMemory = 25
 script_fault_number script.Script = 45
 
+-- its name
 abbrev pub script_fault_name : ScriptFault → List ℕ
 script_fault_name script.OutOfMemory = codes "OutOfMemory"
 script_fault_name script.Script = codes "Script"
 
+-- the number of a replay that failed
 abbrev pub replay_fault_number : ReplayFault → ℕ
 replay_fault_number replay.OutOfMemory = 25
 replay_fault_number replay.Read = 42
 replay_fault_number replay.Write = 43
 replay_fault_number replay.Script = 45
 
+-- its name
 abbrev pub replay_fault_name : ReplayFault → List ℕ
 replay_fault_name replay.OutOfMemory = codes "OutOfMemory"
 replay_fault_name replay.Read = codes "Read"
 replay_fault_name replay.Write = codes "Write"
 replay_fault_name replay.Script = codes "Script"
 
+-- the number of a failure of the program
 abbrev pub failure_number : Failure → ℕ
 failure_number failure.OutOfMemory = 25
 failure_number failure.Write = 43
@@ -40,6 +45,7 @@ failure_number (failure.Check fault) = check_fault_number fault
 failure_number (failure.Record fault) = record_fault_number fault
 failure_number failure.Partial = 41
 
+-- its name
 abbrev pub failure_name : Failure → List ℕ
 failure_name failure.OutOfMemory = codes "OutOfMemory"
 failure_name failure.Write = codes "Write"

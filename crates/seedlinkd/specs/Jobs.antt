@@ -28,6 +28,7 @@ replay_app = with_rule (with_rule (new_app (codes "replay")) (wanted (codes "CON
 abbrev pub named_app : App
 named_app = let a = new_app (codes "seedlinkd") in record a { top = record a.top { subcommand_required = true } }
 
+-- the program and its subcommands
 abbrev pub program_app : App
 program_app = with_subcommand (with_subcommand named_app check_app.top) replay_app.top
 
@@ -38,6 +39,7 @@ pub data Asked : Type 0 where
   Check : (file : List ℕ) → Asked
   Replay : (config : List ℕ) → (script : List ℕ) → Asked
 
+-- the job that the code has
 abbrev pub asked : Job → Asked
 asked (job.Check file) = Check file.now
 asked (job.Replay config script) = Replay config.now script.now
@@ -51,6 +53,7 @@ with_both make _ _ = None
 abbrev pub check_asked : List Row → Option Asked
 check_asked rows = option_map Check (first_of (codes "FILE") rows)
 
+-- the job of `replay`, by what was found of its arguments
 abbrev pub replay_asked : List Row → Option Asked
 replay_asked rows = with_both Replay (first_of (codes "CONFIG") rows) (first_of (codes "SCRIPT") rows)
 

@@ -4,5 +4,6 @@ pub mod Jobs
 pub mod Listing
 pub mod Output
 pub mod Replaying
+pub mod Rows
 pub mod Script
 pub mod ScriptValues

@@ -19,6 +19,7 @@ decimal_of digits = digits_between 1 10 digits
 abbrev pub most_taken : ℕ
 most_taken = 1000000
 
+-- a number that a take may have
 abbrev pub up_to_most : ℕ → Option ℕ
 up_to_most n = if nat_le n most_taken then Some n else None
 
@@ -32,19 +33,21 @@ hex_of digits = if nat_le 1 (length digits) then result_ok (decode_of digits) el
 
 -- ---- lines
 
+-- what parts two words
 abbrev pub is_space : ℕ → Bool
 is_space b = b == 32
 
--- A text cut at its first space: what stands before it and what stands behind it.
+-- What stands before a space, and what stands behind it.
 pub record Cut : Type 0 where
   pub front : List ℕ
   pub rest : List ℕ
 
+-- by the place of a space, where there is one
 abbrev pub cut_at : List ℕ → Option ℕ → Option Cut
 cut_at text None = None
 cut_at text (Some space) = Some (record { front = take space text; rest = drop (space + 1) text })
 
--- none where it has no space
+-- a text cut at its first space; none where it has none
 abbrev pub cut_of : List ℕ → Option Cut
 cut_of text = cut_at text (position is_space text)
 
@@ -53,13 +56,16 @@ pub record Addressed : Type 0 where
   pub client : ℕ
   pub rest : List ℕ
 
+-- with a client's number, where that is one
 abbrev pub addressed_by : List ℕ → Option ℕ → Option Addressed
 addressed_by rest None = None
 addressed_by rest (Some client) = Some (record { client = client; rest = rest })
 
+-- a cut text whose front is a client's number
 abbrev pub addressed_in : Cut → Option Addressed
 addressed_in cut = addressed_by cut.rest (decimal_of cut.front)
 
+-- a text that begins with a client's number and a space
 abbrev pub addressed_of : List ℕ → Option Addressed
 addressed_of text = option_and_then addressed_in (cut_of text)
 
@@ -85,6 +91,7 @@ named_event name rest =
     else if bytes_eq name (codes "close") then option_map Close (decimal_of rest)
     else None
 
+-- the event of a cut line
 abbrev pub event_in : Cut → Option Event
 event_in cut = named_event cut.front cut.rest
 
@@ -110,6 +117,7 @@ abbrev pub events_of_lines : List (List ℕ) → Option (List Event)
 events_of_lines [] = Some []
 events_of_lines (l ∷ ls) = if is_skipped l then events_of_lines ls else cons_event (event_of l) (events_of_lines ls)
 
+-- what ends a line
 abbrev pub is_line_feed : ℕ → Bool
 is_line_feed b = b == 10
 

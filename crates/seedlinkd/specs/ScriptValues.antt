@@ -1,5 +1,5 @@
 -- What the code makes of a script, as the definitions have it.
-use Rattle.std.specs.Prelude.{◌≡◌, ℕ, List, [], ◌++◌, Option, Some, None, Result, MatchResult}
+use Rattle.std.specs.Prelude.{◌≡◌, List, ◌++◌, Option, Some, None, Result, MatchResult}
 use Rattle.protocol.specs.World.{Event as ProtocolEvent}
 use Rattle.server_core.specs.Runs.{event_value}
 use Rattle.server_core.specs.declared.events.Event.{Event}
@@ -9,9 +9,11 @@ use Rattle.seedlinkd.specs.declared.script.cuts.Addressed.{Addressed}
 use Rattle.seedlinkd.specs.declared.faults.ScriptFault.{ScriptFault}
 use Rattle.seedlinkd.specs.declared.faults.ScriptFault.TheVariants.{Script}
 
+-- a cut text
 abbrev pub cut_value : Cut → ScriptCut
 cut_value cut = record { front = cut.front.now; rest = cut.rest.now }
 
+-- a text that begins with a client's number
 abbrev pub addressed_value : Addressed → ScriptAddressed
 addressed_value x = record { client = x.client; rest = x.rest.now }
 

@@ -1,6 +1,7 @@
 //! Scripts: texts that spell a list of events, a line an event.
 ghost use Rattle.std.specs.Prelude.{◌≡◌, List, ℕ, ◌∷◌, Some, None, map, IfOk, OnOk, IfErr};
 ghost use Rattle.server_core.specs.Runs.{event_value};
+ghost use Rattle.seedlinkd.specs.Rows.{ReadsByTheTable};
 ghost use Rattle.seedlinkd.specs.Script.{events_of, events_of_lines, is_line_feed, is_skipped};
 ghost use Rattle.seedlinkd.specs.ScriptValues.{with_events};
 ghost use Rattle.seedlinkd.specs.declared.faults.ScriptFault.TheVariants.{Script};
@@ -67,3 +68,9 @@ pub fn events_of(alloc: Global, text: &[u8]) -> Result<Vec<Event>, ScriptFault>
     }
     Ok(events)
 }
+
+/// A law of the definitions: what is read of a line is the event that it is by the table of lines, and a line that stands in
+/// no row of it has no event.
+pub fn lines_by_the_table()
+    ensures { ReadsByTheTable }
+{}

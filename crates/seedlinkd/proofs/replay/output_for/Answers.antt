@@ -1,4 +1,4 @@
-use Rattle.std.proofs.Common.{◌≡◌, ◌∙◌, ap, sym, map, List, Some}
+use Rattle.std.proofs.Common.{◌∙◌, ap, sym, map, List, Some}
 use Rattle.std.specs.Option.{option_map}
 use Rattle.protocol.specs.World.{handed}
 use Rattle.server_core.specs.Runs.{event_value, handed_value}

@@ -1,4 +1,4 @@
-use Rattle.std.proofs.Common.{[], ◌∷◌, Option, Some, None, map, rules, tests, ◌≡◌, ◌∙◌, ℕ, ◌<◌, ◌+◌, List, length, drop, get_or, sym, arith}
+use Rattle.std.proofs.Common.{Option, Some, None, map, rules, tests, ◌≡◌, ◌∙◌, ◌<◌, ◌+◌, List, length, drop, get_or, sym, arith}
 use Rattle.std.proofs.lemmas.Iterator.{YieldsList}
 use Rattle.std.specs.Iterator.{Yields}
 use Rattle.std.specs.List.{slice_split}

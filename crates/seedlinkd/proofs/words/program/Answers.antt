@@ -1,6 +1,5 @@
-use Rattle.std.proofs.Common.{◌∙◌, ◌≡◌, ap, ap₂, rules, codes}
-use Rattle.clap.specs.Words.{App, app_of, new_app, with_subcommand}
-use Rattle.clap.specs.Simple.{app_of_fields}
+use Rattle.std.proofs.Common.{◌∙◌, ◌≡◌, ap, ap₂, rules}
+use Rattle.clap.specs.Words.{App, app_of, with_subcommand}
 use Rattle.seedlinkd.specs.Jobs.{named_app}
 use Rattle.seedlinkd.proofs.words.program.Goals as goal
 

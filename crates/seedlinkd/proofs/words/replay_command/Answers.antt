@@ -1,5 +1,5 @@
-use Rattle.std.proofs.Common.{◌∙◌, ◌≡◌, ap, ap₂, rules, codes}
-use Rattle.clap.specs.Words.{App, app_of, new_app, with_rule}
+use Rattle.std.proofs.Common.{◌∙◌, ◌≡◌, ap, ap₂, codes}
+use Rattle.clap.specs.Words.{app_of, new_app, with_rule}
 use Rattle.clap.specs.Simple.{app_of_fields}
 use Rattle.seedlinkd.proofs.words.replay_command.Goals as goal
 

@@ -1,9 +1,8 @@
 -- Worked scripts, and what they write.
-use Rattle.std.specs.Prelude.{◌≡◌, refl, ℕ, List, [], ◌∷◌, ◌++◌, Option, Some, None, codes}
+use Rattle.std.specs.Prelude.{◌≡◌, refl, ℕ, List, [], ◌∷◌, Some, None, codes}
 use Rattle.std.specs.Fmt.{digits}
 use Rattle.hex.proofs.OnLiterals.{hex_on_literals}
 use Rattle.protocol.specs.Catalog.{Config}
-use Rattle.protocol.specs.World.{Event}
 use Rattle.protocol.specs.World.Event.{Open, Bytes, Take, Close}
 use Rattle.seedlinkd.specs.Output.{output_after, replayed}
 use Rattle.seedlinkd.specs.Script.{event_of, events_of}
