@@ -4,7 +4,7 @@ use Rattle.std.specs.Prelude.{Option, IfOk, OnOk, OnErr}
 use Rattle.std.specs.Io.KnownBytes.{Appends, Consumes, IsAtEnd}
 use Rattle.std.proofs.KnownBytes.{Appends-nil, Appends-trans, Consumes-nil, Consumes-trans}
 use Rattle.sl_io.specs.Known.{AppendsBeginning}
-use Rattle.protocol.specs.Streams.{FeedRead, feed_from, feed_of}
+use Rattle.protocol.specs.Streams.{FeedRead, feed_of}
 use Rattle.protocol.proofs.Feeds.{feed_from-append}
 use Rattle.feeder.specs.Feedings.{feed_read}
 use Rattle.seedlinkd.specs.Listing.{reading_of, record_line, lines_from, partial_text, listing_of, first_of, first_fault, partial_fault, verdict_of}

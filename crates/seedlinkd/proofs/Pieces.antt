@@ -1,5 +1,5 @@
 -- Records that are listed a piece of their file after the other.
-use Rattle.std.proofs.Common.{◌≡◌, ℕ, ◌+◌, ◌==◌, List, [], ◌∷◌, ◌++◌, take, drop, refl, sym, ap, ◌∙◌, append_assoc, append-nil, length, take-append-drop}
+use Rattle.std.proofs.Common.{◌≡◌, ℕ, ◌==◌, List, [], ◌∷◌, ◌++◌, take, drop, refl, sym, ap, ◌∙◌, append_assoc, append-nil, length, take-append-drop}
 use Rattle.protocol.specs.Streams.{FeedRead, feed_byte, feed_from}
 use Rattle.protocol.proofs.Feeds.{feed_from-append}
 use Rattle.protocol.proofs.Found.{both}

@@ -203,9 +203,9 @@ fn check_blocks<R: Source, W: Sink>(
 /// bytes are left over, and none where all is well. A record that is refused is a line of the listing, and the check goes on.
 ///
 /// A line is `K NET STA LOC CHA TYPE START END SAMPLES`, with the record's number from 1 on, times in units of 0.0001 s since
-/// 1970, each space of the location or channel as `-`, and each other byte that is no printed one as `?`; or `K refused N Name`.
-/// The last is `partial R bytes`. The reader is read in blocks of 64 KiB, and never kept as a whole. After a fault a beginning of
-/// the listing is written.
+/// 1970, each space of the location or channel as `-`, and each other byte of a code that is not 33 to 126 as `?`; or
+/// `K refused N Name`. The last is `partial R bytes`. The reader is read in blocks of 64 KiB, and never kept as a whole. After a
+/// fault a beginning of the listing is written.
 pub fn check_records<R: Source, W: Sink>(
     alloc: Global,
     reader: &mut R,

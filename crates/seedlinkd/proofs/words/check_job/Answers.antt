@@ -1,6 +1,6 @@
 use Rattle.std.proofs.Common.{◌∙◌, ◌≡◌, codes, rules, sym, ap, None, Some}
 use Rattle.std.specs.Option.{option_map}
-use Rattle.clap.specs.Words.{found_of, first_value, first_of, rows_of}
+use Rattle.clap.specs.Words.{found_of, first_of, rows_of}
 use Rattle.clap.proofs.WalkLemmas.{first_value-rows}
 use Rattle.seedlinkd.proofs.words.check_job.Goals as goal
 
