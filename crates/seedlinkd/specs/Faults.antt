@@ -1,7 +1,7 @@
 -- The numbers and names by which the program reports a script or a replay that failed, and any other failure of its own.
 use Rattle.std.specs.Prelude.{ℕ, List, codes}
 use Rattle.protocol.specs.Record.{fault_number as record_fault_number, fault_name as record_fault_name}
-use Rattle.catalog.specs.Reading.{fault_number, fault_name}
+use Rattle.catalog.specs.Faults.{fault_number, fault_name}
 use Rattle.seedlinkd.specs.Checks.{check_fault_number, check_fault_name}
 use Rattle.seedlinkd.specs.declared.failure.Failure.{Failure}
 use Rattle.seedlinkd.specs.declared.failure.Failure.TheVariants as failure
