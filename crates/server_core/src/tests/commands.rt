@@ -1,191 +1,120 @@
 //! What each command is answered, in either mode.
-use super::{GREETING, answers, ends, inside, outside};
+use super::{answers, ends, inside, outside};
 use std::alloc::Global;
 use std::test::Fail;
 
-const OK: &[u8] = b"OK\r\n";
+/// Lines of a client outside, in uni-station mode, and all that it is handed.
+const UNI: [(&[u8], &[u8]); 10] = [
+    (b"\r   \r\n", b""),
+    (
+        b"hello\r",
+        b"SeedLink v3.0 (station access)\r\nTest Centre\r\n",
+    ),
+    (b"SELECT\rSELECT BHZ\rSELECT\r", b"OK\r\nOK\r\nOK\r\n"),
+    (b"END\r", b"ERROR\r\n"),
+    (b"INFO ID\rBATCH\rCAT now\r", b"ERROR\r\nERROR\r\nERROR\r\n"),
+    (b"DATA\rINFO ID\rHELLO\r", b""),
+    (b"FETCH\rHELLO\r", b"END"),
+    (b"TIME 2024,2,30\r", b"ERROR\r\n"),
+    (b"TIME 2024,2,29 2024,2,29,0,0,10\r", b""),
+    (
+        b"STATION\rSTATION A B C\rSELECT BHZ\r",
+        b"ERROR\r\nERROR\r\nOK\r\n",
+    ),
+];
 
-const ERROR: &[u8] = b"ERROR\r\n";
+/// The same in multi-station mode.
+const MULTI: [(&[u8], &[u8]); 12] = [
+    (
+        b"STATION WLF\rHELLO\r",
+        b"OK\r\nSeedLink v3.0 (station access)\r\nTest Centre\r\n",
+    ),
+    (
+        b"STATION WLF\rSELECT\rSELECT BHZ\rSELECT BH\r",
+        b"OK\r\nOK\r\nOK\r\nERROR\r\n",
+    ),
+    (
+        b"STATION WLF\rDATA\rFETCH 5\rTIME\r",
+        b"OK\r\nOK\r\nOK\r\nOK\r\n",
+    ),
+    (b"STATION WLF\rEND\rDATA x\r", b"OK\r\nERROR\r\nERROR\r\n"),
+    (
+        b"STATION NONE\rSELECT BHZ\rSELECT\rDATA\rEND\r",
+        b"ERROR\r\nERROR\r\nERROR\r\nERROR\r\nERROR\r\n",
+    ),
+    // A station is found among those that are seen, byte for byte.
+    (
+        b"STATION APE\rSTATION APE GE\rSTATION NONE GE\r",
+        b"OK\r\nERROR\r\nERROR\r\n",
+    ),
+    (
+        b"STATION ape\rSTATION APE XX\rSTATION APE xx\r",
+        b"ERROR\r\nOK\r\nERROR\r\n",
+    ),
+    // A refused station leaves none current, and those before it as they were.
+    (
+        b"STATION WLF\rSTATION NONE\rSELECT BHZ\r",
+        b"OK\r\nERROR\r\nERROR\r\n",
+    ),
+    (
+        b"STATION WLF\rFETCH\rSTATION NONE\rEND\r",
+        b"OK\r\nOK\r\nERROR\r\nEND",
+    ),
+    // A station that is named again keeps its patterns and its action.
+    (
+        b"STATION WLF GE\rSELECT BHZ\rSTATION APE XX\rSTATION WLF GE\rFETCH\rEND\r",
+        b"OK\r\nOK\r\nOK\r\nOK\r\nOK\r\nEND",
+    ),
+    (
+        b"STATION WLF\rFETCH\rSTATION WLF\rEND\r",
+        b"OK\r\nOK\r\nOK\r\nEND",
+    ),
+    (
+        b"STATION WLF\rDATA\rEND\rCAT\rHELLO\rEND\r",
+        b"OK\r\nOK\r\n",
+    ),
+];
 
-/// Whether lines, each sent with CR, are answered by these replies.
-fn are_answered(alloc: Global, lines: &[&[u8]], replies: &[&[u8]]) -> Result<bool, Fail> {
-    let mut text = Vec::new(alloc);
-    for line in lines {
-        text.extend_from_slice(line)?;
-        text.push(b'\r')?;
+/// The first row that is answered otherwise.
+fn answered_otherwise(alloc: Global, rows: &[(&[u8], &[u8])]) -> Result<Option<usize>, Fail> {
+    for (place, row) in rows.iter().enumerate() {
+        let (sent, wanted) = *row;
+        if answers(alloc, outside(), sent)?.as_slice() != wanted {
+            return Ok(Some(place));
+        }
     }
-    let mut wanted = Vec::new(alloc);
-    for reply in replies {
-        wanted.extend_from_slice(reply)?;
-    }
-    let given = answers(alloc, outside(), text.as_slice())?;
-    Ok(given.as_slice() == wanted.as_slice())
+    Ok(None)
 }
 
 #[test]
-fn uni_station_mode_answers_each_command(rt: HostRuntime) -> Result<(), Fail> {
+fn each_command_is_answered_in_either_mode(rt: HostRuntime) -> Result<(), Fail> {
     let alloc = rt.alloc();
-    assert!(rt; are_answered(alloc, &[b"", b"   ", b"hello"], &[GREETING])?);
-    assert!(rt; are_answered(alloc, &[b"SELECT", b"SELECT BHZ", b"SELECT"], &[OK, OK, OK])?);
-    assert!(rt; are_answered(alloc, &[b"END"], &[ERROR])?);
-    assert!(rt;
-        are_answered(
-            alloc,
-            &[b"INFO ID", b"BATCH", b"CAT now"],
-            &[ERROR, ERROR, ERROR]
-        )?
-    );
-    assert!(rt; are_answered(alloc, &[b"DATA", b"INFO ID", b"HELLO"], &[])?);
-    assert!(rt; are_answered(alloc, &[b"FETCH", b"HELLO"], &[b"END"])?);
-    assert!(rt; are_answered(alloc, &[b"TIME 2024,2,30"], &[ERROR])?);
-    assert!(rt; are_answered(alloc, &[b"TIME 2024,2,29 2024,2,29,0,0,10"], &[])?);
-    Ok(())
-}
-
-#[test]
-fn multi_station_mode_answers_each_command(rt: HostRuntime) -> Result<(), Fail> {
-    let alloc = rt.alloc();
-    assert!(rt; are_answered(alloc, &[b"STATION WLF", b"HELLO"], &[OK, GREETING])?);
-    assert!(rt;
-        are_answered(
-            alloc,
-            &[b"STATION WLF", b"SELECT", b"SELECT BHZ", b"SELECT BH"],
-            &[OK, OK, OK, ERROR]
-        )?
-    );
-    assert!(rt;
-        are_answered(
-            alloc,
-            &[b"STATION WLF", b"DATA", b"FETCH 5", b"TIME"],
-            &[OK, OK, OK, OK]
-        )?
-    );
-    assert!(rt;
-        are_answered(
-            alloc,
-            &[b"STATION WLF", b"END", b"DATA x"],
-            &[OK, ERROR, ERROR]
-        )?
-    );
-    assert!(rt;
-        are_answered(
-            alloc,
-            &[b"STATION NONE", b"SELECT BHZ", b"SELECT", b"DATA", b"END"],
-            &[ERROR, ERROR, ERROR, ERROR, ERROR]
-        )?
-    );
-    assert!(rt;
-        are_answered(
-            alloc,
-            &[b"STATION", b"STATION A B C", b"SELECT BHZ"],
-            &[ERROR, ERROR, OK]
-        )?
-    );
-    Ok(())
-}
-
-#[test]
-fn a_station_is_found_among_those_that_are_seen(rt: HostRuntime) -> Result<(), Fail> {
-    let alloc = rt.alloc();
-    assert!(rt;
-        are_answered(
-            alloc,
-            &[b"STATION APE", b"STATION APE GE", b"STATION NONE GE"],
-            &[OK, ERROR, ERROR]
-        )?
-    );
-    assert!(rt;
-        are_answered(
-            alloc,
-            &[b"STATION ape", b"STATION APE XX", b"STATION APE xx"],
-            &[ERROR, OK, ERROR]
-        )?
-    );
-    Ok(())
-}
-
-#[test]
-fn a_refused_station_leaves_none_current(rt: HostRuntime) -> Result<(), Fail> {
-    let alloc = rt.alloc();
-    assert!(rt;
-        are_answered(
-            alloc,
-            &[b"STATION WLF", b"STATION NONE", b"SELECT BHZ"],
-            &[OK, ERROR, ERROR]
-        )?
-    );
-    assert!(rt;
-        are_answered(
-            alloc,
-            &[b"STATION WLF", b"FETCH", b"STATION NONE", b"END"],
-            &[OK, OK, ERROR, b"END"]
-        )?
-    );
-    Ok(())
-}
-
-#[test]
-fn a_station_named_again_keeps_its_action(rt: HostRuntime) -> Result<(), Fail> {
-    let alloc = rt.alloc();
-    let lines: &[&[u8]] = &[
-        b"STATION WLF GE",
-        b"SELECT BHZ",
-        b"STATION APE XX",
-        b"STATION WLF GE",
-        b"FETCH",
-        b"END",
-    ];
-    assert!(rt; are_answered(alloc, lines, &[OK, OK, OK, OK, OK, b"END"])?);
-    let twice: &[&[u8]] = &[b"STATION WLF", b"FETCH", b"STATION WLF", b"END"];
-    assert!(rt; are_answered(alloc, twice, &[OK, OK, OK, b"END"])?);
+    assert_eq!(rt; answered_otherwise(alloc, &UNI)?, None);
+    assert_eq!(rt; answered_otherwise(alloc, &MULTI)?, None);
     Ok(())
 }
 
 #[test]
 fn a_transfer_ends_where_each_request_is_a_fetch(rt: HostRuntime) -> Result<(), Fail> {
     let alloc = rt.alloc();
-    assert!(rt;
-        ends(
-            alloc,
-            outside(),
-            b"STATION WLF\rFETCH\rSTATION APE\rFETCH\rEND\r"
-        )?
-    );
-    assert!(rt;
-        !ends(
-            alloc,
-            outside(),
-            b"STATION WLF\rFETCH\rSTATION APE\rDATA\rEND\r"
-        )?
-    );
-    assert!(rt;
-        ends(
-            alloc,
-            outside(),
-            b"STATION WLF\rDATA\rEND\rCAT\rHELLO\rBYE\r"
-        )?
-    );
-    assert!(rt;
-        !ends(
-            alloc,
-            outside(),
-            b"STATION WLF\rDATA\rEND\rCAT\rHELLO\rEND\r"
-        )?
-    );
+    let rows: [(&[u8], bool); 4] = [
+        (b"STATION WLF\rFETCH\rSTATION APE\rFETCH\rEND\r", true),
+        (b"STATION WLF\rFETCH\rSTATION APE\rDATA\rEND\r", false),
+        (b"STATION WLF\rDATA\rEND\rCAT\rHELLO\rBYE\r", true),
+        (b"STATION WLF\rDATA\rEND\rCAT\rHELLO\rEND\r", false),
+    ];
+    for (sent, is_ended) in rows {
+        assert_eq!(rt; ends(alloc, outside(), sent)?, is_ended);
+    }
     Ok(())
 }
 
 #[test]
 fn patterns_are_taken_or_refused(rt: HostRuntime) -> Result<(), Fail> {
     let alloc = rt.alloc();
-    let taken = answers(
-        alloc,
-        inside(),
-        b"SELECT BH?\rSELECT !E\rSELECT 00BHZ.D\rSELECT --LCQ\r",
-    )?;
-    assert_eq!(rt; taken.as_slice(), b"OK\r\nOK\r\nOK\r\nOK\r\n".as_slice());
-    let refused = answers(alloc, inside(), b"SELECT BH\rSELECT .Q\r")?;
-    assert_eq!(rt; refused.as_slice(), b"ERROR\r\nERROR\r\n".as_slice());
+    let sent = b"SELECT BH?\rSELECT !E\rSELECT 00BHZ.D\rSELECT --LCQ\rSELECT BH\rSELECT .Q\r";
+    let wanted: &[u8] = b"OK\r\nOK\r\nOK\r\nOK\r\nERROR\r\nERROR\r\n";
+    assert_eq!(rt; answers(alloc, inside(), sent)?.as_slice(), wanted);
     Ok(())
 }
 
@@ -196,7 +125,7 @@ fn a_list_has_16_patterns(rt: HostRuntime) -> Result<(), Fail> {
     let mut wanted = Vec::new(alloc);
     for _ in 0..16 {
         text.extend_from_slice(b"SELECT BHZ\r")?;
-        wanted.extend_from_slice(OK)?;
+        wanted.extend_from_slice(b"OK\r\n")?;
     }
     text.extend_from_slice(b"SELECT BHZ\rSELECT\rSELECT BHZ\r")?;
     wanted.extend_from_slice(b"ERROR\r\nOK\r\nOK\r\n")?;
