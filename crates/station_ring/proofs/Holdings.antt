@@ -43,6 +43,7 @@ pushed_all-empty capacity first items =
 
 -- ---- what stays true
 
+-- Stamps that rise do so where the first are let go.
 rising_drop : (n : ℕ) (held : List Held) → AreRising held → AreRising (drop n held)
 rising_drop n held rising i j d before within =
     rw (get_or-drop n held i d) (rw (get_or-drop n held j d) (rising (n + i) (n + j) d (omega arith) (let e : length (drop n held) ≡ length held - n = length-drop n held in omega arith)))

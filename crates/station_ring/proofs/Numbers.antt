@@ -11,15 +11,18 @@ same_place a b low high e = omega arith
 
 -- ---- a walk over places
 
+-- No place is left.
 pub place_among-none : (first number place stop : ℕ) → stop ≤ place → place_among first number place (stop - place) ≡ None
 place_among-none first number place stop over =
     let e : stop - place ≡ 0 = omega arith in rw e
 
+-- The next place has the number.
 pub place_among-here : (first number place stop : ℕ) → place < stop → (first + place) % numbers ≡ number → place_among first number place (stop - place) ≡ Some place
 place_among-here first number place stop more same =
     let e : stop - place ≡ suc (stop - (place + 1)) = omega arith in
     rw e (elim (eqb_tells ((first + place) % numbers) number) [ inl y ↦ rw y.0 | inr n ↦ absurd (n.1 same) ])
 
+-- The next place has another number.
 pub place_among-later : (first number place stop : ℕ) → place < stop → (first + place) % numbers ≢ number → place_among first number place (stop - place) ≡ place_among first number (place + 1) (stop - (place + 1))
 place_among-later first number place stop more other =
     let e : stop - place ≡ suc (stop - (place + 1)) = omega arith in
@@ -33,6 +36,7 @@ pub record HasNumber (first number place count q : ℕ) : Type 0 where
   pub high : q < place + count
   pub same : (first + q) % numbers ≡ number
 
+-- What is found has the number.
 pub found : (first number place count q : ℕ) → place_among first number place count ≡ Some q → HasNumber first number place count q
 found first number place zero q e = absurd cc
 found first number place (suc count) q e =
@@ -46,6 +50,7 @@ found first number place (suc count) q e =
           record { low = omega arith; high = omega arith; same = further.same }
     ]
 
+-- A place that has the number is found, since no other one of so few has it.
 pub finds : (first number place count q : ℕ) → count ≤ numbers → HasNumber first number place count q → place_among first number place count ≡ Some q
 finds first number place zero q few there = absurd (omega arith)
 finds first number place (suc count) q few there =
