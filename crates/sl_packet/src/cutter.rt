@@ -147,7 +147,6 @@ impl PacketCutter {
         ensures bound { result < 520 }
         ensures begun { is_begun (rest_in self.now) ≡ true }
     {
-        let _ = self.state;
         self.count
     }
 
@@ -156,7 +155,6 @@ impl PacketCutter {
         requires { self.now ≡ Amid (rest_in self.now) }
         ensures { result ≡ first_is_e (rest_in self.now ++ piece.now) }
     {
-        let _ = self.state;
         if self.count > 0 {
             self.buffer[0] == b'E'
         } else {
@@ -171,7 +169,6 @@ impl PacketCutter {
         requires begun { is_begun (rest_in self.old ++ piece.now) ≡ true }
         ensures { self.new ≡ Amid (rest_in self.old ++ piece.now) }
     {
-        let _ = self.state;
         put(&mut self.buffer, self.count, piece);
         self.count += piece.len();
     }
@@ -183,7 +180,6 @@ impl PacketCutter {
         ensures whole { result.now ≡ rest_in self.old ++ piece.now }
         ensures* left { sem 𝓛 (Leaves self.entry (Amid [])) }
     {
-        let _ = self.state;
         put(&mut self.buffer, self.count, piece);
         self.count = 0;
         &self.buffer

@@ -6,6 +6,7 @@ use std::alloc::{AllocError, Global};
 use std::test::Fail;
 
 /// What was cut out of pieces.
+#[derive(Drop)]
 struct Seen {
     /// The packets, one behind the other.
     packets: Vec<u8>,
@@ -58,7 +59,7 @@ fn three_packets(alloc: Global) -> Result<Vec<u8>, AllocError> {
     let mut bytes = Vec::new(alloc);
     for header in [b"SL0000A3", b"SLabcdef", b"SLFFFFFF"] {
         bytes.extend_from_slice(header)?;
-        for place in 0..512 {
+        for place in 0..512usize {
             bytes.push((place % 251) as u8)?;
         }
     }
