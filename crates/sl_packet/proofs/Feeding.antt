@@ -78,9 +78,9 @@ feeds_part (Amid held) piece amid begun first more short = record {
   within = omega arith;
   some = λ more. more;
   read = λ packets.
-    ap (stream_from (Going packets held)) (take-length piece)
-    ∙ goes_on_in_packet packets held piece (is_in_packet held piece begun first) more short
-    ∙ ap (λ ps. Going ps (held ++ piece)) (sym (append-nil packets));
+      ap (stream_from (Going packets held)) (take-length piece)
+      ∙ goes_on_in_packet packets held piece (is_in_packet held piece begun first) more short
+      ∙ ap (λ ps. Going ps (held ++ piece)) (sym (append-nil packets));
 }
 feeds_part Finished piece amid begun first more short = absurd cc
 feeds_part Faulty piece amid begun first more short = absurd cc
@@ -99,8 +99,8 @@ feeds_packet (Amid held) piece packet n amid begun first more bound size within 
       within = within;
       some = λ more. omega arith;
       read = λ packets.
-        ends_packet packets held (take n piece) (omega arith) (is_in_packet held piece begun first) (first_part (length held) n piece more) (omega arith)
-        ∙ ap (λ l. Going (packets ++ l ∷ []) []) (sym is);
+          ends_packet packets held (take n piece) (omega arith) (is_in_packet held piece begun first) (first_part (length held) n piece more) (omega arith)
+          ∙ ap (λ l. Going (packets ++ l ∷ []) []) (sym is);
     }
 feeds_packet Finished piece packet n amid begun first more bound size within is = absurd cc
 feeds_packet Faulty piece packet n amid begun first more bound size within is = absurd cc

@@ -108,9 +108,9 @@ bad_in_packet held (b ∷ piece) may first more =
     let early = place_in_header (length held) (b ∷ piece) more in
     both (may_stand (length held) b)
     (λ y.
-      let here : may_continue 0 (held ++ b ∷ []) ≡ true = continued held (b ∷ []) may (rw y) in
-      let next : may_continue (length (held ++ b ∷ [])) piece ≡ false = rw (size, ← more, y) in
-      later_bad held b piece (begun_packet (held ++ b ∷ []) here (omega arith)) (bad_in_packet (held ++ b ∷ []) piece here (ap first_is_e parted ∙ first) next))
+    let here : may_continue 0 (held ++ b ∷ []) ≡ true = continued held (b ∷ []) may (rw y) in
+    let next : may_continue (length (held ++ b ∷ [])) piece ≡ false = rw (size, ← more, y) in
+    later_bad held b piece (begun_packet (held ++ b ∷ []) here (omega arith)) (bad_in_packet (held ++ b ∷ []) piece here (ap first_is_e parted ∙ first) next))
     (λ n. first_bad held b piece (no_packet (held ++ b ∷ []) (may_continue-append 0 held (b ∷ []) ∙ rw (may, zero-add (length held), n)) (first_stays held b piece first)))
 
 -- ---- what is held, by the first byte
@@ -132,6 +132,6 @@ is_in_end (h ∷ held) piece begun first =
     both (may_continue 0 (h ∷ held))
     (λ y. let not = first_of_packet h held y in absurd cc)
     (λ n. let ends : begins_end (h ∷ held) ≡ true = rw n at begun in
-      both (bytes_eq (h ∷ held) (codes "E"))
-      (λ y. inr (inl ((bytes_eq-Decides (h ∷ held) (codes "E")).0 y)))
-      (λ m. inr (inr ((bytes_eq-Decides (h ∷ held) (codes "EN")).0 (rw m at ends)))))
+    both (bytes_eq (h ∷ held) (codes "E"))
+    (λ y. inr (inl ((bytes_eq-Decides (h ∷ held) (codes "E")).0 y)))
+    (λ m. inr (inr ((bytes_eq-Decides (h ∷ held) (codes "EN")).0 (rw m at ends)))))

@@ -2,7 +2,7 @@
 ghost use Rattle.std.specs.Prelude.{◌≡◌, ◌+◌, ◌<◌, ◌≤◌, ◌++◌, length, take, drop, codes};
 ghost use Rattle.sl_packet.specs.States.{end_piece};
 
-use crate::packets::{may_continue, PACKET};
+use crate::packets::{PACKET, may_continue};
 use std::marker::Model;
 use thiserror::Error;
 

@@ -80,7 +80,10 @@ fn pieces_do_not_matter(rt: HostRuntime) -> Result<(), Fail> {
         for piece in all.chunks(size) {
             seen.feed(&mut cutter, piece)?;
         }
-        assert!(rt; (seen.count, seen.ends, seen.faults) == (3, 1, 0), "in pieces of {size}");
+        assert!(rt;
+            (seen.count, seen.ends, seen.faults) == (3, 1, 0),
+            "in pieces of {size}"
+        );
         assert!(rt; seen.packets.as_slice() == packets, "in pieces of {size}");
         assert_eq!(rt; cutter.rest(), 0, "in pieces of {size}");
     }
@@ -93,7 +96,12 @@ fn one_packet_is_lent_a_call(rt: HostRuntime) -> Result<(), Fail> {
     let all = bytes.as_slice();
     assert_eq!(rt; all.len(), 1_563);
     let mut cutter = PacketCutter::new();
-    for (start, end, used, rest) in [(0, 1_563, 520, 0), (520, 720, 200, 200), (720, 1_563, 320, 0), (1_040, 1_042, 2, 2)] {
+    for (start, end, used, rest) in [
+        (0, 1_563, 520, 0),
+        (520, 720, 200, 200),
+        (720, 1_563, 320, 0),
+        (1_040, 1_042, 2, 2),
+    ] {
         assert!(rt; start <= end && end <= 1_563);
         assert_eq!(rt; cutter.feed(&all[start..end])?.used, used);
         assert_eq!(rt; cutter.rest(), rest);
@@ -131,7 +139,9 @@ fn short_streams_end_or_fail(rt: HostRuntime) -> Result<(), Fail> {
 fn record() -> [u8; 512] {
     let mut record = [0; 512];
     record[..20].copy_from_slice(b"000001D APE    BHZGE");
-    record[20..36].copy_from_slice(b"\x07\xe8\x00\x3c\x00\x00\x00\x00\x00\x00\x00\x64\x00\x64\x00\x01");
+    record[20..36].copy_from_slice(
+        b"\x07\xe8\x00\x3c\x00\x00\x00\x00\x00\x00\x00\x64\x00\x64\x00\x01",
+    );
     record[36..48].copy_from_slice(b"\x00\x00\x00\x01\x00\x00\x00\x00\x00\x40\x00\x30");
     record[48..56].copy_from_slice(b"\x03\xe8\x00\x00\x0b\x01\x09\x00");
     record
