@@ -1,8 +1,8 @@
 -- A stream that is read on by a piece of the end, which stands behind none, one or two of its bytes.
-use Rattle.std.proofs.Common.{◌≡◌, ℕ, suc, ◌+◌, ◌<◌, ◌≤◌, ◌==◌, true, false, List, [], ◌∷◌, ◌++◌, length, take, drop, refl, sym, ap, ◌∙◌, subst, arith, append_assoc, append-nil, length-append, eqb-true, inl, inr}
+use Rattle.std.proofs.Common.{◌≡◌, ℕ, ◌<◌, ◌≤◌, ◌==◌, true, List, [], ◌∷◌, ◌++◌, length, take, drop, refl, sym, ap, ◌∙◌, subst, arith, append_assoc, eqb-true, inl, inr}
 use Rattle.std.specs.Prelude.{codes, ◌⊎◌}
 use Rattle.protocol.specs.Streams.{piece_of, stream_from}
-use Rattle.protocol.specs.Streams.Piece.{Beginning, TheEnd, NoPiece}
+use Rattle.protocol.specs.Streams.Piece.{Beginning}
 use Rattle.protocol.specs.Streams.StreamRead.{Going, Ended}
 use Rattle.protocol.proofs.Found.{both}
 use Rattle.sl_packet.specs.declared.cutter.EndPiece.{EndPiece}

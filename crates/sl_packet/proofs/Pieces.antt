@@ -1,17 +1,17 @@
 -- A stream that is read on by a piece: of a packet, of the end, or with a byte that fits none.
-use Rattle.std.proofs.Common.{◌≡◌, ℕ, zero, suc, ◌+◌, ◌<◌, ◌≤◌, ◌==◌, Bool, true, false, List, [], ◌∷◌, ◌++◌, length, take, drop, refl, sym, ap, ◌∙◌, subst, arith, add-zero, zero-add, append_assoc, append-nil, length-append, ne_eqb, eqb-true, inl, inr}
-use Rattle.std.specs.Prelude.{codes, ◌||◌, ◌⊎◌, nat_lt}
+use Rattle.std.proofs.Common.{◌≡◌, ℕ, ◌+◌, ◌<◌, ◌==◌, true, false, List, [], ◌∷◌, ◌++◌, length, refl, sym, ap, ◌∙◌, arith, zero-add, append_assoc, append-nil, length-append, ne_eqb, eqb-true, inl, inr}
+use Rattle.std.specs.Prelude.{codes, ◌⊎◌, nat_lt}
 use Rattle.std.proofs.lemmas.Bool.{and_parts, ltb-true, ltb-false}
 use Rattle.std.proofs.lemmas.Slice.Eq.{bytes_eq-Decides}
 use Rattle.std.specs.Str.{bytes_eq}
-use Rattle.protocol.specs.Streams.{may_stand, may_continue, begins_end, piece_of, stream_byte, stream_from}
+use Rattle.protocol.specs.Streams.{may_stand, may_continue, begins_end, piece_of, stream_from}
 use Rattle.protocol.specs.Streams.Piece.{Beginning, NoPiece}
-use Rattle.protocol.specs.Streams.StreamRead.{Going, Ended, NoStream}
+use Rattle.protocol.specs.Streams.StreamRead.{Going, NoStream}
 use Rattle.protocol.proofs.Found.{both}
 use Rattle.protocol.proofs.PacketBytes.{contents_continue, may_continue-append}
 use Rattle.protocol.proofs.StreamReading.{stream_from-append}
-use Rattle.sl_packet.specs.Progress.{Progress, read_so_far, gone_on, HasBadByte}
-use Rattle.sl_packet.specs.Progress.Progress.{Amid, Finished, Faulty}
+use Rattle.sl_packet.specs.Progress.{Progress, read_so_far, HasBadByte}
+use Rattle.sl_packet.specs.Progress.Progress.{Amid}
 use Rattle.sl_packet.specs.States.{is_begun, first_is_e}
 
 -- ---- a piece of a packet

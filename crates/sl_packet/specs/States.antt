@@ -1,5 +1,5 @@
 -- What a cutter in each of its states has read, and what may be held of a packet or of the end.
-use Rattle.std.specs.Prelude.{ℕ, ◌==◌, ◌||◌, Bool, true, false, if◌then◌else◌, List, [], ◌∷◌}
+use Rattle.std.specs.Prelude.{ℕ, ◌==◌, ◌||◌, Bool, false, if◌then◌else◌, List, [], ◌∷◌}
 use Rattle.protocol.specs.Streams.{may_continue, begins_end}
 use Rattle.sl_packet.specs.Progress.{Progress}
 use Rattle.sl_packet.specs.Progress.Progress.{Amid, Finished, Faulty}

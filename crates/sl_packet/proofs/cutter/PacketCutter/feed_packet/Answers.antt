@@ -1,5 +1,5 @@
 -- Each way out reads the used bytes as the stream does.
-use Rattle.std.proofs.Common.{◌≡◌, ◌-◌, true, false, length, refl, sym, ap, ◌∙◌, arith}
+use Rattle.std.proofs.Common.{◌≡◌, ◌-◌, true, false, length, refl, ap, ◌∙◌, arith}
 use Rattle.protocol.specs.Streams.{may_continue}
 use Rattle.sl_packet.proofs.Feeding.{begun_in_packet, feeds_part, feeds_packet, bad_packet, goes_on, nothing_held}
 use Rattle.sl_packet.specs.Progress.{rest_in}
