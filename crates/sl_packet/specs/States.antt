@@ -14,7 +14,7 @@ progress Within held = Amid held
 progress AtEnd held = Finished
 progress Refused held = Faulty
 
--- Fewer bytes than a packet are the beginning of a packet or of the end.
+-- The bytes may begin a packet, or they begin the end: `E` or `EN`.
 abbrev pub is_begun : List ℕ → Bool
 is_begun bytes = may_continue 0 bytes || begins_end bytes
 

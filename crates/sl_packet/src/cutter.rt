@@ -131,7 +131,7 @@ impl Model for PacketCutter {
     ghost invariant = { λ s. (s.count < 520) × (is_begun (take s.count s.buffer) ≡ true) };
 }
 
-/// What it is built of.
+/// What a reading is made of.
 impl PacketCutter {
     ghost use Rattle.std.specs.Prelude.{◌<◌, List, [], true};
     ghost use Rattle.std.specs.Borrow.{sem};
