@@ -1,1 +1,5 @@
 mod Reading
+mod Judging
+mod Pieces
+mod EndPieces
+mod Feeding
