@@ -1,8 +1,8 @@
 //! The sessions of a server, each at its number.
-ghost use Rattle.std.specs.Prelude.{◌≡◌, ◌≢◌, ◌<◌, ◌≤◌, ℕ, List, [], ◌∷◌, ◌++◌, length, slice_get, slice_set, IfOk, OnOk, Some, None, is_some, is_ok, option_map};
+ghost use Rattle.std.specs.Prelude.{◌≡◌, ◌≢◌, ◌<◌, ◌≤◌, List, [], ◌∷◌, ◌++◌, length, slice_get, slice_set, IfOk, OnOk, Some, None, is_some, is_ok, option_map};
 ghost use Rattle.protocol.specs.Catalog.{Config as ProtocolConfig};
 ghost use Rattle.protocol.specs.History.{Arrival};
-ghost use Rattle.protocol.specs.Client.{received, after_take, offered};
+ghost use Rattle.protocol.specs.Client.{received, offered};
 ghost use Rattle.protocol.specs.World.{taken_by};
 ghost use Rattle.session_state.specs.Sessions.{Sitting};
 ghost use Rattle.server_core.specs.Standing.{HoldsOf, OnlyGoesOn, PlacesAreThere, seated, seat_client, taking};

@@ -1,5 +1,5 @@
 //! All clients of a server.
-ghost use Rattle.std.specs.Prelude.{OnErr, option_map, ◌≡◌, ◌<◌, ◌≤◌, ℕ, List, [], ◌∷◌, ◌++◌, length, slice_get, slice_set, IfOk, OnOk, Some, None, is_some, is_ok};
+ghost use Rattle.std.specs.Prelude.{OnErr, option_map, ◌≡◌, ◌<◌, ◌≤◌, [], ◌∷◌, ◌++◌, length, slice_get, IfOk, OnOk, Some, is_some, is_ok};
 ghost use Rattle.std.specs.Result.{result_ok};
 ghost use Rattle.std.specs.Net.Addr.{ipv4_bits};
 ghost use Rattle.protocol.specs.Catalog.{Config as ProtocolConfig};

@@ -4,7 +4,6 @@ ghost use Rattle.std.specs.List.{list_all};
 ghost use Rattle.protocol.specs.Catalog.{Config as ProtocolConfig};
 ghost use Rattle.protocol.specs.History.{Arrival};
 ghost use Rattle.protocol.specs.Client.{Client as ProtocolClient, received, offered, after_take, is_ending, is_nothing, taken_of};
-ghost use Rattle.session_state.specs.Choices.{chosen_of};
 ghost use Rattle.session_state.specs.Sessions.{client_in, sitting_view, Comes, HasPlaces, HasFirsts};
 ghost use Rattle.session_state.specs.declared.session.State.TheVariants.{Starting};
 ghost use Rattle.session_state.specs.declared.session.Settled.TheVariants.{Start};

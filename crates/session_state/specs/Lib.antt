@@ -3,4 +3,3 @@ pub mod Choices
 pub mod Changes
 pub mod Asking
 pub mod Sessions
-pub mod Refusals

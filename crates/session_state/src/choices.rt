@@ -1,5 +1,5 @@
 //! The stations that a client names, and what it asks of each.
-ghost use Rattle.std.specs.Prelude.{◌≡◌, ◌<◌, ◌≤◌, ◌∷◌, [], List, None, Some, IfSome, length, option_map, slice_get, slice_set, filter_map, is_some, position, true, false, ◌++◌};
+ghost use Rattle.std.specs.Prelude.{◌≡◌, ◌<◌, ◌≤◌, ◌∷◌, [], List, None, Some, IfSome, length, option_map, slice_get, slice_set, filter_map, is_some, position, ◌++◌};
 ghost use Rattle.protocol.specs.Catalog.{Config as ProtocolConfig, has_codes};
 ghost use Rattle.std.specs.List.{list_any};
 ghost use Rattle.protocol.specs.Session.{act_multi, choose_known, choose_station, current_choice, end_with, select_multi, wish_of};

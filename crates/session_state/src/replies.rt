@@ -1,6 +1,6 @@
 //! What a session says to its client.
 ghost use Rattle.std.specs.Prelude.{◌≡◌, ◌≤◌, ◌+◌, ◌++◌, length};
-ghost use Rattle.protocol.specs.Catalog.{Config as ProtocolConfig, end_line, station_line};
+ghost use Rattle.protocol.specs.Catalog.{end_line, station_line};
 ghost use Rattle.protocol.specs.Record.{padded};
 ghost use Rattle.protocol.specs.Session.{error_line, greeting, ok_line};
 ghost use Rattle.catalog.specs.Places.{view_in};

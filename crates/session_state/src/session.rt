@@ -149,7 +149,7 @@ impl Session {
 impl Session {
     ghost use Rattle.protocol.specs.Catalog.{Config as ProtocolConfig};
     ghost use Rattle.session_state.specs.Choices.{chosen_of, kept_in};
-    ghost use Rattle.session_state.specs.Sessions.{client_in, sitting_view, is_listing, line_made, HasPlaces, HasFirsts, Comes, never_starts};
+    ghost use Rattle.session_state.specs.Sessions.{client_in, sitting_view, is_listing, HasPlaces, HasFirsts, Comes, never_starts};
     ghost use Rattle.session_state.specs.declared.session.State.TheVariants.{Negotiating, Listing, Starting, Transfer, Ending};
     ghost use Rattle.session_state.specs.declared.session.Settled.TheVariants.{Rest, Start};
 
