@@ -74,13 +74,6 @@ impl Selectors {
         self.selectors.is_empty()
     }
 
-    /// Whether 16 are there.
-    pub fn is_full(&self) -> bool
-        ensures { IsTrue result ↔ (length self.now ≡ 16) }
-    {
-        self.selectors.is_full()
-    }
-
     /// Adds one behind the others. It fails exactly where 16 are there, and then they stay as they are.
     pub fn add(&mut self, selector: Selector) -> Result<(), Full>
         ensures room { IsOk result ↔ (length self.old < 16) }
