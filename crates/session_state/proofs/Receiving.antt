@@ -49,12 +49,8 @@ begun-state : (config : Config) (h : List Arrival) (a : Sitting) (mode : Mode) �
 begun-state config h a (Uni ps) all = refl
 begun-state config h a (Multi n) all = ap (λ rs. record { state = ClientTransfer rs 0; open_line = a.open_line; unread = a.unread; waiting = a.waiting }) (requests-begin config h n.choices all)
 
-pub begun : (config : Config) (h : List Arrival) (a t r : Sitting) (settled : Settled) → a.state ≡ Starting → t ≡ record a { state = Transfer 0 } → (never_starts t.state ≡ true → settled ≡ Rest) → Comes settled config h r (read_on (sitting_view config t) h t.unread (client_in config h t)) → HasFirsts config h a → client_in config h r ≡ read_on (sitting_view config a) h a.unread (client_in config h a)
-begun config h a t r settled state turned stays comes firsts =
-    let rest : settled ≡ Rest = stays (ap (λ (s : Sitting). never_starts s.state) turned) in
-    let here : client_in config h r ≡ read_on (sitting_view config t) h t.unread (client_in config h t) = subst (λ x. Comes x config h r (read_on (sitting_view config t) h t.unread (client_in config h t))) rest comes in
-    here
-    ∙ ap (λ (s : Sitting). read_on (sitting_view config s) h s.unread (client_in config h s)) turned
-    ∙ ap (read_on (sitting_view config a) h a.unread) (sym (begun-state config h a a.mode firsts) ∙ ap (λ t. client_in config h (record a { state = t })) (sym state))
+pub starts : (config : Config) (h : List Arrival) (a t : Sitting) → a.state ≡ Starting → t ≡ record a { state = Transfer 0 } → HasFirsts config h a → client_in config h t ≡ client_in config h a
+starts config h a t state turned firsts =
+    ap (client_in config h) turned ∙ sym (begun-state config h a a.mode firsts) ∙ ap (λ x. client_in config h (record a { state = x })) (sym state)
 
-pub ruleset begin_lemmas = (begun)
+pub ruleset start_lemmas = (starts)

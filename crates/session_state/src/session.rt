@@ -206,17 +206,16 @@ impl Session {
         Ok(self.settle(config))
     }
 
-    /// The transfer begins, once each request's first arrival is kept, and what follows is read.
-    #[tactic(auto, using(crate::proofs::Receiving::begin_lemmas))]
-    pub fn begin(&mut self, config: &Config)
-        requires places { HasPlaces config.now self.old }
-        requires starting { self.old.state ≡ Starting }
-        ensures client { (h : List Arrival) → HasFirsts config.now h self.old → client_in config.now h self.new
-            ≡ read_on (sitting_view config.now self.old) h self.old.unread (client_in config.now h self.old) }
-        ensures places { self.new.places ≡ self.old.places }
+    /// The transfer that was asked for starts, once it is kept from which arrival on each request wants records. What is unread
+    /// stays so until the session settles.
+    #[tactic(auto, using(crate::proofs::Receiving::start_lemmas))]
+    pub fn enter(&mut self)
+        requires { self.old.state ≡ Starting }
+        ensures state { self.new ≡ record self.old { state = Transfer 0 } }
+        ensures client { (config : ProtocolConfig) (h : List Arrival) → HasFirsts config h self.old →
+            client_in config h self.new ≡ client_in config h self.old }
     {
         self.turn_to(State::Transfer(0));
-        let _settled = self.settle(config);
     }
 
     /// The first bytes that wait, 1 to all of them, were handed. When none is left, further lines are read.

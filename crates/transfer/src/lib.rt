@@ -1,0 +1,10 @@
+//! Transfers: from which arrival on each request wants records, which record comes next, and when all was sent (SeedLink 3, DATA,
+//! FETCH and TIME). No call takes memory.
+#![tactic(auto)]
+
+mod choosing;
+mod starting;
+mod wanting;
+
+pub use choosing::{Chosen, choose};
+pub use starting::start;
