@@ -1,0 +1,89 @@
+-- The packet of the record that comes next.
+use Rattle.std.proofs.Common.{◌≡◌, ℕ, ◌<◌, ◌≤◌, Bool, true, false, ◌&&◌, ◌||◌, List, [], ◌∷◌, ◌++◌, length, drop, Option, Some, None, option_map, filter_map, slice_get, unwrap_or, refl, sym, ap, ap₂, subst, ◌∙◌, arith, nat_le, inl, inr}
+use Rattle.transfer.proofs.Positions.{Test, first_from}
+use Rattle.std.specs.List.{list_any}
+use Rattle.std.specs.Str.{bytes_eq}
+use Rattle.std.proofs.lemmas.Bool.Decides.{leb_tells}
+use Rattle.std.proofs.lemmas.Slice.Eq.{bytes_eq-Decides}
+use Rattle.protocol.specs.Packet.{packet}
+use Rattle.protocol.specs.Catalog.{Config, Station, Entry}
+use Rattle.protocol.specs.History.{Arrival, Request, first_position, next, is_of, is_held, wants, holds_and_wants, number_at}
+use Rattle.protocol.specs.Client.{packet_for, packet_of}
+use Rattle.protocol.proofs.Found.{both, Found, first_position_found}
+use Rattle.protocol.proofs.Places.{slice_get-seam}
+use Rattle.catalog.specs.Places.{station_at, nowhere, HasDistinctCodes, SameCodes}
+use Rattle.station_ring.specs.declared.held.Held.{Held}
+use Rattle.held_records.specs.Holdings.{IsArrival}
+use Rattle.session_state.specs.declared.choices.Action.{Action}
+use Rattle.session_state.specs.declared.choices.Choice.{Choice}
+use Rattle.session_state.specs.Choices.{request_in, request_with}
+use Rattle.transfer.specs.Choosing.{IsArrived}
+
+both-of : (a b : Bool) → (a && b) ≡ true → (a ≡ true) × (b ≡ true)
+both-of true true e = (refl, refl)
+both-of true false e = absurd cc
+both-of false b e = absurd cc
+
+-- An arrival of a station has its codes.
+of-codes : (s : Station) (a : Arrival) → is_of s a ≡ true → (s.network ≡ a.facts.network) × (s.code ≡ a.facts.station)
+of-codes s a e =
+    let two = both-of (bytes_eq s.network a.facts.network) (bytes_eq s.code a.facts.station) e in
+    ((bytes_eq-Decides s.network a.facts.network).0 two.0, (bytes_eq-Decides s.code a.facts.station).0 two.1)
+
+-- Stations of one arrival have the same codes.
+of-both : (s t : Station) (a : Arrival) → is_of s a ≡ true → is_of t a ≡ true → SameCodes s t
+of-both s t a p q = let x = of-codes s a p in let y = of-codes t a q in (x.0 ∙ sym y.0, x.1 ∙ sym y.1)
+
+past : (es : List Entry) (k : ℕ) → length es ≤ k → station_at es k ≡ nowhere
+past [] k low = refl
+past (e ∷ es) zero low = absurd (omega arith)
+past (e ∷ es) (suc k) low = past es k (omega arith)
+
+-- There is one place only whose station has an arrival.
+one-place : (es : List Entry) → HasDistinctCodes es → (j k : ℕ) (a : Arrival) → k < length es → 1 ≤ length (station_at es k).network → is_of (station_at es j) a ≡ true → is_of (station_at es k) a ≡ true → station_at es j ≡ station_at es k
+one-place es distinct j k a within some p q =
+    elim (leb_tells (length es) j) [
+      | inl y ↦
+          let gone_ : station_at es j ≡ nowhere = past es j y.1 in
+          let same = of-both (station_at es j) (station_at es k) a p q in
+          let none : length (station_at es k).network ≡ 0 = ap length (sym same.0 ∙ ap (λ (s : Station). s.network) gone_) in
+          absurd (omega (arith, none))
+      | inr n ↦ ap (station_at es) (distinct j k (omega arith) within (of-both (station_at es j) (station_at es k) a p q))
+    ]
+
+-- Where something is held and wanted, some request is of its station.
+wanted-of : (p : ℕ) (later : List Arrival) (a : Arrival) (rs : List Request) → list_any (holds_and_wants p later a) rs ≡ true → list_any (λ r. is_of r.station a) rs ≡ true
+wanted-of p later a [] e = absurd cc
+wanted-of p later a (r ∷ rs) e =
+    both (is_of r.station a) (λ y. rw y refl)
+    (λ n. rw n (wanted-of p later a rs (rw n at e)))
+
+-- What comes next is an arrival at a station that is asked for.
+next-asked : (h : List Arrival) (rs : List Request) (q p : ℕ) (a : Arrival) → next h rs q ≡ Some p → slice_get h p ≡ Some a → list_any (λ r. is_of r.station a) rs ≡ true
+next-asked h rs q p a e there =
+    let wanted : Test = λ p later a. list_any (holds_and_wants p later a) rs in
+    let late : Test = λ p later a. nat_le q p && wanted p later a in
+    let found : Found late h p = first_position_found late h [] h p refl (sym (first_from wanted q 0 h (omega arith)) ∙ e) in
+    let here : slice_get h p ≡ Some found.arrival = ap₂ slice_get (sym found.whole) (sym found.at) ∙ slice_get-seam found.before found.arrival found.later in
+    let same : found.arrival ≡ a = ap (λ o. unwrap_or o a) (sym here ∙ there) in
+    subst (λ x. list_any (λ r. is_of r.station x) rs ≡ true) same (wanted-of p found.later found.arrival rs (both-of (nat_le q p) (wanted p found.later found.arrival) found.says).1)
+
+-- The packet by the requests is that of the station whose arrival it is.
+packet-by : (config : Config) (h : List Arrival) (k p : ℕ) (a : Arrival) → HasDistinctCodes config.entries → k < length config.entries → 1 ≤ length (station_at config.entries k).network → is_of (station_at config.entries k) a ≡ true → (cs : List Choice) → list_any (λ r. is_of r.station a) (filter_map (request_in config) cs) ≡ true → packet_for h p a (filter_map (request_in config) cs) ≡ packet (number_at (station_at config.entries k) h p) a.bytes
+packet-by config h k p a distinct within some of_it [] e = absurd cc
+packet-by config h k p a distinct within some of_it (c ∷ cs) e = by c.action (packet-by config h k p a distinct within some of_it cs) e
+  where
+    by : (o : Option Action) → (list_any (λ r. is_of r.station a) (filter_map (request_in config) cs) ≡ true → packet_for h p a (filter_map (request_in config) cs) ≡ packet (number_at (station_at config.entries k) h p) a.bytes) → list_any (λ r. is_of r.station a) (filter_map (request_in config) (record c { action = o } ∷ cs)) ≡ true → packet_for h p a (filter_map (request_in config) (record c { action = o } ∷ cs)) ≡ packet (number_at (station_at config.entries k) h p) a.bytes
+    by None rest q = rest q
+    by (Some action) rest q =
+        both (is_of (station_at config.entries c.place) a)
+        (λ y. rw y (ap (λ s. packet (number_at s h p) a.bytes) (one-place config.entries distinct c.place k a within some y of_it)))
+        (λ n. rw n (rest (rw n at q)))
+
+-- The packet of what comes next.
+pub packet-next : (config : Config) (h : List Arrival) (cs : List Choice) (q number : ℕ) (x : Held) → HasDistinctCodes config.entries → IsArrived config h number x → next h (filter_map (request_in config) cs) q ≡ Some x.stamp → packet_of h (filter_map (request_in config) cs) x.stamp ≡ packet number x.bytes
+packet-next config h cs q number x distinct arrived e =
+    let is = arrived.arrives in
+    ap (λ o. unwrap_or (option_map (λ a. packet_for h x.stamp a (filter_map (request_in config) cs)) o) []) is.is_there
+    ∙ packet-by config h arrived.place x.stamp is.arrival distinct arrived.is_there arrived.has_network is.of_station cs (next-asked h (filter_map (request_in config) cs) q x.stamp is.arrival e is.is_there)
+    ∙ ap₂ packet (sym is.number_is) (sym is.bytes)
