@@ -102,3 +102,11 @@ has-firsts rings s start i all keeps config h holds = λ k d low.
 
 pub keep-there : (rings : Holdings) (i count : ℕ) (now start : Sitting) → i < count → count ≡ length (chosen_of start.mode) → Keeps rings i now start → i < length (chosen_of now.mode)
 keep-there rings i count now start low all keeps = omega (arith, keeps.count)
+
+pub ruleset start_lemmas = (keeps-none, keep-there)
+
+-- What is kept for the choice at a place is kept for the one that is found there.
+pub one-first : (rings : Holdings) (cs : List Choice) (i first : ℕ) (c : Choice) → i < length cs → c ≡ slice_index_or cs i c → ((config : Config) (h : List Arrival) → rings ≡ holdings_of config h → HasFirst config h (record c { first = first })) → (config : Config) (h : List Arrival) → rings ≡ holdings_of config h → (y : Choice) → slice_get cs i ≡ Some y → HasFirst config h (record y { first = first })
+one-first rings cs i first c low is is_first config h holds y there =
+    let same : c ≡ y = is ∙ ap (λ o. unwrap_or o y) (sym (slice_get-get_or cs i c low) ∙ there) in
+    subst (λ (z : Choice). HasFirst config h (record z { first = first })) same (is_first config h holds)

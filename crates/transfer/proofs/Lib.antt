@@ -4,3 +4,4 @@ pub mod Nexts
 pub mod Packets
 pub mod Keeping
 pub mod Leading
+pub mod Scanning

@@ -1,5 +1,5 @@
 -- The packet of the record that comes next.
-use Rattle.std.proofs.Common.{◌≡◌, ℕ, ◌<◌, ◌≤◌, Bool, true, false, ◌&&◌, ◌||◌, List, [], ◌∷◌, ◌++◌, length, drop, Option, Some, None, option_map, filter_map, slice_get, unwrap_or, refl, sym, ap, ap₂, subst, ◌∙◌, arith, nat_le, inl, inr}
+use Rattle.std.proofs.Common.{◌≡◌, ℕ, ◌<◌, ◌≤◌, Bool, true, false, ◌&&◌, ◌||◌, List, [], ◌∷◌, ◌++◌, length, drop, Option, Some, None, option_map, filter_map, slice_get, unwrap_or, refl, sym, ap, ap₂, subst, ◌∙◌, arith, nat_le, zero, suc, inl, inr}
 use Rattle.transfer.proofs.Positions.{Test, first_from}
 use Rattle.std.specs.List.{list_any}
 use Rattle.std.specs.Str.{bytes_eq}
@@ -11,9 +11,11 @@ use Rattle.protocol.specs.History.{Arrival, Request, first_position, next, is_of
 use Rattle.protocol.specs.Client.{packet_for, packet_of}
 use Rattle.protocol.proofs.Found.{both, Found, first_position_found}
 use Rattle.protocol.proofs.Places.{slice_get-seam}
-use Rattle.catalog.specs.Places.{station_at, nowhere, HasDistinctCodes, SameCodes}
+use Rattle.catalog.specs.Places.{station_at, nowhere, IsPlace, HasDistinctCodes, SameCodes}
+use Rattle.station_ring.specs.Rings.{Holding, held_at, number_at as ring_number}
 use Rattle.station_ring.specs.declared.held.Held.{Held}
-use Rattle.held_records.specs.Holdings.{IsArrival}
+use Rattle.held_records.specs.Holdings.{Holdings, holdings_of, ring_of, IsArrival}
+use Rattle.transfer.proofs.Nexts.{ring-there, ring-within}
 use Rattle.session_state.specs.declared.choices.Action.{Action}
 use Rattle.session_state.specs.declared.choices.Choice.{Choice}
 use Rattle.session_state.specs.Choices.{request_in, request_with}
@@ -63,7 +65,7 @@ next-asked : (h : List Arrival) (rs : List Request) (q p : ℕ) (a : Arrival) �
 next-asked h rs q p a e there =
     let wanted : Test = λ p later a. list_any (holds_and_wants p later a) rs in
     let late : Test = λ p later a. nat_le q p && wanted p later a in
-    let found : Found late h p = first_position_found late h [] h p refl (sym (first_from wanted q 0 h (omega arith)) ∙ e) in
+    let found : Found late h p = first_position_found late h [] h p refl (sym (first_from wanted q h) ∙ e) in
     let here : slice_get h p ≡ Some found.arrival = ap₂ slice_get (sym found.whole) (sym found.at) ∙ slice_get-seam found.before found.arrival found.later in
     let same : found.arrival ≡ a = ap (λ o. unwrap_or o a) (sym here ∙ there) in
     subst (λ x. list_any (λ r. is_of r.station x) rs ≡ true) same (wanted-of p found.later found.arrival rs (both-of (nat_le q p) (wanted p found.later found.arrival) found.says).1)
@@ -87,3 +89,17 @@ packet-next config h cs q number x distinct arrived e =
     ap (λ o. unwrap_or (option_map (λ a. packet_for h x.stamp a (filter_map (request_in config) cs)) o) []) is.is_there
     ∙ packet-by config h arrived.place x.stamp is.arrival distinct arrived.is_there arrived.has_network is.of_station cs (next-asked h (filter_map (request_in config) cs) q x.stamp is.arrival e is.is_there)
     ∙ ap₂ packet (sym is.number_is) (sym is.bytes)
+
+-- A record that is held at a place of a station's ring is an arrival there.
+pub arrived-there : ((s : Station) (h : List Arrival) (place : ℕ) (x : Held) → 1 ≤ s.capacity → held_at (ring_of s h) place ≡ Some x → IsArrival s h (ring_number (ring_of s h) place) x) → (config : Config) (h : List Arrival) (rings : Holdings) (station place : ℕ) (r : Holding) (x : Held) → rings ≡ holdings_of config h → slice_get rings.rings station ≡ Some r → 1 ≤ r.capacity → held_at r place ≡ Some x → (IsPlace config station → 1 ≤ length (station_at config.entries station).network) → IsArrived config h (ring_number r place) x
+arrived-there law config h rings station place r x holds there some held network =
+    let is : r ≡ ring_of (station_at config.entries station) h = ring-there config h rings station r holds there in
+    let within : station < length config.entries = ring-within config h rings station r holds there in
+    record {
+      place = station;
+      is_there = within;
+      has_network = network within;
+      arrives =
+          subst (λ (y : Holding). IsArrival (station_at config.entries station) h (ring_number y place) x) (sym is)
+          (law (station_at config.entries station) h place x (subst (λ (y : Holding). 1 ≤ y.capacity) is some) (subst (λ (y : Holding). held_at y place ≡ Some x) is held));
+    }

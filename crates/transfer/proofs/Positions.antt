@@ -17,8 +17,8 @@ same_first f g same p (a ∷ later) = rw (same p later a, same_first f g same (p
 
 -- What never says yes finds nothing.
 pub none_first : (f : Test) → ((p : ℕ) (later : List Arrival) (a : Arrival) → f p later a ≡ false) → (p : ℕ) (h : List Arrival) → first_position f p h ≡ None
-none_first f no p [] = refl
-none_first f no p (a ∷ later) = rw (no p later a) (none_first f no (p + 1) later)
+none_first f never p [] = refl
+none_first f never p (a ∷ later) = rw (never p later a) (none_first f never (p + 1) later)
 
 -- What is found does not stand before the place from which it is looked for.
 first_above : (f : Test) (p k : ℕ) (h : List Arrival) → first_position f p h ≡ Some k → p ≤ k
@@ -58,20 +58,25 @@ within f q p (a ∷ later) low =
     rw (le, more) refl
 
 -- Looking from position q on is to say yes to nothing before it.
-pub first_from : (f : Test) (q p : ℕ) (h : List Arrival) → p ≤ q → first_position f q (drop (q - p) h) ≡ first_position (λ p later a. nat_le q p && f p later a) p h
-first_from f q p [] low = ap (first_position f q) (none (q - p))
+first_after : (f : Test) (q p : ℕ) (h : List Arrival) → p ≤ q → first_position f q (drop (q - p) h) ≡ first_position (λ p later a. nat_le q p && f p later a) p h
+first_after f q p [] low = ap (first_position f q) (none (q - p))
   where
     none : (n : ℕ) → drop {A = Arrival} n [] ≡ []
     none zero = refl
     none (suc n) = refl
-first_from f q p (a ∷ later) low =
+first_after f q p (a ∷ later) low =
     both (nat_le q p)
     (λ y. let here : q ≡ p = grind (arith, nat_tests) in
     let nothing : q - p ≡ 0 = omega arith in
     rw nothing (subst (λ n. first_position f n (a ∷ later) ≡ first_position (λ p later a. nat_le q p && f p later a) p (a ∷ later)) (sym here) (sym (within f q p (a ∷ later) (omega arith)))))
     (λ n. let below : p + 1 ≤ q = grind (arith, nat_tests) in
     let steps : q - p ≡ suc (q - (p + 1)) = omega arith in
-    rw (steps, n) (first_from f q (p + 1) later below))
+    rw (steps, n) (first_after f q (p + 1) later below))
+
+pub first_from : (f : Test) (q : ℕ) (h : List Arrival) → first_position f q (drop q h) ≡ first_position (λ p later a. nat_le q p && f p later a) 0 h
+first_from f q h =
+    let all : q - 0 ≡ q = omega arith in
+    subst (λ n. first_position f q (drop n h) ≡ first_position (λ p later a. nat_le q p && f p later a) 0 h) all (first_after f q 0 h (omega arith))
 
 -- ---- what comes next
 

@@ -13,7 +13,7 @@ use Rattle.held_records.specs.Holdings.{held_of, ring_of, summary_of}
 use Rattle.session_state.specs.declared.choices.Action.{Action}
 use Rattle.session_state.specs.declared.choices.Choice.{Choice}
 use Rattle.session_state.specs.Choices.{action_value, request_in, request_with}
-use Rattle.transfer.specs.Wanting.{facts_of, wants_held}
+use Rattle.transfer.specs.Wanting.{facts_of, is_in_window_of, wants_held}
 use Rattle.transfer.proofs.Positions.{same_first, first_from}
 
 -- What is in a window is so by its start and end.
@@ -47,13 +47,13 @@ or-false true = refl
 or-false false = refl
 
 -- What comes next for one request is, of what is held of its station, the first that it wants.
-pub next-one : (config : Config) (c : Choice) (action : Action) (h : List Arrival) (q : ℕ) → ((test : ℕ → Arrival → Bool) (on_held : Held → Bool) → ((p : ℕ) (a : Arrival) → test p a ≡ on_held (held_of p a)) → first_position (λ p later a. is_held (station_at config.entries c.place) later a && test p a) 0 h ≡ option_map (λ x. x.stamp) (find on_held (ring_of (station_at config.entries c.place) h).held)) → next h (request_for config c action ∷ []) q ≡ option_map (λ x. x.stamp) (find (wants_held c action q) (ring_of (station_at config.entries c.place) h).held)
-next-one config c action h q in_ring =
+pub next-one : (config : Config) (c : Choice) (action : Action) (h : List Arrival) (q : ℕ) → c.action ≡ Some action → ((test : ℕ → Arrival → Bool) (on_held : Held → Bool) → ((p : ℕ) (a : Arrival) → test p a ≡ on_held (held_of p a)) → first_position (λ p later a. is_held (station_at config.entries c.place) later a && test p a) 0 h ≡ option_map (λ x. x.stamp) (find on_held (ring_of (station_at config.entries c.place) h).held)) → next h (request_for config c action ∷ []) q ≡ option_map (λ x. x.stamp) (find (wants_held c q) (ring_of (station_at config.entries c.place) h).held)
+next-one config c action h q asked in_ring =
     let s : Station = station_at config.entries c.place in
     let r : Request = request_for config c action in
     same_first (λ p later a. list_any (holds_and_wants p later a) (r ∷ [])) (λ p later a. holds_and_wants p later a r) (λ p later a. or-false (holds_and_wants p later a r)) q (drop q h)
-    ∙ first_from (λ p later a. holds_and_wants p later a r) q 0 h (omega arith)
-    ∙ same_first (λ p later a. nat_le q p && holds_and_wants p later a r) (λ p later a. is_held s later a && wants_held c action q (held_of p a))
+    ∙ first_from (λ p later a. holds_and_wants p later a r) q h
+    ∙ same_first (λ p later a. nat_le q p && holds_and_wants p later a r) (λ p later a. is_held s later a && wants_held c q (held_of p a))
     (λ p later a. any-order (nat_le q p) (is_of s a) _ (nat_le c.first p) (passes c.selectors a.facts) (is_in_window (action_value action) a.facts)
-    ∙ ap (λ b. is_held s later a && (nat_le q p && (nat_le c.first p && (passes c.selectors a.facts && b)))) (sym (in-window (action_value action) a.facts))) 0 h
-    ∙ in_ring (λ p a. wants_held c action q (held_of p a)) (wants_held c action q) (λ p a. refl)
+    ∙ ap (λ b. is_held s later a && (nat_le q p && (nat_le c.first p && (passes c.selectors a.facts && b)))) (sym (ap (λ o. is_in_window_of o (facts_of (summary_of a.facts))) asked ∙ in-window (action_value action) a.facts))) 0 h
+    ∙ in_ring (λ p a. wants_held c q (held_of p a)) (wants_held c q) (λ p a. refl)

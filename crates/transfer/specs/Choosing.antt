@@ -1,9 +1,11 @@
 -- What an offer in a transfer leads to.
-use Rattle.std.specs.Prelude.{◌≡◌, ℕ, ◌<◌, ◌≤◌, Bool, true, false, if◌then◌else◌, nat_le, List, length, Option, Some, None}
+use Rattle.std.specs.Prelude.{◌≡◌, ℕ, ◌<◌, ◌≤◌, Bool, true, false, if◌then◌else◌, nat_le, nat_lt, List, length, Option, Some, None, slice_get}
 use Rattle.std.specs.List.{list_all}
 use Rattle.protocol.specs.Catalog.{Config, Station}
 use Rattle.protocol.specs.History.{Arrival, is_over_by}
-use Rattle.held_records.specs.Holdings.{IsArrival}
+use Rattle.held_records.specs.Holdings.{Holdings, IsArrival}
+use Rattle.station_ring.specs.Rings.{Holding}
+use Rattle.transfer.specs.Wanting.{HoldsRecord}
 use Rattle.catalog.specs.Places.{station_at}
 use Rattle.session_state.specs.declared.choices.Action.{Action}
 use Rattle.session_state.specs.declared.choices.Choice.{Choice}
@@ -37,8 +39,19 @@ pub record IsArrived (config : Config) (h : List Arrival) (number : ℕ) (x : He
   pub has_network : 1 ≤ length (station_at config.entries place).network
   pub arrives : IsArrival (station_at config.entries place) h number x
 
+-- The ring of a station holds a record at a place, which arrived at that position.
+pub record HoldsThere (rings : Holdings) (station place position : ℕ) : Type 0 where
+  pub ring : Holding
+  pub ring_there : slice_get rings.rings station ≡ Some ring
+  pub holds : HoldsRecord ring place position
+
 -- the lesser of two positions, where both are there
 abbrev pub least_of : Option ℕ → Option ℕ → Option ℕ
 least_of None b = b
 least_of (Some p) None = Some p
 least_of (Some p) (Some q) = if nat_le p q then Some p else Some q
+
+-- Whether a position is less than the one that was found so far, where one was.
+abbrev pub comes_before : Option ℕ → ℕ → Bool
+comes_before None p = true
+comes_before (Some best) p = nat_lt p best

@@ -1,20 +1,23 @@
 //! What is sent next.
-ghost use Rattle.std.specs.Prelude.{◌≡◌, ◌<◌, ◌-◌, ◌^◌, [], List, filter_map, option_map, IfSome, Some, true, false};
+ghost use Rattle.std.specs.Prelude.{◌≡◌, ◌≢◌, ◌≤◌, ◌+◌, [], ◌∷◌, List, ℕ, length, codes, slice_get, filter_map, option_map, IfSome, Some, None, true, false};
 ghost use Rattle.std.specs.List.{list_all};
 ghost use Rattle.protocol.specs.Catalog.{Config as ProtocolConfig};
 ghost use Rattle.protocol.specs.History.{Arrival, next as next_position, is_over};
 ghost use Rattle.protocol.specs.Client.{offered};
 ghost use Rattle.catalog.specs.Places.{station_at, IsPlace};
+ghost use Rattle.protocol.specs.Packet.{packet};
+ghost use Rattle.station_ring.specs.declared.held.Held.{Held};
+ghost use Rattle.station_ring.specs.Rings.{Holding, held_at, number_at};
 ghost use Rattle.held_records.specs.Holdings.{holdings_of};
 ghost use Rattle.session_state.specs.Choices.{chosen_of, request_in};
 ghost use Rattle.session_state.specs.Sessions.{client_in};
-ghost use Rattle.session_state.specs.declared.session.State.TheVariants.{Transfer};
-ghost use Rattle.transfer.specs.declared.choosing.Chosen.TheVariants.{Nothing};
-ghost use Rattle.transfer.specs.Choosing.{answer_of, is_over_of, is_transfer, least_of, IsArrived};
+ghost use Rattle.session_state.specs.declared.session.State.TheVariants.{Transfer, Ending};
+ghost use Rattle.transfer.specs.declared.choosing.Chosen.TheVariants.{Packet, Nothing, Complete};
+ghost use Rattle.transfer.specs.Choosing.{answer_of, is_over_of, comes_before, is_transfer, HoldsThere};
 
 use crate::wanting::{Candidate, first_wanted_in};
 use catalog::Config;
-use held_records::Rings;
+use held_records::{Rings, arrivals_by_place, held_in_the_ring};
 use session_state::{Action, Choice, Session, State};
 use sl_packet::frame;
 
@@ -42,61 +45,45 @@ fn has_network(config: &Config, place: usize)
 }
 
 /// The first held record of a named station that is wanted.
-fn candidate<'a>(
-    config: &Config,
-    choice: &Choice,
-    rings: &'a Rings,
-    next: u64,
-) -> Option<Candidate<'a>>
+fn candidate(config: &Config, choice: &Choice, rings: &Rings, next: u64) -> Option<Candidate>
     ensures position { (h : List Arrival) → rings.now ≡ holdings_of config.now h →
-        option_map (λ c. c.held.now.stamp) result ≡ next_position h (filter_map (request_in config.now) (choice.now ∷ [])) next }
-    ensures arrived { IfSome result (λ c. (h : List Arrival) → rings.now ≡ holdings_of config.now h → IsArrived config.now h c.number c.held.now) }
-    ensures countable { IfSome result (λ c. c.held.now.stamp < 2 ^ 64 - 1) }
+        option_map (λ c. c.position) result ≡ next_position h (filter_map (request_in config.now) (choice.now ∷ [])) next }
+    ensures held { IfSome result (λ c. HoldsThere rings.now c.station c.place c.position) }
+    ensures network { IfSome result (λ c. IsPlace config.now c.station → 1 ≤ length (station_at config.now.entries c.station).network) }
 {
-    let action = choice.action?;
+    held_in_the_ring();
+    if choice.action.is_none() {
+        return None;
+    }
     let ring = rings.ring(choice.place)?;
-    let _arrivals = rings.arrivals();
     has_network(config, choice.place);
-    first_wanted_in(ring, choice, action, next)
+    first_wanted_in(ring, choice, next)
 }
 
-/// The one that came first; of the same record the first one.
-fn earlier<'a>(
-    first: Option<Candidate<'a>>,
-    second: Option<Candidate<'a>>,
-) -> Option<Candidate<'a>>
-    ensures position { option_map (λ c. c.held.now.stamp) result
-        ≡ least_of (option_map (λ c. c.held.now.stamp) first) (option_map (λ c. c.held.now.stamp) second) }
-    ensures either { (result ≡ first) ⊎ (result ≡ second) }
+/// Whether an arrival came before the one that was found so far, where one was.
+fn comes_before(position: u64, best: &Option<Candidate>) -> bool
+    ensures { result ≡ comes_before (option_map (λ c. c.position) best.now) position }
 {
-    match (first, second) {
-        (None, second) => second,
-        (first, None) => first,
-        (Some(one), Some(other)) => {
-            if one.held.stamp <= other.held.stamp {
-                Some(one)
-            } else {
-                Some(other)
-            }
-        }
+    match best {
+        Some(best) => position < best.position,
+        None => true,
     }
 }
 
 /// Of all held records that some request wants, from the arrival `next` on, the one that came first.
-fn earliest<'a>(
-    config: &Config,
-    choices: &[Choice],
-    rings: &'a Rings,
-    next: u64,
-) -> Option<Candidate<'a>>
+fn earliest(config: &Config, choices: &[Choice], rings: &Rings, next: u64) -> Option<Candidate>
     ensures position { (h : List Arrival) → rings.now ≡ holdings_of config.now h →
-        option_map (λ c. c.held.now.stamp) result ≡ next_position h (filter_map (request_in config.now) choices.now) next }
-    ensures arrived { IfSome result (λ c. (h : List Arrival) → rings.now ≡ holdings_of config.now h → IsArrived config.now h c.number c.held.now) }
-    ensures countable { IfSome result (λ c. c.held.now.stamp < 2 ^ 64 - 1) }
+        option_map (λ c. c.position) result ≡ next_position h (filter_map (request_in config.now) choices.now) next }
+    ensures held { IfSome result (λ c. HoldsThere rings.now c.station c.place c.position) }
+    ensures network { IfSome result (λ c. IsPlace config.now c.station → 1 ≤ length (station_at config.now.entries c.station).network) }
 {
     let mut best = None;
     for choice in choices {
-        best = earlier(best, candidate(config, choice, rings, next));
+        if let Some(found) = candidate(config, choice, rings, next) {
+            if comes_before(found.position, &best) {
+                best = Some(found);
+            }
+        }
     }
     best
 }
@@ -141,7 +128,31 @@ fn is_complete(choices: &[Choice], rings: &Rings) -> bool
     ensures { (config : ProtocolConfig) (h : List Arrival) → rings.now ≡ holdings_of config h →
         result ≡ list_all (is_over h) (filter_map (request_in config) choices.now) }
 {
-    choices.iter().all(|choice| is_over(choice, rings))
+    for choice in choices {
+        if !is_over(choice, rings) {
+            return false;
+        }
+    }
+    true
+}
+
+/// The packet of a held record is made to wait.
+fn put_packet(session: &mut Session, rings: &Rings, found: Candidate)
+    requires { HoldsThere rings.now found.station found.place found.position }
+    ensures session { (r : Holding) (x : Held) → slice_get rings.now.rings found.station ≡ Some r → held_at r found.place ≡ Some x →
+        session.new ≡ record session.old { state = Transfer (found.position + 1); waiting = packet (number_at r found.place) x.bytes } }
+    ensures capacity { (r : Holding) → slice_get rings.now.rings found.station ≡ Some r → 1 ≤ r.capacity }
+{
+    let _arrivals = rings.arrivals();
+    let Some(ring) = rings.ring(found.station) else {
+        return;
+    };
+    ring.holds_its_last();
+    let Some(held) = ring.get(found.place) else {
+        return;
+    };
+    let packet = frame(ring.number_at(found.place), &held.bytes);
+    session.put(&packet, found.position + 1);
 }
 
 /// In a transfer, while nothing waits: of all held records that some request wants, and that arrived after the last one that was
@@ -162,17 +173,23 @@ pub fn choose(session: &mut Session, config: &Config, rings: &Rings) -> Chosen
         return Chosen::Nothing;
     };
     config.codes_are_distinct();
+    arrivals_by_place();
     match earliest(config, session.choices(), rings, next) {
         Some(found) => {
-            session.put(&frame(found.number, &found.held.bytes), found.held.stamp + 1);
+            put_packet(session, rings, found);
             Chosen::Packet
         }
         None => end_if_complete(session, rings),
     }
 }
 
-/// Where nothing more can come the transfer ends.
+/// Where nothing more can come, a transfer ends.
 fn end_if_complete(session: &mut Session, rings: &Rings) -> Chosen
+    ensures complete { (config : ProtocolConfig) (h : List Arrival) → rings.now ≡ holdings_of config h →
+        result ≡ answer_of None (list_all (is_over h) (filter_map (request_in config) (chosen_of session.old.mode))) }
+    ensures ended { result ≡ Complete → session.new ≡ record session.old { state = Ending; unread = []; waiting = codes "END" } }
+    ensures unchanged { result ≡ Nothing → session.new ≡ session.old }
+    ensures nothing_chosen { result ≢ Packet }
 {
     if is_complete(session.choices(), rings) {
         session.finish();

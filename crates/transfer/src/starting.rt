@@ -1,15 +1,15 @@
 //! Where a transfer starts.
-ghost use Rattle.std.specs.Prelude.{◌≡◌, ◌<◌, length, slice_get, option_map, Some, None};
+ghost use Rattle.std.specs.Prelude.{◌≡◌, List};
 ghost use Rattle.protocol.specs.Catalog.{Config as ProtocolConfig};
 ghost use Rattle.protocol.specs.History.{Arrival, first_wanted};
 ghost use Rattle.catalog.specs.Places.{station_at};
 ghost use Rattle.held_records.specs.Holdings.{holdings_of};
-ghost use Rattle.session_state.specs.Choices.{action_value, chosen_of, kept_in};
-ghost use Rattle.session_state.specs.Sessions.{client_in};
+ghost use Rattle.session_state.specs.Choices.{action_value};
+ghost use Rattle.session_state.specs.Sessions.{client_in, HasFirst};
 ghost use Rattle.session_state.specs.declared.session.State.TheVariants.{Starting, Transfer};
 
 use held_records::Rings;
-use session_state::{Action, Session};
+use session_state::{Action, Choice, Session};
 
 /// The position from which on a request that starts now wants records of the station at a place: with the number of a held record,
 /// that record; else, for DATA without a number and for the number that is to come, the next arrival; else the oldest held record.
@@ -41,7 +41,19 @@ fn first_wanted(rings: &Rings, place: usize, action: Action) -> u64
     }
 }
 
+/// The position from which on a request for a named station wants records, where something is asked of it.
+fn first_of(choice: &Choice, rings: &Rings) -> u64
+    ensures { (config : ProtocolConfig) (h : List Arrival) → rings.now ≡ holdings_of config h →
+        HasFirst config h (record choice.now { first = result }) }
+{
+    match choice.action {
+        Some(action) => first_wanted(rings, choice.place, action),
+        None => choice.first,
+    }
+}
+
 /// A transfer that was asked for starts: it is kept from which arrival on each request wants records.
+#[tactic(auto, using(crate::proofs::Keeping::start_lemmas))]
 pub fn start(session: &mut Session, rings: &Rings)
     requires { session.old.state ≡ Starting }
     ensures client { (config : ProtocolConfig) (h : List Arrival) → rings.now ≡ holdings_of config h →
@@ -54,17 +66,8 @@ pub fn start(session: &mut Session, rings: &Rings)
     let _ = session.state();
     let count = session.choices().len();
     for i in 0..count {
-        keep_first(session, rings, i);
+        let first = first_of(&session.choices()[i], rings);
+        session.keep(i, first);
     }
     session.enter();
-}
-
-/// It is kept from which arrival on the i-th named station's records are wanted, where something is asked of it.
-fn keep_first(session: &mut Session, rings: &Rings, i: usize)
-    requires { i < length (chosen_of session.old.mode) }
-{
-    let place = session.choices()[i].place;
-    if let Some(action) = session.choices()[i].action {
-        session.keep(i, first_wanted(rings, place, action));
-    }
 }
