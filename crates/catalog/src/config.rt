@@ -1,10 +1,11 @@
 //! What a server is set up with.
 ghost use Rattle.std.specs.Prelude.{◌≡◌, ◌≢◌, ◌≤◌, All, length, slice_get, option_map, IfOk, IfErr, OnOk, Ok, Err, Some, None};
+ghost use Rattle.std.specs.List.{position};
 ghost use Rattle.std.specs.Str.{IsUtf8};
 ghost use Rattle.std.specs.Net.Addr.{ipv4_bits};
 ghost use Rattle.toml.specs.Parse.{parse_document};
 ghost use Rattle.toml.specs.View.{table_view};
-ghost use Rattle.protocol.specs.Catalog.{sees, view_of};
+ghost use Rattle.protocol.specs.Catalog.{has_codes, sees, view_of};
 ghost use Rattle.catalog.specs.Places.{view_in, HasDistinctCodes, IsPlace};
 ghost use Rattle.catalog.specs.Reading.{config_of, config_read};
 
@@ -134,6 +135,15 @@ impl Config {
         ensures { result.now ≡ self.now.entries }
     {
         self.stations.as_slice()
+    }
+
+    /// The place of the first station with these codes, byte for byte.
+    pub fn place_of(&self, network: &[u8], code: &[u8]) -> Option<usize>
+        ensures { result ≡ position (λ e. has_codes network.now code.now e.station) self.now.entries }
+    {
+        self.stations
+            .iter()
+            .position(|station| station.has_codes(network, code))
     }
 
     /// No two of its stations have the same network and code: a call that does nothing, for its contract.
