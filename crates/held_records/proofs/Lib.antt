@@ -1,0 +1,5 @@
+pub mod Arrivals
+pub mod Numbers
+pub mod Places
+pub mod Stations
+pub mod Walks

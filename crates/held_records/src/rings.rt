@@ -76,7 +76,13 @@ impl Rings {
         ensures number { (config : ProtocolConfig) (h : List Arrival) → self.old ≡ holdings_of config h →
             result ≡ number_in_history (station_at config.entries place) h (length h) }
     {
-        let number = push_at(self.rings.as_mut_slice(), place, self.arrivals, bytes, summary);
+        let number = push_at(
+            self.rings.as_mut_slice(),
+            place,
+            self.arrivals,
+            bytes,
+            summary,
+        );
         self.arrivals += 1;
         number
     }
@@ -180,6 +186,7 @@ fn starts_after(ring: &Ring, place: u64, last: Tick) -> bool
 fn ring_holds_after(ring: &Ring, last: Tick) -> bool
     ensures { result ≡ list_any (λ x. int_lt last x.summary.start) ring.now.held }
 {
+    ring.holds_its_last();
     let Some(oldest) = ring.oldest() else {
         return false;
     };
