@@ -75,6 +75,7 @@ impl Rings {
             a.bytes ≡ bytes.now → summary_of a.facts ≡ summary → self.new ≡ holdings_of config (h ++ a ∷ []) }
         ensures number { (config : ProtocolConfig) (h : List Arrival) → self.old ≡ holdings_of config h →
             result ≡ number_in_history (station_at config.entries place) h (length h) }
+        ensures count { length self.new.rings ≡ length self.old.rings }
     {
         let number = push_at(
             self.rings.as_mut_slice(),

@@ -1,5 +1,6 @@
 -- What a session does with bytes that come, and when its transfer begins.
-use Rattle.std.proofs.Common.{◌≡◌, ℕ, ◌-◌, true, false, List, [], ◌∷◌, ◌++◌, length, map, filter_map, Option, Some, None, All, refl, sym, ap, subst, ◌∙◌, nat_lt}
+use Rattle.std.proofs.Common.{◌≡◌, ℕ, ◌-◌, true, false, List, [], ◌∷◌, ◌++◌, length, map, filter_map, Option, Some, None, All, refl, sym, ap, subst, ◌∙◌, nat_lt, ◌≢◌, Bool}
+use Rattle.std.proofs.lemmas.Bool.{false≢true}
 use Rattle.std.proofs.lemmas.List.Elements.{All-head, All-tail}
 use Rattle.protocol.specs.Catalog.{Config}
 use Rattle.protocol.specs.History.{Arrival, Request}
@@ -54,3 +55,9 @@ starts config h a t state turned firsts =
     ap (client_in config h) turned ∙ sym (begun-state config h a a.mode firsts) ∙ ap (λ x. client_in config h (record a { state = x })) (sym state)
 
 pub ruleset start_lemmas = (starts)
+
+-- A session in its end is not about to start.
+pub ending-settled : (config : Config) (a : Sitting) (ends : Bool) → ends ≡ is_ending (client_in config [] a).state → ends ≡ true → a.state ≢ Starting
+ending-settled config a ends is says starting =
+    let started : is_ending (client_in config [] a).state ≡ false = ap (λ t. is_ending (client_in config [] (record a { state = t })).state) starting in
+    false≢true (sym started ∙ sym is ∙ says)

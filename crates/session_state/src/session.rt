@@ -76,11 +76,13 @@ impl Session {
     ghost use Rattle.protocol.specs.Catalog.{Config as ProtocolConfig};
     ghost use Rattle.session_state.specs.Choices.{chosen_of};
     ghost use Rattle.session_state.specs.Sessions.{client_in};
+    ghost use Rattle.session_state.specs.declared.session.State.TheVariants.{Starting};
 
     /// The session of a client that has just come, with what it sees.
     pub fn new(view: View) -> Session
         ensures client { (config : ProtocolConfig) (h : List Arrival) → client_in config h result ≡ new_client }
         ensures places { result.places ≡ view }
+        ensures settled { result.state ≢ Starting }
     {
         Session {
             view,
@@ -174,6 +176,7 @@ impl Session {
         ensures places { self.new.places ≡ self.old.places }
         ensures stays { never_starts self.old.state ≡ true → result ≡ Rest }
         ensures starting { result ≡ Start → self.new.state ≡ Starting }
+        ensures settled { result ≡ Rest → self.new.state ≢ Starting }
     {
         while self.has_unread() && self.is_reading() {
             let byte = self.next_byte();
@@ -193,6 +196,7 @@ impl Session {
         ensures refused { OnErr result ((h : List Arrival) → client_in config.now h self.new ≡ received (sitting_view config.now self.old) h bytes.now (client_in config.now h self.old)) }
         ensures unchanged { OnErr result (self.new ≡ self.old) }
         ensures starting { IfOk result (λ settled. settled ≡ Start → self.new.state ≡ Starting) }
+        ensures settled { IfOk result (λ settled. settled ≡ Rest → self.new.state ≢ Starting) }
         ensures room { is_ok result ≡ not (nat_lt (1024 - length self.old.unread) (length bytes.now)) }
         ensures places { self.new.places ≡ self.old.places }
     {
@@ -227,6 +231,7 @@ impl Session {
         ensures client { (h : List Arrival) → Comes result config.now h self.new
             (after_take (sitting_view config.now self.old) h (client_in config.now h self.old) count) }
         ensures starting { result ≡ Start → self.new.state ≡ Starting }
+        ensures settled { result ≡ Rest → self.old.state ≢ Starting → self.new.state ≢ Starting }
         ensures places { self.new.places ≡ self.old.places }
     {
         self.skip(count);
@@ -244,6 +249,7 @@ impl Session {
         requires nothing_waits { self.old.waiting ≡ [] }
         ensures client { is_listing self.old.state ≡ true → (h : List Arrival) → client_in config.now h self.new ≡ offered h (client_in config.now h self.old) }
         ensures unchanged { is_listing self.old.state ≡ false → self.new ≡ self.old }
+        ensures settled { self.old.state ≢ Starting → self.new.state ≢ Starting }
         ensures places { self.new.places ≡ self.old.places }
     {
         if let State::Listing(made) = self.state {

@@ -11,7 +11,7 @@ ghost use Rattle.station_ring.specs.Rings.{Holding, held_at, number_at};
 ghost use Rattle.held_records.specs.Holdings.{holdings_of};
 ghost use Rattle.session_state.specs.Choices.{chosen_of, request_in};
 ghost use Rattle.session_state.specs.Sessions.{client_in};
-ghost use Rattle.session_state.specs.declared.session.State.TheVariants.{Transfer, Ending};
+ghost use Rattle.session_state.specs.declared.session.State.TheVariants.{Starting, Transfer, Ending};
 ghost use Rattle.transfer.specs.declared.choosing.Chosen.TheVariants.{Packet, Nothing, Complete};
 ghost use Rattle.transfer.specs.Choosing.{answer_of, is_over_of, comes_before, is_transfer, HoldsThere};
 
@@ -167,6 +167,7 @@ pub fn choose(session: &mut Session, config: &Config, rings: &Rings) -> Chosen
         result ≡ answer_of (next_position h requests q) (list_all (is_over h) requests) }
     ensures elsewhere { is_transfer session.old.state ≡ false → result ≡ Nothing }
     ensures unchanged { result ≡ Nothing → session.new ≡ session.old }
+    ensures settled { session.old.state ≢ Starting → session.new.state ≢ Starting }
     ensures places { session.new.places ≡ session.old.places }
 {
     let State::Transfer(next) = session.state() else {
