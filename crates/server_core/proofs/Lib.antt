@@ -1,3 +1,4 @@
 pub mod Offering
 pub mod Standings
 pub mod Running
+pub mod Arriving

@@ -8,11 +8,12 @@ use Rattle.protocol.specs.World.{world_after, empty_world, client_of, taken_by, 
 use Rattle.protocol.specs.World.Event.{Open, Bytes, Take, Close}
 use Rattle.protocol.proofs.Found.{both}
 use Rattle.protocol.proofs.Connections.{length-at, slice_get-at_same, slice_get-at_here, slice_get-at_apart, at_past_the_end, none_past_the_end, world_from-append}
-use Rattle.session_state.specs.Sessions.{Sitting, HasPlaces, client_in, sitting_view}
+use Rattle.held_records.specs.Holdings.{holdings_of}
+use Rattle.session_state.specs.Sessions.{Sitting, client_in, sitting_view}
 use Rattle.server_core.proofs.Offering.{offered-waiting}
 use Rattle.catalog.specs.Places.{view_in}
 use Rattle.protocol.specs.History.{Arrival}
-use Rattle.server_core.specs.Standing.{taking, Stands, Serving, seat_client, seat_of, Seat, seated, seat_with, seat_at, goes_on, StandsAt, OnlyGoesOn, PlacesAreThere}
+use Rattle.server_core.specs.Standing.{taking, Stands, Serving, seat_client, seat_of, Seat, seated, seat_with, seat_at, goes_on, StandsAt, OnlyGoesOn, IsSettled, AreSettled}
 
 seat_with-changed : (f : View → Client → Client) (v : View) (o : Option Client) → seat_with v (option_map (f v) o) ≡ goes_on f (seat_with v o)
 seat_with-changed f v None = refl
@@ -37,11 +38,11 @@ pub whole-written : {X : Type 0} (n : ℕ) (a b : List X) → length a ≡ lengt
 whole-written n a b e f = grind (arith, common_steps)
 
 -- what one client does, of whatever kind
-pub client-stands : (f : View → Client → Client) (old new : Serving) (number : ℕ) → new.config ≡ old.config → length new.sessions ≡ length old.sessions → (config : Config) (w : World) → OnlyGoesOn old.config w.history old.sessions new.sessions number f → StandsAt old config w → StandsAt new config (record w { connections = at w.connections number (changed f) })
-client-stands f old new number same longer config w goes stands =
+pub client-stands : (f : View → Client → Client) (old new : Serving) (number : ℕ) → new.config ≡ old.config → new.rings ≡ old.rings → length new.sessions ≡ length old.sessions → (config : Config) (w : World) → OnlyGoesOn old.config w.history old.sessions new.sessions number f → StandsAt old config w → StandsAt new config (record w { connections = at w.connections number (changed f) })
+client-stands f old new number same kept longer config w goes stands =
     record {
       config_is = same ∙ stands.config_is;
-      holds = stands.holds;
+      holds = kept ∙ stands.holds ∙ ap (λ g. holdings_of g w.history) (sym same);
       count = longer ∙ stands.count ∙ sym (length-at w.connections number (changed f));
       clients = goes_on-stands config w.history old.sessions new.sessions w number f (subst (λ g. OnlyGoesOn g w.history old.sessions new.sessions number f) stands.config_is goes) stands.clients;
     }
@@ -88,16 +89,16 @@ taken-there config h xs k n s e = ap (λ o. taken_by h (seat_client (seated conf
 pub taken-nowhere : (config : Config) (h : List Arrival) (xs : List (Option Sitting)) (k n : ℕ) → slice_get xs k ≡ Some None → gone ≡ taken_by h (seat_client (seated config h (slice_get xs k))) n
 taken-nowhere config h xs k n e = ap (λ o. taken_by h (seat_client (seated config h o)) n) (sym e)
 
-pub take-stands : (old new : Serving) (number n : ℕ) → new.config ≡ old.config → length new.sessions ≡ length old.sessions → (config : Config) (w : World) → OnlyGoesOn old.config w.history old.sessions new.sessions number (taking w.history n) → StandsAt old config w → StandsAt new config (step config w (Take number n))
+pub take-stands : (old new : Serving) (number n : ℕ) → new.config ≡ old.config → new.rings ≡ old.rings → length new.sessions ≡ length old.sessions → (config : Config) (w : World) → OnlyGoesOn old.config w.history old.sessions new.sessions number (taking w.history n) → StandsAt old config w → StandsAt new config (step config w (Take number n))
 unfolding taking
-take-stands old new number n same longer config w goes stands = client-stands (taking w.history n) old new number same longer config w goes stands
+take-stands old new number n same kept longer config w goes stands = client-stands (taking w.history n) old new number same kept longer config w goes stands
 
 pub nobody-take : (server : Serving) (number n : ℕ) → length server.sessions ≤ number → (config : Config) (w : World) → StandsAt server config w → StandsAt server config (step config w (Take number n))
 unfolding taking
 nobody-take server number n past config w stands = nobody-stands (taking w.history n) server number past config w stands
 
-pub offer-stands : (old new : Serving) (number : ℕ) → new.config ≡ old.config → length new.sessions ≡ length old.sessions → (config : Config) (w : World) → OnlyGoesOn old.config w.history old.sessions new.sessions number (λ v c. offered w.history c) → StandsAt old config w → StandsAt new config (step config w (Take number 0))
-offer-stands old new number same longer config w goes stands = client-stands (λ v c. offered w.history c) old new number same longer config w goes stands
+pub offer-stands : (old new : Serving) (number : ℕ) → new.config ≡ old.config → new.rings ≡ old.rings → length new.sessions ≡ length old.sessions → (config : Config) (w : World) → OnlyGoesOn old.config w.history old.sessions new.sessions number (λ v c. offered w.history c) → StandsAt old config w → StandsAt new config (step config w (Take number 0))
+offer-stands old new number same kept longer config w goes stands = client-stands (λ v c. offered w.history c) old new number same kept longer config w goes stands
 
 client_of-seat : (x : Option Connection) → client_of x ≡ seat_client (seat_at x)
 client_of-seat None = refl
@@ -136,25 +137,25 @@ pushed f g (a ∷ xs) [] x y e h here k = absurd (omega (arith, e))
 pushed f g (a ∷ xs) (b ∷ ys) x y e h here zero = h zero
 pushed f g (a ∷ xs) (b ∷ ys) x y e h here (suc k) = pushed f g xs ys x y (omega (arith, e)) (λ i. h (suc i)) here k
 
-pub open-stands : (old new : Serving) (s : Sitting) (a : ℕ) → new.config ≡ old.config → new.sessions ≡ old.sessions ++ Some s ∷ [] → view_in old.config s.places ≡ view_of old.config a → ((h : List Arrival) → client_in old.config h s ≡ new_client) → (config : Config) (w : World) → StandsAt old config w → StandsAt new config (step config w (Open a))
-open-stands old new s a same longer view client config w stands =
+pub open-stands : (old new : Serving) (s : Sitting) (a : ℕ) → new.config ≡ old.config → new.rings ≡ old.rings → new.sessions ≡ old.sessions ++ Some s ∷ [] → view_in old.config s.places ≡ view_of old.config a → ((h : List Arrival) → client_in old.config h s ≡ new_client) → (config : Config) (w : World) → StandsAt old config w → StandsAt new config (step config w (Open a))
+open-stands old new s a same kept longer view client config w stands =
     let x : Connection = record { view = view_of config a; client = Some new_client } in
     let v : view_in config s.places ≡ view_of config a = rw stands.config_is at view in
     let c : client_in config w.history s ≡ new_client = rw stands.config_is at (client w.history) in
     let here : seated config w.history (Some (Some s)) ≡ seat_at (Some x) = ap₂ (λ (p : View) (q : Client). let t : Option Seat = Some (record { view = p; client = q }) in t) v c in
     record {
       config_is = same ∙ stands.config_is;
-      holds = stands.holds;
+      holds = kept ∙ stands.holds ∙ ap (λ g. holdings_of g w.history) (sym same);
       count = ap length longer ∙ length-append old.sessions (Some s ∷ []) ∙ ap (λ n. n + 1) stands.count ∙ sym (length-append w.connections (x ∷ []));
       clients = λ k. ap (λ l. seated config w.history (slice_get l k)) longer ∙ pushed (seated config w.history) seat_at old.sessions w.connections (Some s) x stands.count stands.clients here k;
     }
 
 -- a session more
-pub places-pushed : (config : Config) (xs : List (Option Sitting)) (s : Sitting) → PlacesAreThere config xs → HasPlaces config s → PlacesAreThere config (xs ++ Some s ∷ [])
-places-pushed config [] s there here zero t e = subst (λ o. HasPlaces config (unwrap_or (unwrap_or o None) s)) e here
-places-pushed config [] s there here (suc k) t e = absurd cc
-places-pushed config (x ∷ xs) s there here zero t e = there 0 t e
-places-pushed config (x ∷ xs) s there here (suc k) t e = places-pushed config xs s (λ j. there (suc j)) here k t e
+pub settled-pushed : (config : Config) (xs : List (Option Sitting)) (s : Sitting) → AreSettled config xs → IsSettled config s → AreSettled config (xs ++ Some s ∷ [])
+settled-pushed config [] s there here zero t e = subst (λ o. IsSettled config (unwrap_or (unwrap_or o None) s)) e here
+settled-pushed config [] s there here (suc k) t e = absurd cc
+settled-pushed config (x ∷ xs) s there here zero t e = there 0 t e
+settled-pushed config (x ∷ xs) s there here (suc k) t e = settled-pushed config xs s (λ j. there (suc j)) here k t e
 
 pub ruleset seat_lemmas = (goes_on-stands)
 
@@ -177,11 +178,11 @@ length-set_one [] k x = refl
 length-set_one (y ∷ xs) zero x = refl
 length-set_one (y ∷ xs) (suc k) x = ap suc (length-set_one xs k x)
 
-pub close-stands : (old new : Serving) (number : ℕ) → new.config ≡ old.config → new.sessions ≡ slice_set old.sessions number None → number < length old.sessions → (config : Config) (w : World) → StandsAt old config w → StandsAt new config (step config w (Close number))
-close-stands old new number same set low config w stands =
+pub close-stands : (old new : Serving) (number : ℕ) → new.config ≡ old.config → new.rings ≡ old.rings → new.sessions ≡ slice_set old.sessions number None → number < length old.sessions → (config : Config) (w : World) → StandsAt old config w → StandsAt new config (step config w (Close number))
+close-stands old new number same kept set low config w stands =
     record {
       config_is = same ∙ stands.config_is;
-      holds = stands.holds;
+      holds = kept ∙ stands.holds ∙ ap (λ g. holdings_of g w.history) (sym same);
       count = ap length set ∙ length-set_one old.sessions number None ∙ stands.count ∙ sym (length-at w.connections number closed);
       clients = λ k.
           ap (λ l. seated config w.history (slice_get l k)) set

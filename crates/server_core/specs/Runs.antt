@@ -2,9 +2,9 @@
 use Rattle.std.specs.Prelude.{List, [], ◌∷◌, slice_get}
 use Rattle.std.specs.Net.Addr.{ipv4_bits}
 use Rattle.protocol.specs.World.{Event as ProtocolEvent, Handed as ProtocolHanded, World, told, taken_by, client_of}
-use Rattle.protocol.specs.World.Event.{Open as ProtocolOpen, Bytes as ProtocolBytes, Take as ProtocolTake, Close as ProtocolClose}
+use Rattle.protocol.specs.World.Event.{Open as ProtocolOpen, Bytes as ProtocolBytes, Take as ProtocolTake, Close as ProtocolClose, Arrive as ProtocolArrive}
 use Rattle.server_core.specs.declared.events.Event.{Event}
-use Rattle.server_core.specs.declared.events.Event.TheVariants.{Open, Bytes, Take, Close}
+use Rattle.server_core.specs.declared.events.Event.TheVariants.{Open, Bytes, Take, Close, Arrive}
 use Rattle.server_core.specs.declared.events.Handed.{Handed}
 
 abbrev pub event_value : Event → ProtocolEvent
@@ -12,6 +12,7 @@ event_value (Open address) = ProtocolOpen (ipv4_bits address)
 event_value (Bytes client bytes) = ProtocolBytes client bytes.items
 event_value (Take client count) = ProtocolTake client count
 event_value (Close client) = ProtocolClose client
+event_value (Arrive bytes) = ProtocolArrive bytes
 
 abbrev pub handed_value : Handed → ProtocolHanded
 handed_value x = record { client = x.client; bytes = x.bytes.items; ended = x.ended }

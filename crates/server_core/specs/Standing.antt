@@ -1,14 +1,17 @@
 -- What a server stands for: a world of clients over one history.
-use Rattle.std.specs.Prelude.{◌≡◌, ◌≢◌, ℕ, List, [], length, slice_get, Option, Some, None, option_map}
+use Rattle.std.specs.Prelude.{◌≡◌, ◌≢◌, ℕ, List, length, slice_get, Option, Some, None, option_map}
 use Rattle.protocol.specs.Catalog.{Config, View}
 use Rattle.protocol.specs.Client.{Client, after_take, offered}
 use Rattle.protocol.specs.History.{Arrival}
 use Rattle.protocol.specs.World.{Event, World, Connection, world_after}
+use Rattle.held_records.specs.Holdings.{Holdings, holdings_of}
+use Rattle.session_state.specs.declared.session.State.TheVariants.{Starting}
 use Rattle.session_state.specs.Sessions.{Sitting, HasPlaces, client_in, sitting_view}
 
--- a server: its configuration, and the session of the k-th client while that is open
+-- a server: its configuration, what it holds of all stations, and the session of the k-th client while that is open
 pub record Serving : Type 0 where
   pub config : Config
+  pub rings : Holdings
   pub sessions : List (Option Sitting)
 
 -- an open connection's view and client
@@ -16,9 +19,9 @@ pub record Seat : Type 0 where
   pub view : View
   pub client : Client
 
--- The server holds what is held of the history. No record can arrive yet, so that the history is empty.
-abbrev pub HoldsOf : List Arrival → Type 0
-HoldsOf h = h ≡ []
+-- The rings hold what is held of the history.
+abbrev pub HoldsOf : Config → Holdings → List Arrival → Type 0
+HoldsOf config rings h = rings ≡ holdings_of config h
 
 -- the seat of a session after the history
 abbrev pub seat_of : Config → List Arrival → Sitting → Seat
@@ -49,15 +52,20 @@ goes_on f (Some x) = Some (record x { client = f x.view x.client })
 abbrev pub seat_client : Option Seat → Option Client
 seat_client o = option_map (λ s. s.client) o
 
--- The stations of each session are there.
-abbrev pub PlacesAreThere : Config → List (Option Sitting) → Type 0
-PlacesAreThere config sessions = (k : ℕ) (s : Sitting) → slice_get sessions k ≡ Some (Some s) → HasPlaces config s
+-- A session's stations are there, and no transfer of it is still to start.
+pub record IsSettled (config : Config) (s : Sitting) : Type 0 where
+  pub places : HasPlaces config s
+  pub started : s.state ≢ Starting
+
+-- the same of each session
+abbrev pub AreSettled : Config → List (Option Sitting) → Type 0
+AreSettled config sessions = (k : ℕ) (s : Sitting) → slice_get sessions k ≡ Some (Some s) → IsSettled config s
 
 -- The server has the configuration, what is held of the history, a session for each connection, and at each number the same
 -- view and client.
 pub record StandsAt (server : Serving) (config : Config) (w : World) : Type 0 where
   pub config_is : server.config ≡ config
-  pub holds : HoldsOf w.history
+  pub holds : HoldsOf server.config server.rings w.history
   pub count : length server.sessions ≡ length w.connections
   pub clients : (k : ℕ) → seated config w.history (slice_get server.sessions k) ≡ seat_at (slice_get w.connections k)
 

@@ -1,5 +1,5 @@
 //! A whole list of events.
-ghost use Rattle.std.specs.Prelude.{◌≡◌, ℕ, List, [], ◌∷◌, ◌++◌, map, Bool, true, Some, IfOk, OnOk};
+ghost use Rattle.std.specs.Prelude.{◌≡◌, ℕ, ◌<◌, ◌-◌, ◌^◌, length, List, [], ◌∷◌, ◌++◌, map, Bool, true, Some, IfOk, OnOk};
 ghost use Rattle.protocol.specs.Catalog.{Config as ProtocolConfig, Entry, sees};
 ghost use Rattle.protocol.specs.World.{Event as ProtocolEvent, World, step, handed};
 ghost use Rattle.protocol.specs.Alone.{address_of, alone, own_view, seen, handed_to, restricted};
@@ -24,6 +24,8 @@ pub enum Event {
     Take(usize, usize),
     /// A client's connection ends.
     Close(usize),
+    /// A record comes from a feeder.
+    Arrive([u8; 512]),
 }
 
 /// What a take hands.
@@ -41,7 +43,8 @@ fn act(
     event: &Event,
     out: &mut Vec<Handed>,
 ) -> Result<(), AllocError>
-    ensures stands { OnOk result ((config : ProtocolConfig) (w : World) → StandsAt server.old config w → StandsAt server.new config (step config w (event_value event.now))) }
+    ensures stands { OnOk result ((config : ProtocolConfig) (w : World) → length w.history < 2 ^ 64 - 1 →
+        StandsAt server.old config w → StandsAt server.new config (step config w (event_value event.now))) }
     ensures handed { OnOk result ((config : ProtocolConfig) (w : World) → StandsAt server.old config w →
         map handed_value out.new.items ≡ map handed_value out.old.items ++ handed_by w (event_value event.now)) }
 {
@@ -67,7 +70,18 @@ fn act(
             let _ = server.close(Client::new(*client));
             Ok(())
         }
+        Event::Arrive(bytes) => {
+            let _ = server.arrive(bytes);
+            Ok(())
+        }
     }
+}
+
+/// How many events there are: fewer than 2^64, so that not so many records arrive as can't be counted.
+fn count_of(events: &[Event]) -> usize
+    ensures { result ≡ length events.now }
+{
+    events.len()
 }
 
 /// What is handed to each client over a list of events, at a new server. Only memory can lack.
@@ -87,8 +101,9 @@ pub fn run(alloc: Global, config: Config, events: &[Event]) -> Result<Vec<Handed
         ((a : ℕ) (e : Entry) → address_of es k ≡ Some a → sees e.access config.access a ≡ true → keep e ≡ true) →
         handed_to k (handed (restricted keep config) es) ≡ handed_to k (map handed_value hs.items)) }
 {
-    let mut server = Server::new(alloc, config);
+    let mut server = Server::new(alloc, config)?;
     let mut out = Vec::new(alloc);
+    let _count = count_of(events);
     for event in events {
         act(alloc, &mut server, event, &mut out)?;
     }

@@ -1,6 +1,7 @@
 //! The server: its clients and what is handed to them.
 #![tactic(auto)]
 
+mod arrivals;
 pub mod client;
 pub mod events;
 mod seats;
@@ -9,6 +10,7 @@ mod serving;
 #[cfg(test)]
 mod tests;
 
+pub use arrivals::ArriveFault;
 pub use client::{Client, Gone, Offer, Refusal};
 pub use events::{Event, Handed, run};
 pub use server::Server;

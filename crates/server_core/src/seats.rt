@@ -5,31 +5,33 @@ ghost use Rattle.protocol.specs.History.{Arrival};
 ghost use Rattle.protocol.specs.Client.{received, offered};
 ghost use Rattle.protocol.specs.World.{taken_by};
 ghost use Rattle.session_state.specs.Sessions.{Sitting};
-ghost use Rattle.server_core.specs.Standing.{HoldsOf, OnlyGoesOn, PlacesAreThere, seated, seat_client, taking};
+ghost use Rattle.server_core.specs.Standing.{HoldsOf, OnlyGoesOn, AreSettled, seated, seat_client, taking};
 ghost use Rattle.server_core.specs.Handings.{taken_value};
 ghost use Rattle.server_core.specs.Refusals.{room_of, receipt, offer_of};
 
 use crate::client::{Gone, Offer, Refusal};
 use crate::serving::{self, Handing};
 use catalog::Config;
+use held_records::Rings;
 use session_state::Session;
 use std::alloc::{AllocError, Global};
 
 #[tactic(auto, using(crate::proofs::Standings::seat_lemmas))]
 fn receive_in(
     config: &Config,
+    rings: &Rings,
     sessions: &mut [Option<Session>],
     number: usize,
     bytes: &[u8],
 ) -> Result<(), Refusal>
     requires number { number < length sessions.old }
-    requires places { PlacesAreThere config.now sessions.old }
-    ensures changed { (h : List Arrival) → HoldsOf h → OnlyGoesOn config.now h sessions.old sessions.new number (λ v c. received v h bytes.now c) }
-    ensures places { PlacesAreThere config.now sessions.new }
+    requires settled { AreSettled config.now sessions.old }
+    ensures changed { (h : List Arrival) → HoldsOf config.now rings.now h → OnlyGoesOn config.now h sessions.old sessions.new number (λ v c. received v h bytes.now c) }
+    ensures settled { AreSettled config.now sessions.new }
     ensures answer { (h : List Arrival) → result ≡ receipt (length bytes.now) (seat_client (seated config.now h (slice_get sessions.old number))) }
 {
     match &mut sessions[number] {
-        Some(session) => serving::receive(config, session, bytes),
+        Some(session) => serving::receive(config, rings, session, bytes),
         None => Err(Refusal::Gone),
     }
 }
@@ -37,36 +39,38 @@ fn receive_in(
 /// Bytes come from a client.
 pub fn receive_at(
     config: &Config,
+    rings: &Rings,
     sessions: &mut Vec<Option<Session>>,
     number: usize,
     bytes: &[u8],
 ) -> Result<(), Refusal>
     requires number { number < length sessions.old.items }
-    requires places { PlacesAreThere config.now sessions.old.items }
-    ensures changed { (h : List Arrival) → HoldsOf h → OnlyGoesOn config.now h sessions.old.items sessions.new.items number (λ v c. received v h bytes.now c) }
-    ensures places { PlacesAreThere config.now sessions.new.items }
+    requires settled { AreSettled config.now sessions.old.items }
+    ensures changed { (h : List Arrival) → HoldsOf config.now rings.now h → OnlyGoesOn config.now h sessions.old.items sessions.new.items number (λ v c. received v h bytes.now c) }
+    ensures settled { AreSettled config.now sessions.new.items }
     ensures answer { (h : List Arrival) → result ≡ receipt (length bytes.now) (seat_client (seated config.now h (slice_get sessions.old.items number))) }
     ensures count { length sessions.new.items ≡ length sessions.old.items }
 {
-    receive_in(config, sessions.as_mut_slice(), number, bytes)
+    receive_in(config, rings, sessions.as_mut_slice(), number, bytes)
 }
 
 fn take_in(
     alloc: Global,
     config: &Config,
+    rings: &Rings,
     sessions: &mut [Option<Session>],
     number: usize,
     count: usize,
 ) -> Result<Handing, AllocError>
     requires number { number < length sessions.old }
-    requires places { PlacesAreThere config.now sessions.old }
-    ensures changed { OnOk result ((h : List Arrival) → HoldsOf h → OnlyGoesOn config.now h sessions.old sessions.new number (taking h count)) }
-    ensures places { PlacesAreThere config.now sessions.new }
-    ensures taken { IfOk result (λ x. (h : List Arrival) → HoldsOf h → taken_value x ≡ taken_by h (seat_client (seated config.now h (slice_get sessions.old number))) count) }
+    requires settled { AreSettled config.now sessions.old }
+    ensures changed { OnOk result ((h : List Arrival) → HoldsOf config.now rings.now h → OnlyGoesOn config.now h sessions.old sessions.new number (taking h count)) }
+    ensures settled { AreSettled config.now sessions.new }
+    ensures taken { IfOk result (λ x. (h : List Arrival) → HoldsOf config.now rings.now h → taken_value x ≡ taken_by h (seat_client (seated config.now h (slice_get sessions.old number))) count) }
 {
     match &mut sessions[number] {
         Some(session) => {
-            let handing = serving::take(alloc, config, session, count)?;
+            let handing = serving::take(alloc, config, rings, session, count)?;
             Ok(handing)
         }
         None => Ok(Handing {
@@ -80,37 +84,39 @@ fn take_in(
 pub fn take_at(
     alloc: Global,
     config: &Config,
+    rings: &Rings,
     sessions: &mut Vec<Option<Session>>,
     number: usize,
     count: usize,
 ) -> Result<Handing, AllocError>
     requires number { number < length sessions.old.items }
-    requires places { PlacesAreThere config.now sessions.old.items }
-    ensures changed { OnOk result ((h : List Arrival) → HoldsOf h → OnlyGoesOn config.now h sessions.old.items sessions.new.items number (taking h count)) }
-    ensures places { PlacesAreThere config.now sessions.new.items }
-    ensures taken { IfOk result (λ x. (h : List Arrival) → HoldsOf h → taken_value x ≡ taken_by h (seat_client (seated config.now h (slice_get sessions.old.items number))) count) }
+    requires settled { AreSettled config.now sessions.old.items }
+    ensures changed { OnOk result ((h : List Arrival) → HoldsOf config.now rings.now h → OnlyGoesOn config.now h sessions.old.items sessions.new.items number (taking h count)) }
+    ensures settled { AreSettled config.now sessions.new.items }
+    ensures taken { IfOk result (λ x. (h : List Arrival) → HoldsOf config.now rings.now h → taken_value x ≡ taken_by h (seat_client (seated config.now h (slice_get sessions.old.items number))) count) }
     ensures count { length sessions.new.items ≡ length sessions.old.items }
 {
-    let handing = take_in(alloc, config, sessions.as_mut_slice(), number, count)?;
+    let handing = take_in(alloc, config, rings, sessions.as_mut_slice(), number, count)?;
     Ok(handing)
 }
 
 fn took_in(
     config: &Config,
+    rings: &Rings,
     sessions: &mut [Option<Session>],
     number: usize,
     count: usize,
 ) -> Result<(), Gone>
     requires number { number < length sessions.old }
-    requires places { PlacesAreThere config.now sessions.old }
+    requires settled { AreSettled config.now sessions.old }
     requires count { (s : Sitting) → slice_get sessions.old number ≡ Some (Some s) → (0 < count) × (count ≤ length s.waiting) }
-    ensures changed { (h : List Arrival) → HoldsOf h → OnlyGoesOn config.now h sessions.old sessions.new number (taking h count) }
-    ensures places { PlacesAreThere config.now sessions.new }
+    ensures changed { (h : List Arrival) → HoldsOf config.now rings.now h → OnlyGoesOn config.now h sessions.old sessions.new number (taking h count) }
+    ensures settled { AreSettled config.now sessions.new }
     ensures answer { (h : List Arrival) → is_ok result ≡ is_some (seat_client (seated config.now h (slice_get sessions.old number))) }
 {
     match &mut sessions[number] {
         Some(session) => {
-            serving::took(config, session, count);
+            serving::took(config, rings, session, count);
             Ok(())
         }
         None => Err(Gone),
@@ -120,25 +126,26 @@ fn took_in(
 /// The first bytes that wait for a client were handed.
 pub fn took_at(
     config: &Config,
+    rings: &Rings,
     sessions: &mut Vec<Option<Session>>,
     number: usize,
     count: usize,
 ) -> Result<(), Gone>
     requires number { number < length sessions.old.items }
-    requires places { PlacesAreThere config.now sessions.old.items }
+    requires settled { AreSettled config.now sessions.old.items }
     requires count { (s : Sitting) → slice_get sessions.old.items number ≡ Some (Some s) → (0 < count) × (count ≤ length s.waiting) }
-    ensures changed { (h : List Arrival) → HoldsOf h → OnlyGoesOn config.now h sessions.old.items sessions.new.items number (taking h count) }
-    ensures places { PlacesAreThere config.now sessions.new.items }
+    ensures changed { (h : List Arrival) → HoldsOf config.now rings.now h → OnlyGoesOn config.now h sessions.old.items sessions.new.items number (taking h count) }
+    ensures settled { AreSettled config.now sessions.new.items }
     ensures answer { (h : List Arrival) → is_ok result ≡ is_some (seat_client (seated config.now h (slice_get sessions.old.items number))) }
     ensures count { length sessions.new.items ≡ length sessions.old.items }
 {
-    took_in(config, sessions.as_mut_slice(), number, count)
+    took_in(config, rings, sessions.as_mut_slice(), number, count)
 }
 
 fn close_in(sessions: &mut [Option<Session>], number: usize) -> Result<(), Gone>
     requires { number < length sessions.old }
     ensures sessions { sessions.new ≡ slice_set sessions.old number None }
-    ensures places { (config : ProtocolConfig) → PlacesAreThere config sessions.old → PlacesAreThere config sessions.new }
+    ensures settled { (config : ProtocolConfig) → AreSettled config sessions.old → AreSettled config sessions.new }
     ensures answer { (config : ProtocolConfig) (h : List Arrival) → is_ok result ≡ is_some (seat_client (seated config h (slice_get sessions.old number))) }
 {
     let is_open = sessions[number].is_some();
@@ -150,22 +157,27 @@ fn close_in(sessions: &mut [Option<Session>], number: usize) -> Result<(), Gone>
 pub fn close_at(sessions: &mut Vec<Option<Session>>, number: usize) -> Result<(), Gone>
     requires { number < length sessions.old.items }
     ensures sessions { sessions.new.items ≡ slice_set sessions.old.items number None }
-    ensures places { (config : ProtocolConfig) → PlacesAreThere config sessions.old.items → PlacesAreThere config sessions.new.items }
+    ensures settled { (config : ProtocolConfig) → AreSettled config sessions.old.items → AreSettled config sessions.new.items }
     ensures answer { (config : ProtocolConfig) (h : List Arrival) → is_ok result ≡ is_some (seat_client (seated config h (slice_get sessions.old.items number))) }
 {
     close_in(sessions.as_mut_slice(), number)
 }
 
 #[tactic(auto, using(crate::proofs::Standings::seat_lemmas))]
-fn offer_in(config: &Config, sessions: &mut [Option<Session>], number: usize) -> Option<Offer>
+fn offer_in(
+    config: &Config,
+    rings: &Rings,
+    sessions: &mut [Option<Session>],
+    number: usize,
+) -> Option<Offer>
     requires number { number < length sessions.old }
-    requires places { PlacesAreThere config.now sessions.old }
-    ensures changed { (h : List Arrival) → HoldsOf h → OnlyGoesOn config.now h sessions.old sessions.new number (λ v c. offered h c) }
-    ensures places { PlacesAreThere config.now sessions.new }
-    ensures answer { (h : List Arrival) → HoldsOf h → result ≡ option_map (λ c. offer_of (offered h c)) (seat_client (seated config.now h (slice_get sessions.old number))) }
+    requires settled { AreSettled config.now sessions.old }
+    ensures changed { (h : List Arrival) → HoldsOf config.now rings.now h → OnlyGoesOn config.now h sessions.old sessions.new number (λ v c. offered h c) }
+    ensures settled { AreSettled config.now sessions.new }
+    ensures answer { (h : List Arrival) → HoldsOf config.now rings.now h → result ≡ option_map (λ c. offer_of (offered h c)) (seat_client (seated config.now h (slice_get sessions.old number))) }
 {
     match &mut sessions[number] {
-        Some(session) => Some(serving::offer(config, session)),
+        Some(session) => Some(serving::offer(config, rings, session)),
         None => None,
     }
 }
@@ -173,17 +185,18 @@ fn offer_in(config: &Config, sessions: &mut [Option<Session>], number: usize) ->
 /// Where nothing waits for a client, what comes next is made to wait.
 pub fn offer_at(
     config: &Config,
+    rings: &Rings,
     sessions: &mut Vec<Option<Session>>,
     number: usize,
 ) -> Option<Offer>
     requires number { number < length sessions.old.items }
-    requires places { PlacesAreThere config.now sessions.old.items }
-    ensures changed { (h : List Arrival) → HoldsOf h → OnlyGoesOn config.now h sessions.old.items sessions.new.items number (λ v c. offered h c) }
-    ensures places { PlacesAreThere config.now sessions.new.items }
-    ensures answer { (h : List Arrival) → HoldsOf h → result ≡ option_map (λ c. offer_of (offered h c)) (seat_client (seated config.now h (slice_get sessions.old.items number))) }
+    requires settled { AreSettled config.now sessions.old.items }
+    ensures changed { (h : List Arrival) → HoldsOf config.now rings.now h → OnlyGoesOn config.now h sessions.old.items sessions.new.items number (λ v c. offered h c) }
+    ensures settled { AreSettled config.now sessions.new.items }
+    ensures answer { (h : List Arrival) → HoldsOf config.now rings.now h → result ≡ option_map (λ c. offer_of (offered h c)) (seat_client (seated config.now h (slice_get sessions.old.items number))) }
     ensures count { length sessions.new.items ≡ length sessions.old.items }
 {
-    offer_in(config, sessions.as_mut_slice(), number)
+    offer_in(config, rings, sessions.as_mut_slice(), number)
 }
 
 /// The bytes that wait for a client, where it is open.

@@ -1,17 +1,20 @@
 //! All clients of a server.
-ghost use Rattle.std.specs.Prelude.{OnErr, option_map, ◌≡◌, ◌<◌, ◌≤◌, [], ◌∷◌, ◌++◌, length, slice_get, IfOk, OnOk, Some, is_some, is_ok};
+ghost use Rattle.std.specs.Prelude.{OnErr, option_map, ◌≡◌, ◌≢◌, ◌-◌, ◌^◌, Err, ◌<◌, ◌≤◌, [], ◌∷◌, ◌++◌, length, slice_get, IfOk, OnOk, Some, is_some, is_ok};
 ghost use Rattle.std.specs.Result.{result_ok};
 ghost use Rattle.std.specs.Net.Addr.{ipv4_bits};
 ghost use Rattle.protocol.specs.Catalog.{Config as ProtocolConfig};
 ghost use Rattle.protocol.specs.Client.{offered};
 ghost use Rattle.protocol.specs.World.{World, step, empty_world, taken_by, client_of};
-ghost use Rattle.protocol.specs.World.Event.{Open, Bytes, Take, Close};
+ghost use Rattle.protocol.specs.World.Event.{Open, Bytes, Take, Close, Arrive};
 
+use crate::arrivals::{ArriveFault, Placing, placed};
 use crate::client::{Client, Gone, Offer, Refusal};
 use crate::seats;
 use crate::serving::Handing;
 use catalog::Config;
+use held_records::Rings;
 use session_state::Session;
+use sl_packet::Seq;
 use std::alloc::{AllocError, Global};
 use std::marker::Model;
 use std::net::Ipv4Addr;
@@ -20,17 +23,19 @@ use std::net::Ipv4Addr;
 #[derive(Drop)]
 pub struct Server {
     config: Config,
+    rings: Rings,
     sessions: Vec<Option<Session>>,
 }
 
 impl Model for Server {
-    ghost use Rattle.server_core.specs.Standing.{Serving, PlacesAreThere};
+    ghost use Rattle.std.specs.Prelude.{◌≡◌, length};
+    ghost use Rattle.server_core.specs.Standing.{Serving, AreSettled};
 
     ghost Value = { Serving };
 
-    ghost view = { λ s. record { config = s.config; sessions = s.sessions.items } };
+    ghost view = { λ s. record { config = s.config; rings = s.rings; sessions = s.sessions.items } };
 
-    ghost invariant = { λ s. PlacesAreThere s.config s.sessions.items };
+    ghost invariant = { λ s. AreSettled s.config s.sessions.items × (length s.rings.rings ≡ length s.config.entries) };
 }
 
 impl Server {
@@ -38,15 +43,19 @@ impl Server {
     ghost use Rattle.server_core.specs.Standing.{StandsAt};
     ghost use Rattle.server_core.specs.Handings.{taken_value};
     ghost use Rattle.server_core.specs.Refusals.{room_of, receipt, offer_of};
+    ghost use Rattle.server_core.specs.Arrivals.{answer_to, IsPlaced};
+    ghost use Rattle.server_core.specs.declared.arrivals.ArriveFault.TheVariants.{Exhausted};
 
-    /// A server that no one has come to.
-    pub fn new(alloc: Global, config: Config) -> Server
-        ensures { StandsAt result config empty_world }
+    /// A server that no one has come to, and where no record arrived. Only memory can lack.
+    pub fn new(alloc: Global, config: Config) -> Result<Server, AllocError>
+        ensures { IfOk result (λ server. StandsAt server config empty_world) }
     {
-        Server {
+        let rings = Rings::new(alloc, &config)?;
+        Ok(Server {
             config,
+            rings,
             sessions: Vec::new(alloc),
-        }
+        })
     }
 
     /// A client comes from an address, and has the next number. Only memory can lack, and then nothing changes.
@@ -76,7 +85,7 @@ impl Server {
     {
         let number = client.number();
         if number < self.sessions.len() {
-            seats::receive_at(&self.config, &mut self.sessions, number, bytes)
+            seats::receive_at(&self.config, &self.rings, &mut self.sessions, number, bytes)
         } else {
             Err(Refusal::Gone)
         }
@@ -90,7 +99,7 @@ impl Server {
     {
         let number = client.number();
         if number < self.sessions.len() {
-            seats::offer_at(&self.config, &mut self.sessions, number).ok_or(Gone)
+            seats::offer_at(&self.config, &self.rings, &mut self.sessions, number).ok_or(Gone)
         } else {
             Err(Gone)
         }
@@ -114,7 +123,7 @@ impl Server {
         ensures taken { IfOk result (λ x. (config : ProtocolConfig) (w : World) → StandsAt self.old config w → taken_value x ≡ taken_by w.history (client_of (slice_get w.connections number)) count) }
     {
         if number < self.sessions.len() {
-            let handing = seats::take_at(alloc, &self.config, &mut self.sessions, number, count)?;
+            let handing = seats::take_at(alloc, &self.config, &self.rings, &mut self.sessions, number, count)?;
             Ok(handing)
         } else {
             Ok(Handing {
@@ -132,10 +141,40 @@ impl Server {
     {
         let number = client.number();
         if number < self.sessions.len() {
-            seats::took_at(&self.config, &mut self.sessions, number, count)
+            seats::took_at(&self.config, &self.rings, &mut self.sessions, number, count)
         } else {
             Err(Gone)
         }
+    }
+
+    /// A record comes from a feeder. Where it is one, and of a station of the configuration, it is the last arrival, is held, and
+    /// is answered its number. It fails with Record where it is no record, else with UnknownStation where no station has its
+    /// codes, and else with Exhausted only where 2^64 - 1 records arrived. It takes no memory.
+    pub fn arrive(&mut self, bytes: &[u8; 512]) -> Result<Seq, ArriveFault>
+        ensures stands { result ≢ Err Exhausted → (config : ProtocolConfig) (w : World) → StandsAt self.old config w → StandsAt self.new config (step config w (Arrive bytes.now)) }
+        ensures answer { result ≢ Err Exhausted → (config : ProtocolConfig) (w : World) → StandsAt self.old config w → result ≡ answer_to config w.history bytes.now }
+        ensures exhausted { result ≡ Err Exhausted → (config : ProtocolConfig) (w : World) → StandsAt self.old config w → length w.history ≡ 2 ^ 64 - 1 }
+        ensures unchanged { OnErr result (self.new ≡ self.old) }
+    {
+        match placed(&self.config, bytes) {
+            Ok(placing) => self.hold(bytes, placing),
+            Err(fault) => Err(fault),
+        }
+    }
+
+    /// A record of a station that is there is the last arrival.
+    fn hold(&mut self, bytes: &[u8; 512], placing: Placing) -> Result<Seq, ArriveFault>
+        requires { IsPlaced self.old.config bytes.now placing.place placing.summary }
+        ensures stands { result ≢ Err Exhausted → (config : ProtocolConfig) (w : World) → StandsAt self.old config w → StandsAt self.new config (step config w (Arrive bytes.now)) }
+        ensures answer { result ≢ Err Exhausted → (config : ProtocolConfig) (w : World) → StandsAt self.old config w → result ≡ answer_to config w.history bytes.now }
+        ensures exhausted { result ≡ Err Exhausted → (config : ProtocolConfig) (w : World) → StandsAt self.old config w → length w.history ≡ 2 ^ 64 - 1 }
+        ensures unchanged { OnErr result (self.new ≡ self.old) }
+    {
+        self.config.codes_are_distinct();
+        if self.rings.arrivals() == u64::MAX {
+            return Err(ArriveFault::Exhausted);
+        }
+        Ok(self.rings.arrive(placing.place, bytes, placing.summary))
     }
 
     /// A client's connection ends, and the client is gone for good.

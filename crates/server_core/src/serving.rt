@@ -1,127 +1,72 @@
 //! What the server does with the session of one client.
-ghost use Rattle.std.specs.Prelude.{◌≡◌, ◌≤◌, ◌<◌, ◌&&◌, IfOk, OnOk, List, [], length, take, Some, true, false};
-ghost use Rattle.std.specs.List.{list_all};
+ghost use Rattle.std.specs.Prelude.{◌≡◌, ◌≢◌, ◌≤◌, ◌<◌, ◌&&◌, IfOk, OnOk, List, [], length, take, Some, true, false};
 ghost use Rattle.protocol.specs.Catalog.{Config as ProtocolConfig};
 ghost use Rattle.protocol.specs.History.{Arrival};
 ghost use Rattle.protocol.specs.Client.{Client as ProtocolClient, received, offered, after_take, is_ending, is_nothing, taken_of};
 ghost use Rattle.session_state.specs.Sessions.{client_in, sitting_view, Comes, HasPlaces, HasFirsts};
 ghost use Rattle.session_state.specs.declared.session.State.TheVariants.{Starting};
-ghost use Rattle.session_state.specs.declared.session.Settled.TheVariants.{Start};
+ghost use Rattle.session_state.specs.declared.session.Settled.TheVariants.{Rest, Start};
 ghost use Rattle.server_core.specs.Handings.{taken_value};
 ghost use Rattle.server_core.specs.Refusals.{receipt, offer_of};
-ghost use Rattle.server_core.specs.Standing.{HoldsOf, taking};
-ghost use Rattle.server_core.specs.Transfers.{is_done, is_transfer};
+ghost use Rattle.server_core.specs.Standing.{HoldsOf, IsSettled, taking};
 
 use crate::client::{Offer, Refusal};
 use catalog::Config;
-use session_state::{Action, Choice, Session, Settled, State};
+use held_records::Rings;
+use session_state::{Session, Settled, State};
+use transfer::{choose, start};
 use std::alloc::{AllocError, Global};
-
-/// A transfer is to start: each request wants records from the first arrival on, since none has come.
-#[tactic(auto, using(crate::proofs::Offering::start_lemmas))]
-fn start(session: &mut Session)
-    requires { session.old.state ≡ Starting }
-    ensures same { (config : ProtocolConfig) (h : List Arrival) → client_in config h session.new ≡ client_in config h session.old }
-    ensures firsts { (config : ProtocolConfig) → HasFirsts config [] session.new }
-    ensures state { session.new.state ≡ session.old.state }
-    ensures places { session.new.places ≡ session.old.places }
-    ensures unread { session.new.unread ≡ session.old.unread }
-{
-    let _ = session.state();
-    let count = session.choices().len();
-    for i in 0..count {
-        session.keep(i, 0);
-    }
-}
 
 /// A session that settled goes on with its transfer, where one is to start.
 #[tactic(auto, using(crate::proofs::Offering::proceed_lemmas))]
-fn proceed(config: &Config, session: &mut Session, settled: Settled)
+fn proceed(config: &Config, rings: &Rings, session: &mut Session, settled: Settled)
     requires places { HasPlaces config.now session.old }
     requires starting { settled ≡ Start → session.old.state ≡ Starting }
-    ensures client { (h : List Arrival) → HoldsOf h → (c : ProtocolClient) → Comes settled config.now h session.old c → client_in config.now h session.new ≡ c }
+    requires rest { settled ≡ Rest → session.old.state ≢ Starting }
+    ensures client { (h : List Arrival) → HoldsOf config.now rings.now h → (c : ProtocolClient) → Comes settled config.now h session.old c → client_in config.now h session.new ≡ c }
     ensures places { session.new.places ≡ session.old.places }
+    ensures settled { IsSettled config.now session.new }
 {
     match settled {
         Settled::Rest => {}
         Settled::Start => {
-            start(session);
-            session.begin(config);
+            start(session, rings);
+            let _settled = session.settle(config);
         }
     }
 }
 
 /// Bytes come; where there is no room for all of them they are refused as a whole, and nothing changes.
 #[tactic(auto, using(crate::proofs::Offering::receive_lemmas))]
-pub fn receive(config: &Config, session: &mut Session, bytes: &[u8]) -> Result<(), Refusal>
-    requires { HasPlaces config.now session.old }
-    ensures client { (h : List Arrival) → HoldsOf h → client_in config.now h session.new
+pub fn receive(
+    config: &Config,
+    rings: &Rings,
+    session: &mut Session,
+    bytes: &[u8],
+) -> Result<(), Refusal>
+    requires { IsSettled config.now session.old }
+    ensures client { (h : List Arrival) → HoldsOf config.now rings.now h → client_in config.now h session.new
         ≡ received (sitting_view config.now session.old) h bytes.now (client_in config.now h session.old) }
     ensures answer { (h : List Arrival) → result ≡ receipt (length bytes.now) (Some (client_in config.now h session.old)) }
     ensures places { session.new.places ≡ session.old.places }
+    ensures settled { IsSettled config.now session.new }
 {
     match session.receive(config, bytes) {
         Ok(settled) => {
-            proceed(config, session, settled);
+            proceed(config, rings, session, settled);
             Ok(())
         }
         Err(_) => Err(Refusal::NoRoom),
     }
 }
 
-/// Whether a transfer is complete while no record has come: each request is a FETCH.
-fn is_complete(choices: &[Choice]) -> bool
-    ensures { result ≡ list_all is_done choices.now }
-{
-    choices.iter().all(|choice| is_done(choice))
-}
-
-fn is_done(choice: &Choice) -> bool
-    ensures { result ≡ is_done choice.now }
-{
-    match choice.action {
-        None => true,
-        Some(
-            Action::Data {
-                number: _number,
-                begin: _begin,
-            },
-        ) => false,
-        Some(
-            Action::Fetch {
-                number: _number,
-                begin: _begin,
-            },
-        ) => true,
-        Some(
-            Action::Time {
-                begin: _begin,
-                last: _last,
-            },
-        ) => false,
-    }
-}
-
-/// A transfer ends where it is complete.
-#[tactic(auto, using(crate::proofs::Offering::ending_lemmas))]
-fn end_if_complete(session: &mut Session)
-    requires nothing_waits { session.old.waiting ≡ [] }
-    requires transfers { is_transfer session.old.state ≡ true }
-    ensures client { (config : ProtocolConfig) (h : List Arrival) → HoldsOf h → client_in config h session.new ≡ offered h (client_in config h session.old) }
-    ensures places { session.new.places ≡ session.old.places }
-{
-    let _ = session.state();
-    if is_complete(session.choices()) {
-        session.finish();
-    }
-}
-
 /// Where nothing waits, what comes next is made to wait.
 #[tactic(auto, using(crate::proofs::Offering::fill_lemmas))]
-fn fill(config: &Config, session: &mut Session)
-    requires { HasPlaces config.now session.old }
-    ensures client { (h : List Arrival) → HoldsOf h → client_in config.now h session.new ≡ offered h (client_in config.now h session.old) }
+fn fill(config: &Config, rings: &Rings, session: &mut Session)
+    requires { IsSettled config.now session.old }
+    ensures client { (h : List Arrival) → HoldsOf config.now rings.now h → client_in config.now h session.new ≡ offered h (client_in config.now h session.old) }
     ensures places { session.new.places ≡ session.old.places }
+    ensures settled { IsSettled config.now session.new }
 {
     if !session.is_empty() {
         return;
@@ -129,20 +74,23 @@ fn fill(config: &Config, session: &mut Session)
     match session.state() {
         State::Negotiating => {}
         State::Listing(_) => session.next_line(config),
-        State::Starting => end_if_complete(session),
-        State::Transfer(_) => end_if_complete(session),
+        State::Starting => {}
+        State::Transfer(_) => {
+            let _chosen = choose(session, config, rings);
+        }
         State::Ending => {}
     }
 }
 
 /// Where nothing waits, what comes next is made to wait; and what is found then.
-pub fn offer(config: &Config, session: &mut Session) -> Offer
-    requires { HasPlaces config.now session.old }
-    ensures client { (h : List Arrival) → HoldsOf h → client_in config.now h session.new ≡ offered h (client_in config.now h session.old) }
-    ensures found { (h : List Arrival) → HoldsOf h → result ≡ offer_of (offered h (client_in config.now h session.old)) }
+pub fn offer(config: &Config, rings: &Rings, session: &mut Session) -> Offer
+    requires { IsSettled config.now session.old }
+    ensures client { (h : List Arrival) → HoldsOf config.now rings.now h → client_in config.now h session.new ≡ offered h (client_in config.now h session.old) }
+    ensures found { (h : List Arrival) → HoldsOf config.now rings.now h → result ≡ offer_of (offered h (client_in config.now h session.old)) }
     ensures places { session.new.places ≡ session.old.places }
+    ensures settled { IsSettled config.now session.new }
 {
-    fill(config, session);
+    fill(config, rings, session);
     if !session.is_empty() {
         Offer::Bytes
     } else if session.is_ending() {
@@ -154,16 +102,17 @@ pub fn offer(config: &Config, session: &mut Session) -> Offer
 
 /// The first bytes that wait, 1 to all of them, were handed.
 #[tactic(auto, using(crate::proofs::Offering::proceed_lemmas))]
-pub fn took(config: &Config, session: &mut Session, count: usize)
-    requires places { HasPlaces config.now session.old }
+pub fn took(config: &Config, rings: &Rings, session: &mut Session, count: usize)
+    requires settled { IsSettled config.now session.old }
     requires some { 0 < count }
     requires waiting { count ≤ length session.old.waiting }
-    ensures client { (h : List Arrival) → HoldsOf h → client_in config.now h session.new
+    ensures client { (h : List Arrival) → HoldsOf config.now rings.now h → client_in config.now h session.new
         ≡ after_take (sitting_view config.now session.old) h (client_in config.now h session.old) count }
     ensures places { session.new.places ≡ session.old.places }
+    ensures settled { IsSettled config.now session.new }
 {
     let settled = session.took(config, count);
-    proceed(config, session, settled);
+    proceed(config, rings, session, settled);
 }
 
 /// What a take hands, and whether the client is told that its connection is over.
@@ -198,22 +147,24 @@ fn front(alloc: Global, session: &Session, count: usize) -> Result<Vec<u8>, Allo
 pub fn take(
     alloc: Global,
     config: &Config,
+    rings: &Rings,
     session: &mut Session,
     count: usize,
 ) -> Result<Handing, AllocError>
-    requires { HasPlaces config.now session.old }
-    ensures client { OnOk result ((h : List Arrival) → HoldsOf h → client_in config.now h session.new
+    requires { IsSettled config.now session.old }
+    ensures client { OnOk result ((h : List Arrival) → HoldsOf config.now rings.now h → client_in config.now h session.new
         ≡ taking h count (sitting_view config.now session.old) (client_in config.now h session.old)) }
-    ensures taken { IfOk result (λ x. (h : List Arrival) → HoldsOf h → taken_value x ≡ taken_of (offered h (client_in config.now h session.old)) count) }
+    ensures taken { IfOk result (λ x. (h : List Arrival) → HoldsOf config.now rings.now h → taken_value x ≡ taken_of (offered h (client_in config.now h session.old)) count) }
     ensures places { session.new.places ≡ session.old.places }
+    ensures settled { IsSettled config.now session.new }
 {
-    fill(config, session);
+    fill(config, rings, session);
     let ended = is_over(session);
     let all = session.waiting().len();
     let some = count.min(all);
     let bytes = front(alloc, session, count)?;
     if 0 < some {
-        took(config, session, some);
+        took(config, rings, session, some);
     }
     Ok(Handing { bytes, ended })
 }

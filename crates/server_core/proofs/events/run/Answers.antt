@@ -5,12 +5,12 @@ use Rattle.protocol.specs.Alone.{handed_to}
 use Rattle.protocol.proofs.Alone.{isolated}
 use Rattle.protocol.proofs.Views.{alike, without_hidden}
 use Rattle.server_core.specs.Runs.{event_value, handed_value}
-use Rattle.server_core.proofs.Running.{GoesWell, goes-on-well, next-event, ends-well}
+use Rattle.server_core.proofs.Running.{GoesWell, few-events, goes-on-well, next-event, ends-well}
 use Rattle.server_core.proofs.events.run.Goals as goal
 
 pub loop-event-preserved : goal.loop-event-preserved
 loop-event-preserved c =
-    goes-on-well c.args.config c.loop-event.server c.act.new.server _ _ _ (event_value c.event-item.result) _ c.in_ok-act.ensures.stands c.in_ok-act.ensures.handed
+    goes-on-well c.args.config c.loop-event.server c.act.new.server _ _ _ (event_value c.event-item.result) _ (few-events c.args.events.now c.count_of-count.result c.count_of-count.ensures c.count_of-count.type_inv) c.in_ok-act.ensures.stands c.in_ok-act.ensures.handed
     (subst (λ (left : List Event). GoesWell c.args.config c.loop-event.server (map handed_value c.loop-event.out.items) (map event_value c.args.events.now) left) (next-event c.args.events.now c.loop-event.event-index c.event-item.result (omega arith) c.event-item.is) c.loop-event.invariant)
 
 pub returns-clause-isolation : goal.returns-clause-isolation

@@ -7,14 +7,14 @@ use Rattle.server_core.proofs.server.Server.offer.Goals as goal
 
 pub returns-then-number-len-clause-stands : goal.returns-then-number-len-clause-stands
 returns-then-number-len-clause-stands c = λ config w stands.
-    rw (← c.number-number.ensures) (offer-stands (record { config = c.self.inside.config; sessions = c.self.inside.sessions.items }) (record { config = c.self.inside.config; sessions = c.offer_at.new.sessions.items }) c.number-number.result refl
-    c.offer_at.ensures.count config w (c.offer_at.ensures.changed w.history stands.holds) (subst (λ s. StandsAt s config w) (sym c.self.view_is) stands))
+    rw (← c.number-number.ensures) (offer-stands (record { config = c.self.inside.config; rings = c.self.inside.rings; sessions = c.self.inside.sessions.items }) (record { config = c.self.inside.config; rings = c.self.inside.rings; sessions = c.offer_at.new.sessions.items }) c.number-number.result refl refl
+    c.offer_at.ensures.count config w (c.offer_at.ensures.changed w.history (subst (λ s. StandsAt s config w) (sym c.self.view_is) stands).holds) (subst (λ s. StandsAt s config w) (sym c.self.view_is) stands))
 
 pub returns-then-number-len-clause-answer : goal.returns-then-number-len-clause-answer
 returns-then-number-len-clause-answer c = λ config w stands.
     rw (← c.number-number.ensures)
     (sym c.ok_or.ensures.ok_part
-    ∙ c.offer_at.ensures.answer w.history stands.holds ∙ ap (option_map (λ (x : Client). offer_of (offered w.history x))) (seat_seen (record { config = c.self.inside.config; sessions = c.self.inside.sessions.items }) c.number-number.result config w (subst (λ s. StandsAt s config w) (sym c.self.view_is) stands)))
+    ∙ c.offer_at.ensures.answer w.history (subst (λ s. StandsAt s config w) (sym c.self.view_is) stands).holds ∙ ap (option_map (λ (x : Client). offer_of (offered w.history x))) (seat_seen (record { config = c.self.inside.config; rings = c.self.inside.rings; sessions = c.self.inside.sessions.items }) c.number-number.result config w (subst (λ s. StandsAt s config w) (sym c.self.view_is) stands)))
 
 pub returns-else-number-len-clause-stands : goal.returns-else-number-len-clause-stands
 returns-else-number-len-clause-stands c = λ config w stands.

@@ -7,12 +7,12 @@ use Rattle.server_core.proofs.server.Server.receive.Goals as goal
 
 pub returns-then-number-len-clause-stands : goal.returns-then-number-len-clause-stands
 returns-then-number-len-clause-stands c = λ config w stands.
-    rw (← c.number-number.ensures) (client-stands (λ v x. received v w.history c.args.bytes.now x) (record { config = c.self.inside.config; sessions = c.self.inside.sessions.items }) (record { config = c.self.inside.config; sessions = c.receive_at.new.sessions.items }) c.number-number.result refl
-    c.receive_at.ensures.count config w (c.receive_at.ensures.changed w.history stands.holds) (subst (λ s. StandsAt s config w) (sym c.self.view_is) stands))
+    rw (← c.number-number.ensures) (client-stands (λ v x. received v w.history c.args.bytes.now x) (record { config = c.self.inside.config; rings = c.self.inside.rings; sessions = c.self.inside.sessions.items }) (record { config = c.self.inside.config; rings = c.self.inside.rings; sessions = c.receive_at.new.sessions.items }) c.number-number.result refl refl
+    c.receive_at.ensures.count config w (c.receive_at.ensures.changed w.history (subst (λ s. StandsAt s config w) (sym c.self.view_is) stands).holds) (subst (λ s. StandsAt s config w) (sym c.self.view_is) stands))
 
 pub returns-then-number-len-clause-answer : goal.returns-then-number-len-clause-answer
 returns-then-number-len-clause-answer c = λ config w stands.
-    rw (← c.number-number.ensures) (c.receive_at.ensures.answer w.history ∙ ap (receipt (length c.args.bytes.now)) (seat_seen (record { config = c.self.inside.config; sessions = c.self.inside.sessions.items }) c.number-number.result config w (subst (λ s. StandsAt s config w) (sym c.self.view_is) stands)))
+    rw (← c.number-number.ensures) (c.receive_at.ensures.answer w.history ∙ ap (receipt (length c.args.bytes.now)) (seat_seen (record { config = c.self.inside.config; rings = c.self.inside.rings; sessions = c.self.inside.sessions.items }) c.number-number.result config w (subst (λ s. StandsAt s config w) (sym c.self.view_is) stands)))
 
 pub returns-else-number-len-clause-stands : goal.returns-else-number-len-clause-stands
 returns-else-number-len-clause-stands c = λ config w stands.

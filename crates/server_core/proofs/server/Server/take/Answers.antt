@@ -5,14 +5,14 @@ use Rattle.server_core.proofs.server.Server.take.Goals as goal
 
 pub returns-in_ok-handing-clause-ok : goal.returns-in_ok-handing-clause-ok
 returns-in_ok-handing-clause-ok c = λ config w stands.
-    take-stands (record { config = c.self.inside.config; sessions = c.self.inside.sessions.items }) (record { config = c.self.inside.config; sessions = c.take_at.new.sessions.items }) c.args.number c.args.count refl
+    take-stands (record { config = c.self.inside.config; rings = c.self.inside.rings; sessions = c.self.inside.sessions.items }) (record { config = c.self.inside.config; rings = c.self.inside.rings; sessions = c.take_at.new.sessions.items }) c.args.number c.args.count refl refl
     c.in_ok-handing.ensures.count
-    config w (c.in_ok-handing.ensures.changed w.history stands.holds)
+    config w (c.in_ok-handing.ensures.changed w.history (subst (λ s. StandsAt s config w) (sym c.self.view_is) stands).holds)
     (subst (λ s. StandsAt s config w) (sym c.self.view_is) stands)
 
 pub returns-in_ok-handing-clause-taken : goal.returns-in_ok-handing-clause-taken
 returns-in_ok-handing-clause-taken c = λ config w stands.
-    c.in_ok-handing.ensures.taken w.history stands.holds ∙ take-taken (record { config = c.self.inside.config; sessions = c.self.inside.sessions.items }) c.args.number c.args.count config w (subst (λ s. StandsAt s config w) (sym c.self.view_is) stands)
+    c.in_ok-handing.ensures.taken w.history (subst (λ s. StandsAt s config w) (sym c.self.view_is) stands).holds ∙ take-taken (record { config = c.self.inside.config; rings = c.self.inside.rings; sessions = c.self.inside.sessions.items }) c.args.number c.args.count config w (subst (λ s. StandsAt s config w) (sym c.self.view_is) stands)
 
 pub returns-else-number-len-clause-ok : goal.returns-else-number-len-clause-ok
 returns-else-number-len-clause-ok c = λ config w stands.

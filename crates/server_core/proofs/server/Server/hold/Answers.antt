@@ -1,0 +1,21 @@
+use Rattle.std.proofs.Common.{◌≡◌, ◌∙◌, ap, refl, sym, subst}
+use Rattle.held_records.specs.Holdings.{holdings_of}
+use Rattle.protocol.specs.Catalog.{Config}
+use Rattle.server_core.specs.Arrivals.{IsPlaced}
+use Rattle.server_core.specs.Standing.{Serving, StandsAt}
+use Rattle.server_core.proofs.Arriving.{answers-number, arrive-stands}
+use Rattle.server_core.proofs.server.Server.hold.Goals as goal
+
+pub returns-clause-stands : goal.returns-clause-stands
+returns-clause-stands c = λ differs config w stands.
+    arrive-stands (record { config = c.self.inside.config; rings = c.self.inside.rings; sessions = c.self.inside.sessions.items }) (record { config = c.self.inside.config; rings = c.arrive.new.self; sessions = c.self.inside.sessions.items }) c.args.bytes.now c.args.placing.place c.args.placing.summary
+    (subst (λ (s : Serving). IsPlaced s.config c.args.bytes.now c.args.placing.place c.args.placing.summary) (sym c.self.view_is) c.requires)
+    refl refl c.codes_are_distinct.ensures c.self.invariant.0 c.arrive.ensures.holds config w (subst (λ s. StandsAt s config w) (sym c.self.view_is) stands)
+
+pub returns-clause-answer : goal.returns-clause-answer
+returns-clause-answer c = λ differs config w stands.
+    let here = subst (λ s. StandsAt s config w) (sym c.self.view_is) stands in
+    let placed = subst (λ (s : Serving). IsPlaced s.config c.args.bytes.now c.args.placing.place c.args.placing.summary) (sym c.self.view_is) c.requires in
+    answers-number config w.history c.args.bytes.now c.args.placing.place c.arrive.result c.args.placing.summary
+    (subst (λ (g : Config). IsPlaced g c.args.bytes.now c.args.placing.place c.args.placing.summary) here.config_is placed)
+    (c.arrive.ensures.number config w.history (here.holds ∙ ap (λ g. holdings_of g w.history) here.config_is))

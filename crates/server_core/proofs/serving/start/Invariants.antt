@@ -1,8 +1,0 @@
-use Rattle.std.proofs.Common.{◌≡◌, ◌≤◌, length}
-use Rattle.session_state.specs.Choices.{chosen_of}
-use Rattle.server_core.proofs.Offering.{Keeps}
-use Rattle.server_core.proofs.serving.start.Given as goal
-
--- So many requests have their first position.
-abbrev pub invariant-loop-i : goal.invariant-loop-i
-invariant-loop-i l = Keeps l.i l.session l.fn.session × (l.i ≤ l.count) × (l.count ≡ length (chosen_of l.fn.session.mode))
