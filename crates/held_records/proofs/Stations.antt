@@ -92,6 +92,11 @@ pub arrivals_are : (config : Config) (h : List Arrival) (all : Holdings) → all
 unfolding holdings_of
 arrivals_are config h all is = ap (λ x. x.arrivals) is
 
+-- There is a ring for each station.
+pub rings_count : (config : Config) (h : List Arrival) (all : Holdings) → all ≡ holdings_of config h → length all.rings ≡ length config.entries
+unfolding holdings_of
+rings_count config h all is = ap (λ (x : Holdings). length x.rings) is ∙ length-map config.entries (λ (e : Entry). ring_of e.station h)
+
 -- the ring at a place
 pub ring_is : (config : Config) (h : List Arrival) (place : ℕ) (all : Holdings) (r : Holding) → all ≡ holdings_of config h → Some r ≡ slice_get all.rings place → r ≡ ring_of (station_at config.entries place) h
 unfolding holdings_of
@@ -149,7 +154,7 @@ pub ring_of_place : (config : Config) (h : List Arrival) (place : ℕ) (all : Ho
 unfolding holdings_of
 ring_of_place config h place all is within =
     let rings : all.rings ≡ rings_of config.entries h = ap (λ x. x.rings) is in
-    let count : length all.rings ≡ length config.entries = ap length rings ∙ length-map config.entries (λ (e : Entry). ring_of e.station h) in
+    let count : length all.rings ≡ length config.entries = rings_count config h all is in
     ap (λ rs. slice_get rs place) rings ∙ ring_there config.entries h place (omega arith)
 
 -- The rings are those of the history with the arrival.
@@ -160,7 +165,7 @@ pub arrives : (config : Config) (h : List Arrival) (a : Arrival) (place : ℕ) (
 unfolding holdings_of
 arrives config h a place all rings n item len is distinct of_station within same made =
     let before : all.rings ≡ rings_of config.entries h = ap (λ x. x.rings) is in
-    let count : length all.rings ≡ length config.entries = ap length before ∙ length-map config.entries (λ (e : Entry). ring_of e.station h) in
+    let count : length all.rings ≡ length config.entries = rings_count config h all is in
     let arrivals : all.arrivals ≡ length h = ap (λ x. x.arrivals) is in
     let kept : length rings ≡ length all.rings = ap length made ∙ length-set all.rings place (pushed (ring_of (station_at config.entries place) h) item) in
     let is_item : item ≡ held_of (length h) a = same ∙ ap (λ n. held_of n a) arrivals in

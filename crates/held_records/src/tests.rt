@@ -1,6 +1,4 @@
 //! Rings of three records, of one, and of as many as there may be, at stations whose records come in turn.
-ghost use Rattle.std.specs.Prelude.{◌<◌, ◌^◌};
-
 use crate::Rings;
 use catalog::Config;
 use protocol::record::Kind;

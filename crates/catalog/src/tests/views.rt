@@ -49,6 +49,28 @@ fn a_station_is_found_among_the_visible_ones(rt: HostRuntime) -> Result<(), Fail
 }
 
 #[test]
+fn codes_have_a_place(rt: HostRuntime) -> Result<(), Fail> {
+    let config = Config::read(rt.alloc(), CENTRE.as_bytes())?;
+    for (network, code, place) in [
+        ("GE", "APE", Some(0)),
+        ("GE", "WLF", Some(1)),
+        ("XX", "APE", Some(2)),
+        ("XX", "WLF", None),
+        ("APE", "GE", None),
+        ("GE", "AP", None),
+        ("ge", "APE", None),
+        ("", "APE", None),
+    ] {
+        assert_eq!(rt;
+            config.place_of(network.as_bytes(), code.as_bytes()),
+            place,
+            "{network} {code}"
+        );
+    }
+    Ok(())
+}
+
+#[test]
 fn an_own_list_stands_in_place_of_the_global_one(rt: HostRuntime) -> Result<(), Fail> {
     let alloc = rt.alloc();
     // The global list lets everybody in, the station's own only addresses that begin with 10.
