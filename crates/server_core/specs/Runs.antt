@@ -1,8 +1,12 @@
 -- Events and what is handed, as the definitions have them.
-use Rattle.std.specs.Prelude.{List, [], ◌∷◌, slice_get}
+use Rattle.std.specs.Prelude.{ℕ, List, [], ◌∷◌, slice_get}
 use Rattle.std.specs.Net.Addr.{ipv4_bits}
 use Rattle.protocol.specs.World.{Event as ProtocolEvent, Handed as ProtocolHanded, World, told, taken_by, client_of}
 use Rattle.protocol.specs.World.Event.{Open as ProtocolOpen, Bytes as ProtocolBytes, Take as ProtocolTake, Close as ProtocolClose, Arrive as ProtocolArrive}
+use Rattle.protocol.specs.Catalog.{Config}
+use Rattle.protocol.specs.Alone.{own_view, seen, handed_to}
+use Rattle.protocol.specs.Offers.{arrivals, client_after, offers, bytes_since}
+use Rattle.protocol.specs.Transfers.{KeepsUp, MissesAreOverruns, HandsItsChoices, MissesNothing}
 use Rattle.server_core.specs.declared.events.Event.{Event}
 use Rattle.server_core.specs.declared.events.Event.TheVariants.{Open, Bytes, Take, Close, Arrive}
 use Rattle.server_core.specs.declared.events.Handed.{Handed}
@@ -21,3 +25,19 @@ handed_value x = record { client = x.client; bytes = x.bytes.items; ended = x.en
 abbrev pub handed_by : World → ProtocolEvent → List ProtocolHanded
 handed_by w (ProtocolTake k n) = told k (taken_by w.history (client_of (slice_get w.connections k)) n) ∷ []
 handed_by w _ = []
+
+-- A transfer of the k-th client misses a wanted record of those that it sees only where that was overrun, and what it chooses is
+-- wanted, each once and in order of arrival, and is what is handed.
+abbrev pub MissesOnlyOverruns : Config → List ProtocolEvent → ℕ → List ProtocolHanded → Type 0
+MissesOnlyOverruns config es k hs =
+    let v = own_view config es k in
+    let own = seen config es k in
+    MissesAreOverruns (arrivals own) (client_after v own) (offers v own)
+    × HandsItsChoices (arrivals own) (client_after v own) (offers v own) (bytes_since v own (handed_to k hs))
+
+-- Where the server at each of its offers holds all that may still be chosen and is wanted, it misses nothing.
+abbrev pub MissesNothingThatIsHeld : Config → List ProtocolEvent → ℕ → List ProtocolHanded → Type 0
+MissesNothingThatIsHeld config es k hs =
+    let v = own_view config es k in
+    let own = seen config es k in
+    KeepsUp (offers v own) → MissesNothing (arrivals own) (client_after v own) (offers v own) (bytes_since v own (handed_to k hs))

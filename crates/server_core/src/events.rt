@@ -4,7 +4,7 @@ ghost use Rattle.protocol.specs.Catalog.{Config as ProtocolConfig, Entry, sees};
 ghost use Rattle.protocol.specs.World.{Event as ProtocolEvent, World, step, handed};
 ghost use Rattle.protocol.specs.Alone.{address_of, alone, own_view, seen, handed_to, restricted};
 ghost use Rattle.server_core.specs.Standing.{StandsAt};
-ghost use Rattle.server_core.specs.Runs.{event_value, handed_value, handed_by};
+ghost use Rattle.server_core.specs.Runs.{event_value, handed_value, handed_by, MissesOnlyOverruns, MissesNothingThatIsHeld};
 
 use crate::client::Client;
 use crate::server::Server;
@@ -89,6 +89,10 @@ fn count_of(events: &[Event]) -> usize
 /// Each client is handed what a client alone would be handed, from its own events and the arrivals at the stations that it sees
 /// (`isolation`). So two clients with the same view, the same events and the same arrivals are handed the same, at whatever
 /// servers (`alike`), and a server without stations that a client does not see hands it the same (`hidden_stations`).
+///
+/// A transfer misses a record that is wanted only where it was overrun: where as many later ones of its station as are held had
+/// come when an offer passed over it (`misses`). One that at each of its offers holds all that is wanted misses nothing
+/// (`keeps_up`).
 #[tactic(auto, using(crate::proofs::Running::run_lemmas))]
 pub fn run(alloc: Global, config: Config, events: &[Event]) -> Result<Vec<Handed>, AllocError>
     ensures handed { IfOk result (λ hs. map handed_value hs.items ≡ handed config (map event_value events.now)) }
@@ -100,6 +104,8 @@ pub fn run(alloc: Global, config: Config, events: &[Event]) -> Result<Vec<Handed
     ensures hidden_stations { IfOk result (λ hs. (keep : Entry → Bool) (k : ℕ) → let es = map event_value events.now in
         ((a : ℕ) (e : Entry) → address_of es k ≡ Some a → sees e.access config.access a ≡ true → keep e ≡ true) →
         handed_to k (handed (restricted keep config) es) ≡ handed_to k (map handed_value hs.items)) }
+    ensures misses { IfOk result (λ hs. (k : ℕ) → MissesOnlyOverruns config (map event_value events.now) k (map handed_value hs.items)) }
+    ensures keeps_up { IfOk result (λ hs. (k : ℕ) → MissesNothingThatIsHeld config (map event_value events.now) k (map handed_value hs.items)) }
 {
     let mut server = Server::new(alloc, config)?;
     let mut out = Vec::new(alloc);
