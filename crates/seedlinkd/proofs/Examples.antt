@@ -3,7 +3,8 @@ use Rattle.std.specs.Prelude.{◌≡◌, refl, ℕ, List, [], ◌∷◌, Some, N
 use Rattle.std.specs.Fmt.{digits}
 use Rattle.hex.proofs.OnLiterals.{hex_on_literals}
 use Rattle.protocol.specs.Catalog.{Config}
-use Rattle.protocol.specs.World.Event.{Open, Bytes, Take, Close}
+use Rattle.protocol.specs.World.Event.{Open, Bytes, Take, Close, Arrive}
+use Rattle.protocol.proofs.Vectors.{sample}
 use Rattle.seedlinkd.specs.Output.{output_after, replayed}
 use Rattle.seedlinkd.specs.Script.{event_of, events_of}
 
@@ -73,5 +74,26 @@ two_spaces = refl
 pub a_return : event_of (codes "take 0 1\r") ≡ None
 a_return = refl
 
-pub no_arrival : event_of (codes "arrive GE APE -- BHZ 2024,60,0,0,0,0 100") ≡ None
-no_arrival = refl
+-- ---- records
+
+pub arrival : event_of (codes "arrive GE APE -- BHZ 2024,60,0,0,0,0 100") ≡ Some (Arrive sample)
+arrival = refl
+
+pub leading_zeros : event_of (codes "arrive GE APE -- BHZ 0000002024,060,00,00,00,00 0100") ≡ Some (Arrive sample)
+leading_zeros = refl
+
+pub no_location : event_of (codes "arrive GE APE  BHZ 2024,60,0,0,0,0 100") ≡ None
+no_location = refl
+
+pub six_numbers : event_of (codes "arrive GE APE -- BHZ 2024,60,0,0,0,0,0 100") ≡ None
+six_numbers = refl
+
+pub day_367 : event_of (codes "arrive GE APE -- BHZ 2024,367,0,0,0,0 100") ≡ None
+day_367 = refl
+
+pub many_samples : event_of (codes "arrive GE APE -- BHZ 2024,60,0,0,0,0 65536") ≡ None
+many_samples = refl
+
+pub short_record : event_of (codes "arrive-hex 0a0a") ≡ None
+unfolding hex_on_literals
+short_record = refl

@@ -1,11 +1,16 @@
 -- A text and its first space.
-use Rattle.std.proofs.Common.{◌≡◌, ℕ, suc, ◌+◌, ◌<◌, true, false, true≢false, List, [], ◌∷◌, ◌++◌, length, take, drop, nat_lt, nat_le, Some, None, refl, sym, ap, arith, add-one, length-append, eqb-true, ◌&&◌}
+use Rattle.std.proofs.Common.{◌≡◌, ℕ, suc, ◌+◌, ◌<◌, Bool, true, false, true≢false, List, [], ◌∷◌, ◌++◌, length, take, drop, nat_lt, Some, None, refl, ap, arith, add-one, length-append, eqb-true, ◌==◌}
 use Rattle.std.specs.List.{list_any, position_or_len}
 use Rattle.std.proofs.lemmas.Bool.{ltb-true}
 use Rattle.std.proofs.lemmas.Bool.Decides.{nat_tests}
-use Rattle.protocol.specs.Time.{decimal_digit, decimal_number}
+use Rattle.std.proofs.lemmas.List.Folds.{list_any_none}
 use Rattle.protocol.proofs.Found.{both}
-use Rattle.seedlinkd.specs.Script.{Cut, cut_of, decimal_of, is_space}
+use Rattle.seedlinkd.specs.Script.{Cut, cut_of, decimal_of}
+use Rattle.seedlinkd.proofs.Separators.{number-lacks}
+
+-- what parts two words
+abbrev pub is_space : ℕ → Bool
+is_space b = b == 32
 
 -- where the first space stands
 seam : (text : List ℕ) → position_or_len is_space text < length text → text ≡ take (position_or_len is_space text) text ++ 32 ∷ drop (suc (position_or_len is_space text)) text
@@ -48,21 +53,6 @@ cut-made front rest e =
     let within : nat_lt (length front) (length (front ++ 32 ∷ rest)) ≡ true = grind (arith, nat_tests, length-append front (32 ∷ rest)) in
     rw (space_behind front rest e, within, add-one, take_front front rest, drop_front front rest) refl
 
-space_is_no_digit : (b : ℕ) → is_space b ≡ true → decimal_digit b ≡ None
-space_is_no_digit b y = grind (arith, nat_tests)
-
-no_number : (d : List ℕ) (n : ℕ) → list_any is_space d ≡ true → decimal_number n d ≡ None
-no_number [] n e = absurd (true≢false (sym e))
-no_number (b ∷ bs) n e =
-    both (is_space b)
-    (λ y. rw (space_is_no_digit b y))
-    (λ no. both (nat_le 48 b && nat_le b 57) (λ y. rw y (no_number bs _ (rw no at e))) (λ y. rw y))
-
 -- a number has no space
 pub number-has_no_space : (d : List ℕ) (n : ℕ) → decimal_of d ≡ Some n → list_any is_space d ≡ false
-number-has_no_space d n e =
-    both (list_any is_space d)
-    (λ y. both (nat_le 1 (length d) && nat_le (length d) 10)
-    (λ some. let none : None ≡ Some n = rw (some, no_number d 0 y) at e in absurd cc)
-    (λ none. let none : None ≡ Some n = rw none at e in absurd cc))
-    (λ no. no)
+number-has_no_space d n e = list_any_none is_space d (number-lacks 32 refl d n e)

@@ -4,23 +4,17 @@ use Rattle.std.specs.Prelude.{option_and_then}
 use Rattle.std.specs.Str.{bytes_eq}
 use Rattle.std.proofs.lemmas.Slice.Eq.{bytes_eq-Decides}
 use Rattle.protocol.specs.World.{Event}
-use Rattle.protocol.specs.World.Event.{Open, Bytes, Take, Close}
+use Rattle.protocol.specs.World.Event.{Open, Bytes, Take, Close, Arrive}
 use Rattle.protocol.proofs.Found.{both}
 use Rattle.access_list.specs.Addresses.{address_of}
-use Rattle.seedlinkd.specs.Rows.{IsLine, ReadsByTheTable}
-use Rattle.seedlinkd.specs.Rows.IsLine.{open_line, bytes_line, text_line, take_line, close_line}
-use Rattle.seedlinkd.specs.Script.{Addressed, addressed_by, addressed_in, addressed_of, bytes_in, count_of, cut_of, decimal_of, event_in, event_of, hex_of, line_in, named_event, take_in}
+use Rattle.seedlinkd.specs.Rows.{IsLine, ReadsByTheTable, arrive_text}
+use Rattle.seedlinkd.specs.Rows.IsLine.{open_line, bytes_line, text_line, take_line, close_line, arrive_line, arrive_hex_line}
+use Rattle.seedlinkd.specs.Script.{Addressed, addressed_by, addressed_in, addressed_of, bytes_in, count_of, cut_of, decimal_of, event_in, event_of, hex_of, hex_record_of, line_in, named_event, record_of, take_in}
+use Rattle.seedlinkd.proofs.ArriveRows.{hex-made, hex-whole, record-made, record-whole}
+use Rattle.seedlinkd.proofs.OptionSteps.{and_then_some, map_some}
 use Rattle.seedlinkd.proofs.SpaceLemmas.{cut-made, cut-whole, number-has_no_space}
 
--- ---- the options of a reading
-
-and_then_some : {A B : Type 0} (f : A → Option B) (o : Option A) (b : B) → option_and_then f o ≡ Some b → (a : A) × (o ≡ Some a) × (f a ≡ Some b)
-and_then_some f None b e = absurd cc
-and_then_some f (Some a) b e = (a, refl, e)
-
-map_some : {A B : Type 0} (f : A → B) (o : Option A) (b : B) → option_map f o ≡ Some b → (a : A) × (o ≡ Some a) × (f a ≡ b)
-map_some f None b e = absurd cc
-map_some f (Some a) b e = (a, refl, cc)
+-- ---- a client's number in front
 
 by_some : (rest : List ℕ) (o : Option ℕ) (x : Addressed) → addressed_by rest o ≡ Some x → (o ≡ Some x.client) × (rest ≡ x.rest)
 by_some rest None x e = absurd cc
@@ -54,6 +48,10 @@ line-read _ _ (take_line client digits c n h k) =
     ∙ ap (option_and_then take_in) (addressed-made client digits c h) ∙ ap (option_map (Take c)) k
 line-read _ _ (close_line client c h) =
     ap (option_and_then event_in) (cut-made (codes "close") client refl) ∙ ap (option_map Close) h
+line-read _ _ (arrive_line w f bytes tells made) =
+    ap (option_and_then event_in) (cut-made (codes "arrive") (arrive_text w) refl) ∙ ap (option_map Arrive) (record-made w f bytes tells made)
+line-read _ _ (arrive_hex_line digits bytes h long) =
+    ap (option_and_then event_in) (cut-made (codes "arrive-hex") digits refl) ∙ ap (option_map Arrive) (hex-made digits bytes h long)
 
 -- ---- an event that is read is that of a line of the table
 
@@ -90,6 +88,19 @@ close-row rest e h =
     let c = map_some Close (decimal_of rest) e h in
     subst (λ x. IsLine (codes "close" ++ 32 ∷ rest) x) c.2 (close_line rest c.0 c.1)
 
+arrive-row : (rest : List ℕ) (e : Event) → option_map Arrive (record_of rest) ≡ Some e → IsLine (codes "arrive" ++ 32 ∷ rest) e
+arrive-row rest e h =
+    let bytes = map_some Arrive (record_of rest) e h in
+    let told = record-whole rest bytes.0 bytes.1 in
+    subst (λ r. IsLine (codes "arrive" ++ 32 ∷ r) e) (sym told.text_is)
+    (subst (λ x. IsLine (codes "arrive" ++ 32 ∷ arrive_text told.words) x) bytes.2 (arrive_line told.words told.fields bytes.0 told.tells told.is_made))
+
+hex-row : (rest : List ℕ) (e : Event) → option_map Arrive (hex_record_of rest) ≡ Some e → IsLine (codes "arrive-hex" ++ 32 ∷ rest) e
+hex-row rest e h =
+    let bytes = map_some Arrive (hex_record_of rest) e h in
+    let whole = hex-whole rest bytes.0 bytes.1 in
+    subst (λ x. IsLine (codes "arrive-hex" ++ 32 ∷ rest) x) bytes.2 (arrive_hex_line rest bytes.0 whole.0 whole.1)
+
 named : (name word rest : List ℕ) (e : Event) → bytes_eq name word ≡ true → IsLine (word ++ 32 ∷ rest) e → IsLine (name ++ 32 ∷ rest) e
 named name word rest e y row = subst (λ n. IsLine (n ++ 32 ∷ rest) e) (sym ((bytes_eq-Decides name word).0 y)) row
 
@@ -105,7 +116,11 @@ named-row name rest e h =
     (λ y. named name (codes "take") rest e y (take-row rest e (rw y at h3)))
     (λ n. let h4 = rw n at h3 in both (bytes_eq name (codes "close"))
     (λ y. named name (codes "close") rest e y (close-row rest e (rw y at h4)))
-    (λ n. let none : None ≡ Some e = rw n at h4 in absurd cc)))))
+    (λ n. let h5 = rw n at h4 in both (bytes_eq name (codes "arrive"))
+    (λ y. named name (codes "arrive") rest e y (arrive-row rest e (rw y at h5)))
+    (λ n. let h6 = rw n at h5 in both (bytes_eq name (codes "arrive-hex"))
+    (λ y. named name (codes "arrive-hex") rest e y (hex-row rest e (rw y at h6)))
+    (λ n. let none : None ≡ Some e = rw n at h6 in absurd cc)))))))
 
 read-line : (line : List ℕ) (e : Event) → event_of line ≡ Some e → IsLine line e
 read-line line e h =

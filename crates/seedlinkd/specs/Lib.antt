@@ -1,5 +1,6 @@
 pub mod Checks
 pub mod Faults
+pub mod Fitting
 pub mod Jobs
 pub mod Listing
 pub mod Output

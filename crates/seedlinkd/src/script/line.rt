@@ -1,13 +1,14 @@
 //! The event of a line.
 ghost use Rattle.std.specs.Prelude.{option_map, option_and_then, Some};
-ghost use Rattle.protocol.specs.World.Event.{Open, Close};
+ghost use Rattle.protocol.specs.World.Event.{Open, Close, Arrive};
 ghost use Rattle.access_list.specs.Addresses.{address_of};
-ghost use Rattle.seedlinkd.specs.Script.{addressed_of, bytes_in, decimal_of, event_of, line_in, named_event, take_in};
+ghost use Rattle.seedlinkd.specs.Script.{addressed_of, bytes_in, decimal_of, event_of, hex_record_of, line_in, named_event, record_of, take_in};
 ghost use Rattle.seedlinkd.specs.ScriptValues.{IsRead};
 
 use crate::faults::ScriptFault;
-use crate::script::cuts::{client_and_rest, cut_at_space};
-use crate::script::numbers::{count, decimal, hex_bytes};
+use crate::script::arrive::told_record;
+use crate::script::cuts::{client_and_rest, cut_at};
+use crate::script::numbers::{count, decimal, hex_bytes, hex_record};
 use access_list::address;
 use server_core::Event;
 use std::alloc::Global;
@@ -16,7 +17,7 @@ use std::alloc::Global;
 pub(crate) fn event_of(alloc: Global, line: &[u8]) -> Result<Event, ScriptFault>
     ensures { IsRead (event_of line.now) result }
 {
-    match cut_at_space(line) {
+    match cut_at(b' ', line) {
         Some(cut) => named_event(alloc, cut.front, cut.rest),
         None => Err(ScriptFault::Script),
     }
@@ -36,6 +37,10 @@ fn named_event(alloc: Global, name: &[u8], rest: &[u8]) -> Result<Event, ScriptF
         take_event(rest)
     } else if name == b"close".as_slice() {
         close_event(rest)
+    } else if name == b"arrive".as_slice() {
+        arrive_event(rest)
+    } else if name == b"arrive-hex".as_slice() {
+        arrive_hex_event(rest)
     } else {
         Err(ScriptFault::Script)
     }
@@ -93,6 +98,26 @@ fn close_event(rest: &[u8]) -> Result<Event, ScriptFault>
 {
     match decimal(rest) {
         Some(client) => Ok(Event::Close(client)),
+        None => Err(ScriptFault::Script),
+    }
+}
+
+/// `arrive NET STA LOC CHA Y,D,H,M,S,F SAMPLES`.
+fn arrive_event(rest: &[u8]) -> Result<Event, ScriptFault>
+    ensures { IsRead (option_map Arrive (record_of rest.now)) result }
+{
+    match told_record(rest) {
+        Some(bytes) => Ok(Event::Arrive(bytes)),
+        None => Err(ScriptFault::Script),
+    }
+}
+
+/// `arrive-hex HEX`.
+fn arrive_hex_event(rest: &[u8]) -> Result<Event, ScriptFault>
+    ensures { IsRead (option_map Arrive (hex_record_of rest.now)) result }
+{
+    match hex_record(rest) {
+        Some(bytes) => Ok(Event::Arrive(bytes)),
         None => Err(ScriptFault::Script),
     }
 }

@@ -1,11 +1,12 @@
 //! Numbers and bytes as a script spells them.
 ghost use Rattle.std.specs.Prelude.{◌≡◌, ◌<◌, ◌≤◌, length, Some, None, IfSome, MatchResult};
 ghost use Rattle.protocol.specs.Time.{decimal_digit, decimal_number};
-ghost use Rattle.seedlinkd.specs.Script.{count_of, decimal_of, hex_of};
+ghost use Rattle.seedlinkd.specs.Fitting.{byte_of, short_of};
+ghost use Rattle.seedlinkd.specs.Script.{count_of, decimal_of, hex_of, hex_record_of};
 ghost use Rattle.seedlinkd.specs.declared.faults.ScriptFault.TheVariants.{Script};
 
 use crate::faults::ScriptFault;
-use hex::FromHexError;
+use hex::{FromHex, FromHexError};
 use std::alloc::Global;
 
 /// The digits of a number, at most.
@@ -59,6 +60,22 @@ pub(crate) fn count(digits: &[u8]) -> Option<usize>
     }
 }
 
+/// A number that fits 16 bits.
+pub(crate) fn short(digits: &[u8]) -> Option<u16>
+    ensures { result ≡ short_of digits.now }
+{
+    let number = decimal(digits)?;
+    u16::try_from(number).ok()
+}
+
+/// A number that fits 8 bits.
+pub(crate) fn byte(digits: &[u8]) -> Option<u8>
+    ensures { result ≡ byte_of digits.now }
+{
+    let number = decimal(digits)?;
+    u8::try_from(number).ok()
+}
+
 /// The bytes of one or more pairs of hexadecimal digits of either case.
 pub(crate) fn hex_bytes(alloc: Global, digits: &[u8]) -> Result<Vec<u8>, ScriptFault>
     ensures { MatchResult result (λ bytes. hex_of digits.now ≡ Some bytes.items) (λ fault. fault ≡ Script → hex_of digits.now ≡ None) }
@@ -71,4 +88,11 @@ pub(crate) fn hex_bytes(alloc: Global, digits: &[u8]) -> Result<Vec<u8>, ScriptF
         Err(FromHexError::OutOfMemory) => Err(ScriptFault::OutOfMemory),
         Err(_) => Err(ScriptFault::Script),
     }
+}
+
+/// The 512 bytes of a record, by pairs of hexadecimal digits of either case.
+pub(crate) fn hex_record(digits: &[u8]) -> Option<[u8; 512]>
+    ensures { result ≡ hex_record_of digits.now }
+{
+    <[u8; 512] as FromHex>::from_hex(digits).ok()
 }

@@ -55,7 +55,7 @@ fn a_line_that_is_no_event(rt: HostRuntime) -> Result<(), Fail> {
         "open 10.0.0.7 ",
         "open 10.0.0.256",
         "fetch 0 1",
-        "arrive GE APE -- BHZ 2024,60,0,0,0,0 100",
+        "arrive GE APE -- BHZ 2024,60,0,0,0,0",
         "arrive-hex 00",
     ];
     for line in lines {
