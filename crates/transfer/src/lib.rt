@@ -4,6 +4,8 @@
 
 mod choosing;
 mod starting;
+#[cfg(test)]
+mod tests;
 mod wanting;
 
 pub use choosing::{Chosen, choose};

@@ -75,12 +75,7 @@ pub struct Candidate {
 }
 
 /// The position of the record at a place of a ring, where it is held and wanted.
-fn position_wanted(
-    ring: &Ring,
-    place: u64,
-    choice: &Choice,
-    next: u64,
-) -> Option<u64>
+fn position_wanted(ring: &Ring, place: u64, choice: &Choice, next: u64) -> Option<u64>
     ensures wanted { (x : HeldValue) → held_at ring.now place ≡ Some x →
         result ≡ (if wants_held choice.now next x then Some x.stamp else None) }
     ensures held { IfSome result (λ position. HoldsRecord ring.now place position) }
@@ -94,11 +89,7 @@ fn position_wanted(
 }
 
 /// The first held record of a named station's ring that the request for the station wants.
-pub fn first_wanted_in(
-    ring: &Ring,
-    choice: &Choice,
-    next: u64,
-) -> Option<Candidate>
+pub fn first_wanted_in(ring: &Ring, choice: &Choice, next: u64) -> Option<Candidate>
     ensures position { option_map (λ c. c.position) result ≡ option_map (λ x. x.stamp) (find (wants_held choice.now next) ring.now.held) }
     ensures held { IfSome result (λ c. HoldsRecord ring.now c.place c.position) }
     ensures station { IfSome result (λ c. c.station ≡ choice.now.place) }

@@ -16,27 +16,30 @@ loop-choice-init c = (λ h holds. sym (next-none h c.args.next), tt, tt)
 pub loop-choice-preserved : goal.loop-choice-preserved
 loop-choice-preserved c =
     elim c.match-candidate.branch [
-      | in-Some+then-comes_before w ↦
-          (λ h holds.
-          ap (option_map (λ x. x.position)) w.best-is
-          ∙ before-best (option_map (λ x. x.position) c.loop-choice.best) w.in-Some.found.position (sym w.comes_before.ensures ∙ w.if-comes_before.true)
-          ∙ lesser-found c.args.config.now h c.args.choices.now c.loop-choice.choice-index c.choice-item.result c.args.next (option_map (λ x. x.position) c.loop-choice.best) (Some w.in-Some.found.position) c.loop-choice-test.true c.choice-item.is (c.loop-choice.invariant.0 h holds) (w.in-Some.ensures.position h holds),
-          subst (λ (o : Option Candidate). IfSome o (λ x. HoldsThere c.args.rings.now x.station x.place x.position)) (sym w.best-is) w.in-Some.ensures.held,
-          subst (λ (o : Option Candidate). IfSome o (λ x. IsPlace c.args.config.now x.station → 1 ≤ length (station_at c.args.config.now.entries x.station).network)) (sym w.best-is) w.in-Some.ensures.network)
-      | in-Some+else-comes_before w ↦
-          (λ h holds.
-          ap (option_map (λ x. x.position)) w.best-is
-          ∙ after-best (option_map (λ x. x.position) c.loop-choice.best) w.in-Some.found.position (sym w.comes_before.ensures ∙ w.if-comes_before.false)
-          ∙ lesser-found c.args.config.now h c.args.choices.now c.loop-choice.choice-index c.choice-item.result c.args.next (option_map (λ x. x.position) c.loop-choice.best) (Some w.in-Some.found.position) c.loop-choice-test.true c.choice-item.is (c.loop-choice.invariant.0 h holds) (w.in-Some.ensures.position h holds),
-          subst (λ (o : Option Candidate). IfSome o (λ x. HoldsThere c.args.rings.now x.station x.place x.position)) (sym w.best-is) c.loop-choice.invariant.1,
-          subst (λ (o : Option Candidate). IfSome o (λ x. IsPlace c.args.config.now x.station → 1 ≤ length (station_at c.args.config.now.entries x.station).network)) (sym w.best-is) c.loop-choice.invariant.2)
-      | in_default w ↦
-          (λ h holds.
-          ap (option_map (λ x. x.position)) w.best-is
-          ∙ least-none (option_map (λ x. x.position) c.loop-choice.best)
-          ∙ lesser-found c.args.config.now h c.args.choices.now c.loop-choice.choice-index c.choice-item.result c.args.next (option_map (λ x. x.position) c.loop-choice.best) None c.loop-choice-test.true c.choice-item.is (c.loop-choice.invariant.0 h holds) (w.in_default.ensures.position h holds),
-          subst (λ (o : Option Candidate). IfSome o (λ x. HoldsThere c.args.rings.now x.station x.place x.position)) (sym w.best-is) c.loop-choice.invariant.1,
-          subst (λ (o : Option Candidate). IfSome o (λ x. IsPlace c.args.config.now x.station → 1 ≤ length (station_at c.args.config.now.entries x.station).network)) (sym w.best-is) c.loop-choice.invariant.2)
+      | in-Some+then-comes_before w ↦ (
+        λ h holds.
+            ap (option_map (λ x. x.position)) w.best-is
+            ∙ before-best (option_map (λ x. x.position) c.loop-choice.best) w.in-Some.found.position (sym w.comes_before.ensures ∙ w.if-comes_before.true)
+            ∙ lesser-found c.args.config.now h c.args.choices.now c.loop-choice.choice-index c.choice-item.result c.args.next (option_map (λ x. x.position) c.loop-choice.best) (Some w.in-Some.found.position) c.loop-choice-test.true c.choice-item.is (c.loop-choice.invariant.0 h holds) (w.in-Some.ensures.position h holds),
+        subst (λ (o : Option Candidate). IfSome o (λ x. HoldsThere c.args.rings.now x.station x.place x.position)) (sym w.best-is) w.in-Some.ensures.held,
+        subst (λ (o : Option Candidate). IfSome o (λ x. IsPlace c.args.config.now x.station → 1 ≤ length (station_at c.args.config.now.entries x.station).network)) (sym w.best-is) w.in-Some.ensures.network,
+      )
+      | in-Some+else-comes_before w ↦ (
+        λ h holds.
+            ap (option_map (λ x. x.position)) w.best-is
+            ∙ after-best (option_map (λ x. x.position) c.loop-choice.best) w.in-Some.found.position (sym w.comes_before.ensures ∙ w.if-comes_before.false)
+            ∙ lesser-found c.args.config.now h c.args.choices.now c.loop-choice.choice-index c.choice-item.result c.args.next (option_map (λ x. x.position) c.loop-choice.best) (Some w.in-Some.found.position) c.loop-choice-test.true c.choice-item.is (c.loop-choice.invariant.0 h holds) (w.in-Some.ensures.position h holds),
+        subst (λ (o : Option Candidate). IfSome o (λ x. HoldsThere c.args.rings.now x.station x.place x.position)) (sym w.best-is) c.loop-choice.invariant.1,
+        subst (λ (o : Option Candidate). IfSome o (λ x. IsPlace c.args.config.now x.station → 1 ≤ length (station_at c.args.config.now.entries x.station).network)) (sym w.best-is) c.loop-choice.invariant.2,
+      )
+      | in_default w ↦ (
+        λ h holds.
+            ap (option_map (λ x. x.position)) w.best-is
+            ∙ least-none (option_map (λ x. x.position) c.loop-choice.best)
+            ∙ lesser-found c.args.config.now h c.args.choices.now c.loop-choice.choice-index c.choice-item.result c.args.next (option_map (λ x. x.position) c.loop-choice.best) None c.loop-choice-test.true c.choice-item.is (c.loop-choice.invariant.0 h holds) (w.in_default.ensures.position h holds),
+        subst (λ (o : Option Candidate). IfSome o (λ x. HoldsThere c.args.rings.now x.station x.place x.position)) (sym w.best-is) c.loop-choice.invariant.1,
+        subst (λ (o : Option Candidate). IfSome o (λ x. IsPlace c.args.config.now x.station → 1 ≤ length (station_at c.args.config.now.entries x.station).network)) (sym w.best-is) c.loop-choice.invariant.2,
+      )
     ]
 
 pub returns-clause-position : goal.returns-clause-position

@@ -10,4 +10,3 @@ overflow_add-found c =
     let there : held_at c.in-Some.ring.now c.args.found.place ≡ Some item = subst (λ (r : Holding). held_at r c.args.found.place ≡ Some item) (sym same) c.requires.holds.there in
     let below : item.stamp < c.args.rings.now.arrivals = held-below c.in-Some.ring.now c.args.found.place item c.args.rings.now.arrivals there c.in-Some.ensures.behind.stamps in
     omega (arith, below, c.requires.holds.stamp, c.arrivals-arrivals.ensures.value, c.arrivals-arrivals.type_inv)
-

@@ -7,8 +7,8 @@ pub loop-i-preserved : goal.loop-i-preserved
 loop-i-preserved c =
     let within : c.loop-i.i < length (chosen_of c.loop-i.session.mode) = omega (arith, c.loop-i-test.true, c.loop-i.invariant.2, c.loop-i.invariant.0.count) in (
       keeps-on c.args.rings.now c.loop-i.session c.keep.new.self c.args.session.now c.loop-i.i c.first_of-first.result c.requires c.keep.ensures
-      (one-first c.args.rings.now (chosen_of c.loop-i.session.mode) c.loop-i.i c.first_of-first.result c.index-choices-i.result within (subst (λ cs. c.index-choices-i.result ≡ slice_index_or cs c.loop-i.i c.index-choices-i.result) c.choices.ensures c.index-choices-i.is) c.first_of-first.ensures)
-      c.loop-i.invariant.0,
+          (one-first c.args.rings.now (chosen_of c.loop-i.session.mode) c.loop-i.i c.first_of-first.result c.index-choices-i.result within (subst (λ cs. c.index-choices-i.result ≡ slice_index_or cs c.loop-i.i c.index-choices-i.result) c.choices.ensures c.index-choices-i.is) c.first_of-first.ensures)
+          c.loop-i.invariant.0,
       omega (arith, c.loop-i-test.true),
       c.loop-i.invariant.2,
     )
