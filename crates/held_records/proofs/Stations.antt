@@ -56,7 +56,7 @@ rings_of-one (e ∷ es) (suc place) h a within is others =
     (ap (λ rings. ring_of e.station h ∷ rings) (rings_of-one es place h a (omega arith) is (λ k below apart. others (suc k) (omega arith) (λ same. apart (omega arith)))))
 
 -- Two stations of which one arrival is have the same codes.
-same_codes : (s t : Station) (a : Arrival) → is_of s a ≡ true → is_of t a ≡ true → SameCodes s t
+pub same_codes : (s t : Station) (a : Arrival) → is_of s a ≡ true → is_of t a ≡ true → SameCodes s t
 same_codes s t a of_s of_t =
     let s_has = and_parts (bytes_eq s.network a.facts.network) (bytes_eq s.code a.facts.station) of_s in
     let t_has = and_parts (bytes_eq t.network a.facts.network) (bytes_eq t.code a.facts.station) of_t in (

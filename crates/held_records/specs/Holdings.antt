@@ -1,12 +1,12 @@
 -- What a server holds of all that arrived: a ring for each station, of that station's arrivals.
 -- SeedLink 3, sequence numbers. Left out: which records are accepted.
-use Rattle.std.specs.Prelude.{◌≡◌, ℕ, ◌+◌, ◌<◌, ◌≤◌, if◌then◌else◌, Option, Some, None, List, [], ◌∷◌, length, map, slice_get, slice_set, true, All}
+use Rattle.std.specs.Prelude.{◌≡◌, ℕ, ◌+◌, ◌<◌, ◌≤◌, if◌then◌else◌, Some, List, [], ◌∷◌, length, map, slice_get, true, All}
 use Rattle.protocol.specs.Record.{Facts}
 use Rattle.protocol.specs.Catalog.{Config, Station}
 use Rattle.protocol.specs.History.{Arrival, is_of, number_at}
 use Rattle.station_ring.specs.declared.held.Held.{Held}
 use Rattle.station_ring.specs.declared.held.Summary.{Summary}
-use Rattle.station_ring.specs.Rings.{Holding, holding_of, pushed}
+use Rattle.station_ring.specs.Rings.{Holding, holding_of}
 
 -- a ring for each station, and how many records arrived
 pub record Holdings : Type 0 where
@@ -46,12 +46,7 @@ pub record IsArrival (s : Station) (h : List Arrival) (number : ℕ) (x : Held) 
   pub bytes : x.bytes ≡ arrival.bytes
   pub number_is : number ≡ number_at s h x.stamp
 
--- ---- one more
-
--- the rings with one more push to that at a place, where one is there
-abbrev pub pushed_at : ℕ → Held → List Holding → Option Holding → List Holding
-pushed_at place item rings None = rings
-pushed_at place item rings (Some r) = slice_set rings place (pushed r item)
+-- ---- what is true of rings
 
 -- A ring holds and has counted fewer records than arrived.
 pub record IsBehind (arrivals : ℕ) (r : Holding) : Type 0 where

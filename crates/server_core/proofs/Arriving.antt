@@ -14,8 +14,7 @@ use Rattle.protocol.specs.World.Event.{Arrive}
 use Rattle.protocol.proofs.Found.{both}
 use Rattle.catalog.specs.Places.{station_at, nowhere, HasDistinctCodes}
 use Rattle.station_ring.specs.declared.held.Summary.{Summary}
-use Rattle.held_records.specs.Holdings.{Holdings, holdings_of, ring_of, summary_of}
-use Rattle.std.proofs.lemmas.List.{length-map}
+use Rattle.held_records.specs.Holdings.{Holdings, holdings_of, summary_of}
 use Rattle.session_state.specs.declared.session.State.{State}
 use Rattle.session_state.specs.declared.session.State.TheVariants.{Negotiating, Listing, Starting, Transfer, Ending}
 use Rattle.session_state.specs.Sessions.{Sitting, client_in, sitting_view}
@@ -139,8 +138,3 @@ placed-unknown config r x is none = ap (placed_by config) is ∙ ap place_or_unk
 
 pub none-settled : (config : Config) → AreSettled config []
 none-settled config k s e = absurd cc
-
--- There is a ring for each station.
-pub rings-each : (config : Config) (h : List Arrival) (rings : Holdings) → rings ≡ holdings_of config h → length rings.rings ≡ length config.entries
-unfolding holdings_of
-rings-each config h rings e = ap (λ (x : Holdings). length x.rings) e ∙ length-map config.entries (λ (y : Entry). ring_of y.station h)

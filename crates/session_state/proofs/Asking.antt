@@ -1,8 +1,8 @@
 -- What a line's command asks has the command's outcome.
-use Rattle.std.proofs.Common.{◌≡◌, ℕ, true, false, List, [], Option, Some, None, refl, sym, ap, ◌∙◌}
+use Rattle.std.proofs.Common.{◌≡◌, ℕ, List, Option, Some, None, refl, sym, ap, ◌∙◌}
 use Rattle.protocol.specs.Catalog.{Config, Station, View, find_station}
 use Rattle.protocol.specs.Pattern.{Pattern, pattern_of}
-use Rattle.protocol.specs.Session.{Choice, Negotiated, Outcome, choices_of, choose_station, current_choice, outcome_of, select, select_multi}
+use Rattle.protocol.specs.Session.{Choice, Negotiated, choices_of, choose_station, current_choice, outcome_of, select, select_multi}
 use Rattle.protocol.specs.Session.Negotiated.{Uni, Multi}
 use Rattle.protocol.specs.Command.Command.{Station as StationCommand}
 use Rattle.session_state.specs.declared.modes.Change.TheVariants.{Add}

@@ -1,12 +1,12 @@
 -- What a change of one named station is, by its settings.
-use Rattle.std.proofs.Common.{◌≡◌, ◌<◌, ℕ, ◌+◌, true, false, Bool, nat_lt, List, [], ◌∷◌, ◌++◌, length, map, take, drop, set, get_or, slice_get, slice_set, Option, Some, None, IfSome, unwrap_or, option_map, is_some, filter_map, cond, refl, sym, ap, subst, ◌∙◌, arith, zero, suc}
+use Rattle.std.proofs.Common.{◌≡◌, ◌<◌, ℕ, ◌+◌, true, false, Bool, nat_lt, List, [], ◌∷◌, ◌++◌, length, slice_get, slice_set, Option, Some, None, IfSome, unwrap_or, option_map, is_some, filter_map, cond, refl, sym, ap, subst, ◌∙◌, arith, zero, suc}
 use Rattle.std.specs.List.{list_any, refill, position, position_or_len}
 use Rattle.std.proofs.lemmas.Grind.{common_steps}
-use Rattle.std.proofs.lemmas.List.{map-set, length-set, map-append, length-map}
-use Rattle.std.proofs.lemmas.Option.{slice_get-map, slice_get-get_or}
+use Rattle.std.proofs.lemmas.List.{map-set, length-set}
+use Rattle.std.proofs.lemmas.Option.{slice_get-map}
 use Rattle.protocol.specs.Catalog.{Config, Station}
 use Rattle.protocol.specs.Pattern.{Pattern}
-use Rattle.protocol.specs.Session.{Choice as ProtocolChoice, Outcome, Wish, act_multi, choose_known, choose_station, current_choice, end_with, error_line, ok_line, put, position_of, select_in, select_multi, wish_of, max_patterns}
+use Rattle.protocol.specs.Session.{Choice as ProtocolChoice, Wish, act_multi, choose_known, choose_station, current_choice, end_with, error_line, ok_line, put, position_of, select_multi, wish_of, max_patterns}
 use Rattle.protocol.specs.Session.Negotiated.{Multi}
 use Rattle.protocol.specs.Session.Outcome.{Stays, Starts}
 use Rattle.catalog.specs.Places.{station_at}

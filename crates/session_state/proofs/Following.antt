@@ -6,7 +6,7 @@ use Rattle.protocol.specs.Lines.Line.{Text, TooLong}
 use Rattle.protocol.specs.Command.{Command, command_of}
 use Rattle.protocol.specs.Command.Command.{Blank, Hello, Cat, Bye, End, Station, Select, Data, Fetch, Time, Bad}
 use Rattle.protocol.specs.History.{Arrival, Request}
-use Rattle.protocol.specs.Session.{Negotiated, Outcome, outcome_of, ok_line, error_line}
+use Rattle.protocol.specs.Session.{Negotiated, Outcome, outcome_of}
 use Rattle.protocol.specs.Session.Outcome.{Stays, Lists, Ends}
 use Rattle.protocol.specs.Client.{Client, follow, leave, read_byte, is_nothing}
 use Rattle.protocol.specs.Client.State.{Negotiating as ClientNegotiating, Transfer as ClientTransfer, Ending as ClientEnding}
@@ -17,11 +17,11 @@ use Rattle.session_state.specs.declared.modes.Effect.{Effect}
 use Rattle.session_state.specs.declared.modes.Effect.TheVariants.{Done, Refused, Starts}
 use Rattle.session_state.specs.declared.asked.Asked.{Asked}
 use Rattle.session_state.specs.declared.asked.Asked.TheVariants.{Nothing}
-use Rattle.session_state.specs.declared.session.State.TheVariants.{Negotiating, Listing, Starting, Transfer, Ending}
+use Rattle.session_state.specs.declared.session.State.TheVariants.{Negotiating, Listing, Transfer, Ending}
 use Rattle.session_state.specs.Choices.{negotiated_in, chosen_of, request_in}
 use Rattle.session_state.specs.Changes.{changed_by, outcome_after}
 use Rattle.session_state.specs.Asking.{outcome_by, outcome_of_lines, is_bye, says_bye, is_leaving}
-use Rattle.session_state.specs.Sessions.{Sitting, client_in, sitting_view, effected, never_starts}
+use Rattle.session_state.specs.Sessions.{Sitting, client_in, sitting_view, effected}
 
 -- a session that negotiates while nothing waits
 abbrev pub reading : List ℕ → Mode → Line → List ℕ → Sitting

@@ -3,7 +3,7 @@ use Rattle.std.proofs.Common.{◌≡◌, ℕ, ◌-◌, true, false, List, [], �
 use Rattle.std.proofs.lemmas.Bool.{false≢true}
 use Rattle.std.proofs.lemmas.List.Elements.{All-head, All-tail}
 use Rattle.protocol.specs.Catalog.{Config}
-use Rattle.protocol.specs.History.{Arrival, Request}
+use Rattle.protocol.specs.History.{Arrival}
 use Rattle.protocol.specs.Session.{wish_of}
 use Rattle.protocol.specs.Client.{Client, received, read_on, is_ending, request_of}
 use Rattle.protocol.specs.Client.State.{Transfer as ClientTransfer}
@@ -14,9 +14,8 @@ use Rattle.session_state.specs.declared.modes.Mode.{Mode}
 use Rattle.session_state.specs.declared.modes.Mode.TheVariants.{Uni, Multi}
 use Rattle.session_state.specs.declared.session.State.TheVariants.{Starting, Transfer}
 use Rattle.session_state.specs.declared.session.Settled.{Settled}
-use Rattle.session_state.specs.declared.session.Settled.TheVariants.{Rest, Start}
-use Rattle.session_state.specs.Choices.{action_value, choices_in, chosen_of, request_in}
-use Rattle.session_state.specs.Sessions.{Sitting, client_in, sitting_view, Comes, HasFirst, HasFirsts, never_starts}
+use Rattle.session_state.specs.Choices.{choices_in, chosen_of, request_in}
+use Rattle.session_state.specs.Sessions.{Sitting, client_in, sitting_view, Comes, HasFirst, HasFirsts}
 
 pub comes-to : (settled : Settled) (config : Config) (h : List Arrival) (s : Sitting) (c d : Client) → c ≡ d → Comes settled config h s c → Comes settled config h s d
 comes-to settled config h s c d e = subst (Comes settled config h s) e

@@ -1,15 +1,15 @@
 -- What a session does, step by step, is what its client does.
-use Rattle.std.proofs.Common.{◌≡◌, ◌≢◌, ℕ, true, false, List, [], ◌∷◌, ◌++◌, length, refl, sym, ap, subst, ◌∙◌, arith, nat_lt, Bool}
+use Rattle.std.proofs.Common.{◌≡◌, ◌≢◌, ℕ, true, false, List, [], ◌∷◌, length, refl, sym, ap, ◌∙◌, arith, nat_lt}
 use Rattle.protocol.specs.Catalog.{Config, View}
 use Rattle.protocol.specs.History.{Arrival}
 use Rattle.protocol.specs.Client.{Client, reads, read_byte, read_on}
-use Rattle.protocol.proofs.Unread.{read_on-unread, read_on-step}
+use Rattle.protocol.proofs.Unread.{read_on-step}
 use Rattle.catalog.specs.Places.{view_in}
 use Rattle.session_state.specs.declared.session.State.{State}
 use Rattle.session_state.specs.declared.session.State.TheVariants.{Negotiating, Listing, Starting, Transfer, Ending}
 use Rattle.session_state.specs.declared.session.Settled.{Settled}
 use Rattle.session_state.specs.declared.session.Settled.TheVariants.{Rest, Start}
-use Rattle.session_state.specs.Sessions.{Sitting, client_in, sitting_view, kept_unread, HasPlaces, Comes, never_starts}
+use Rattle.session_state.specs.Sessions.{Sitting, client_in, sitting_view, kept_unread, Comes, never_starts}
 
 -- the session will read on as the first one would
 pub record SettlesAs (config : Config) (now first : Sitting) : Type 0 where

@@ -1,7 +1,6 @@
 -- What a session does when bytes are handed, and with the lines of a listing.
-use Rattle.std.proofs.Common.{◌≡◌, ℕ, ◌+◌, ◌<◌, ◌≤◌, true, false, List, [], ◌∷◌, ◌++◌, length, take, drop, map, Some, None, Option, refl, sym, ap, subst, ◌∙◌, arith, length-append, nat_lt, zero, suc, slice_get, slice_index_or, add-one, option_map}
+use Rattle.std.proofs.Common.{◌≡◌, ℕ, ◌+◌, ◌<◌, ◌≤◌, true, false, List, [], ◌∷◌, ◌++◌, length, take, drop, map, Some, None, Option, refl, sym, ap, subst, ◌∙◌, arith, length-append, nat_lt, zero, suc, slice_get, slice_index_or, add-one}
 use Rattle.std.proofs.lemmas.List.{length-map}
-use Rattle.std.proofs.lemmas.Option.{slice_get-map}
 use Rattle.protocol.specs.Catalog.{View, Config, Entry, Station, listing, station_line, end_line}
 use Rattle.protocol.specs.Lines.{Line}
 use Rattle.protocol.specs.History.{Arrival}

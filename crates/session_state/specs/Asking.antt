@@ -1,6 +1,6 @@
 -- What a line asks of a session.
 -- SeedLink 3, commands.
-use Rattle.std.specs.Prelude.{ℕ, Bool, true, false, List, [], ◌∷◌}
+use Rattle.std.specs.Prelude.{Bool, true, false, List, [], ◌∷◌}
 use Rattle.protocol.specs.Catalog.{Config, View}
 use Rattle.protocol.specs.Lines.{Line}
 use Rattle.protocol.specs.Command.{Command, command_of}

@@ -1,5 +1,5 @@
 -- A session, and the client that it is beside a configuration and a history.
-use Rattle.std.specs.Prelude.{◌≡◌, ℕ, ◌+◌, nat_lt, if◌then◌else◌, Bool, true, false, List, [], length, drop, map, filter_map, slice_get, slice_set, Option, Some, None, All}
+use Rattle.std.specs.Prelude.{◌≡◌, ℕ, ◌+◌, nat_lt, if◌then◌else◌, Bool, true, false, List, [], length, drop, map, filter_map, slice_get, Option, Some, None, All}
 use Rattle.protocol.specs.Lines.{Line}
 use Rattle.protocol.specs.Catalog.{Config, View, listing}
 use Rattle.protocol.specs.History.{Arrival, first_wanted}
@@ -10,7 +10,6 @@ use Rattle.catalog.specs.Places.{station_at, view_in, IsPlace}
 use Rattle.session_state.specs.declared.choices.Action.{Action}
 use Rattle.session_state.specs.declared.choices.Choice.{Choice}
 use Rattle.session_state.specs.declared.modes.Mode.{Mode}
-use Rattle.session_state.specs.declared.modes.Mode.TheVariants.{Uni, Multi}
 use Rattle.session_state.specs.declared.modes.Effect.{Effect}
 use Rattle.session_state.specs.declared.modes.Effect.TheVariants.{Done, Refused, Starts}
 use Rattle.session_state.specs.declared.session.State.{State}

@@ -1,49 +1,26 @@
 -- What comes next for named stations, by what their rings hold.
-use Rattle.std.proofs.Common.{◌≡◌, ℕ, ◌+◌, ◌-◌, ◌<◌, ◌≤◌, zero, suc, Bool, true, false, ◌&&◌, nat_lt, List, [], ◌∷◌, ◌++◌, length, map, drop, take, Option, Some, None, IfSome, option_map, filter_map, slice_get, unwrap_or, get_or, add-one, refl, sym, ap, ap₂, subst, ◌∙◌, arith}
+use Rattle.std.proofs.Common.{◌≡◌, ℕ, ◌+◌, ◌-◌, ◌<◌, zero, suc, Bool, true, false, ◌&&◌, List, [], ◌∷◌, ◌++◌, length, map, take, Option, Some, None, option_map, filter_map, slice_get, get_or, add-one, refl, sym, ap, ap₂, ◌∙◌, arith}
 use Rattle.std.specs.Prelude.{find, is_some, nat_le}
 use Rattle.std.proofs.lemmas.Bool.Decides.{nat_tests}
 use Rattle.std.proofs.Math.Seq.{take-suc}
-use Rattle.std.proofs.lemmas.Option.{slice_get-map}
 use Rattle.std.proofs.lemmas.List.{drop_all}
 use Rattle.std.proofs.lemmas.List.Elements.{filter_map-append}
 use Rattle.protocol.specs.Catalog.{Config, Station, Entry}
-use Rattle.protocol.specs.History.{Arrival, Request, first_position, next, is_held}
+use Rattle.protocol.specs.History.{Arrival, first_position, next, is_held}
 use Rattle.catalog.specs.Places.{station_at, nowhere}
 use Rattle.station_ring.specs.declared.held.Held.{Held}
 use Rattle.station_ring.specs.Rings.{Holding, last_of}
 use Rattle.held_records.specs.Holdings.{Holdings, holdings_of, held_of, ring_of, arrivals_of}
+use Rattle.held_records.proofs.Stations.{ring_is, station_is_nowhere}
 use Rattle.session_state.specs.declared.choices.Action.{Action}
 use Rattle.session_state.specs.declared.choices.Choice.{Choice}
-use Rattle.session_state.specs.Choices.{request_in, request_with}
+use Rattle.session_state.specs.Choices.{request_in}
 use Rattle.transfer.specs.Wanting.{wants_held}
 use Rattle.transfer.specs.Choosing.{least_of, comes_before}
 use Rattle.transfer.proofs.Positions.{next-none, next-append}
 use Rattle.transfer.proofs.Wants.{request_for, next-one}
 
 -- ---- rings by their places
-
-ring-at : (es : List Entry) (h : List Arrival) (place : ℕ) (r : Holding) → slice_get (map (λ e. ring_of e.station h) es) place ≡ Some r → r ≡ ring_of (station_at es place) h
-ring-at es h place r e = by (slice_get es place) (sym (slice_get-map (λ e. ring_of e.station h) es place) ∙ e)
-  where
-    by : (o : Option Entry) → option_map (λ e. ring_of e.station h) o ≡ Some r → r ≡ ring_of (unwrap_or (option_map (λ e. e.station) o) nowhere) h
-    by None q = absurd cc
-    by (Some x) q = ap (λ o. unwrap_or o r) (sym q)
-
-no-ring-at : (es : List Entry) (h : List Arrival) (place : ℕ) → slice_get (map (λ e. ring_of e.station h) es) place ≡ None → station_at es place ≡ nowhere
-no-ring-at es h place e = by (slice_get es place) (sym (slice_get-map (λ e. ring_of e.station h) es place) ∙ e)
-  where
-    by : (o : Option Entry) → option_map (λ e. ring_of e.station h) o ≡ None → unwrap_or (option_map (λ e. e.station) o) nowhere ≡ nowhere
-    by None q = refl
-    by (Some x) q = absurd cc
-
--- the ring of a station that is there
-pub ring-there : (config : Config) (h : List Arrival) (rings : Holdings) (place : ℕ) (r : Holding) → rings ≡ holdings_of config h → slice_get rings.rings place ≡ Some r → r ≡ ring_of (station_at config.entries place) h
-unfolding holdings_of
-ring-there config h rings place r holds e = ring-at config.entries h place r (ap (λ (x : Holdings). slice_get x.rings place) (sym holds) ∙ e)
-
-pub ring-nowhere : (config : Config) (h : List Arrival) (rings : Holdings) (place : ℕ) → rings ≡ holdings_of config h → slice_get rings.rings place ≡ None → station_at config.entries place ≡ nowhere
-unfolding holdings_of
-ring-nowhere config h rings place holds e = no-ring-at config.entries h place (ap (λ (x : Holdings). slice_get x.rings place) (sym holds) ∙ e)
 
 -- a station with a ring is there
 pub ring-within : (config : Config) (h : List Arrival) (rings : Holdings) (place : ℕ) (r : Holding) → rings ≡ holdings_of config h → slice_get rings.rings place ≡ Some r → place < length config.entries
@@ -91,7 +68,7 @@ nowhere-comes law config c h rings q some holds none =
     let some_action = asked-some c.action some in
     let action : Action = some_action.0 in
     let asked : c.action ≡ Some action = some_action.1 in
-    let e : station_at config.entries c.place ≡ nowhere = ring-nowhere config h rings c.place holds none in
+    let e : station_at config.entries c.place ≡ nowhere = station_is_nowhere config h c.place rings holds (sym none) in
     sym (ap (λ rs. next h rs q) (asked-one config c action asked)
     ∙ next-one config c action h q asked (law (station_at config.entries c.place) h)
     ∙ ap (λ s. option_map (λ x. x.stamp) (find (wants_held c q) (ring_of s h).held)) e
@@ -102,7 +79,7 @@ first-comes law config c h rings r q some holds there =
     let some_action = asked-some c.action some in
     let action : Action = some_action.0 in
     let asked : c.action ≡ Some action = some_action.1 in
-    let e : r ≡ ring_of (station_at config.entries c.place) h = ring-there config h rings c.place r holds there in
+    let e : r ≡ ring_of (station_at config.entries c.place) h = ring_is config h c.place rings r holds (sym there) in
     ap (λ (x : Holding). option_map (λ y. y.stamp) (find (wants_held c q) x.held)) e
     ∙ sym (ap (λ rs. next h rs q) (asked-one config c action asked) ∙ next-one config c action h q asked (law (station_at config.entries c.place) h))
 

@@ -1,40 +1,29 @@
 -- The packet of the record that comes next.
-use Rattle.std.proofs.Common.{◌≡◌, ℕ, ◌<◌, ◌≤◌, Bool, true, false, ◌&&◌, ◌||◌, List, [], ◌∷◌, ◌++◌, length, drop, Option, Some, None, option_map, filter_map, slice_get, unwrap_or, refl, sym, ap, ap₂, subst, ◌∙◌, arith, nat_le, zero, suc, inl, inr}
+use Rattle.std.proofs.Common.{◌≡◌, ℕ, ◌<◌, ◌≤◌, Bool, true, false, ◌&&◌, List, [], ◌∷◌, length, Option, Some, None, option_map, filter_map, slice_get, unwrap_or, refl, sym, ap, ap₂, subst, ◌∙◌, arith, nat_le, zero, suc, inl, inr}
 use Rattle.transfer.proofs.Positions.{Test, first_from}
 use Rattle.std.specs.List.{list_any}
-use Rattle.std.specs.Str.{bytes_eq}
 use Rattle.std.proofs.lemmas.Bool.Decides.{leb_tells}
-use Rattle.std.proofs.lemmas.Slice.Eq.{bytes_eq-Decides}
 use Rattle.protocol.specs.Packet.{packet}
 use Rattle.protocol.specs.Catalog.{Config, Station, Entry}
-use Rattle.protocol.specs.History.{Arrival, Request, first_position, next, is_of, is_held, wants, holds_and_wants, number_at}
+use Rattle.protocol.specs.History.{Arrival, Request, next, is_of, holds_and_wants, number_at}
 use Rattle.protocol.specs.Client.{packet_for, packet_of}
 use Rattle.protocol.proofs.Found.{both, Found, first_position_found}
 use Rattle.protocol.proofs.Places.{slice_get-seam}
-use Rattle.catalog.specs.Places.{station_at, nowhere, IsPlace, HasDistinctCodes, SameCodes}
+use Rattle.catalog.specs.Places.{station_at, nowhere, IsPlace, HasDistinctCodes}
 use Rattle.station_ring.specs.Rings.{Holding, held_at, number_at as ring_number}
 use Rattle.station_ring.specs.declared.held.Held.{Held}
 use Rattle.held_records.specs.Holdings.{Holdings, holdings_of, ring_of, IsArrival}
-use Rattle.transfer.proofs.Nexts.{ring-there, ring-within}
+use Rattle.transfer.proofs.Nexts.{ring-within}
+use Rattle.held_records.proofs.Stations.{ring_is, same_codes}
 use Rattle.session_state.specs.declared.choices.Action.{Action}
 use Rattle.session_state.specs.declared.choices.Choice.{Choice}
-use Rattle.session_state.specs.Choices.{request_in, request_with}
+use Rattle.session_state.specs.Choices.{request_in}
 use Rattle.transfer.specs.Choosing.{IsArrived}
 
 both-of : (a b : Bool) → (a && b) ≡ true → (a ≡ true) × (b ≡ true)
 both-of true true e = (refl, refl)
 both-of true false e = absurd cc
 both-of false b e = absurd cc
-
--- An arrival of a station has its codes.
-of-codes : (s : Station) (a : Arrival) → is_of s a ≡ true → (s.network ≡ a.facts.network) × (s.code ≡ a.facts.station)
-of-codes s a e =
-    let two = both-of (bytes_eq s.network a.facts.network) (bytes_eq s.code a.facts.station) e in
-    ((bytes_eq-Decides s.network a.facts.network).0 two.0, (bytes_eq-Decides s.code a.facts.station).0 two.1)
-
--- Stations of one arrival have the same codes.
-of-both : (s t : Station) (a : Arrival) → is_of s a ≡ true → is_of t a ≡ true → SameCodes s t
-of-both s t a p q = let x = of-codes s a p in let y = of-codes t a q in (x.0 ∙ sym y.0, x.1 ∙ sym y.1)
 
 past : (es : List Entry) (k : ℕ) → length es ≤ k → station_at es k ≡ nowhere
 past [] k low = refl
@@ -47,10 +36,10 @@ one-place es distinct j k a within some p q =
     elim (leb_tells (length es) j) [
       | inl y ↦
           let gone_ : station_at es j ≡ nowhere = past es j y.1 in
-          let same = of-both (station_at es j) (station_at es k) a p q in
+          let same = same_codes (station_at es j) (station_at es k) a p q in
           let none : length (station_at es k).network ≡ 0 = ap length (sym same.0 ∙ ap (λ (s : Station). s.network) gone_) in
           absurd (omega (arith, none))
-      | inr n ↦ ap (station_at es) (distinct j k (omega arith) within (of-both (station_at es j) (station_at es k) a p q))
+      | inr n ↦ ap (station_at es) (distinct j k (omega arith) within (same_codes (station_at es j) (station_at es k) a p q))
     ]
 
 -- Where something is held and wanted, some request is of its station.
@@ -93,7 +82,7 @@ packet-next config h cs q number x distinct arrived e =
 -- A record that is held at a place of a station's ring is an arrival there.
 pub arrived-there : ((s : Station) (h : List Arrival) (place : ℕ) (x : Held) → 1 ≤ s.capacity → held_at (ring_of s h) place ≡ Some x → IsArrival s h (ring_number (ring_of s h) place) x) → (config : Config) (h : List Arrival) (rings : Holdings) (station place : ℕ) (r : Holding) (x : Held) → rings ≡ holdings_of config h → slice_get rings.rings station ≡ Some r → 1 ≤ r.capacity → held_at r place ≡ Some x → (IsPlace config station → 1 ≤ length (station_at config.entries station).network) → IsArrived config h (ring_number r place) x
 arrived-there law config h rings station place r x holds there some held network =
-    let is : r ≡ ring_of (station_at config.entries station) h = ring-there config h rings station r holds there in
+    let is : r ≡ ring_of (station_at config.entries station) h = ring_is config h station rings r holds (sym there) in
     let within : station < length config.entries = ring-within config h rings station r holds there in
     record {
       place = station;

@@ -1,11 +1,10 @@
-use Rattle.std.proofs.Common.{◌≡◌, subst, arith, Some, None, length, IfSome}
+use Rattle.std.proofs.Common.{◌≡◌, subst, None, length}
 use Rattle.std.specs.List.{refill}
-use Rattle.protocol.specs.Session.{act_multi, current_choice, select_multi, ok_line, error_line}
+use Rattle.protocol.specs.Session.{current_choice, select_multi, ok_line}
 use Rattle.protocol.specs.Session.Negotiated.{Multi}
 use Rattle.protocol.specs.Session.Outcome.{Stays}
 use Rattle.session_state.specs.Naming.{Naming}
-use Rattle.session_state.specs.Choices.{action_value, choices_in}
-use Rattle.session_state.specs.Changes.{selecting_in}
+use Rattle.session_state.specs.Choices.{choices_in}
 use Rattle.session_state.proofs.Choosing.{cleared, current-within}
 use Rattle.session_state.proofs.choices.Named.clear.Goals as goal
 

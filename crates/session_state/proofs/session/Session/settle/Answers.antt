@@ -1,4 +1,4 @@
-use Rattle.std.proofs.Common.{◌≡◌, ap, sym, ◌∙◌, false}
+use Rattle.std.proofs.Common.{ap, sym, ◌∙◌}
 use Rattle.protocol.specs.Client.{reads}
 use Rattle.session_state.specs.Sessions.{Sitting, client_in}
 use Rattle.session_state.proofs.Settling.{settle-step, settles, read_on-nothing, read_on-stopped}
