@@ -145,8 +145,8 @@ word_of text = if nat_le 1 (length text) then Some text else None
 abbrev pub location_of : List ℕ → Option (List ℕ)
 location_of word = if bytes_eq word (codes "--") then Some [] else word_of word
 
--- The fields of which a line says the codes, the start and the count of samples: the first record, of quality D, with 100
--- samples a second, of the encoding 11, in big order, without data.
+-- The fields of which a line says the codes, the start and the count of samples. The others are the same for each line: the
+-- sequence number 1, the quality D, 100 samples a second, the encoding 11, big order, no further blockette and no data.
 abbrev pub fields_told : (network station location channel : List ℕ) → Start → (samples : ℕ) → Fields
 fields_told network station location channel start samples =
     record {
