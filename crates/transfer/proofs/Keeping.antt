@@ -1,5 +1,5 @@
 -- The first arrivals that requests want are kept, one after the other.
-use Rattle.std.proofs.Common.{◌≡◌, ℕ, ◌+◌, ◌<◌, ◌≤◌, zero, suc, List, [], ◌∷◌, length, map, filter_map, Option, Some, None, unwrap_or, slice_get, slice_index_or, All, refl, sym, ap, subst, ◌∙◌, arith}
+use Rattle.std.proofs.Common.{◌≡◌, ℕ, ◌+◌, ◌<◌, ◌≤◌, zero, suc, List, [], ◌∷◌, length, map, filter_map, Option, Some, None, unwrap_or, slice_get, slice_index_or, refl, sym, ap, subst, ◌∙◌, arith}
 use Rattle.std.proofs.lemmas.Option.{slice_get-get_or}
 use Rattle.protocol.specs.Catalog.{Config}
 use Rattle.protocol.specs.History.{Arrival}

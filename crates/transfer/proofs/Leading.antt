@@ -1,9 +1,9 @@
 -- What an offer in a transfer leads to.
-use Rattle.std.proofs.Common.{◌≡◌, ℕ, ◌+◌, Bool, true, false, ◌&&◌, if◌then◌else◌, List, [], ◌∷◌, ◌++◌, filter_map, length, drop, drop-cons, get_or, add-one, suc, ◌<◌, Option, Some, None, codes, refl, sym, ap, ap₂, subst, ◌∙◌}
+use Rattle.std.proofs.Common.{◌≡◌, ℕ, ◌+◌, Bool, true, false, ◌&&◌, if◌then◌else◌, List, [], ◌∷◌, filter_map, length, drop, drop-cons, get_or, add-one, suc, ◌<◌, Option, Some, None, codes, refl, sym, ap, subst, ◌∙◌}
 use Rattle.std.specs.List.{list_all}
 use Rattle.protocol.specs.Packet.{packet}
 use Rattle.protocol.specs.Catalog.{Config}
-use Rattle.protocol.specs.History.{Arrival, Request, next, is_over, is_over_by}
+use Rattle.protocol.specs.History.{Arrival, Request, next, is_over}
 use Rattle.protocol.specs.Client.{Client, chosen, filled_in, is_nothing, offered, packet_of}
 use Rattle.protocol.specs.Client.State.{Transfer as ClientTransfer, Ending as ClientEnding}
 use Rattle.protocol.proofs.Found.{both}
@@ -13,10 +13,10 @@ use Rattle.session_state.specs.declared.choices.Action.{Action}
 use Rattle.session_state.specs.declared.choices.Action.TheVariants.{Data, Fetch, Time}
 use Rattle.session_state.specs.declared.choices.Choice.{Choice}
 use Rattle.session_state.specs.declared.session.State.TheVariants.{Transfer, Ending}
-use Rattle.session_state.specs.Choices.{chosen_of, request_in, request_with}
+use Rattle.session_state.specs.Choices.{chosen_of, request_in}
 use Rattle.session_state.specs.Sessions.{Sitting, client_in}
 use Rattle.transfer.specs.declared.choosing.Chosen.{Chosen}
-use Rattle.transfer.specs.declared.choosing.Chosen.TheVariants.{Packet, Nothing, Complete}
+use Rattle.transfer.specs.declared.choosing.Chosen.TheVariants.{Nothing, Complete}
 use Rattle.transfer.specs.Choosing.{answer_of, is_over_of, IsArrived}
 use Rattle.transfer.proofs.Packets.{packet-next}
 

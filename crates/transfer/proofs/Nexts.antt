@@ -1,5 +1,5 @@
 -- What comes next for named stations, by what their rings hold.
-use Rattle.std.proofs.Common.{◌≡◌, ℕ, ◌+◌, ◌-◌, ◌<◌, ◌≤◌, zero, suc, Bool, true, false, ◌&&◌, nat_lt, List, [], ◌∷◌, ◌++◌, length, map, drop, take, Option, Some, None, IfSome, option_map, filter_map, slice_get, unwrap_or, get_or, add-one, refl, sym, ap, ap₂, subst, ◌∙◌, arith}
+use Rattle.std.proofs.Common.{◌≡◌, ℕ, ◌+◌, ◌-◌, ◌<◌, zero, suc, Bool, true, false, ◌&&◌, List, [], ◌∷◌, ◌++◌, length, map, take, Option, Some, None, option_map, filter_map, slice_get, unwrap_or, get_or, add-one, refl, sym, ap, ap₂, ◌∙◌, arith}
 use Rattle.std.specs.Prelude.{find, is_some, nat_le}
 use Rattle.std.proofs.lemmas.Bool.Decides.{nat_tests}
 use Rattle.std.proofs.Math.Seq.{take-suc}
@@ -7,14 +7,14 @@ use Rattle.std.proofs.lemmas.Option.{slice_get-map}
 use Rattle.std.proofs.lemmas.List.{drop_all}
 use Rattle.std.proofs.lemmas.List.Elements.{filter_map-append}
 use Rattle.protocol.specs.Catalog.{Config, Station, Entry}
-use Rattle.protocol.specs.History.{Arrival, Request, first_position, next, is_held}
+use Rattle.protocol.specs.History.{Arrival, first_position, next, is_held}
 use Rattle.catalog.specs.Places.{station_at, nowhere}
 use Rattle.station_ring.specs.declared.held.Held.{Held}
 use Rattle.station_ring.specs.Rings.{Holding, last_of}
 use Rattle.held_records.specs.Holdings.{Holdings, holdings_of, held_of, ring_of, arrivals_of}
 use Rattle.session_state.specs.declared.choices.Action.{Action}
 use Rattle.session_state.specs.declared.choices.Choice.{Choice}
-use Rattle.session_state.specs.Choices.{request_in, request_with}
+use Rattle.session_state.specs.Choices.{request_in}
 use Rattle.transfer.specs.Wanting.{wants_held}
 use Rattle.transfer.specs.Choosing.{least_of, comes_before}
 use Rattle.transfer.proofs.Positions.{next-none, next-append}

@@ -1,5 +1,5 @@
 -- The packet of the record that comes next.
-use Rattle.std.proofs.Common.{◌≡◌, ℕ, ◌<◌, ◌≤◌, Bool, true, false, ◌&&◌, ◌||◌, List, [], ◌∷◌, ◌++◌, length, drop, Option, Some, None, option_map, filter_map, slice_get, unwrap_or, refl, sym, ap, ap₂, subst, ◌∙◌, arith, nat_le, zero, suc, inl, inr}
+use Rattle.std.proofs.Common.{◌≡◌, ℕ, ◌<◌, ◌≤◌, Bool, true, false, ◌&&◌, List, [], ◌∷◌, length, Option, Some, None, option_map, filter_map, slice_get, unwrap_or, refl, sym, ap, ap₂, subst, ◌∙◌, arith, nat_le, zero, suc, inl, inr}
 use Rattle.transfer.proofs.Positions.{Test, first_from}
 use Rattle.std.specs.List.{list_any}
 use Rattle.std.specs.Str.{bytes_eq}
@@ -7,7 +7,7 @@ use Rattle.std.proofs.lemmas.Bool.Decides.{leb_tells}
 use Rattle.std.proofs.lemmas.Slice.Eq.{bytes_eq-Decides}
 use Rattle.protocol.specs.Packet.{packet}
 use Rattle.protocol.specs.Catalog.{Config, Station, Entry}
-use Rattle.protocol.specs.History.{Arrival, Request, first_position, next, is_of, is_held, wants, holds_and_wants, number_at}
+use Rattle.protocol.specs.History.{Arrival, Request, next, is_of, holds_and_wants, number_at}
 use Rattle.protocol.specs.Client.{packet_for, packet_of}
 use Rattle.protocol.proofs.Found.{both, Found, first_position_found}
 use Rattle.protocol.proofs.Places.{slice_get-seam}
@@ -18,7 +18,7 @@ use Rattle.held_records.specs.Holdings.{Holdings, holdings_of, ring_of, IsArriva
 use Rattle.transfer.proofs.Nexts.{ring-there, ring-within}
 use Rattle.session_state.specs.declared.choices.Action.{Action}
 use Rattle.session_state.specs.declared.choices.Choice.{Choice}
-use Rattle.session_state.specs.Choices.{request_in, request_with}
+use Rattle.session_state.specs.Choices.{request_in}
 use Rattle.transfer.specs.Choosing.{IsArrived}
 
 both-of : (a b : Bool) → (a && b) ≡ true → (a ≡ true) × (b ≡ true)

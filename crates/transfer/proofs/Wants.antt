@@ -1,10 +1,10 @@
 -- What one request wants of a ring.
-use Rattle.std.proofs.Common.{◌≡◌, ℕ, ◌-◌, ◌≤◌, Bool, true, false, ◌&&◌, ◌||◌, nat_le, List, [], ◌∷◌, drop, Option, Some, None, option_map, filter_map, refl, sym, ap, ◌∙◌, arith}
+use Rattle.std.proofs.Common.{◌≡◌, ℕ, Bool, true, false, ◌&&◌, ◌||◌, nat_le, List, [], ◌∷◌, drop, Some, None, option_map, refl, sym, ap, ◌∙◌}
 use Rattle.std.specs.Prelude.{find}
 use Rattle.std.specs.List.{list_any}
 use Rattle.protocol.specs.Record.{Facts}
 use Rattle.protocol.specs.Catalog.{Config, Station}
-use Rattle.protocol.specs.History.{Arrival, Request, first_position, next, holds_and_wants, is_held, is_of, is_in_window, ends_from, starts_by, wants, Action as ProtocolAction}
+use Rattle.protocol.specs.History.{Arrival, Request, first_position, next, holds_and_wants, is_held, is_of, is_in_window, Action as ProtocolAction}
 use Rattle.protocol.specs.History.Action.{Data as DataAction, Fetch as FetchAction, Time as TimeAction}
 use Rattle.protocol.specs.Pattern.{passes}
 use Rattle.catalog.specs.Places.{station_at}
@@ -12,7 +12,7 @@ use Rattle.station_ring.specs.declared.held.Held.{Held}
 use Rattle.held_records.specs.Holdings.{held_of, ring_of, summary_of}
 use Rattle.session_state.specs.declared.choices.Action.{Action}
 use Rattle.session_state.specs.declared.choices.Choice.{Choice}
-use Rattle.session_state.specs.Choices.{action_value, request_in, request_with}
+use Rattle.session_state.specs.Choices.{action_value}
 use Rattle.transfer.specs.Wanting.{facts_of, is_in_window_of, wants_held}
 use Rattle.transfer.proofs.Positions.{same_first, first_from}
 

@@ -1,6 +1,5 @@
 -- What an offer in a transfer leads to.
 use Rattle.std.specs.Prelude.{◌≡◌, ℕ, ◌<◌, ◌≤◌, Bool, true, false, if◌then◌else◌, nat_le, nat_lt, List, length, Option, Some, None, slice_get}
-use Rattle.std.specs.List.{list_all}
 use Rattle.protocol.specs.Catalog.{Config, Station}
 use Rattle.protocol.specs.History.{Arrival, is_over_by}
 use Rattle.held_records.specs.Holdings.{Holdings, IsArrival}
@@ -8,7 +7,6 @@ use Rattle.station_ring.specs.Rings.{Holding}
 use Rattle.transfer.specs.Wanting.{HoldsRecord}
 use Rattle.catalog.specs.Places.{station_at}
 use Rattle.session_state.specs.declared.choices.Action.{Action}
-use Rattle.session_state.specs.declared.choices.Choice.{Choice}
 use Rattle.session_state.specs.Choices.{action_value}
 use Rattle.session_state.specs.declared.session.State.{State}
 use Rattle.session_state.specs.declared.session.State.TheVariants.{Transfer}

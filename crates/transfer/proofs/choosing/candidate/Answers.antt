@@ -1,4 +1,4 @@
-use Rattle.std.proofs.Common.{◌≡◌, ◌∙◌, ap, sym, Some, None, option_map}
+use Rattle.std.proofs.Common.{◌∙◌, ap, sym, option_map}
 use Rattle.transfer.proofs.Nexts.{first-comes, nothing-asked, nowhere-comes}
 use Rattle.transfer.proofs.choosing.candidate.Goals as goal
 

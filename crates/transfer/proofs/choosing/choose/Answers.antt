@@ -1,6 +1,6 @@
-use Rattle.std.proofs.Common.{◌≡◌, ◌∙◌, ◌++◌, List, [], ◌∷◌, Some, None, ap, sym, subst, arith, length, filter_map}
+use Rattle.std.proofs.Common.{◌≡◌, Some, None, sym, subst, filter_map}
 use Rattle.protocol.specs.History.{next}
-use Rattle.session_state.specs.Choices.{chosen_of, request_in}
+use Rattle.session_state.specs.Choices.{request_in}
 use Rattle.transfer.proofs.Leading.{leads-to-packet, leads-on}
 use Rattle.transfer.proofs.Packets.{arrived-there}
 use Rattle.transfer.proofs.choosing.choose.Goals as goal

@@ -1,4 +1,4 @@
-use Rattle.std.proofs.Common.{◌≡◌, ◌∙◌, List, [], ap, sym, Some, None, Option, IfSome, ◌≤◌, length, subst, option_map, take, filter_map}
+use Rattle.std.proofs.Common.{◌∙◌, ap, sym, Some, None, Option, IfSome, ◌≤◌, length, subst, option_map, filter_map}
 use Rattle.catalog.specs.Places.{station_at, IsPlace}
 use Rattle.transfer.specs.declared.wanting.Candidate.{Candidate}
 use Rattle.transfer.specs.Choosing.{HoldsThere}

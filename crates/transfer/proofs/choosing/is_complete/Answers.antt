@@ -1,4 +1,4 @@
-use Rattle.std.proofs.Common.{◌≡◌, ◌∙◌, ◌≤◌, ◌&&◌, ◌+◌, List, [], true, false, ap, sym, arith, refl, drop, filter_map, length}
+use Rattle.std.proofs.Common.{◌∙◌, ◌&&◌, ◌+◌, ap, sym, refl, drop, filter_map}
 use Rattle.std.specs.List.{list_all}
 use Rattle.std.proofs.lemmas.List.{drop_all}
 use Rattle.protocol.specs.History.{is_over}

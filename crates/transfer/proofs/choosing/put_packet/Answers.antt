@@ -1,4 +1,4 @@
-use Rattle.std.proofs.Common.{◌≡◌, ◌∙◌, ◌<◌, ◌^◌, Some, ap, sym, subst, arith, unwrap_or}
+use Rattle.std.proofs.Common.{◌≡◌, ◌∙◌, ◌<◌, Some, ap, sym, subst, arith, unwrap_or}
 use Rattle.station_ring.specs.Rings.{Holding, held_at}
 use Rattle.transfer.proofs.Scanning.{held-below}
 use Rattle.transfer.proofs.choosing.put_packet.Goals as goal

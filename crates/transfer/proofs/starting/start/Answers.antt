@@ -1,4 +1,4 @@
-use Rattle.std.proofs.Common.{◌≡◌, ◌∙◌, ◌+◌, ◌<◌, ◌≤◌, arith, length, slice_index_or, subst}
+use Rattle.std.proofs.Common.{◌≡◌, ◌∙◌, ◌<◌, ◌≤◌, arith, length, slice_index_or, subst}
 use Rattle.session_state.specs.Choices.{chosen_of}
 use Rattle.transfer.proofs.Keeping.{has-firsts, keeps-on, one-first}
 use Rattle.transfer.proofs.starting.start.Goals as goal

@@ -1,4 +1,4 @@
-use Rattle.std.proofs.Common.{◌≡◌, None, ap, arith, option_map, sym, ◌∙◌, find}
+use Rattle.std.proofs.Common.{ap, arith, option_map, sym}
 use Rattle.transfer.specs.Wanting.{wants_held}
 use Rattle.transfer.proofs.Scanning.{scans-first, scans-none, told-found, told-none}
 use Rattle.transfer.proofs.wanting.first_wanted_in.Goals as goal
