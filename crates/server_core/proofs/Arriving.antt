@@ -69,6 +69,7 @@ refused config r fault e = by (header_of r) e
     unknown : (x : Facts) (o : Option ℕ) → place_of config x ≡ o → place_or_unknown o ≡ Err fault → is_configured config x ≡ false
     unknown x None none q = none-passes (λ y. has_codes x.network x.station y.station) config.entries none
     unknown x (Some place) some q = absurd cc
+
     by : (q : Result Facts RecordFault) → placed_by config q ≡ Err fault → arrival_with config r q ≡ None
     by (Err f) q = refl
     by (Ok x) q = ap (λ b. if b then Some (arrival_of r x) else None) (unknown x (place_of config x) refl q)
@@ -102,10 +103,13 @@ arrive-stands old new r place summary is same kept distinct settled arrives conf
   where
     a : Arrival
     a = arrival_of r is.facts
+
     holds : new.rings ≡ holdings_of old.config (w.history ++ a ∷ [])
     holds = arrives old.config w.history a stands.holds distinct (place-there old.config is.facts place is.at).1 refl is.kept
+
     later : (k : ℕ) → seated old.config (w.history ++ a ∷ []) (slice_get old.sessions k) ≡ seated old.config w.history (slice_get old.sessions k)
     later k = seated-later old.config w.history (w.history ++ a ∷ []) (slice_get old.sessions k) (λ s e. (settled k s e).started)
+
     there : StandsAt new old.config (record w { history = w.history ++ a ∷ [] })
     there = record {
       config_is = same;
@@ -113,6 +117,7 @@ arrive-stands old new r place summary is same kept distinct settled arrives conf
       count = ap length kept ∙ stands.count;
       clients = λ k. ap (λ l. seated old.config (w.history ++ a ∷ []) (slice_get l k)) kept ∙ later k ∙ ap (λ g. seated g w.history (slice_get old.sessions k)) stands.config_is ∙ stands.clients k;
     }
+
     here : StandsAt new old.config (step old.config w (Arrive r))
     here = subst (λ o. StandsAt new old.config (record w { history = arrived w.history o })) (sym (accepted-there old.config r place summary is)) there
 

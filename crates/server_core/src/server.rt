@@ -123,7 +123,14 @@ impl Server {
         ensures taken { IfOk result (λ x. (config : ProtocolConfig) (w : World) → StandsAt self.old config w → taken_value x ≡ taken_by w.history (client_of (slice_get w.connections number)) count) }
     {
         if number < self.sessions.len() {
-            let handing = seats::take_at(alloc, &self.config, &self.rings, &mut self.sessions, number, count)?;
+            let handing = seats::take_at(
+                alloc,
+                &self.config,
+                &self.rings,
+                &mut self.sessions,
+                number,
+                count,
+            )?;
             Ok(handing)
         } else {
             Ok(Handing {

@@ -14,8 +14,8 @@ use crate::client::{Offer, Refusal};
 use catalog::Config;
 use held_records::Rings;
 use session_state::{Session, Settled, State};
-use transfer::{choose, start};
 use std::alloc::{AllocError, Global};
+use transfer::{choose, start};
 
 /// A session that settled goes on with its transfer, where one is to start.
 #[tactic(auto, using(crate::proofs::Offering::proceed_lemmas))]

@@ -5,8 +5,11 @@ use std::alloc::Global;
 use std::net::Ipv4Addr;
 use std::test::Fail;
 
+mod arrivals;
 mod commands;
 mod stations;
+mod steps;
+mod transfers;
 
 const GREETING: &[u8] = b"SeedLink v3.0 (station access)\r\nTest Centre\r\n";
 
@@ -147,7 +150,7 @@ fn each_split_of_a_dialogue_is_answered_alike(rt: HostRuntime) -> Result<(), Fai
 #[test]
 fn a_piece_that_has_no_room_is_refused_whole(rt: HostRuntime) -> Result<(), Fail> {
     let alloc = rt.alloc();
-    let mut server = Server::new(alloc, config(alloc)?);
+    let mut server = Server::new(alloc, config(alloc)?)?;
     let client = server.open(alloc, inside())?;
     let many = [b'A'; 1025];
     server.receive(client, b"HELLO\r")?;
@@ -162,7 +165,7 @@ fn a_piece_that_has_no_room_is_refused_whole(rt: HostRuntime) -> Result<(), Fail
 #[test]
 fn a_client_that_closed_is_gone(rt: HostRuntime) -> Result<(), Fail> {
     let alloc = rt.alloc();
-    let mut server = Server::new(alloc, config(alloc)?);
+    let mut server = Server::new(alloc, config(alloc)?)?;
     let first = server.open(alloc, inside())?;
     let second = server.open(alloc, outside())?;
     assert_eq!(rt; second.number(), 1);

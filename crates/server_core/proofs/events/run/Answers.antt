@@ -36,9 +36,10 @@ returns-clause-misses c = λ k.
     let none : map event_value (drop c.loop-event.event-index c.args.events.now) ≡ [] = grind (arith, common_steps) in
     let es = map event_value c.args.events.now in
     let v = own_view c.args.config es k in
-    let own = seen c.args.config es k in
-    (misses_alone v own,
-    subst (λ hs. HandsItsChoices (arrivals own) (client_after v own) (offers v own) (bytes_since v own (handed_to k hs))) (sym (ends-well c.args.config c.loop-event.server _ _ _ none c.loop-event.invariant)) (hands_seen c.args.config es k))
+    let own = seen c.args.config es k in (
+      misses_alone v own,
+      subst (λ hs. HandsItsChoices (arrivals own) (client_after v own) (offers v own) (bytes_since v own (handed_to k hs))) (sym (ends-well c.args.config c.loop-event.server _ _ _ none c.loop-event.invariant)) (hands_seen c.args.config es k),
+    )
 
 pub returns-clause-keeps_up : goal.returns-clause-keeps_up
 returns-clause-keeps_up c = λ k keeps.

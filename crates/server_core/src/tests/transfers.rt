@@ -1,0 +1,378 @@
+//! Transfers: records arrive, and clients take them.
+use super::steps::Step::{Arrives, Inside, Outside, Sends, Takes};
+use super::steps::Wanted::{Ended, Packet, Rest, Text};
+use super::steps::{
+    END, ERROR, NOTHING, OK, Record, Step, differing_take, events_of, made, packets,
+};
+use super::{CENTRE, inside, joined, outside};
+use crate::{Event, Handed, run};
+use catalog::Config;
+use std::alloc::Global;
+use std::test::Fail;
+
+/// Transfers in uni-station mode.
+const UNI: [&[Step]; 5] = [
+    // The first station that the client sees is not the first of the catalogue.
+    &[
+        Outside,
+        Sends(0, b"DATA\r"),
+        Takes(0, 520, NOTHING),
+        Arrives(Record::Forest(1)),
+        Arrives(Record::Island(1)),
+        Takes(0, 520, Packet(b"FFFFFE", Record::Forest(1))),
+        Takes(0, 520, NOTHING),
+    ],
+    // The number after FFFFFF is 0; one that was overwritten stands for the oldest held record.
+    &[
+        Arrives(Record::Forest(1)),
+        Arrives(Record::Forest(2)),
+        Arrives(Record::Forest(3)),
+        Outside,
+        Sends(0, b"FETCH 0\r"),
+        Takes(0, 520, Packet(b"000000", Record::Forest(3))),
+        Takes(0, 520, END),
+        Takes(0, 520, Ended),
+        Outside,
+        Sends(1, b"FETCH FFFFFE\r"),
+        Takes(1, 520, Packet(b"FFFFFF", Record::Forest(2))),
+        Takes(1, 520, Packet(b"000000", Record::Forest(3))),
+        Takes(1, 520, END),
+        Takes(1, 520, Ended),
+        Outside,
+        Sends(2, b"DATA 1\r"),
+        Takes(2, 520, NOTHING),
+        Arrives(Record::Forest(4)),
+        Takes(2, 520, Packet(b"000001", Record::Forest(4))),
+        Takes(2, 520, NOTHING),
+    ],
+    // What waits is still handed in the end.
+    &[
+        Outside,
+        Sends(0, b"DATA\r"),
+        Takes(0, 520, NOTHING),
+        Arrives(Record::Forest(1)),
+        Arrives(Record::Forest(2)),
+        Takes(0, 1, Text(b"S")),
+        Sends(0, b"BYE\r"),
+        Takes(0, 520, Rest(b"FFFFFE", Record::Forest(1))),
+        Takes(0, 520, Ended),
+    ],
+    // In a transfer nothing is asked.
+    &[
+        Inside,
+        Sends(0, b"INFO ID\r"),
+        Takes(0, 520, ERROR),
+        Sends(0, b"DATA\r"),
+        Takes(0, 520, NOTHING),
+        Sends(0, b"INFO ID\r"),
+        Takes(0, 520, NOTHING),
+    ],
+    // From a number or from a moment on.
+    &[
+        Arrives(Record::Forest(1)),
+        Arrives(Record::Forest(2)),
+        Outside,
+        Sends(0, b"DATA FFFFFF\r"),
+        Takes(0, 520, Packet(b"FFFFFF", Record::Forest(2))),
+        Takes(0, 520, NOTHING),
+        Outside,
+        Sends(1, b"DATA FFFFFE 2024,2,29,0,0,2\r"),
+        Takes(1, 520, Packet(b"FFFFFF", Record::Forest(2))),
+        Takes(1, 520, NOTHING),
+    ],
+];
+
+/// Windows of time.
+const TIME: [&[Step]; 2] = [
+    // A day that is not there; and a window that a held record is behind.
+    &[
+        Inside,
+        Sends(0, b"TIME 2024,2,30\r"),
+        Takes(0, 520, ERROR),
+        Arrives(Record::IslandLate),
+        Sends(0, b"TIME 2024,2,29 2024,2,29,0,0,10\r"),
+        Takes(0, 520, END),
+        Takes(0, 520, Ended),
+    ],
+    // A window stays open until a record behind it arrives.
+    &[
+        Inside,
+        Arrives(Record::Island(1)),
+        Sends(0, b"TIME 2024,2,29 2024,2,29,0,0,10\r"),
+        Takes(0, 520, Packet(b"000000", Record::Island(1))),
+        Takes(0, 520, NOTHING),
+        Arrives(Record::IslandLate),
+        Takes(0, 520, END),
+        Takes(0, 520, Ended),
+    ],
+];
+
+/// Transfers in multi-station mode.
+const MULTI: [&[Step]; 3] = [
+    // A packet that waits is kept, whatever arrives.
+    &[
+        Outside,
+        Sends(0, b"STATION APE XX\r"),
+        Takes(0, 520, OK),
+        Sends(0, b"DATA\r"),
+        Takes(0, 520, OK),
+        Sends(0, b"END\r"),
+        Arrives(Record::Vault(1)),
+        Takes(0, 0, NOTHING),
+        Arrives(Record::Vault(2)),
+        Takes(0, 520, Packet(b"000000", Record::Vault(1))),
+        Takes(0, 520, Packet(b"000001", Record::Vault(2))),
+    ],
+    // One that does not wait is overwritten.
+    &[
+        Outside,
+        Sends(0, b"STATION APE XX\r"),
+        Takes(0, 520, OK),
+        Sends(0, b"DATA\r"),
+        Takes(0, 520, OK),
+        Sends(0, b"END\r"),
+        Takes(0, 520, NOTHING),
+        Arrives(Record::Vault(1)),
+        Arrives(Record::Vault(2)),
+        Takes(0, 520, Packet(b"000001", Record::Vault(2))),
+        Takes(0, 520, NOTHING),
+    ],
+    // A station that is named again keeps its patterns, and one without an action is not asked for.
+    &[
+        Arrives(Record::Forest(1)),
+        Arrives(Record::ForestNorth(2)),
+        Outside,
+        Sends(0, b"STATION WLF GE\r"),
+        Takes(0, 520, OK),
+        Sends(0, b"SELECT BHZ\r"),
+        Takes(0, 520, OK),
+        Sends(0, b"STATION APE XX\r"),
+        Takes(0, 520, OK),
+        Sends(0, b"STATION WLF GE\r"),
+        Takes(0, 520, OK),
+        Sends(0, b"FETCH\r"),
+        Takes(0, 520, OK),
+        Sends(0, b"END\r"),
+        Takes(0, 520, Packet(b"FFFFFE", Record::Forest(1))),
+        Takes(0, 520, END),
+        Takes(0, 520, Ended),
+    ],
+];
+
+#[test]
+fn each_take_hands_what_is_wanted(rt: HostRuntime) -> Result<(), Fail> {
+    let alloc = rt.alloc();
+    for rows in [UNI.as_slice(), TIME.as_slice(), MULTI.as_slice()] {
+        for (row, steps) in rows.iter().enumerate() {
+            assert_eq!(rt; differing_take(alloc, CENTRE, steps)?, None, "in row {row}");
+        }
+    }
+    Ok(())
+}
+
+/// A client asks for two stations; two records of each arrive.
+const BOTH: [Step; 14] = [
+    Inside,
+    Sends(0, b"STATION APE GE\r"),
+    Takes(0, 520, OK),
+    Sends(0, b"DATA\r"),
+    Takes(0, 520, OK),
+    Sends(0, b"STATION WLF GE\r"),
+    Takes(0, 520, OK),
+    Sends(0, b"DATA\r"),
+    Takes(0, 520, OK),
+    Sends(0, b"END\r"),
+    Arrives(Record::Island(1)),
+    Arrives(Record::Forest(1)),
+    Arrives(Record::Island(2)),
+    Arrives(Record::Forest(2)),
+];
+
+/// The events of that client, which takes a byte at a time.
+fn both_by_bytes(alloc: Global) -> Result<Vec<Event>, Fail> {
+    let mut events = events_of(alloc, &BOTH)?;
+    for _ in 0..2081 {
+        events.push(Event::Take(0, 1))?;
+    }
+    Ok(events)
+}
+
+/// What that client is handed: four replies, and four packets of a byte a take.
+fn both_wanted(alloc: Global) -> Result<Vec<u8>, Fail> {
+    let mut all = b"OK\r\nOK\r\nOK\r\nOK\r\n".to_vec(alloc)?;
+    let sent = packets(
+        alloc,
+        &[
+            (b"000000", Record::Island(1)),
+            (b"FFFFFE", Record::Forest(1)),
+            (b"000001", Record::Island(2)),
+            (b"FFFFFF", Record::Forest(2)),
+        ],
+    )?;
+    all.extend_from_slice(sent.as_slice())?;
+    Ok(all)
+}
+
+#[test]
+fn two_stations_are_sent_by_arrival_a_byte_a_take(rt: HostRuntime) -> Result<(), Fail> {
+    let alloc = rt.alloc();
+    let events = both_by_bytes(alloc)?;
+    let handed = run(alloc, Config::read(alloc, CENTRE)?, events.as_slice())?;
+    let takes = handed.as_slice();
+    assert_eq!(rt; takes.len(), 4 + 2081);
+    assert_eq!(rt;
+        joined(alloc, takes)?.as_slice(),
+        both_wanted(alloc)?.as_slice()
+    );
+    let (before, last) = takes.split_at(4 + 2080);
+    assert_eq!(rt; joined(alloc, last)?.len(), 0);
+    assert!(rt; before[4..].iter().all(|take| take.bytes.len() == 1));
+    assert!(rt; !takes.iter().any(|take| take.ended));
+    Ok(())
+}
+
+/// A station that nobody may use.
+const SHUT: &[u8] = br#"
+[[station]]
+network = "ZZ"
+code = "SHUT"
+description = ""
+capacity = 1
+access = ""
+"#;
+
+/// What another client does behind the client's event of a place.
+fn other_event(alloc: Global, place: usize) -> Result<Option<Event>, Fail> {
+    Ok(match place {
+        0 => Some(Event::Open(outside())),
+        1 => Some(Event::Bytes(1, b"DATA\r".to_vec(alloc)?)),
+        2 => Some(Event::Open(inside())),
+        5 => Some(Event::Open(inside())),
+        8 => Some(Event::Bytes(2, b"FETCH\r".to_vec(alloc)?)),
+        9 => Some(Event::Close(3)),
+        11 => Some(Event::Take(1, 520)),
+        15 => Some(Event::Take(2, 520)),
+        20 => Some(Event::Close(1)),
+        600 => Some(Event::Close(2)),
+        _ => None,
+    })
+}
+
+/// The events of a client, with forty arrivals at the station that nobody may use, and with three other clients between them.
+fn among_others(alloc: Global, own: Vec<Event>) -> Result<Vec<Event>, Fail> {
+    let mut events = Vec::new(alloc);
+    for (place, event) in own.into_iter().enumerate() {
+        events.push(event)?;
+        if let Some(other) = other_event(alloc, place)? {
+            events.push(other)?;
+        }
+        if place < 40 {
+            events.push(Event::Arrive(made(Record::Shut(place as u16))?))?;
+        }
+    }
+    Ok(events)
+}
+
+/// All that a client is handed.
+fn handed_to(alloc: Global, takes: &[Handed], client: usize) -> Result<Vec<u8>, Fail> {
+    let mut all = Vec::new(alloc);
+    for take in takes {
+        if take.client == client {
+            all.extend_from_slice(take.bytes.as_slice())?;
+        }
+    }
+    Ok(all)
+}
+
+#[test]
+fn others_and_hidden_arrivals_change_nothing(rt: HostRuntime) -> Result<(), Fail> {
+    let alloc = rt.alloc();
+    let mut text = CENTRE.to_vec(alloc)?;
+    text.extend_from_slice(SHUT)?;
+    let events = among_others(alloc, both_by_bytes(alloc)?)?;
+    assert_eq!(rt; events.len(), 14 + 2081 + 10 + 40);
+    let handed = run(
+        alloc,
+        Config::read(alloc, text.as_slice())?,
+        events.as_slice(),
+    )?;
+    assert_eq!(rt;
+        handed_to(alloc, handed.as_slice(), 0)?.as_slice(),
+        both_wanted(alloc)?.as_slice()
+    );
+    Ok(())
+}
+
+/// A client takes a byte of the packet of the first of so many records, the others arrive, and it takes three times more.
+fn overrun(alloc: Global, count: u16) -> Result<Vec<Event>, Fail> {
+    let mut events = Vec::new(alloc);
+    events.push(Event::Open(outside()))?;
+    events.push(Event::Bytes(0, b"STATION APE XX\rDATA\rEND\r".to_vec(alloc)?))?;
+    for _ in 0..2 {
+        events.push(Event::Take(0, 520))?;
+    }
+    for number in 1..=count {
+        events.push(Event::Arrive(made(Record::Vault(number))?))?;
+        if number == 1 {
+            events.push(Event::Take(0, 1))?;
+        }
+    }
+    for _ in 0..3 {
+        events.push(Event::Take(0, 520))?;
+    }
+    Ok(events)
+}
+
+#[test]
+fn a_client_that_falls_behind_goes_on_with_what_is_held(rt: HostRuntime) -> Result<(), Fail> {
+    let alloc = rt.alloc();
+    let events = overrun(alloc, 1001)?;
+    let handed = run(alloc, Config::read(alloc, CENTRE)?, events.as_slice())?;
+    let takes = handed.as_slice();
+    let counts = [4, 4, 1, 519, 520, 0];
+    assert_eq!(rt; takes.len(), counts.len());
+    for (take, count) in takes.iter().zip(counts) {
+        assert_eq!(rt; take.bytes.len(), count);
+        assert!(rt; !take.ended);
+    }
+    let rows: [(&[u8], Record); 2] = [
+        (b"000000", Record::Vault(1)),
+        (b"0003E8", Record::Vault(1001)),
+    ];
+    assert_eq!(rt;
+        joined(alloc, &takes[2..])?.as_slice(),
+        packets(alloc, &rows)?.as_slice()
+    );
+    Ok(())
+}
+
+/// A configuration of a station that holds as many records as one may.
+const LARGE: &[u8] = br#"title = "Test Centre"
+
+[[station]]
+network = "GE"
+code = "WLF"
+description = "Forest"
+capacity = 65536
+"#;
+
+/// Three records are fetched.
+const THREE: [Step; 10] = [
+    Arrives(Record::Forest(1)),
+    Arrives(Record::Forest(2)),
+    Arrives(Record::Forest(3)),
+    Outside,
+    Sends(0, b"FETCH\r"),
+    Takes(0, 520, Packet(b"000000", Record::Forest(1))),
+    Takes(0, 520, Packet(b"000001", Record::Forest(2))),
+    Takes(0, 520, Packet(b"000002", Record::Forest(3))),
+    Takes(0, 520, END),
+    Takes(0, 520, Ended),
+];
+
+#[test]
+fn a_station_of_the_largest_capacity_is_fetched(rt: HostRuntime) -> Result<(), Fail> {
+    let alloc = rt.alloc();
+    assert_eq!(rt; differing_take(alloc, LARGE, &THREE)?, None);
+    Ok(())
+}
