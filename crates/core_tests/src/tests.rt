@@ -22,7 +22,7 @@ mod words;
 
 const SEED: u64 = 20_240_229;
 
-const LISTS: u64 = 5_000;
+const LISTS: u64 = 50_000;
 
 fn is_same(handed: &Handed, given: &Given) -> bool {
     handed.client == given.client
@@ -63,12 +63,27 @@ fn differs_after(alloc: Global, list: u64) -> Result<Option<usize>, Fail> {
     Ok(Some(steps.len()))
 }
 
+/// Prints the first steps of a list as a script of `seedlinkd replay`.
+fn show(rt: &HostRuntime, list: u64, length: usize) -> Result<(), Fail> {
+    let centre = sites::centre_of(list);
+    let steps = lists::list(rt.alloc(), Draws::new(SEED, list), centre.sites)?;
+    for step in steps.as_slice().get(..length).unwrap_or(&[]) {
+        steps::show(rt, step)?;
+    }
+    Ok(())
+}
+
 #[test]
 fn both_servers_hand_the_same(rt: HostRuntime) -> Result<(), Fail> {
     let alloc = rt.alloc();
     for list in 0..LISTS {
-        let differs = differs_after(alloc, list)?;
-        assert_eq!(rt; differs, None, "list {list} of seed {SEED}");
+        if let Some(length) = differs_after(alloc, list)? {
+            show(&rt, list, length)?;
+            assert!(rt;
+                false,
+                "list {list} of seed {SEED} differs after {length} steps"
+            );
+        }
     }
     Ok(())
 }

@@ -2,6 +2,7 @@
 use super::sites::address;
 use server_core::Event;
 use std::alloc::{AllocError, Global};
+use std::io;
 
 /// What a record says, as it was made. Times are seconds of 2024, times 10,000.
 #[derive(Clone, Copy, Drop)]
@@ -41,5 +42,32 @@ pub fn event(alloc: Global, step: &Step) -> Result<Event, AllocError> {
         Step::Take(client, count) => Ok(Event::Take(*client, *count)),
         Step::Close(client) => Ok(Event::Close(*client)),
         Step::Arrive(arrival) => Ok(Event::Arrive(arrival.bytes)),
+    }
+}
+
+fn show_bytes(rt: &HostRuntime, bytes: &[u8]) -> io::Result<()> {
+    for byte in bytes {
+        eprint!(rt; "{byte:02x}")?;
+    }
+    eprintln!(rt; "")
+}
+
+/// Prints a step as a line of a script of `seedlinkd replay`.
+pub fn show(rt: &HostRuntime, step: &Step) -> io::Result<()> {
+    match step {
+        Step::Open(place) => {
+            let from = address(*place);
+            eprintln!(rt; "open {from}")
+        }
+        Step::Bytes(client, bytes) => {
+            eprint!(rt; "bytes {client} ")?;
+            show_bytes(rt, bytes.as_slice())
+        }
+        Step::Take(client, count) => eprintln!(rt; "take {client} {count}"),
+        Step::Close(client) => eprintln!(rt; "close {client}"),
+        Step::Arrive(arrival) => {
+            eprint!(rt; "arrive-hex ")?;
+            show_bytes(rt, &arrival.bytes)
+        }
     }
 }
