@@ -1,0 +1,141 @@
+//! Random lists of steps.
+use super::draws::Draws;
+use super::sites::Site;
+use super::steps::Step;
+use super::{lines, records};
+use std::alloc::{AllocError, Global};
+
+#[derive(Drop)]
+struct Maker {
+    alloc: Global,
+    draws: Draws,
+    sites: &'static [Site],
+    /// How many clients were opened.
+    clients: usize,
+    steps: Vec<Step>,
+}
+
+impl Maker {
+    /// The number of a client; now and then one of nobody.
+    fn client(&mut self) -> usize {
+        if self.draws.is_one_of(40) {
+            self.draws.number(&[self.clients, 7, 0xFFFF_FFFF_FFFF_FFFF])
+        } else {
+            self.draws.below(self.clients)
+        }
+    }
+
+    fn add(&mut self, step: Step) -> Result<(), AllocError> {
+        self.steps.push(step)?;
+        Ok(())
+    }
+
+    fn open(&mut self) -> Result<(), AllocError> {
+        let address = self.draws.below(3);
+        self.clients = self.clients.saturating_add(1);
+        self.add(Step::Open(address))
+    }
+
+    fn arrive(&mut self) -> Result<(), AllocError> {
+        let arrival = records::arrival(&mut self.draws, self.sites);
+        self.add(Step::Arrive(arrival))
+    }
+
+    fn take(&mut self, client: usize) -> Result<(), AllocError> {
+        let count = self.draws.number(&[0, 1, 8, 520, 520, 520, 520, 1000]);
+        self.add(Step::Take(client, count))
+    }
+
+    /// Bytes in two pieces, with another step between them.
+    fn send_parted(&mut self, client: usize, bytes: &[u8]) -> Result<(), AllocError> {
+        let place = self.draws.below(bytes.len());
+        let first = bytes.get(..place).unwrap_or(b"").to_vec(self.alloc)?;
+        let rest = bytes.get(place..).unwrap_or(b"").to_vec(self.alloc)?;
+        self.add(Step::Bytes(client, first))?;
+        if self.draws.is_one_of(2) {
+            self.arrive()?;
+        } else {
+            self.take(client)?;
+        }
+        self.add(Step::Bytes(client, rest))
+    }
+
+    fn send(&mut self, client: usize, bytes: Vec<u8>) -> Result<(), AllocError> {
+        if self.draws.is_one_of(6) {
+            return self.send_parted(client, bytes.as_slice());
+        }
+        self.add(Step::Bytes(client, bytes))
+    }
+
+    fn takes(&mut self, client: usize, count: usize) -> Result<(), AllocError> {
+        for _ in 0..count {
+            self.add(Step::Take(client, 520))?;
+        }
+        Ok(())
+    }
+
+    /// Requests for up to two stations and END, mostly with takes of what is answered.
+    fn converse(&mut self, client: usize) -> Result<(), AllocError> {
+        let mut bytes = Vec::new(self.alloc);
+        for _ in 0..self.draws.number(&[1, 1, 2]) {
+            lines::request(&mut self.draws, self.sites, &mut bytes)?;
+        }
+        if !self.draws.is_one_of(6) {
+            lines::end(&mut self.draws, &mut bytes)?;
+        }
+        self.send(client, bytes)?;
+        let count = self.draws.number(&[0, 2, 3, 4, 6]);
+        self.takes(client, count)
+    }
+
+    /// Very many bytes, mostly with takes of what is answered.
+    fn flood(&mut self, client: usize) -> Result<(), AllocError> {
+        let mut bytes = Vec::new(self.alloc);
+        lines::many(&mut self.draws, &mut bytes)?;
+        self.send(client, bytes)?;
+        let count = self.draws.number(&[0, 1, 2, 18]);
+        self.takes(client, count)
+    }
+
+    /// One line, or some.
+    fn speak(&mut self, client: usize) -> Result<(), AllocError> {
+        let mut bytes = Vec::new(self.alloc);
+        for _ in 0..self.draws.number(&[1, 1, 1, 2, 4]) {
+            lines::line(&mut self.draws, self.sites, &mut bytes)?;
+        }
+        self.send(client, bytes)
+    }
+
+    fn step(&mut self) -> Result<(), AllocError> {
+        let client = self.client();
+        match self.draws.below(32) {
+            0 => self.open(),
+            1 if self.draws.is_one_of(2) => self.add(Step::Close(client)),
+            2 if self.draws.is_one_of(2) => self.flood(client),
+            3..=5 => self.converse(client),
+            6..=9 => self.speak(client),
+            10..=19 => self.arrive(),
+            _ => self.take(client),
+        }
+    }
+}
+
+/// A list of 20 to 60 steps and a few more.
+pub fn list(alloc: Global, draws: Draws, sites: &'static [Site]) -> Result<Vec<Step>, AllocError> {
+    let mut maker = Maker {
+        alloc,
+        draws,
+        sites,
+        clients: 0,
+        steps: Vec::new(alloc),
+    };
+    maker.open()?;
+    if maker.draws.is_one_of(2) {
+        maker.open()?;
+    }
+    let count = maker.draws.below(41);
+    for _ in 0..count.saturating_add(20) {
+        maker.step()?;
+    }
+    Ok(maker.steps)
+}

@@ -1,0 +1,73 @@
+//! What happens in a list, as either server is told of it.
+use super::sites::address;
+use server_core::Event;
+use std::alloc::{AllocError, Global};
+use std::io;
+
+/// What a record says, as it was made. Times are seconds of 2024, times 10,000.
+#[derive(Clone, Copy, Drop)]
+pub struct Facts {
+    pub network: &'static [u8],
+    pub code: &'static [u8],
+    pub location: &'static [u8],
+    pub channel: &'static [u8],
+    /// The type, as a letter.
+    pub kind: u8,
+    pub start: u64,
+    pub end: u64,
+}
+
+/// A record that comes. One without facts is broken.
+#[derive(Clone, Copy, Drop)]
+pub struct Arrival {
+    pub bytes: [u8; 512],
+    pub facts: Option<Facts>,
+}
+
+#[derive(Drop)]
+pub enum Step {
+    /// A client connects from one of the three addresses.
+    Open(usize),
+    Bytes(usize, Vec<u8>),
+    Take(usize, usize),
+    Close(usize),
+    Arrive(Arrival),
+}
+
+/// The step as the server is told it.
+pub fn event(alloc: Global, step: &Step) -> Result<Event, AllocError> {
+    match step {
+        Step::Open(place) => Ok(Event::Open(address(*place))),
+        Step::Bytes(client, bytes) => Ok(Event::Bytes(*client, bytes.as_slice().to_vec(alloc)?)),
+        Step::Take(client, count) => Ok(Event::Take(*client, *count)),
+        Step::Close(client) => Ok(Event::Close(*client)),
+        Step::Arrive(arrival) => Ok(Event::Arrive(arrival.bytes)),
+    }
+}
+
+fn show_bytes(rt: &HostRuntime, bytes: &[u8]) -> io::Result<()> {
+    for byte in bytes {
+        eprint!(rt; "{byte:02x}")?;
+    }
+    eprintln!(rt; "")
+}
+
+/// Prints a step as a line of a script of `seedlinkd replay`.
+pub fn show(rt: &HostRuntime, step: &Step) -> io::Result<()> {
+    match step {
+        Step::Open(place) => {
+            let from = address(*place);
+            eprintln!(rt; "open {from}")
+        }
+        Step::Bytes(client, bytes) => {
+            eprint!(rt; "bytes {client} ")?;
+            show_bytes(rt, bytes.as_slice())
+        }
+        Step::Take(client, count) => eprintln!(rt; "take {client} {count}"),
+        Step::Close(client) => eprintln!(rt; "close {client}"),
+        Step::Arrive(arrival) => {
+            eprint!(rt; "arrive-hex ")?;
+            show_bytes(rt, &arrival.bytes)
+        }
+    }
+}

@@ -1,0 +1,327 @@
+//! One client of the plain server.
+use super::history::{History, Request};
+use super::patterns::is_pattern;
+use super::words::{Action, Command, command_of};
+use std::alloc::{AllocError, Global};
+use std::collections::VecDeque;
+
+#[derive(Clone, Copy, Drop, PartialEq, Eq)]
+pub enum Stage {
+    /// It asks and is answered.
+    Asking,
+    Transfer,
+    /// The connection is to end.
+    Over,
+    Closed,
+}
+
+#[derive(Drop)]
+pub struct Visitor {
+    alloc: Global,
+    address: usize,
+    stage: Stage,
+    /// What it sent and was not read.
+    unread: VecDeque<u8>,
+    /// The begin of a line.
+    line: Vec<u8>,
+    /// What waits to be taken.
+    answers: VecDeque<Vec<u8>>,
+    is_multi: bool,
+    /// The patterns of uni-station mode.
+    patterns: Vec<Vec<u8>>,
+    requests: Vec<Request>,
+    current: Option<usize>,
+    /// What comes before this position was handed or passed over.
+    position: usize,
+}
+
+/// Adds a pattern, or takes all away; false where it is none, or there is no room.
+fn is_changed(patterns: &mut Vec<Vec<u8>>, pattern: Option<Vec<u8>>) -> Result<bool, AllocError> {
+    let Some(text) = pattern else {
+        patterns.clear();
+        return Ok(true);
+    };
+    if patterns.len() >= 16 || !is_pattern(text.as_slice()) {
+        return Ok(false);
+    }
+    patterns.push(text)?;
+    Ok(true)
+}
+
+impl Visitor {
+    pub fn new(alloc: Global, address: usize) -> Self {
+        Visitor {
+            alloc,
+            address,
+            stage: Stage::Asking,
+            unread: VecDeque::new(alloc),
+            line: Vec::new(alloc),
+            answers: VecDeque::new(alloc),
+            is_multi: false,
+            patterns: Vec::new(alloc),
+            requests: Vec::new(alloc),
+            current: None,
+            position: 0,
+        }
+    }
+
+    pub fn close(&mut self) {
+        self.stage = Stage::Closed;
+        self.answers.clear();
+    }
+
+    fn answer(&mut self, parts: &[&[u8]]) -> Result<(), AllocError> {
+        let mut line = Vec::new(self.alloc);
+        for part in parts {
+            line.extend_from_slice(part)?;
+        }
+        line.extend_from_slice(b"\r\n")?;
+        self.answers.push_back(line)?;
+        Ok(())
+    }
+
+    fn answer_whether(&mut self, is_done: bool) -> Result<(), AllocError> {
+        if is_done {
+            self.answer(&[b"OK"])
+        } else {
+            self.answer(&[b"ERROR"])
+        }
+    }
+
+    fn sees(&self, history: &History, site: usize) -> bool {
+        let site = history.sites.get(site);
+        site.is_some_and(|site| site.seen.get(self.address).copied().unwrap_or(false))
+    }
+
+    fn list(&mut self, history: &History) -> Result<(), AllocError> {
+        for (place, site) in history.sites.iter().enumerate() {
+            if self.sees(history, place) {
+                let network = b"  ".get(site.network.len()..).unwrap_or(b"");
+                let code = b"     ".get(site.code.len()..).unwrap_or(b"");
+                self.answer(&[
+                    site.network,
+                    network,
+                    b" ",
+                    site.code,
+                    code,
+                    b" ",
+                    site.description,
+                ])?;
+            }
+        }
+        self.answer(&[b"END"])
+    }
+
+    /// The first station of a code that the client may use, or the first of all where no code is given.
+    fn find(
+        &self,
+        history: &History,
+        code: Option<&[u8]>,
+        network: Option<&[u8]>,
+    ) -> Option<usize> {
+        let mut found = None;
+        for (place, site) in history.sites.iter().enumerate() {
+            let is_meant = code.is_none_or(|code| *code == *site.code)
+                && network.is_none_or(|network| *network == *site.network);
+            if found.is_none() && is_meant && self.sees(history, place) {
+                found = Some(place);
+            }
+        }
+        found
+    }
+
+    /// The place of a station among those that were named.
+    fn named(&self, site: usize) -> Option<usize> {
+        let requests = self.requests.as_slice();
+        requests.iter().position(|request| request.site == site)
+    }
+
+    fn add_request(&mut self, site: usize) -> Result<(), AllocError> {
+        self.requests.push(Request {
+            site,
+            patterns: Vec::new(self.alloc),
+            action: None,
+            from: 0,
+        })?;
+        Ok(())
+    }
+
+    fn name_station(
+        &mut self,
+        history: &History,
+        code: &[u8],
+        network: Option<&[u8]>,
+    ) -> Result<(), AllocError> {
+        self.is_multi = true;
+        self.patterns.clear();
+        let mut current = None;
+        if let Some(site) = self.find(history, Some(code), network) {
+            if self.named(site).is_none() {
+                self.add_request(site)?;
+            }
+            current = self.named(site);
+        }
+        self.current = current;
+        self.answer_whether(current.is_some())
+    }
+
+    fn select(&mut self, pattern: Option<Vec<u8>>) -> Result<(), AllocError> {
+        let mut is_done = false;
+        if !self.is_multi {
+            is_done = is_changed(&mut self.patterns, pattern)?;
+        } else if let Some(place) = self.current
+            && let Some(request) = self.requests.get_mut(place)
+        {
+            is_done = is_changed(&mut request.patterns, pattern)?;
+        }
+        self.answer_whether(is_done)
+    }
+
+    fn begin(&mut self, history: &History) {
+        self.stage = Stage::Transfer;
+        self.position = 0;
+        for request in self.requests.as_mut_slice() {
+            if let Some(action) = request.action {
+                request.from = history.first(request.site, &action);
+            }
+        }
+    }
+
+    fn act_at_once(&mut self, history: &History, action: Action) -> Result<(), AllocError> {
+        let Some(site) = self.find(history, None, None) else {
+            return self.answer_whether(false);
+        };
+        let mut patterns = Vec::new(self.alloc);
+        for pattern in self.patterns.as_slice() {
+            patterns.push(pattern.as_slice().to_vec(self.alloc)?)?;
+        }
+        self.requests.push(Request {
+            site,
+            patterns,
+            action: Some(action),
+            from: 0,
+        })?;
+        self.begin(history);
+        Ok(())
+    }
+
+    fn act(&mut self, history: &History, action: Action) -> Result<(), AllocError> {
+        if !self.is_multi {
+            return self.act_at_once(history, action);
+        }
+        let mut is_done = false;
+        if let Some(place) = self.current
+            && let Some(request) = self.requests.get_mut(place)
+        {
+            request.action = Some(action);
+            is_done = true;
+        }
+        self.answer_whether(is_done)
+    }
+
+    fn finish(&mut self, history: &History) -> Result<(), AllocError> {
+        let requests = self.requests.as_slice();
+        if requests.iter().any(|request| request.action.is_some()) {
+            self.begin(history);
+            return Ok(());
+        }
+        self.answer_whether(false)
+    }
+
+    fn obey(&mut self, history: &History, title: &[u8]) -> Result<(), AllocError> {
+        let asked = command_of(self.alloc, self.line.as_slice())?;
+        self.line.clear();
+        if self.stage == Stage::Transfer && !matches!(&asked, Command::Bye) {
+            return Ok(());
+        }
+        match asked {
+            Command::Nothing => Ok(()),
+            Command::Hello => { self.answer(&[b"SeedLink v3.0 (station access)\r\n", title]) }
+            Command::Cat => self.list(history),
+            Command::Bye => {
+                self.stage = Stage::Over;
+                Ok(())
+            }
+            Command::End => self.finish(history),
+            Command::Station(code, network) => {
+                let network = network.as_ref().map(|word| word.as_slice());
+                self.name_station(history, code.as_slice(), network)
+            }
+            Command::Select(pattern) => self.select(pattern),
+            Command::Act(action) => self.act(history, action),
+            Command::Other => self.answer_whether(false),
+        }
+    }
+
+    /// Reads on while it may: until an answer waits, and always in a transfer.
+    fn read(&mut self, history: &History, title: &[u8]) -> Result<(), AllocError> {
+        for _ in 0..self.unread.len() {
+            let is_reading = self.stage == Stage::Transfer
+                || (self.stage == Stage::Asking && self.answers.is_empty());
+            if !is_reading {
+                return Ok(());
+            }
+            match self.unread.pop_front() {
+                Some(b'\r' | b'\n') => self.obey(history, title)?,
+                Some(byte) => self.line.push(byte)?,
+                None => {}
+            }
+        }
+        Ok(())
+    }
+
+    pub fn receive(
+        &mut self,
+        history: &History,
+        title: &[u8],
+        bytes: &[u8],
+    ) -> Result<(), AllocError> {
+        if self.unread.len().saturating_add(bytes.len()) > 1024 {
+            return Ok(());
+        }
+        for byte in bytes {
+            self.unread.push_back(*byte)?;
+        }
+        self.read(history, title)
+    }
+
+    /// What waits where nothing did: a packet or the end of a transfer.
+    fn offer(&mut self, history: &History) -> Result<(), AllocError> {
+        if self.stage != Stage::Transfer || !self.answers.is_empty() {
+            return Ok(());
+        }
+        let requests = self.requests.as_slice();
+        if let Some(position) = history.next(requests, self.position) {
+            self.answers
+                .push_back(history.packet(self.alloc, position)?)?;
+            self.position = position.saturating_add(1);
+        } else if requests.iter().all(|request| history.is_ending(request)) {
+            self.answers.push_back(b"END".to_vec(self.alloc)?)?;
+            self.stage = Stage::Over;
+        }
+        Ok(())
+    }
+
+    /// At most so many of the bytes that wait, and whether the client is told the end.
+    pub fn take(
+        &mut self,
+        history: &History,
+        title: &[u8],
+        count: usize,
+    ) -> Result<(Vec<u8>, bool), AllocError> {
+        self.offer(history)?;
+        let Some(piece) = self.answers.pop_front() else {
+            let is_over = matches!(self.stage, Stage::Over | Stage::Closed);
+            return Ok((Vec::new(self.alloc), is_over));
+        };
+        let all = piece.as_slice();
+        let length = count.min(all.len());
+        let taken = all.get(..length).unwrap_or(b"").to_vec(self.alloc)?;
+        let left = all.get(length..).unwrap_or(b"");
+        if !left.is_empty() {
+            self.answers.push_front(left.to_vec(self.alloc)?)?;
+        }
+        self.read(history, title)?;
+        Ok((taken, false))
+    }
+}
