@@ -22,6 +22,6 @@ IsPlace config place = place < length config.entries
 abbrev pub SameCodes : Station → Station → Type 0
 SameCodes s t = (s.network ≡ t.network) × (s.code ≡ t.code)
 
--- no two places have such stations
+-- no station has the codes of another place's; at a place that is not there they are empty
 abbrev pub HasDistinctCodes : List Entry → Type 0
-HasDistinctCodes entries = (i j : ℕ) → i < length entries → j < length entries → SameCodes (station_at entries i) (station_at entries j) → i ≡ j
+HasDistinctCodes entries = (i j : ℕ) → i < length entries → SameCodes (station_at entries i) (station_at entries j) → i ≡ j

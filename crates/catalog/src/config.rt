@@ -146,7 +146,7 @@ impl Config {
             .position(|station| station.has_codes(network, code))
     }
 
-    /// No two of its stations have the same network and code: a call that does nothing, for its contract.
+    /// No two of its stations have the same network and code, and none has empty ones: a call that does nothing, for its contract.
     pub fn codes_are_distinct(&self)
         ensures { HasDistinctCodes self.now.entries }
     {

@@ -1,5 +1,5 @@
 //! The stations that a configuration lists.
-ghost use Rattle.std.specs.Prelude.{◌≡◌, ◌≢◌, [], length, map, IfOk, IfErr, Ok, Err, false};
+ghost use Rattle.std.specs.Prelude.{◌≡◌, ◌≢◌, ◌≤◌, [], length, map, IfOk, IfErr, Ok, Err, false};
 ghost use Rattle.std.specs.List.{list_all};
 ghost use Rattle.toml.specs.View.{table_view, view};
 ghost use Rattle.catalog.specs.Places.{HasDistinctCodes};
@@ -77,6 +77,7 @@ fn stations_read(alloc: Global, values: &[Value]) -> Result<Vec<Station>, Config
 fn station_of(alloc: Global, earlier: &[Station], value: &Value) -> Result<Station, ConfigFault>
     ensures ok { IfOk result (λ s. station_of earlier.now (view value.now) ≡ Ok s) }
     ensures apart { IfOk result (λ s. is_repeated earlier.now s.station ≡ false) }
+    ensures some { IfOk result (λ s. 1 ≤ length s.station.network) }
     ensures fault { IfErr result (λ e. e ≢ ConfigFault.OutOfMemory → station_of earlier.now (view value.now) ≡ Err e) }
 {
     let table = table_in(value)?;

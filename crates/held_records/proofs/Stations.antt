@@ -69,7 +69,7 @@ pub arrived : (es : List Entry) (place : ℕ) (h : List Arrival) (a : Arrival) �
     → slice_set (rings_of es h) place (pushed (ring_of (station_at es place) h) (held_of (length h) a)) ≡ rings_of es (h ++ a ∷ [])
 arrived es place h a distinct within is =
     rings_of-one es place h a within is
-    (λ k below apart. both (is_of (station_at es k) a) (λ y. absurd (apart (distinct k place below within (same_codes (station_at es k) (station_at es place) a y is)))) (λ n. n))
+    (λ k below apart. both (is_of (station_at es k) a) (λ y. absurd (apart (distinct k place below (same_codes (station_at es k) (station_at es place) a y is)))) (λ n. n))
 
 -- ---- the ring at a place
 

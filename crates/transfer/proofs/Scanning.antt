@@ -4,6 +4,7 @@ use Rattle.std.specs.Prelude.{find, if◌then◌else◌, ◌==◌}
 use Rattle.std.proofs.lemmas.Bool.Decides.{nat_tests}
 use Rattle.std.proofs.lemmas.List.{drop_all}
 use Rattle.protocol.proofs.Found.{both}
+use Rattle.held_records.proofs.Places.{oldest-first}
 use Rattle.station_ring.specs.declared.held.Held.{Held}
 use Rattle.station_ring.specs.Rings.{Holding, IsHolding, first_place, held_at, oldest_place}
 
@@ -44,12 +45,9 @@ pub record Scans (f : Held → Bool) (r : Holding) (place : ℕ) : Type 0 where
 
 pub scans-first : (f : Held → Bool) (r : Holding) (oldest : ℕ) → Some oldest ≡ oldest_place r → Scans f r oldest
 scans-first f r oldest e =
-    let is : oldest ≡ first_place r = by e in
+    let is : oldest ≡ first_place r = oldest-first r oldest e in
     let none : oldest - first_place r ≡ 0 = omega arith in
     record { low = omega arith; rest = ap (λ n. find f (drop n r.held)) (sym none) }
-  where
-    by : Some oldest ≡ oldest_place r → oldest ≡ first_place r
-    by q = both (length r.held == 0) (λ y. absurd (let none : Some oldest ≡ None = rw y at q in cc)) (λ n. let s : Some oldest ≡ Some (first_place r) = rw n at q in cc)
 
 pub scans-on : (f : Held → Bool) (r : Holding) (place : ℕ) (x : Held) → held_at r place ≡ Some x → f x ≡ false → Scans f r place → Scans f r (place + 1)
 scans-on f r place x there denies so_far =

@@ -1,5 +1,5 @@
 -- What an offer in a transfer leads to.
-use Rattle.std.specs.Prelude.{◌≡◌, ℕ, ◌<◌, ◌≤◌, Bool, true, false, if◌then◌else◌, nat_le, nat_lt, List, length, Option, Some, None, slice_get}
+use Rattle.std.specs.Prelude.{◌≡◌, ℕ, ◌<◌, Bool, true, false, if◌then◌else◌, nat_le, nat_lt, List, length, Option, Some, None, slice_get}
 use Rattle.protocol.specs.Catalog.{Config, Station}
 use Rattle.protocol.specs.History.{Arrival, is_over_by}
 use Rattle.held_records.specs.Holdings.{Holdings, IsArrival}
@@ -30,11 +30,10 @@ abbrev pub is_over_of : List Arrival → Station → Option Action → Bool
 is_over_of h s None = true
 is_over_of h s (Some action) = is_over_by s h (action_value action)
 
--- A held record is an arrival of some station that is there and has a network code, and has that number.
+-- A held record is an arrival of some station that is there, and has that number.
 pub record IsArrived (config : Config) (h : List Arrival) (number : ℕ) (x : Held) : Type 0 where
   pub place : ℕ
   pub is_there : place < length config.entries
-  pub has_network : 1 ≤ length (station_at config.entries place).network
   pub arrives : IsArrival (station_at config.entries place) h number x
 
 -- The ring of a station holds a record at a place, which arrived at that position.

@@ -1,10 +1,10 @@
 //! What is sent next.
-ghost use Rattle.std.specs.Prelude.{◌≡◌, ◌≢◌, ◌≤◌, ◌+◌, [], ◌∷◌, List, ℕ, length, codes, slice_get, filter_map, option_map, IfSome, Some, None, true, false};
+ghost use Rattle.std.specs.Prelude.{◌≡◌, ◌≢◌, ◌≤◌, ◌+◌, [], ◌∷◌, List, ℕ, codes, slice_get, filter_map, option_map, IfSome, Some, None, true, false};
 ghost use Rattle.std.specs.List.{list_all};
 ghost use Rattle.protocol.specs.Catalog.{Config as ProtocolConfig};
 ghost use Rattle.protocol.specs.History.{Arrival, next as next_position, is_over};
 ghost use Rattle.protocol.specs.Client.{offered};
-ghost use Rattle.catalog.specs.Places.{station_at, IsPlace};
+ghost use Rattle.catalog.specs.Places.{station_at};
 ghost use Rattle.protocol.specs.Packet.{packet};
 ghost use Rattle.station_ring.specs.declared.held.Held.{Held};
 ghost use Rattle.station_ring.specs.Rings.{Holding, held_at, number_at};
@@ -32,31 +32,17 @@ pub enum Chosen {
     Complete,
 }
 
-/// The station at a place has a network code: a call that does nothing, for its contract.
-fn has_network(config: &Config, place: usize)
-    ensures { IsPlace config.now place → 1 ≤ length (station_at config.now.entries place).network }
-{
-    match config.stations().get(place) {
-        Some(station) => {
-            let _network = station.network();
-        }
-        None => {}
-    }
-}
-
 /// The first held record of a named station that is wanted.
-fn candidate(config: &Config, choice: &Choice, rings: &Rings, next: u64) -> Option<Candidate>
-    ensures position { (h : List Arrival) → rings.now ≡ holdings_of config.now h →
-        option_map (λ c. c.position) result ≡ next_position h (filter_map (request_in config.now) (choice.now ∷ [])) next }
+fn candidate(choice: &Choice, rings: &Rings, next: u64) -> Option<Candidate>
+    ensures position { (config : ProtocolConfig) (h : List Arrival) → rings.now ≡ holdings_of config h →
+        option_map (λ c. c.position) result ≡ next_position h (filter_map (request_in config) (choice.now ∷ [])) next }
     ensures held { IfSome result (λ c. HoldsThere rings.now c.station c.place c.position) }
-    ensures network { IfSome result (λ c. IsPlace config.now c.station → 1 ≤ length (station_at config.now.entries c.station).network) }
 {
     held_in_the_ring();
     if choice.action.is_none() {
         return None;
     }
     let ring = rings.ring(choice.place)?;
-    has_network(config, choice.place);
     first_wanted_in(ring, choice, next)
 }
 
@@ -71,15 +57,14 @@ fn comes_before(position: u64, best: &Option<Candidate>) -> bool
 }
 
 /// Of all held records that some request wants, from the arrival `next` on, the one that came first.
-fn earliest(config: &Config, choices: &[Choice], rings: &Rings, next: u64) -> Option<Candidate>
-    ensures position { (h : List Arrival) → rings.now ≡ holdings_of config.now h →
-        option_map (λ c. c.position) result ≡ next_position h (filter_map (request_in config.now) choices.now) next }
+fn earliest(choices: &[Choice], rings: &Rings, next: u64) -> Option<Candidate>
+    ensures position { (config : ProtocolConfig) (h : List Arrival) → rings.now ≡ holdings_of config h →
+        option_map (λ c. c.position) result ≡ next_position h (filter_map (request_in config) choices.now) next }
     ensures held { IfSome result (λ c. HoldsThere rings.now c.station c.place c.position) }
-    ensures network { IfSome result (λ c. IsPlace config.now c.station → 1 ≤ length (station_at config.now.entries c.station).network) }
 {
     let mut best = None;
     for choice in choices {
-        if let Some(found) = candidate(config, choice, rings, next) {
+        if let Some(found) = candidate(choice, rings, next) {
             if comes_before(found.position, &best) {
                 best = Some(found);
             }
@@ -175,7 +160,7 @@ pub fn choose(session: &mut Session, config: &Config, rings: &Rings) -> Chosen
     };
     config.codes_are_distinct();
     arrivals_by_place();
-    match earliest(config, session.choices(), rings, next) {
+    match earliest(session.choices(), rings, next) {
         Some(found) => {
             put_packet(session, rings, found);
             Chosen::Packet

@@ -14,5 +14,5 @@ loop-value-preserved c =
     let more : c.push.new.self.items ≡ earlier ++ station ∷ [] = search rules in
     record {
       read = grind (arith, common_steps);
-      distinct = subst HasDistinctCodes (sym more) (distinct_more earlier station c.loop-value.invariant.distinct apart);
+      distinct = subst HasDistinctCodes (sym more) (distinct_more earlier station c.loop-value.invariant.distinct apart c.in_ok-station.ensures.some);
     }

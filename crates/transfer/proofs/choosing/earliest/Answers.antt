@@ -1,5 +1,4 @@
-use Rattle.std.proofs.Common.{◌∙◌, ap, sym, Some, None, Option, IfSome, ◌≤◌, length, subst, option_map, filter_map}
-use Rattle.catalog.specs.Places.{station_at, IsPlace}
+use Rattle.std.proofs.Common.{◌∙◌, ap, sym, Some, None, Option, IfSome, subst, option_map, filter_map}
 use Rattle.transfer.specs.declared.wanting.Candidate.{Candidate}
 use Rattle.transfer.specs.Choosing.{HoldsThere}
 use Rattle.std.proofs.lemmas.List.{take_all}
@@ -11,43 +10,37 @@ use Rattle.transfer.proofs.choosing.earliest.Goals.{in-Some+then-comes_before, i
 use Rattle.transfer.proofs.choosing.earliest.Goals as goal
 
 pub loop-choice-init : goal.loop-choice-init
-loop-choice-init c = (λ h holds. sym (next-none h c.args.next), tt, tt)
+loop-choice-init c = (λ config h holds. sym (next-none h c.args.next), tt)
 
 pub loop-choice-preserved : goal.loop-choice-preserved
 loop-choice-preserved c =
     elim c.match-candidate.branch [
       | in-Some+then-comes_before w ↦ (
-        λ h holds.
+        λ config h holds.
             ap (option_map (λ x. x.position)) w.best-is
             ∙ before-best (option_map (λ x. x.position) c.loop-choice.best) w.in-Some.found.position (sym w.comes_before.ensures ∙ w.if-comes_before.true)
-            ∙ lesser-found c.args.config.now h c.args.choices.now c.loop-choice.choice-index c.choice-item.result c.args.next (option_map (λ x. x.position) c.loop-choice.best) (Some w.in-Some.found.position) c.loop-choice-test.true c.choice-item.is (c.loop-choice.invariant.0 h holds) (w.in-Some.ensures.position h holds),
+            ∙ lesser-found config h c.args.choices.now c.loop-choice.choice-index c.choice-item.result c.args.next (option_map (λ x. x.position) c.loop-choice.best) (Some w.in-Some.found.position) c.loop-choice-test.true c.choice-item.is (c.loop-choice.invariant.0 config h holds) (w.in-Some.ensures.position config h holds),
         subst (λ (o : Option Candidate). IfSome o (λ x. HoldsThere c.args.rings.now x.station x.place x.position)) (sym w.best-is) w.in-Some.ensures.held,
-        subst (λ (o : Option Candidate). IfSome o (λ x. IsPlace c.args.config.now x.station → 1 ≤ length (station_at c.args.config.now.entries x.station).network)) (sym w.best-is) w.in-Some.ensures.network,
       )
       | in-Some+else-comes_before w ↦ (
-        λ h holds.
+        λ config h holds.
             ap (option_map (λ x. x.position)) w.best-is
             ∙ after-best (option_map (λ x. x.position) c.loop-choice.best) w.in-Some.found.position (sym w.comes_before.ensures ∙ w.if-comes_before.false)
-            ∙ lesser-found c.args.config.now h c.args.choices.now c.loop-choice.choice-index c.choice-item.result c.args.next (option_map (λ x. x.position) c.loop-choice.best) (Some w.in-Some.found.position) c.loop-choice-test.true c.choice-item.is (c.loop-choice.invariant.0 h holds) (w.in-Some.ensures.position h holds),
+            ∙ lesser-found config h c.args.choices.now c.loop-choice.choice-index c.choice-item.result c.args.next (option_map (λ x. x.position) c.loop-choice.best) (Some w.in-Some.found.position) c.loop-choice-test.true c.choice-item.is (c.loop-choice.invariant.0 config h holds) (w.in-Some.ensures.position config h holds),
         subst (λ (o : Option Candidate). IfSome o (λ x. HoldsThere c.args.rings.now x.station x.place x.position)) (sym w.best-is) c.loop-choice.invariant.1,
-        subst (λ (o : Option Candidate). IfSome o (λ x. IsPlace c.args.config.now x.station → 1 ≤ length (station_at c.args.config.now.entries x.station).network)) (sym w.best-is) c.loop-choice.invariant.2,
       )
       | in_default w ↦ (
-        λ h holds.
+        λ config h holds.
             ap (option_map (λ x. x.position)) w.best-is
             ∙ least-none (option_map (λ x. x.position) c.loop-choice.best)
-            ∙ lesser-found c.args.config.now h c.args.choices.now c.loop-choice.choice-index c.choice-item.result c.args.next (option_map (λ x. x.position) c.loop-choice.best) None c.loop-choice-test.true c.choice-item.is (c.loop-choice.invariant.0 h holds) (w.in_default.ensures.position h holds),
+            ∙ lesser-found config h c.args.choices.now c.loop-choice.choice-index c.choice-item.result c.args.next (option_map (λ x. x.position) c.loop-choice.best) None c.loop-choice-test.true c.choice-item.is (c.loop-choice.invariant.0 config h holds) (w.in_default.ensures.position config h holds),
         subst (λ (o : Option Candidate). IfSome o (λ x. HoldsThere c.args.rings.now x.station x.place x.position)) (sym w.best-is) c.loop-choice.invariant.1,
-        subst (λ (o : Option Candidate). IfSome o (λ x. IsPlace c.args.config.now x.station → 1 ≤ length (station_at c.args.config.now.entries x.station).network)) (sym w.best-is) c.loop-choice.invariant.2,
       )
     ]
 
 pub returns-clause-position : goal.returns-clause-position
-returns-clause-position c = λ h holds.
-    c.loop-choice.invariant.0 h holds ∙ ap (λ cs. next h (filter_map (request_in c.args.config.now) cs) c.args.next) (take_all c.loop-choice.choice-index c.args.choices.now c.loop-choice-test.false)
+returns-clause-position c = λ config h holds.
+    c.loop-choice.invariant.0 config h holds ∙ ap (λ cs. next h (filter_map (request_in config) cs) c.args.next) (take_all c.loop-choice.choice-index c.args.choices.now c.loop-choice-test.false)
 
 pub returns-clause-held : goal.returns-clause-held
 returns-clause-held c = c.loop-choice.invariant.1
-
-pub returns-clause-network : goal.returns-clause-network
-returns-clause-network c = c.loop-choice.invariant.2
