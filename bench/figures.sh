@@ -1,29 +1,89 @@
 #!/bin/sh
-# Counts instructions by callgrind, as the difference of a run of 1,000 rounds and one of 2,000, and prints a line a figure:
-# the instructions of one round, the most that is allowed, and what was done. It fails where a figure is above its limit.
+# Counts instructions by callgrind and prints a table, a line a figure: the instructions of one round, the most that is allowed,
+# what was done, and what it is compared with. It fails where a figure is above its limit. A figure is the difference of two runs
+# of which one does twice as much, so that starting and ending the program does not count.
 set -eu
 top=$(cd "$(dirname "$0")/.." && pwd)
-cd "$top/crates/bench"
-rt run -- header 1 >/dev/null
 folder=$(mktemp -d)
 trap 'rm -rf "$folder"' EXIT
+failed=0
+
 counted() {
-    valgrind --tool=callgrind --callgrind-out-file="$folder/out" out/bench "$@" 2>&1 >/dev/null |
+    valgrind --tool=callgrind --callgrind-out-file="$folder/out" "$@" 2>&1 >/dev/null |
         sed -n 's/.*Collected : \([0-9]*\).*/\1/p'
 }
-failed=0
-figure() {
-    limit=$1 work=$2 line=$3
-    few=$(counted "$work" 1000 "$line")
-    many=$(counted "$work" 2000 "$line")
-    each=$(((many - few) / 1000))
-    printf '%8d %8d  %s %s\n' "$each" "$limit" "$work" "$line"
-    [ "$each" -le "$limit" ] || failed=1
+
+# row EACH LIMIT WORK COMPARED
+row() {
+    printf '%10d %10d  %-72s %s\n' "$@"
+    [ "$1" -le "$2" ] || failed=1
 }
-printf '%8s %8s  %s\n' each most work
-figure 300 command HELLO
-figure 3000 command 'TIME 2024,2,29,0,0,0 2024,2,29,0,0,10'
-figure 1000 lines HELLO
-figure 6000 lines 'TIME 2024,2,29,0,0,0 2024,2,29,0,0,10'
-figure 700 header ''
+
+# Of a work of the program `bench`, 1,000 and 2,000 rounds.
+small() {
+    few=$(counted "$top/crates/bench/out/bench" "$2" 1000 "$3")
+    many=$(counted "$top/crates/bench/out/bench" "$2" 2000 "$3")
+    row "$(((many - few) / 1000))" "$1" "$4" "$5"
+}
+
+# Of `seedlinkd check`, the records of the examples 15 and 30 times.
+check() {
+    records="$top/examples/records/records.mseed"
+    for _ in 1 2 3 4 5 6 7 8 9 10 11 12 13 14 15; do cat "$records"; done >"$folder/few"
+    cat "$folder/few" "$folder/few" >"$folder/many"
+    few=$(counted "$top/crates/seedlinkd/out/seedlinkd" check "$folder/few")
+    many=$(counted "$top/crates/seedlinkd/out/seedlinkd" check "$folder/many")
+    row "$(((many - few) / 1035))" 4000 'seedlinkd check, a record read out of the file and its line written' 'libmseed, the same: about 5,800'
+}
+
+# A script of so many events: 100 clients open, half of them ask for all records of one station, the others for those of three
+# that pass a selector; then records come by turns at three stations, and after each of them nine clients take.
+script() {
+    awk -v events="$1" '
+    function say(line) { if (count < events) { print line; count++ } }
+    BEGIN {
+        split("GE APE,GE WLF,XX APE", stations, ",")
+        split("BHZ,BHN,BHE", channels, ",")
+        for (client = 0; client < 100; client++) {
+            say("open 10.0.0." (client + 1))
+            if (client % 2) { say("line " client " DATA"); continue }
+            for (i = 1; i <= 3; i++) {
+                split(stations[i], codes, " ")
+                say("line " client " STATION " codes[2] " " codes[1]); say("take " client " 520")
+                say("line " client " SELECT BH?"); say("take " client " 520")
+                say("line " client " DATA"); say("take " client " 520")
+            }
+            say("line " client " END")
+        }
+        for (record = 0; count < events; record++) {
+            second = record % 60; minute = int(record / 60) % 60
+            say("arrive " stations[record % 3 + 1] " -- " channels[record % 3 + 1] " 2024,60,0," minute "," second ",0 100")
+            for (i = 0; i < 9; i++) say("take " ((record * 9 + i) % 100) " 520")
+        }
+    }'
+}
+
+# Of `seedlinkd replay` over 10,000 and 20,000 events: twice as many may cost at most 2.3 times as much.
+replay() {
+    script 10000 >"$folder/few"
+    script 20000 >"$folder/many"
+    few=$(counted "$top/crates/seedlinkd/out/seedlinkd" replay "$top/examples/island.toml" "$folder/few")
+    many=$(counted "$top/crates/seedlinkd/out/seedlinkd" replay "$top/examples/island.toml" "$folder/many")
+    row "$(((many - few) / 10000))" 12000 'seedlinkd replay with 100 clients, an event from line to output' ''
+    row "$((many / 1000))" "$((few * 23 / 10000))" 'seedlinkd replay of 20,000 events, in thousands' "of 10,000 events: $((few / 1000)), and at most 2.30 times that"
+}
+
+"$top/seedlinkd" --help >/dev/null
+(cd "$top/crates/bench" && rt run -- header 1 >/dev/null)
+times='TIME 2024,2,29,0,0,0 2024,2,29,0,0,10'
+printf '%10s %10s  %-72s %s\n' each 'at most' work 'compared with'
+small 300 command HELLO 'command of HELLO' ''
+small 3000 command "$times" "command of $times" ''
+small 1000 lines HELLO 'the same of HELLO, cut out of bytes first' ''
+small 6000 lines "$times" 'the same of TIME, cut out of bytes first' ''
+small 700 header '' 'mseed_header::read, of a record with one blockette' 'libmseed, with a line printed: about 5,800'
+small 100 number '' 'a sequence number read, counted on and written' ''
+small 1500 selectors '' 'sixteen selectors over a record' ''
+check
+replay
 exit "$failed"

@@ -1,10 +1,13 @@
 //! Does one piece of work many times, so that its instructions can be counted: `bench command ROUNDS LINE` reads a line as a
-//! command, `bench lines ROUNDS LINE` cuts it out of bytes first, and `bench header ROUNDS` reads the header of a record. It
-//! prints a sum of what was read, so that no work can be left out.
+//! command, `bench lines ROUNDS LINE` cuts it out of bytes first, `bench header ROUNDS` reads the header of a record,
+//! `bench selectors ROUNDS` asks sixteen selectors whether a record passes, and `bench number ROUNDS` reads a sequence number
+//! and writes the one that follows. It prints a sum of what was read, so that no work can be left out.
 #![tactic(auto)]
 
-use mseed_header::{Header, RecordFault};
+use mseed_header::{Header, Kind, RecordFault};
+use selector::{Selector, Selectors};
 use sl_lines::{Line, LineCutter, Order, command};
+use sl_packet::Seq;
 use std::env;
 
 /// A number for each command.
@@ -99,13 +102,51 @@ fn read_headers(rounds: u64) -> u64 {
     sum
 }
 
+/// Sixteen selectors: fifteen of other channels, and one that a channel BH with any last letter matches.
+fn sixteen() -> Selectors {
+    let mut selectors = Selectors::new();
+    for letter in b'A'..=b'O' {
+        if let Some(selector) = Selector::parse(&[b'B', b'L', letter]) {
+            let _ = selectors.add(selector);
+        }
+    }
+    if let Some(selector) = Selector::parse(b"BH?") {
+        let _ = selectors.add(selector);
+    }
+    selectors
+}
+
+/// Asks of records of one channel after the other whether they pass.
+fn ask_selectors(rounds: u64) -> u64 {
+    let selectors = sixteen();
+    let mut channel = *b"BHZ";
+    let mut sum: u64 = 0;
+    for _ in 0..rounds {
+        channel[2] = 65 + (sum % 26) as u8;
+        let is_passed = selectors.passes(b"00", &channel, Kind::D);
+        sum = sum.wrapping_add(1 + u64::from(is_passed));
+    }
+    sum
+}
+
+/// Reads a number's digits and writes those of the next one, from FFFF00 on.
+fn count_on(rounds: u64) -> u64 {
+    let mut digits = *b"FFFF00";
+    for _ in 0..rounds {
+        if let Some(number) = Seq::parse(&digits) {
+            digits = number.next().digits();
+        }
+    }
+    u64::from(digits[5])
+}
+
 fn main(rt: HostRuntime) -> anyhow::Result<()> {
     let mut words = Vec::new(rt.alloc());
     for word in env::args(&rt)? {
         words.push(word)?;
     }
     if words.len() < 3 {
-        println!(rt; "bench command|lines|header ROUNDS [LINE]")?;
+        println!(rt; "bench command|lines|header|selectors|number ROUNDS [LINE]")?;
         return Ok(());
     }
     let rounds: u64 = words[2].as_str().parse()?;
@@ -116,6 +157,8 @@ fn main(rt: HostRuntime) -> anyhow::Result<()> {
     let sum = match words[1].as_str() {
         "command" => read_commands(line, rounds),
         "lines" => cut_lines(line, rounds),
+        "selectors" => ask_selectors(rounds),
+        "number" => count_on(rounds),
         _ => read_headers(rounds),
     };
     println!(rt; "{sum}")?;
