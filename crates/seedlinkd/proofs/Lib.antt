@@ -1,17 +1,3 @@
-mod ArriveRows
-mod Checking
 mod Examples
-mod FittingLemmas
-mod HexRecords
 mod JobRows
-mod Joining
-mod Lines
-mod Numbers
-mod OptionSteps
-mod Pieces
-mod Readings
 mod Refusing
-mod Separators
-mod SpaceLemmas
-mod TableLemmas
-mod Takes

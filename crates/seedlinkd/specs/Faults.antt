@@ -1,24 +1,12 @@
--- The numbers and names by which the program reports a script or a replay that failed, and any other failure of its own.
+-- The numbers and names by which the program reports a replay that failed, and any other failure of its own.
 use Rattle.std.specs.Prelude.{ℕ, List, codes}
-use Rattle.protocol.specs.Record.{fault_number as record_fault_number, fault_name as record_fault_name}
 use Rattle.catalog.specs.Faults.{fault_number, fault_name}
-use Rattle.seedlinkd.specs.Checks.{check_fault_number, check_fault_name}
+use Rattle.record_listing.specs.Checks.{check_fault_number, check_fault_name}
+use Rattle.record_listing.specs.Listing.{file_fault_number, file_fault_name}
 use Rattle.seedlinkd.specs.declared.failure.Failure.{Failure}
 use Rattle.seedlinkd.specs.declared.failure.Failure.TheVariants as failure
-use Rattle.seedlinkd.specs.declared.faults.ScriptFault.{ScriptFault}
-use Rattle.seedlinkd.specs.declared.faults.ScriptFault.TheVariants as script
 use Rattle.seedlinkd.specs.declared.faults.ReplayFault.{ReplayFault}
 use Rattle.seedlinkd.specs.declared.faults.ReplayFault.TheVariants as replay
-
--- the number of a text that is no script
-abbrev pub script_fault_number : ScriptFault → ℕ
-script_fault_number script.OutOfMemory = 25
-script_fault_number script.Script = 45
-
--- its name
-abbrev pub script_fault_name : ScriptFault → List ℕ
-script_fault_name script.OutOfMemory = codes "OutOfMemory"
-script_fault_name script.Script = codes "Script"
 
 -- the number of a replay that failed
 abbrev pub replay_fault_number : ReplayFault → ℕ
@@ -42,8 +30,7 @@ failure_number failure.File = 44
 failure_number (failure.Config fault) = fault_number fault
 failure_number (failure.Replay fault) = replay_fault_number fault
 failure_number (failure.Check fault) = check_fault_number fault
-failure_number (failure.Record fault) = record_fault_number fault
-failure_number failure.Partial = 41
+failure_number (failure.Records fault) = file_fault_number fault
 
 -- its name
 abbrev pub failure_name : Failure → List ℕ
@@ -53,5 +40,4 @@ failure_name failure.File = codes "File"
 failure_name (failure.Config fault) = fault_name fault
 failure_name (failure.Replay fault) = replay_fault_name fault
 failure_name (failure.Check fault) = check_fault_name fault
-failure_name (failure.Record fault) = record_fault_name fault
-failure_name failure.Partial = codes "Partial"
+failure_name (failure.Records fault) = file_fault_name fault

@@ -1,10 +1,4 @@
-pub mod Checks
 pub mod Faults
-pub mod Fitting
 pub mod Jobs
-pub mod Listing
 pub mod Output
 pub mod Replaying
-pub mod Rows
-pub mod Script
-pub mod ScriptValues

@@ -1,30 +1,9 @@
--- The text of what takes are handed, a line a take.
-use Rattle.std.specs.Prelude.{ℕ, Bool, true, false, List, [], ◌∷◌, ◌++◌, Option, option_map, codes, decimal}
+-- What a replay writes of a script.
+use Rattle.std.specs.Prelude.{ℕ, List, Option, option_map}
 use Rattle.protocol.specs.Catalog.{Config}
-use Rattle.protocol.specs.World.{Event, Handed, handed}
-use Rattle.hex.specs.Hex.{encode_lower}
-use Rattle.seedlinkd.specs.Script.{events_of}
-
--- two hexadecimal digits a byte, in lower case; a dash stands for no byte
-abbrev pub bytes_text : List ℕ → List ℕ
-bytes_text [] = codes "-"
-bytes_text (b ∷ bs) = encode_lower (b ∷ bs)
-
--- whether the client was told that its connection is over
-abbrev pub end_text : Bool → List ℕ
-end_text true = codes " end"
-end_text false = []
-
--- the line of a take: the client's number, its bytes, and whether it is the end
-abbrev pub handed_line : Handed → List ℕ
-handed_line x = decimal x.client ++ 32 ∷ bytes_text x.bytes ++ end_text x.ended ++ 10 ∷ []
-
--- the lines of all takes
-abbrev pub output_of : List Handed → List ℕ
-output_of [] = []
-output_of (x ∷ xs) = handed_line x ++ output_of xs
-
--- ---- a script's output
+use Rattle.protocol.specs.World.{Event, handed}
+use Rattle.event_script.specs.Script.{events_of}
+use Rattle.event_script.specs.Output.{output_of}
 
 -- what a server writes of a list of events
 unfoldable pub output_after : Config → List Event → List ℕ

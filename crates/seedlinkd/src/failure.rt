@@ -1,13 +1,11 @@
 //! Why the program ends with status 1.
 ghost use Rattle.std.specs.Prelude.{◌≡◌};
 ghost use Rattle.seedlinkd.specs.Faults.{failure_number, failure_name};
-ghost use Rattle.seedlinkd.specs.declared.failure.Failure.TheVariants.{Config as ConfigFailure, Replay as ReplayFailure, Check as CheckFailure, Record as RecordFailure, Partial as PartialFailure};
-ghost use Rattle.protocol.specs.Record.{fault_number};
+ghost use Rattle.seedlinkd.specs.declared.failure.Failure.TheVariants.{Config as ConfigFailure, Replay as ReplayFailure, Check as CheckFailure, Records as RecordsFailure};
 
-use crate::check::CheckFault;
 use crate::faults::ReplayFault;
 use catalog::ConfigFault;
-use mseed_header::RecordFault;
+use record_listing::{CheckFault, FileFault};
 use thiserror::Error;
 
 /// What keeps the program from doing its job, once its words are read.
@@ -31,31 +29,12 @@ pub enum Failure {
     /// The records of a file were not checked to their end.
     #[error("{0}")]
     Check(CheckFault),
-    /// A record of the file is none.
+    /// A file of records has a record that is none, or ends inside one.
     #[error("{0}")]
-    Record(RecordFault),
-    /// The file ends inside a record.
-    #[error("the file ends inside a record")]
-    Partial,
+    Records(FileFault),
 }
 
 impl Failure {
-    /// The failure of that number among those that a file of records has: 1 to 6 of a record, and 41.
-    pub fn of_records(number: u8) -> Failure
-        ensures record { (fault : RecordFault) → number ≡ fault_number fault → result ≡ RecordFailure fault }
-        ensures partial { number ≡ 41 → result ≡ PartialFailure }
-    {
-        match number {
-            1 => Failure::Record(RecordFault::Sequence),
-            2 => Failure::Record(RecordFault::Quality),
-            3 => Failure::Record(RecordFault::Time),
-            4 => Failure::Record(RecordFault::Blockettes),
-            5 => Failure::Record(RecordFault::No1000),
-            6 => Failure::Record(RecordFault::Length),
-            _ => Failure::Partial,
-        }
-    }
-
     /// The number by which the program reports it.
     pub fn number(self) -> u8
         ensures { result ≡ failure_number self }
@@ -67,8 +46,7 @@ impl Failure {
             Failure::Config(fault) => fault.number(),
             Failure::Replay(fault) => fault.number(),
             Failure::Check(fault) => fault.number(),
-            Failure::Record(fault) => fault.number(),
-            Failure::Partial => 41,
+            Failure::Records(fault) => fault.number(),
         }
     }
 
@@ -83,8 +61,7 @@ impl Failure {
             Failure::Config(fault) => fault.name(),
             Failure::Replay(fault) => fault.name(),
             Failure::Check(fault) => fault.name(),
-            Failure::Record(fault) => fault.name(),
-            Failure::Partial => "Partial",
+            Failure::Records(fault) => fault.name(),
         }
     }
 }
@@ -110,5 +87,13 @@ impl From<CheckFault> for Failure {
 
     fn from(fault: CheckFault) -> Failure {
         Failure::Check(fault)
+    }
+}
+
+impl From<FileFault> for Failure {
+    ghost from_gives = { λ fault failure. failure ≡ RecordsFailure fault };
+
+    fn from(fault: FileFault) -> Failure {
+        Failure::Records(fault)
     }
 }

@@ -1,10 +1,10 @@
 //! Jobs over files and the standard output. Files are read in blocks, and what is written goes out in as few calls as the
 //! system takes.
-use crate::check::check_records;
 use crate::failure::Failure;
 use crate::replay::replay;
 use crate::words::Job;
 use catalog::Config;
+use record_listing::check_records;
 use sl_io::{Outer, ReadFault, read_all};
 use std::rt::Files;
 use std::{fs, io};
@@ -23,7 +23,7 @@ fn check_file<R: Files + Print + AllocGlobal>(rt: &R, path: &str) -> Result<(), 
     let mut out = Outer::new(io::writer(rt));
     match check_records(rt.alloc(), &mut file, &mut out)? {
         None => Ok(()),
-        Some(number) => Err(Failure::of_records(number)),
+        Some(fault) => Err(Failure::Records(fault)),
     }
 }
 

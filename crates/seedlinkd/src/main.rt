@@ -2,16 +2,14 @@
 //! 0 where its job was done or help was asked for; with status 1 at an input or device fault, of which the standard error
 //! has the one line `seedlinkd: N Name`; and with status 2 where its words are none that it takes.
 #![tactic(auto)]
+ghost use Rattle.std.specs.Prelude.{◌≡◌, ◌≢◌, false, true, map, string_bytes};
+ghost use Rattle.std.specs.Process.{exit_status};
+ghost use Rattle.seedlinkd.specs.Jobs.{IsJob};
 
-mod check;
 mod failure;
 mod faults;
 mod jobs;
-mod listing;
-mod output;
 mod replay;
-mod script;
-mod texts;
 mod words;
 
 use failure::Failure;
@@ -30,7 +28,9 @@ fn given_words<R: Env + AllocGlobal>(rt: &R) -> io::Result<Vec<String>> {
 }
 
 /// Tells a failure.
-fn failed<R: Eprint>(rt: &R, failure: Failure) -> ExitCode {
+fn failed<R: Eprint>(rt: &R, failure: Failure) -> ExitCode
+    ensures { exit_status result ≡ 1 }
+{
     let number = failure.number();
     let name = failure.name();
     let _ = eprintln!(rt; "seedlinkd: {number} {name}");
@@ -38,7 +38,10 @@ fn failed<R: Eprint>(rt: &R, failure: Failure) -> ExitCode {
 }
 
 /// Tells the user how words are taken.
-fn told<R: Print + Eprint>(rt: &R, text: &str, is_help: bool) -> ExitCode {
+fn told<R: Print + Eprint>(rt: &R, text: &str, is_help: bool) -> ExitCode
+    ensures mistake { is_help ≡ false → exit_status result ≡ 2 }
+    ensures help { is_help ≡ true → exit_status result ≢ 2 }
+{
     if !is_help {
         let _ = rt.eprint(text);
         return ExitCode::from(REFUSED);
@@ -50,7 +53,9 @@ fn told<R: Print + Eprint>(rt: &R, text: &str, is_help: bool) -> ExitCode {
 }
 
 /// Does the job that the words ask.
-fn obey<R: Files + Print + Eprint + AllocGlobal>(rt: &R, words: &[String]) -> ExitCode {
+fn obey<R: Files + Print + Eprint + AllocGlobal>(rt: &R, words: &[String]) -> ExitCode
+    ensures { IsJob (map string_bytes words.now) → exit_status result ≢ 2 }
+{
     match words::read_words(rt.alloc(), words) {
         Ok(job) => match jobs::run_job(rt, job) {
             Ok(()) => ExitCode::SUCCESS,

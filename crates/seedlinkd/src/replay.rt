@@ -2,13 +2,12 @@
 ghost use Rattle.std.specs.Prelude.{◌≡◌, ◌≢◌, Some, None, IfOk, OnOk, IfErr, IfSome, MatchResult};
 ghost use Rattle.seedlinkd.specs.Output.{replayed};
 ghost use Rattle.seedlinkd.specs.Replaying.{LeavesReader, LeavesWriter, WritesAll, WritesBeginning};
-ghost use Rattle.seedlinkd.specs.declared.faults.ScriptFault.TheVariants.{Script as ScriptIsNone};
+ghost use Rattle.event_script.specs.declared.fault.ScriptFault.TheVariants.{Script as ScriptIsNone};
 ghost use Rattle.seedlinkd.specs.declared.faults.ReplayFault.TheVariants.{Script, Write};
 
-use crate::faults::{ReplayFault, ScriptFault};
-use crate::output::output_of;
-use crate::script::events_of;
+use crate::faults::ReplayFault;
 use catalog::Config;
+use event_script::{ScriptFault, events_of, output_of};
 use server_core::run;
 use sl_io::{ReadFault, Sink, Source, read_all, write_all};
 use std::alloc::Global;

@@ -1,6 +1,6 @@
 //! Scripts and what they write, at a server that has three stations.
 use super::replay;
-use crate::faults::{ReplayFault, ScriptFault};
+use crate::faults::ReplayFault;
 use catalog::Config;
 use sl_io::{MemorySink, MemorySource};
 use std::alloc::{AllocError, Global};
@@ -222,10 +222,6 @@ fn two_hundred_clients_take_turns(rt: HostRuntime) -> Result<(), Fail> {
 
 #[test]
 fn numbers_and_names(rt: HostRuntime) {
-    assert_eq!(rt; ScriptFault::OutOfMemory.number(), 25);
-    assert_eq!(rt; ScriptFault::Script.number(), 45);
-    assert!(rt; ScriptFault::OutOfMemory.name() == "OutOfMemory");
-    assert!(rt; ScriptFault::Script.name() == "Script");
     assert_eq!(rt; ReplayFault::OutOfMemory.number(), 25);
     assert_eq!(rt; ReplayFault::Read.number(), 42);
     assert_eq!(rt; ReplayFault::Write.number(), 43);

@@ -4,7 +4,8 @@ use Rattle.protocol.specs.World.{handed}
 use Rattle.server_core.specs.Runs.{event_value, handed_value}
 use Rattle.server_core.specs.declared.events.Event.{Event}
 use Rattle.server_core.specs.declared.events.Handed.{Handed}
-use Rattle.seedlinkd.specs.Output.{output_after, output_of}
+use Rattle.seedlinkd.specs.Output.{output_after}
+use Rattle.event_script.specs.Output.{output_of}
 use Rattle.seedlinkd.proofs.replay.output_for.Goals as goal
 
 pub returns-clause-ok : goal.returns-clause-ok

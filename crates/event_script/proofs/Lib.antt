@@ -1,0 +1,11 @@
+mod ArriveRows
+mod Digits
+mod Examples
+mod FittingLemmas
+mod HexRecords
+mod Lines
+mod OptionSteps
+mod Separators
+mod SpaceLemmas
+mod TableLemmas
+mod Takes
