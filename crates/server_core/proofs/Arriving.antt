@@ -1,5 +1,5 @@
 -- What a record that arrives does to what a server stands for.
-use Rattle.std.proofs.Common.{◌≡◌, ◌≢◌, ℕ, ◌+◌, ◌<◌, ◌≤◌, true, false, Bool, List, [], ◌∷◌, ◌++◌, length, map, filter_map, get_or, position, Option, Some, None, Result, Ok, Err, slice_get, nat_lt, lt-ltb, suc, unwrap_or, option_map, if◌then◌else◌, refl, sym, ap, ap₂, subst, ◌∙◌, arith}
+use Rattle.std.proofs.Common.{◌≡◌, ◌≢◌, ℕ, ◌+◌, ◌<◌, true, false, Bool, List, [], ◌∷◌, ◌++◌, length, position, Option, Some, None, Result, Ok, Err, slice_get, nat_lt, lt-ltb, suc, unwrap_or, option_map, if◌then◌else◌, refl, sym, ap, subst, ◌∙◌, arith}
 use Rattle.std.specs.List.{list_any, position_or_len}
 use Rattle.std.proofs.lemmas.Bool.Decides.{nat_tests}
 use Rattle.std.proofs.lemmas.List.Quantifiers.{position-Some}
@@ -9,7 +9,7 @@ use Rattle.protocol.specs.declared.record.RecordFault.{RecordFault}
 use Rattle.protocol.specs.Record.{Facts, header_of}
 use Rattle.protocol.specs.Catalog.{Config, Entry, has_codes}
 use Rattle.protocol.specs.History.{Arrival, is_of, number_at}
-use Rattle.protocol.specs.World.{World, Event, accepted, arrival_with, arrived, is_configured, step}
+use Rattle.protocol.specs.World.{World, accepted, arrival_with, arrived, is_configured, step}
 use Rattle.protocol.specs.World.Event.{Arrive}
 use Rattle.protocol.proofs.Found.{both}
 use Rattle.catalog.specs.Places.{station_at, nowhere, HasDistinctCodes}
@@ -19,9 +19,9 @@ use Rattle.session_state.specs.declared.session.State.{State}
 use Rattle.session_state.specs.declared.session.State.TheVariants.{Negotiating, Listing, Starting, Transfer, Ending}
 use Rattle.session_state.specs.Sessions.{Sitting, client_in, sitting_view}
 use Rattle.server_core.specs.declared.arrivals.ArriveFault.{ArriveFault}
-use Rattle.server_core.specs.declared.arrivals.ArriveFault.TheVariants.{Record, UnknownStation, Exhausted}
+use Rattle.server_core.specs.declared.arrivals.ArriveFault.TheVariants.{UnknownStation}
 use Rattle.server_core.specs.Arrivals.{answer_to, numbered, place_of, place_or_unknown, placed_by, IsPlaced}
-use Rattle.server_core.specs.Standing.{Serving, StandsAt, HoldsOf, seated, seat_of, Seat, AreSettled}
+use Rattle.server_core.specs.Standing.{Serving, StandsAt, seated, Seat, AreSettled}
 
 -- ---- who a record is of
 

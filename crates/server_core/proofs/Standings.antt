@@ -3,9 +3,9 @@ use Rattle.std.proofs.Common.{◌≡◌, ℕ, ◌+◌, ◌<◌, ◌≤◌, true,
 use Rattle.std.proofs.lemmas.Bool.{eqb-false}
 use Rattle.std.proofs.lemmas.Grind.{common_steps}
 use Rattle.protocol.specs.Catalog.{View, Config, view_of}
-use Rattle.protocol.specs.Client.{Client, new_client, received, taken_of, offered, after_take, is_nothing}
+use Rattle.protocol.specs.Client.{Client, new_client, taken_of, offered, after_take, is_nothing}
 use Rattle.protocol.specs.World.{world_after, empty_world, client_of, taken_by, gone, Connection, World, Event, at, changed, closed, step}
-use Rattle.protocol.specs.World.Event.{Open, Bytes, Take, Close}
+use Rattle.protocol.specs.World.Event.{Open, Take, Close}
 use Rattle.protocol.proofs.Found.{both}
 use Rattle.protocol.proofs.Connections.{length-at, slice_get-at_same, slice_get-at_here, slice_get-at_apart, at_past_the_end, none_past_the_end, world_from-append}
 use Rattle.held_records.specs.Holdings.{holdings_of}

@@ -1,6 +1,6 @@
 -- What a record that arrives is answered.
 -- SeedLink 3, sequence numbers. Left out: where the record is kept.
-use Rattle.std.specs.Prelude.{◌≡◌, ℕ, Bool, true, false, List, length, position, Option, Some, None, Result, Ok, Err, codes}
+use Rattle.std.specs.Prelude.{◌≡◌, ℕ, List, length, position, Option, Some, None, Result, Ok, Err, codes}
 use Rattle.protocol.specs.declared.record.RecordFault.{RecordFault}
 use Rattle.protocol.specs.Record.{Facts, header_of, fault_number, fault_name}
 use Rattle.protocol.specs.Catalog.{Config, has_codes}

@@ -1,5 +1,5 @@
 -- The packet of the record that comes next.
-use Rattle.std.proofs.Common.{◌≡◌, ℕ, ◌<◌, ◌≤◌, Bool, true, false, ◌&&◌, List, [], ◌∷◌, length, Option, Some, None, option_map, filter_map, slice_get, unwrap_or, refl, sym, ap, ap₂, subst, ◌∙◌, arith, nat_le, zero, suc, inl, inr}
+use Rattle.std.proofs.Common.{◌≡◌, ℕ, ◌<◌, ◌≤◌, true, ◌&&◌, List, [], ◌∷◌, length, Option, Some, None, option_map, filter_map, slice_get, unwrap_or, refl, sym, ap, ap₂, subst, ◌∙◌, nat_le}
 use Rattle.transfer.proofs.Positions.{Test, first_from}
 use Rattle.std.specs.List.{list_any}
 use Rattle.std.proofs.lemmas.Bool.{and_parts}

@@ -1,4 +1,4 @@
-use Rattle.std.proofs.Common.{◌≡◌, ◌∙◌, sym, ap₂, position}
+use Rattle.std.proofs.Common.{◌∙◌, sym, ap₂, position}
 use Rattle.protocol.specs.Catalog.{has_codes}
 use Rattle.server_core.proofs.Arriving.{placed-unknown}
 use Rattle.server_core.proofs.arrivals.placed.Goals as goal

@@ -1,4 +1,4 @@
-use Rattle.std.proofs.Common.{◌≡◌, ◌∙◌, ap, sym, arith, Some, None, slice_get, slice_index_or, slice_set}
+use Rattle.std.proofs.Common.{◌≡◌, ap, sym, arith, Some, None, slice_get, slice_index_or, slice_set}
 use Rattle.std.specs.Prelude.{is_some}
 use Rattle.std.proofs.lemmas.Option.{gets}
 use Rattle.std.proofs.lemmas.Grind.{common_steps}

@@ -2,7 +2,7 @@ use Rattle.std.proofs.Common.{◌≡◌, Err, subst}
 use Rattle.protocol.specs.Record.{header_of}
 use Rattle.server_core.specs.Arrivals.{placed_by}
 use Rattle.server_core.specs.Standing.{Serving}
-use Rattle.server_core.proofs.Arriving.{answers-fault, refused-stands}
+use Rattle.server_core.proofs.Arriving.{refused-stands}
 use Rattle.server_core.proofs.server.Server.arrive.Goals as goal
 
 pub returns-in-Err-clause-stands : goal.returns-in-Err-clause-stands

@@ -1,6 +1,6 @@
 use Rattle.std.proofs.Common.{◌≡◌, ◌≤◌, ◌∙◌, arith, refl, sym, subst, length, ap}
 use Rattle.std.specs.Prelude.{is_some}
-use Rattle.server_core.specs.Standing.{StandsAt, Serving, taking}
+use Rattle.server_core.specs.Standing.{StandsAt, Serving}
 use Rattle.server_core.proofs.Standings.{close-stands, close-passes, seat_seen, nobody_seen}
 use Rattle.server_core.proofs.server.Server.close.Goals as goal
 

@@ -1,4 +1,4 @@
-use Rattle.std.proofs.Common.{◌≡◌, ◌∙◌, ap, refl, sym, subst}
+use Rattle.std.proofs.Common.{◌∙◌, ap, refl, sym, subst}
 use Rattle.held_records.specs.Holdings.{holdings_of}
 use Rattle.protocol.specs.Catalog.{Config}
 use Rattle.server_core.specs.Arrivals.{IsPlaced}

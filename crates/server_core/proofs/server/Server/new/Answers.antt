@@ -1,4 +1,4 @@
-use Rattle.std.proofs.Common.{◌≡◌, ◌∙◌, ap, sym, subst, Some, length, slice_get, List, []}
+use Rattle.std.proofs.Common.{sym, subst, []}
 use Rattle.server_core.specs.Standing.{AreSettled}
 use Rattle.server_core.proofs.Arriving.{none-settled}
 use Rattle.held_records.proofs.Stations.{rings_count}

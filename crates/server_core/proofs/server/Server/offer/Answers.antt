@@ -1,4 +1,4 @@
-use Rattle.std.proofs.Common.{◌≡◌, ◌≤◌, ◌∙◌, arith, refl, sym, subst, length, ap, option_map, None}
+use Rattle.std.proofs.Common.{◌≡◌, ◌≤◌, ◌∙◌, arith, refl, sym, subst, length, ap, option_map}
 use Rattle.protocol.specs.Client.{Client, offered}
 use Rattle.server_core.specs.Refusals.{offer_of}
 use Rattle.server_core.specs.Standing.{StandsAt, Serving}

@@ -1,6 +1,6 @@
 use Rattle.std.proofs.Common.{◌≡◌, ◌≤◌, ◌∙◌, arith, refl, sym, subst, length, ap, slice_get}
 use Rattle.std.specs.Prelude.{is_some}
-use Rattle.server_core.specs.Standing.{StandsAt, Serving, taking}
+use Rattle.server_core.specs.Standing.{StandsAt, Serving}
 use Rattle.server_core.proofs.Standings.{take-stands, nobody-take, seat_seen, nobody_seen}
 use Rattle.server_core.proofs.server.Server.took.Goals as goal
 
