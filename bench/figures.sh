@@ -74,7 +74,10 @@ replay() {
 }
 
 "$top/seedlinkd" --help >/dev/null
-(cd "$top/crates/bench" && rt run -- header 1 >/dev/null)
+if ! (cd "$top/crates/bench" && rt run -- header 1) >"$folder/said" 2>&1; then
+    tail -n 20 "$folder/said" >&2
+    exit 3
+fi
 times='TIME 2024,2,29,0,0,0 2024,2,29,0,0,10'
 printf '%10s %10s  %-72s %s\n' each 'at most' work 'compared with'
 small 300 command HELLO 'command of HELLO' ''
@@ -82,7 +85,7 @@ small 3000 command "$times" "command of $times" ''
 small 1000 lines HELLO 'the same of HELLO, cut out of bytes first' ''
 small 6000 lines "$times" 'the same of TIME, cut out of bytes first' ''
 small 700 header '' 'mseed_header::read, of a record with one blockette' 'libmseed, with a line printed: about 5,800'
-small 100 number '' 'a sequence number read, counted on and written' ''
+small 200 number '' 'a sequence number read, counted on and written' ''
 small 1500 selectors '' 'sixteen selectors over a record' ''
 check
 replay
