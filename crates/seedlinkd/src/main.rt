@@ -2,6 +2,7 @@
 //! 0 where its job was done or help was asked for; with status 1 at an input or device fault, of which the standard error
 //! has the one line `seedlinkd: N Name`; and with status 2 where its words are none that it takes.
 #![tactic(auto)]
+
 ghost use Rattle.std.specs.Prelude.{◌≡◌, ◌≢◌, false, true, map, string_bytes};
 ghost use Rattle.std.specs.Process.{exit_status};
 ghost use Rattle.seedlinkd.specs.Jobs.{IsJob};
