@@ -7,8 +7,6 @@ pub mod events;
 mod seats;
 pub mod server;
 mod serving;
-#[cfg(test)]
-mod tests;
 
 pub use arrivals::ArriveFault;
 pub use client::{Client, Gone, Offer, Refusal};

@@ -5,8 +5,8 @@ use super::steps::{
     END, ERROR, NOTHING, OK, Record, Step, differing_take, events_of, made, packets,
 };
 use super::{CENTRE, inside, joined, outside};
-use crate::{Event, Handed, run};
 use catalog::Config;
+use server_core::{Event, Handed, run};
 use std::alloc::Global;
 use std::test::Fail;
 

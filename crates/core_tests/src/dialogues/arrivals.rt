@@ -1,9 +1,9 @@
 //! What a server answers to a record that arrives.
 use super::steps::{Record, made};
 use super::{CENTRE, config};
-use crate::{ArriveFault, Server};
 use catalog::Config;
 use mseed_header::RecordFault;
+use server_core::{ArriveFault, Server};
 use std::test::Fail;
 
 #[test]

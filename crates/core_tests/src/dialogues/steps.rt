@@ -1,8 +1,8 @@
 //! Rows of steps: who comes, who sends what, which records arrive, and what is handed.
 use super::{inside, outside};
-use crate::{Event, Handed, run};
 use catalog::Config;
 use mseed_header::{ByteOrder, Fields, make};
+use server_core::{Event, Handed, run};
 use std::alloc::Global;
 use std::test::Fail;
 

@@ -1,6 +1,6 @@
 //! Dialogues with a server that has three stations.
-use crate::{Event, Handed, Offer, Refusal, Server, run};
 use catalog::Config;
+use server_core::{Event, Handed, Offer, Refusal, Server, run};
 use std::alloc::Global;
 use std::net::Ipv4Addr;
 use std::test::Fail;
