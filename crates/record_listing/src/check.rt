@@ -129,6 +129,7 @@ fn write_lines<W: Sink>(writer: &mut W, listing: &mut Listing) -> Result<(), Wri
 fn write_many<W: Sink>(writer: &mut W, listing: &mut Listing) -> Result<(), WriteFault>
     ensures ok { OnOk result ((lines : List ℕ) × Appends (W.written writer.old) (W.written writer.new) lines × (listing.old.lines ≡ lines ++ listing.new.lines)) }
     ensures kept { OnOk result (listing.new ≡ record listing.old { lines = listing.new.lines }) }
+    ensures few { OnOk result (length listing.new.lines < 32768) }
     ensures err { OnErr result (AppendsBeginning (W.written writer.old) (W.written writer.new) listing.old.lines) }
     ensures same { OnOk result ((W.failures writer.new ≡ W.failures writer.old) × (W.empty_writes writer.new ≡ W.empty_writes writer.old)) }
     ensures stopped { OnErr result (StopsWriting (W.failures writer.old) (W.failures writer.new) (W.empty_writes writer.old) (W.empty_writes writer.new)) }

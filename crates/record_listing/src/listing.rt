@@ -29,7 +29,7 @@ impl Model for Listing {
 }
 
 impl Listing {
-    ghost use Rattle.std.specs.Prelude.{◌≡◌, ◌<◌, ◌^◌, ◌++◌, [], IfOk, OnOk};
+    ghost use Rattle.std.specs.Prelude.{◌≡◌, ◌<◌, ◌^◌, ◌++◌, [], length, nat_le, IfOk, OnOk};
     ghost use Rattle.record_listing.specs.Listing.{partial_text, verdict_by};
     ghost use Rattle.record_listing.specs.Checks.{nothing_listed, with_record};
 
@@ -83,7 +83,9 @@ impl Listing {
     }
 
     /// The lines are so many that they should be written.
-    pub(crate) fn is_long(&self) -> bool {
+    pub(crate) fn is_long(&self) -> bool
+        ensures { result ≡ nat_le 32768 (length self.now.lines) }
+    {
         self.lines.len() >= ENOUGH
     }
 

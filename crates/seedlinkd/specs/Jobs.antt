@@ -2,7 +2,7 @@
 -- each of its arguments.
 use Rattle.std.specs.Prelude.{◌≡◌, ◌⊎◌, ℕ, Bool, true, false, List, [], ◌∷◌, Option, Some, None, option_map, if◌then◌else◌, codes, IsSome}
 use Rattle.std.specs.Str.{bytes_eq}
-use Rattle.clap.specs.Words.{App, Kinds, IsAmong, Row, Rule, Text, new_app, new_rule, with_rule, with_subcommand, first_of, subcommand_of, takes}
+use Rattle.clap.specs.Words.{App, Kinds, IsAmong, Row, Rule, Text, new_app, new_rule, with_rule, with_subcommand, fault_of, first_of, subcommand_of, takes}
 use Rattle.clap.specs.declared.error.ErrorKind.{ErrorKind}
 use Rattle.clap.specs.declared.error.ErrorKind.TheVariants.{DisplayHelp, DisplayVersion}
 use Rattle.seedlinkd.specs.declared.words.Job.{Job}
@@ -79,6 +79,10 @@ abbrev pub is_shown : ErrorKind → Bool
 is_shown DisplayHelp = true
 is_shown DisplayVersion = true
 is_shown _ = false
+
+-- the words are a mistake: no job, and nothing that asks to be shown something
+abbrev pub IsMistake : List Text → Type 0
+IsMistake words = (job_of words ≡ None) × ((k : ErrorKind) → IsAmong k (fault_of program_app words) → is_shown k ≡ false)
 
 -- what is told is help, or is none, as is said
 abbrev pub HelpIs : Bool → WordsFault → Type 0

@@ -5,7 +5,7 @@
 
 ghost use Rattle.std.specs.Prelude.{◌≡◌, ◌≢◌, false, true, map, string_bytes};
 ghost use Rattle.std.specs.Process.{exit_status};
-ghost use Rattle.seedlinkd.specs.Jobs.{IsJob};
+ghost use Rattle.seedlinkd.specs.Jobs.{IsJob, IsMistake};
 
 mod failure;
 mod faults;
@@ -55,7 +55,8 @@ fn told<R: Print + Eprint>(rt: &R, text: &str, is_help: bool) -> ExitCode
 
 /// Does the job that the words ask.
 fn obey<R: Files + Print + Eprint + AllocGlobal>(rt: &R, words: &[String]) -> ExitCode
-    ensures { IsJob (map string_bytes words.now) → exit_status result ≢ 2 }
+    ensures job { IsJob (map string_bytes words.now) → exit_status result ≢ 2 }
+    ensures mistake { IsMistake (map string_bytes words.now) → exit_status result ≢ 0 }
 {
     match words::read_words(rt.alloc(), words) {
         Ok(job) => match jobs::run_job(rt, job) {
