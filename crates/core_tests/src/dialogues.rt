@@ -147,33 +147,78 @@ fn each_split_of_a_dialogue_is_answered_alike(rt: HostRuntime) -> Result<(), Fai
     Ok(())
 }
 
-#[test]
-fn a_piece_that_has_no_room_is_refused_whole(rt: HostRuntime) -> Result<(), Fail> {
-    let alloc = rt.alloc();
+/// Why the last of some pieces is refused, where it is, and how much room there is behind it.
+fn received(alloc: Global, pieces: &[&[u8]]) -> Result<(Option<Refusal>, usize), Fail> {
     let mut server = Server::new(alloc, config(alloc)?)?;
     let client = server.open(alloc, inside())?;
+    let mut refusal = None;
+    for piece in pieces {
+        refusal = server.receive(client, piece).err();
+    }
+    Ok((refusal, server.room(client)?))
+}
+
+#[test]
+fn a_piece_that_has_no_room_is_refused_whole(rt: HostRuntime) -> Result<(), Fail> {
     let many = [b'A'; 1025];
-    server.receive(client, b"HELLO\r")?;
-    assert_eq!(rt; server.receive(client, &many), Err(Refusal::NoRoom));
-    assert_eq!(rt; server.room(client)?, 1024);
-    server.receive(client, &many[..1024])?;
-    assert_eq!(rt; server.receive(client, b"A"), Err(Refusal::NoRoom));
-    assert_eq!(rt; server.room(client)?, 0);
+    let most = &many[1..];
+    let no_room = Some(Refusal::NoRoom);
+    assert_eq!(rt;
+        received(rt.alloc(), &[b"HELLO\r", &many])?,
+        (no_room, 1024)
+    );
+    assert_eq!(rt; received(rt.alloc(), &[b"HELLO\r", most])?, (None, 0));
+    assert_eq!(rt;
+        received(rt.alloc(), &[b"HELLO\r", most, b"A"])?,
+        (no_room, 0)
+    );
     Ok(())
+}
+
+/// Why the line of a client that closed is refused, where it is.
+fn refused_after_closing(alloc: Global) -> Result<Option<Refusal>, Fail> {
+    let mut server = Server::new(alloc, config(alloc)?)?;
+    let client = server.open(alloc, inside())?;
+    server.close(client)?;
+    Ok(server.receive(client, b"HELLO\r").err())
+}
+
+/// Whether bytes of a client that closed are lent.
+fn waits_after_closing(alloc: Global) -> Result<bool, Fail> {
+    let mut server = Server::new(alloc, config(alloc)?)?;
+    let client = server.open(alloc, inside())?;
+    server.close(client)?;
+    Ok(server.waiting(client).is_ok())
+}
+
+/// The number of a client that comes after one that closed.
+fn number_of_the_second(alloc: Global) -> Result<usize, Fail> {
+    let mut server = Server::new(alloc, config(alloc)?)?;
+    let first = server.open(alloc, inside())?;
+    server.close(first)?;
+    Ok(server.open(alloc, outside())?.number())
+}
+
+/// What a client is offered that greets after another one closed.
+fn offered_to_the_second(alloc: Global) -> Result<Offer, Fail> {
+    let mut server = Server::new(alloc, config(alloc)?)?;
+    let first = server.open(alloc, inside())?;
+    let second = server.open(alloc, outside())?;
+    server.close(first)?;
+    server.receive(second, b"HELLO\r")?;
+    Ok(server.offer(second)?)
 }
 
 #[test]
 fn a_client_that_closed_is_gone(rt: HostRuntime) -> Result<(), Fail> {
-    let alloc = rt.alloc();
-    let mut server = Server::new(alloc, config(alloc)?)?;
-    let first = server.open(alloc, inside())?;
-    let second = server.open(alloc, outside())?;
-    assert_eq!(rt; second.number(), 1);
-    server.close(first)?;
-    assert_eq!(rt; server.receive(first, b"HELLO\r"), Err(Refusal::Gone));
-    assert!(rt; server.waiting(first).is_err());
-    server.receive(second, b"HELLO\r")?;
-    assert_eq!(rt; server.offer(second)?, Offer::Bytes);
-    assert_eq!(rt; server.waiting(second)?, GREETING);
+    assert_eq!(rt; refused_after_closing(rt.alloc())?, Some(Refusal::Gone));
+    assert!(rt; !waits_after_closing(rt.alloc())?);
+    Ok(())
+}
+
+#[test]
+fn a_client_beside_one_that_closed_is_served(rt: HostRuntime) -> Result<(), Fail> {
+    assert_eq!(rt; number_of_the_second(rt.alloc())?, 1);
+    assert_eq!(rt; offered_to_the_second(rt.alloc())?, Offer::Bytes);
     Ok(())
 }

@@ -74,15 +74,32 @@ fn stamp_from(ring: &Ring, place: u64) -> Option<(u64, u64)> {
     Some((place, held.stamp))
 }
 
+/// The ring of three to which four records were pushed, the first of them with the number FFFFFE.
+fn three_of_four(alloc: Global) -> Result<Ring, AllocError> {
+    filled(alloc, 3, 0xFFFFFE, 4)
+}
+
 #[test]
 fn a_ring_of_three_keeps_three_of_four(rt: HostRuntime) -> Result<(), Fail> {
-    let ring = filled(rt.alloc(), 3, 0xFFFFFE, 4)?;
+    let ring = three_of_four(rt.alloc())?;
     ring.holds_its_last();
     assert_eq!(rt; ring.pushes(), 4);
     assert_eq!(rt; ring.oldest(), Some(1));
+    Ok(())
+}
+
+#[test]
+fn numbers_wrap(rt: HostRuntime) -> Result<(), Fail> {
+    let ring = three_of_four(rt.alloc())?;
     assert_eq!(rt; ring.next_number().digits(), *b"000002");
     assert_eq!(rt; ring.number_at(0).digits(), *b"FFFFFE");
     assert_eq!(rt; ring.number_at(3).digits(), *b"000001");
+    Ok(())
+}
+
+#[test]
+fn held_places_are_found_by_their_numbers(rt: HostRuntime) -> Result<(), Fail> {
+    let ring = three_of_four(rt.alloc())?;
     for (value, place) in [
         (0xFFFFFD, None),
         (0xFFFFFE, None),
@@ -94,6 +111,12 @@ fn a_ring_of_three_keeps_three_of_four(rt: HostRuntime) -> Result<(), Fail> {
     ] {
         assert_eq!(rt; found(&ring, value), place, "{value}");
     }
+    Ok(())
+}
+
+#[test]
+fn held_places_have_their_records(rt: HostRuntime) -> Result<(), Fail> {
+    let ring = three_of_four(rt.alloc())?;
     for (place, stamp) in [
         (0, None),
         (1, Some(1)),
@@ -105,6 +128,12 @@ fn a_ring_of_three_keeps_three_of_four(rt: HostRuntime) -> Result<(), Fail> {
     ] {
         assert_eq!(rt; stamp_at(&ring, place), stamp, "{place}");
     }
+    Ok(())
+}
+
+#[test]
+fn a_place_leads_to_the_next_that_is_held(rt: HostRuntime) -> Result<(), Fail> {
+    let ring = three_of_four(rt.alloc())?;
     for (place, next) in [
         (0, Some((1, 1))),
         (1, Some((1, 1))),
@@ -167,29 +196,52 @@ fn an_empty_ring_holds_nothing(rt: HostRuntime) -> Result<(), Fail> {
     Ok(())
 }
 
+/// Whether a ring of one holds the last of so many records, which has that place, and no other.
+fn holds_the_last(ring: &Ring, last: u64) -> bool {
+    ring.oldest() == Some(last)
+        && stamp_at(ring, last) == Some(last)
+        && stamp_at(ring, last.saturating_add(1)).is_none()
+        && stamp_from(ring, 0) == Some((last, last))
+}
+
 #[test]
 fn a_ring_of_one_keeps_the_last(rt: HostRuntime) -> Result<(), Fail> {
-    for count in [1u8, 2, 3, 200] {
-        let last = u64::from(count).saturating_sub(1);
-        let ring = filled(rt.alloc(), 1, 0, u64::from(count))?;
-        assert_eq!(rt; ring.oldest(), Some(last), "{count}");
+    for last in [0u8, 1, 2, 199] {
+        let ring = filled(rt.alloc(), 1, 0, u64::from(last) + 1)?;
+        assert!(rt; holds_the_last(&ring, u64::from(last)), "{last}");
         assert_eq!(rt;
-            found(&ring, u32::from(count).saturating_sub(1)),
-            Some(last),
-            "{count}"
+            found(&ring, u32::from(last)),
+            Some(u64::from(last)),
+            "{last}"
         );
-        assert_eq!(rt; found(&ring, u32::from(count)), None, "{count}");
-        assert_eq!(rt; stamp_at(&ring, last), Some(last), "{count}");
-        assert_eq!(rt; stamp_at(&ring, u64::from(count)), None, "{count}");
-        assert_eq!(rt; stamp_from(&ring, 0), Some((last, last)), "{count}");
+        assert_eq!(rt; found(&ring, u32::from(last) + 1), None, "{last}");
+    }
+    Ok(())
+}
+
+/// The largest ring, to which one record more was pushed than it holds.
+fn the_largest(alloc: Global) -> Result<Ring, AllocError> {
+    filled(alloc, 65_536, 0xFFFF00, 65_537)
+}
+
+#[test]
+fn the_largest_ring_keeps_all_but_the_first(rt: HostRuntime) -> Result<(), Fail> {
+    let ring = the_largest(rt.alloc())?;
+    assert_eq!(rt; ring.oldest(), Some(1));
+    for (place, stamp) in [
+        (0, None),
+        (1, Some(1)),
+        (65_536, Some(65_536)),
+        (65_537, None),
+    ] {
+        assert_eq!(rt; stamp_at(&ring, place), stamp, "{place}");
     }
     Ok(())
 }
 
 #[test]
-fn the_largest_ring_keeps_all_but_the_first(rt: HostRuntime) -> Result<(), Fail> {
-    let ring = filled(rt.alloc(), 65_536, 0xFFFF00, 65_537)?;
-    assert_eq!(rt; ring.oldest(), Some(1));
+fn the_largest_ring_is_found_by_its_numbers(rt: HostRuntime) -> Result<(), Fail> {
+    let ring = the_largest(rt.alloc())?;
     assert_eq!(rt; ring.next_number().value(), 0x00FF01);
     for (value, place) in [
         (0xFFFF00, None),
@@ -201,14 +253,5 @@ fn the_largest_ring_keeps_all_but_the_first(rt: HostRuntime) -> Result<(), Fail>
     ] {
         assert_eq!(rt; found(&ring, value), place, "{value}");
     }
-    for (place, stamp) in [
-        (0, None),
-        (1, Some(1)),
-        (65_536, Some(65_536)),
-        (65_537, None),
-    ] {
-        assert_eq!(rt; stamp_at(&ring, place), stamp, "{place}");
-    }
-    assert_eq!(rt; stamp_from(&ring, 0), Some((1, 1)));
     Ok(())
 }

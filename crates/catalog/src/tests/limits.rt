@@ -61,6 +61,10 @@ fn texts_have_so_many_bytes(rt: HostRuntime) {
             "{key} {count}"
         );
     }
+}
+
+#[test]
+fn texts_are_not_shorter_and_not_longer(rt: HostRuntime) {
     for (key, count) in [
         ("title", 0),
         ("title", 101),
@@ -89,6 +93,10 @@ fn texts_have_certain_bytes(rt: HostRuntime) {
     ] {
         assert_eq!(rt; judged(rt.alloc(), key, line), Ok(()), "{line}");
     }
+}
+
+#[test]
+fn texts_have_no_other_bytes(rt: HostRuntime) {
     for (key, line) in [
         ("title", "title = \"a\\u001fb\""),
         ("title", "title = \"a\\u007fb\""),
@@ -111,7 +119,7 @@ fn texts_have_certain_bytes(rt: HostRuntime) {
 }
 
 #[test]
-fn numbers_have_limits(rt: HostRuntime) -> Result<(), Fail> {
+fn numbers_have_limits(rt: HostRuntime) {
     for (key, line) in [
         ("max_connections", "max_connections = 1"),
         ("max_connections", "max_connections = 10000"),
@@ -120,6 +128,10 @@ fn numbers_have_limits(rt: HostRuntime) -> Result<(), Fail> {
     ] {
         assert_eq!(rt; judged(rt.alloc(), key, line), Ok(()), "{line}");
     }
+}
+
+#[test]
+fn numbers_are_not_beyond_their_limits(rt: HostRuntime) {
     for (key, line) in [
         ("max_connections", "max_connections = -1"),
         ("max_connections", "max_connections = 0"),
@@ -135,6 +147,10 @@ fn numbers_have_limits(rt: HostRuntime) -> Result<(), Fail> {
             "{line}"
         );
     }
+}
+
+#[test]
+fn numbers_are_kept(rt: HostRuntime) -> Result<(), Fail> {
     let config = config_with(rt.alloc(), "max_connections", "max_connections = 10000")?;
     assert_eq!(rt; config.max_connections(), 10_000);
     let config = config_with(rt.alloc(), "capacity", "capacity = 65536")?;
@@ -155,6 +171,10 @@ fn the_first_number_has_1_to_6_digits_of_either_case(rt: HostRuntime) {
     ] {
         assert_eq!(rt; first_of(rt.alloc(), line), Ok(Some(number)), "{line}");
     }
+}
+
+#[test]
+fn the_first_number_has_no_other_form(rt: HostRuntime) {
     for line in [
         "first = \"\"",
         "first = \"0000000\"",

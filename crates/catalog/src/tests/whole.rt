@@ -1,8 +1,7 @@
 //! Whole configurations.
 use super::{CENTRE, config_with, judged, read};
-use crate::{Config, ConfigFault};
+use crate::{Config, ConfigFault, Station};
 use access_list::AccessFault;
-use sl_packet::Seq;
 use std::alloc::{AllocError, Global};
 use std::test::Fail;
 
@@ -26,52 +25,108 @@ fn judged_with(alloc: Global, old: &str, new: &str) -> Result<(), ConfigFault> {
     }
 }
 
+/// What a station is to say of itself.
+#[derive(Clone, Copy)]
+struct Wanted {
+    network: &'static [u8],
+    code: &'static [u8],
+    description: &'static [u8],
+    capacity: usize,
+    first: u32,
+}
+
+/// Whether a station says that of itself.
+fn is_wanted(station: &Station, wanted: Wanted) -> bool {
+    station.network() == wanted.network
+        && station.code() == wanted.code
+        && station.description() == wanted.description
+        && station.capacity() == wanted.capacity
+        && station.first().value() == wanted.first
+}
+
+/// Whether the station at a place of the three says that of itself.
+fn is_at(alloc: Global, place: usize, wanted: Wanted) -> Result<bool, ConfigFault> {
+    let config = Config::read(alloc, CENTRE.as_bytes())?;
+    match config.stations().get(place) {
+        Some(station) => Ok(is_wanted(station, wanted)),
+        None => Ok(false),
+    }
+}
+
 #[test]
-fn three_stations_are_read(rt: HostRuntime) -> Result<(), Fail> {
+fn the_server_is_read(rt: HostRuntime) -> Result<(), Fail> {
     let config = Config::read(rt.alloc(), CENTRE.as_bytes())?;
     assert_eq!(rt; config.title(), b"Test Centre".as_slice());
     assert_eq!(rt; config.max_connections(), 8);
-    let stations = config.stations();
-    assert_eq!(rt; stations.len(), 3);
-    assert_eq!(rt; stations[0].network(), b"GE".as_slice());
-    assert_eq!(rt; stations[0].code(), b"APE".as_slice());
-    assert_eq!(rt; stations[0].description(), b"Island".as_slice());
-    assert_eq!(rt; stations[0].capacity(), 4);
-    assert_eq!(rt; stations[0].first().value(), 0);
-    assert_eq!(rt; stations[1].code(), b"WLF".as_slice());
-    assert_eq!(rt; Some(stations[1].first()), Seq::of(0xFF_FFFE));
-    assert_eq!(rt; stations[2].network(), b"XX".as_slice());
-    assert_eq!(rt; stations[2].description(), b"Vault".as_slice());
-    assert_eq!(rt; stations[2].capacity(), 1);
-    assert_eq!(rt; stations[2].first().value(), 0);
+    assert_eq!(rt; config.stations().len(), 3);
     Ok(())
 }
 
 #[test]
+fn three_stations_are_read(rt: HostRuntime) {
+    for (place, wanted) in [
+        Wanted {
+            network: b"GE",
+            code: b"APE",
+            description: b"Island",
+            capacity: 4,
+            first: 0,
+        },
+        Wanted {
+            network: b"GE",
+            code: b"WLF",
+            description: b"Forest",
+            capacity: 2,
+            first: 0xFF_FFFE,
+        },
+        Wanted {
+            network: b"XX",
+            code: b"APE",
+            description: b"Vault",
+            capacity: 1,
+            first: 0,
+        },
+    ]
+    .into_iter()
+    .enumerate()
+    {
+        assert_eq!(rt; is_at(rt.alloc(), place, wanted), Ok(true), "{place}");
+    }
+}
+
+#[test]
 fn each_refusal_has_its_number(rt: HostRuntime) {
-    let alloc = rt.alloc();
-    let twice = judged_with(
-        alloc,
-        "network = \"XX\"\ncode = \"APE\"",
-        "network = \"GE\"\ncode = \"WLF\"",
-    );
-    assert_eq!(rt; twice, Err(ConfigFault::Duplicate));
-    assert_eq!(rt; twice.map_err(|fault| fault.number()), Err(23));
-    let untitled = judged_with(alloc, "title = \"Test Centre\"\n", "");
-    assert_eq!(rt; untitled.map_err(|fault| fault.number()), Err(21));
-    let empty = judged_with(alloc, "capacity = 4", "capacity = 0");
-    assert_eq!(rt; empty.map_err(|fault| fault.number()), Err(22));
-    let broken = read(alloc, b"title =");
-    assert_eq!(rt; broken.map_err(|fault| fault.number()), Err(20));
-    let unspelled = judged_with(alloc, "10.0.0.0/8", "10.0.0/8");
-    assert_eq!(rt; unspelled.map_err(|fault| fault.number()), Err(24));
+    for (old, new, number) in [
+        ("title = \"Test Centre\"\n", "", 21),
+        ("title = \"Test Centre\"\n", "title =\n", 20),
+        ("capacity = 4", "capacity = 0", 22),
+        (
+            "network = \"XX\"\ncode = \"APE\"",
+            "network = \"GE\"\ncode = \"WLF\"",
+            23,
+        ),
+        ("10.0.0.0/8", "10.0.0/8", 24),
+    ] {
+        let judged = judged_with(rt.alloc(), old, new);
+        assert_eq!(rt;
+            judged.map_err(|fault| fault.number()),
+            Err(number),
+            "{number}"
+        );
+    }
+    assert_eq!(rt; ConfigFault::OutOfMemory.number(), 25);
+}
+
+#[test]
+fn a_refusal_by_addresses_has_a_cause(rt: HostRuntime) {
+    let unspelled = judged_with(rt.alloc(), "10.0.0.0/8", "10.0.0/8");
     assert_eq!(rt; unspelled.map_err(|fault| fault.name()), Err("Access"));
     assert_eq!(rt;
         unspelled.map_err(|fault| fault.cause()),
         Err(Some(AccessFault::Address))
     );
-    assert_eq!(rt; twice.map_err(|fault| fault.cause()), Err(None));
-    assert_eq!(rt; ConfigFault::OutOfMemory.number(), 25);
+    let empty = judged_with(rt.alloc(), "capacity = 4", "capacity = 0");
+    assert_eq!(rt; empty.map_err(|fault| fault.cause()), Err(None));
 }
 
 #[test]
@@ -141,17 +196,31 @@ fn an_access_text_is_judged_before_duplicates(rt: HostRuntime) {
     );
 }
 
+/// How many connections a configuration lets in where the line under a word is another one, and the number of its station's
+/// first record.
+fn numbers_with(
+    alloc: Global,
+    word: &str,
+    line: &str,
+) -> Result<(usize, Option<u32>), ConfigFault> {
+    let config = config_with(alloc, word, line)?;
+    let first = config
+        .stations()
+        .first()
+        .map(|station| station.first().value());
+    Ok((config.max_connections(), first))
+}
+
 #[test]
-fn what_may_be_missing_has_a_value(rt: HostRuntime) -> Result<(), Fail> {
+fn what_may_be_missing_has_a_value(rt: HostRuntime) {
     let alloc = rt.alloc();
-    let config = config_with(alloc, "max_connections", "")?;
-    assert_eq!(rt; config.max_connections(), 100);
-    let config = config_with(alloc, "first", "")?;
-    assert_eq!(rt; config.stations().len(), 1);
-    assert_eq!(rt; config.stations()[0].first().value(), 0);
+    assert_eq!(rt;
+        numbers_with(alloc, "max_connections", ""),
+        Ok((100, Some(0)))
+    );
+    assert_eq!(rt; numbers_with(alloc, "first", ""), Ok((8, Some(0))));
     assert_eq!(rt; judged(alloc, "access", ""), Ok(()));
     assert_eq!(rt; judged(alloc, "own access", ""), Ok(()));
-    Ok(())
 }
 
 #[test]

@@ -1,9 +1,9 @@
 //! What a server answers to a record that arrives.
+use super::config;
 use super::steps::{Record, made};
-use super::{CENTRE, config};
-use catalog::Config;
 use mseed_header::RecordFault;
 use server_core::{ArriveFault, Server};
+use std::alloc::Global;
 use std::test::Fail;
 
 #[test]
@@ -25,31 +25,29 @@ fn records_are_numbered_by_their_station(rt: HostRuntime) -> Result<(), Fail> {
     Ok(())
 }
 
+/// What a server answers to a record that arrives first.
+fn answered(alloc: Global, record: &[u8; 512]) -> Result<Result<u32, ArriveFault>, Fail> {
+    let mut server = Server::new(alloc, config(alloc)?)?;
+    Ok(server.arrive(record).map(|number| number.value()))
+}
+
 #[test]
-fn what_is_no_record_of_a_station_is_refused(rt: HostRuntime) -> Result<(), Fail> {
-    let alloc = rt.alloc();
-    let mut server = Server::new(alloc, Config::read(alloc, CENTRE)?)?;
+fn a_record_of_no_station_is_refused(rt: HostRuntime) -> Result<(), Fail> {
+    let fault = ArriveFault::UnknownStation;
+    assert_eq!(rt; answered(rt.alloc(), &made(Record::Stray(1))?)?, Err(fault));
+    assert_eq!(rt; fault.number(), 32);
+    assert_eq!(rt; fault.name(), "UnknownStation");
+    Ok(())
+}
+
+#[test]
+fn what_is_no_record_is_refused(rt: HostRuntime) -> Result<(), Fail> {
     let mut poor = made(Record::Island(1))?;
+    assert_eq!(rt; answered(rt.alloc(), &poor)?, Ok(0));
     poor[6] = b'X';
-    let rows = [
-        (
-            made(Record::Stray(1))?,
-            ArriveFault::UnknownStation,
-            32,
-            "UnknownStation",
-        ),
-        (
-            poor,
-            ArriveFault::Record(RecordFault::Quality),
-            2,
-            "Quality",
-        ),
-    ];
-    for (record, fault, number, name) in rows {
-        assert_eq!(rt; server.arrive(&record), Err(fault));
-        assert_eq!(rt; fault.number(), number);
-        assert_eq!(rt; fault.name(), name);
-    }
-    assert_eq!(rt; server.arrive(&made(Record::Island(1))?)?.value(), 0);
+    let fault = ArriveFault::Record(RecordFault::Quality);
+    assert_eq!(rt; answered(rt.alloc(), &poor)?, Err(fault));
+    assert_eq!(rt; fault.number(), 2);
+    assert_eq!(rt; fault.name(), "Quality");
     Ok(())
 }
