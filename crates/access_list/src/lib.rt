@@ -11,6 +11,3 @@ mod token;
 pub use addresses::address;
 pub use fault::AccessFault;
 pub use list::AccessList;
-
-#[cfg(test)]
-mod tests;

@@ -1,4 +1,5 @@
 mod Distinct
 mod Elements
 mod Finds
+mod ReadOn
 mod Views

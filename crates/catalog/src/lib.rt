@@ -7,8 +7,6 @@ mod keys;
 mod listing;
 mod settings;
 pub mod station;
-#[cfg(test)]
-mod tests;
 mod texts;
 pub mod view;
 

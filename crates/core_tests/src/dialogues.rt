@@ -1,6 +1,6 @@
 //! Dialogues with a server that has three stations.
 use catalog::Config;
-use server_core::{Event, Handed, Offer, Refusal, Server, run};
+use server_core::{Client, Event, Handed, Offer, Refusal, Server, run};
 use std::alloc::Global;
 use std::net::Ipv4Addr;
 use std::test::Fail;
@@ -82,16 +82,27 @@ fn joined(alloc: Global, takes: &[Handed]) -> Result<Vec<u8>, Fail> {
     Ok(all)
 }
 
+/// All that the client of an address is handed by so many takes of 520 bytes after it sent these pieces, at a server of that
+/// configuration.
+fn bytes_at(
+    alloc: Global,
+    text: &[u8],
+    address: Ipv4Addr,
+    pieces: &[&[u8]],
+    takes: usize,
+) -> Result<Vec<u8>, Fail> {
+    let handed = handed_at(alloc, text, address, pieces, takes, 520)?;
+    joined(alloc, handed.as_slice())
+}
+
 /// All that the client of an address is handed by takes of 520 bytes after it sent a text.
 fn answers(alloc: Global, address: Ipv4Addr, text: &[u8]) -> Result<Vec<u8>, Fail> {
-    let takes = handed_at(alloc, CENTRE, address, &[text], 60, 520)?;
-    joined(alloc, takes.as_slice())
+    bytes_at(alloc, CENTRE, address, &[text], 60)
 }
 
 /// All that a client inside is handed by so many takes of 520 bytes after it sent these pieces.
 fn bytes(alloc: Global, pieces: &[&[u8]], takes: usize) -> Result<Vec<u8>, Fail> {
-    let takes = handed_at(alloc, CENTRE, inside(), pieces, takes, 520)?;
-    joined(alloc, takes.as_slice())
+    bytes_at(alloc, CENTRE, inside(), pieces, takes)
 }
 
 /// Whether the client of an address is told that its connection is over.
@@ -147,14 +158,20 @@ fn each_split_of_a_dialogue_is_answered_alike(rt: HostRuntime) -> Result<(), Fai
     Ok(())
 }
 
-/// Why the last of some pieces is refused, where it is, and how much room there is behind it.
-fn received(alloc: Global, pieces: &[&[u8]]) -> Result<(Option<Refusal>, usize), Fail> {
-    let mut server = Server::new(alloc, config(alloc)?)?;
-    let client = server.open(alloc, inside())?;
+/// Why the last of some pieces is refused, where it is.
+fn refusal(server: &mut Server, client: Client, pieces: &[&[u8]]) -> Option<Refusal> {
     let mut refusal = None;
     for piece in pieces {
         refusal = server.receive(client, piece).err();
     }
+    refusal
+}
+
+/// Why the last of some pieces is refused, where it is, and how much room there is behind it.
+fn received(alloc: Global, pieces: &[&[u8]]) -> Result<(Option<Refusal>, usize), Fail> {
+    let mut server = server(alloc)?;
+    let client = server.open(alloc, inside())?;
+    let refusal = refusal(&mut server, client, pieces);
     Ok((refusal, server.room(client)?))
 }
 
@@ -175,50 +192,54 @@ fn a_piece_that_has_no_room_is_refused_whole(rt: HostRuntime) -> Result<(), Fail
     Ok(())
 }
 
-/// Why the line of a client that closed is refused, where it is.
-fn refused_after_closing(alloc: Global) -> Result<Option<Refusal>, Fail> {
-    let mut server = Server::new(alloc, config(alloc)?)?;
+/// A server of the three stations.
+fn server(alloc: Global) -> Result<Server, Fail> {
+    Ok(Server::new(alloc, config(alloc)?)?)
+}
+
+/// A client that came and closed.
+fn gone_client(server: &mut Server, alloc: Global) -> Result<Client, Fail> {
     let client = server.open(alloc, inside())?;
     server.close(client)?;
-    Ok(server.receive(client, b"HELLO\r").err())
-}
-
-/// Whether bytes of a client that closed are lent.
-fn waits_after_closing(alloc: Global) -> Result<bool, Fail> {
-    let mut server = Server::new(alloc, config(alloc)?)?;
-    let client = server.open(alloc, inside())?;
-    server.close(client)?;
-    Ok(server.waiting(client).is_ok())
-}
-
-/// The number of a client that comes after one that closed.
-fn number_of_the_second(alloc: Global) -> Result<usize, Fail> {
-    let mut server = Server::new(alloc, config(alloc)?)?;
-    let first = server.open(alloc, inside())?;
-    server.close(first)?;
-    Ok(server.open(alloc, outside())?.number())
-}
-
-/// What a client is offered that greets after another one closed.
-fn offered_to_the_second(alloc: Global) -> Result<Offer, Fail> {
-    let mut server = Server::new(alloc, config(alloc)?)?;
-    let first = server.open(alloc, inside())?;
-    let second = server.open(alloc, outside())?;
-    server.close(first)?;
-    server.receive(second, b"HELLO\r")?;
-    Ok(server.offer(second)?)
+    Ok(client)
 }
 
 #[test]
-fn a_client_that_closed_is_gone(rt: HostRuntime) -> Result<(), Fail> {
-    assert_eq!(rt; refused_after_closing(rt.alloc())?, Some(Refusal::Gone));
-    assert!(rt; !waits_after_closing(rt.alloc())?);
+fn a_line_of_a_client_that_closed_is_refused(rt: HostRuntime) -> Result<(), Fail> {
+    let mut server = server(rt.alloc())?;
+    let client = gone_client(&mut server, rt.alloc())?;
+    assert!(rt; server.receive(client, b"HELLO\r") == Err(Refusal::Gone));
     Ok(())
 }
 
 #[test]
+fn nothing_waits_for_a_client_that_closed(rt: HostRuntime) -> Result<(), Fail> {
+    let mut server = server(rt.alloc())?;
+    let client = gone_client(&mut server, rt.alloc())?;
+    assert!(rt; server.waiting(client).is_err());
+    Ok(())
+}
+
+/// The second client, which greets after the first one closed.
+fn second_client(server: &mut Server, alloc: Global) -> Result<Client, Fail> {
+    let first = server.open(alloc, inside())?;
+    let second = server.open(alloc, outside())?;
+    server.close(first)?;
+    server.receive(second, b"HELLO\r")?;
+    Ok(second)
+}
+
+/// Whether a client is offered the greeting.
+fn is_greeted(server: &mut Server, client: Client) -> Result<bool, Fail> {
+    let offer = server.offer(client)?;
+    Ok(offer == Offer::Bytes && server.waiting(client)? == GREETING)
+}
+
+#[test]
 fn a_client_beside_one_that_closed_is_served(rt: HostRuntime) -> Result<(), Fail> {
-    assert_eq!(rt; number_of_the_second(rt.alloc())?, 1);
-    assert_eq!(rt; offered_to_the_second(rt.alloc())?, Offer::Bytes);
+    let mut server = server(rt.alloc())?;
+    let second = second_client(&mut server, rt.alloc())?;
+    assert_eq!(rt; second.number(), 1);
+    assert!(rt; is_greeted(&mut server, second)?);
     Ok(())
 }

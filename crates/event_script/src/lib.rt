@@ -8,8 +8,6 @@ mod fault;
 mod line;
 mod numbers;
 mod output;
-#[cfg(test)]
-mod tests;
 
 pub use events::{events_of, lines_by_the_table};
 pub use fault::ScriptFault;

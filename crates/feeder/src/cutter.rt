@@ -3,9 +3,6 @@ ghost use Rattle.std.specs.Prelude.{◌≡◌, ◌+◌, ◌≤◌, ◌++◌, len
 
 use std::marker::Model;
 
-#[cfg(test)]
-mod tests;
-
 /// The length of a record, in bytes.
 const RECORD: usize = 512;
 

@@ -29,6 +29,3 @@ pub fn arrivals_by_place()
     ensures { (s : Station) (h : List Arrival) (place : ℕ) (x : Held) → 1 ≤ s.capacity → held_at (ring_of s h) place ≡ Some x →
         IsArrival s h (number_at (ring_of s h) place) x }
 {}
-
-#[cfg(test)]
-mod tests;

@@ -5,9 +5,6 @@ ghost use Rattle.protocol.specs.Record.{has_date as spec_has_date, header_of, is
 ghost use Rattle.protocol.specs.Time.{btime_tick};
 ghost use Rattle.mseed_header.specs.Header.{facts_with, header_by as spec_header_by, kind_with};
 
-#[cfg(test)]
-mod tests;
-
 use crate::chain::{Blockettes, blockettes_of};
 use crate::codes::{is_quality, is_sequence_byte, trimmed};
 use crate::extent::ticks_for;

@@ -6,9 +6,6 @@ ghost use Rattle.protocol.specs.Made.{has_codes_in_range, has_fields as spec_has
 ghost use Rattle.protocol.specs.Record.{header_of};
 ghost use Rattle.mseed_header.specs.Fields.{fields_value, has_codes_of};
 
-#[cfg(test)]
-mod tests;
-
 use crate::fields::Fields;
 use crate::header::{Header, read};
 use crate::layout::{layout_of, padded};

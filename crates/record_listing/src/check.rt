@@ -13,9 +13,6 @@ use sl_io::{ReadFault, Sink, Source, WriteFault, write_all};
 use std::alloc::{AllocError, Global};
 use thiserror::Error;
 
-#[cfg(test)]
-mod tests;
-
 /// How many bytes are read at most by one call.
 const BLOCK: usize = 65_536;
 

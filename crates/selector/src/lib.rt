@@ -6,6 +6,3 @@ pub mod pattern;
 
 pub use list::{Full, Selectors};
 pub use pattern::Selector;
-
-#[cfg(test)]
-mod tests;

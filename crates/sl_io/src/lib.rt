@@ -13,8 +13,6 @@ mod faults;
 mod memory_sink;
 mod memory_source;
 mod outer;
-#[cfg(test)]
-mod tests;
 mod whole;
 
 pub use faults::{DeviceFault, ReadFault, WriteFault};

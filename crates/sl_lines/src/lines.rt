@@ -5,9 +5,6 @@ ghost use Rattle.protocol.specs.Lines.{is_line_end};
 use arrayvec::ArrayVec;
 use std::marker::Model;
 
-#[cfg(test)]
-mod tests;
-
 /// A line of a client, without its end (SeedLink 3, commands).
 #[derive(Clone, Copy, Debug, PartialEq, Eq)]
 pub enum Line<'a> {

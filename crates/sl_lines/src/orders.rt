@@ -12,9 +12,6 @@ use crate::words::{Arguments, arguments_of, first_word, is_named};
 use sl_packet::Seq;
 use sl_time::Tick;
 
-#[cfg(test)]
-mod tests;
-
 /// What a line asks (SeedLink 3, commands). Codes and patterns are the line's own bytes, 1 to 256 of them and none a
 /// space: whether a station, a network or a pattern is meant by them is not judged here.
 #[derive(Clone, Copy, Debug, PartialEq, Eq)]

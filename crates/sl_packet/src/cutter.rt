@@ -6,9 +6,6 @@ use crate::packets::{PACKET, may_continue};
 use std::marker::Model;
 use thiserror::Error;
 
-#[cfg(test)]
-mod tests;
-
 /// A byte fits no stream of packets: it stands neither in a packet nor in the end, or behind the end.
 #[derive(Clone, Copy, Debug, PartialEq, Eq, Drop, Error)]
 #[error("the bytes are no stream of packets")]

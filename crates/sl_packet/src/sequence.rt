@@ -112,6 +112,3 @@ fn digit(value: u32) -> u8
         b'A' + (value as u8 - 10)
     }
 }
-
-#[cfg(test)]
-mod tests;

@@ -8,6 +8,3 @@ pub mod ticks;
 
 pub use command::{TimeFault, parse};
 pub use ticks::{Tick, of_btime};
-
-#[cfg(test)]
-mod tests;

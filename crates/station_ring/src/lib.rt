@@ -31,6 +31,3 @@ pub fn places_found()
     ensures { (r : Holding) (number place : ℕ) → IsHolding r →
         (place_with r number ≡ Some place) ↔ ((first_place r ≤ place) × (place < r.pushes) × (number_at r place ≡ number)) }
 {}
-
-#[cfg(test)]
-mod tests;

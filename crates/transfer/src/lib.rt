@@ -4,8 +4,6 @@
 
 mod choosing;
 mod starting;
-#[cfg(test)]
-mod tests;
 mod wanting;
 
 pub use choosing::{Chosen, choose};

@@ -1,7 +1,6 @@
 //! Which stations a client is told of.
-use super::{CENTRE, GREETING, answers, handed_at, inside, joined, outside};
+use super::{CENTRE, GREETING, answers, bytes_at, handed_at, inside, joined, outside};
 use std::alloc::Global;
-use std::net::Ipv4Addr;
 use std::test::Fail;
 
 /// The same configuration without GE APE.
@@ -47,13 +46,16 @@ fn cat_lists_what_is_seen_a_line_a_take(rt: HostRuntime) -> Result<(), Fail> {
     ];
     assert_eq!(rt; takes.len(), 4);
     for (take, line) in takes.as_slice().iter().zip(lines) {
-        assert_eq!(rt; take.bytes.as_slice(), line);
-        assert!(rt; !take.ended);
+        assert!(rt; take.bytes.as_slice() == line && !take.ended);
     }
-    assert_eq!(rt;
-        answers(alloc, inside(), b"CAT\r")?.as_slice(),
-        b"GE APE   Island\r\nGE WLF   Forest\r\nXX APE   Vault\r\nEND\r\n".as_slice()
-    );
+    Ok(())
+}
+
+#[test]
+fn cat_lists_all_to_an_address_inside(rt: HostRuntime) -> Result<(), Fail> {
+    let given = answers(rt.alloc(), inside(), b"CAT\r")?;
+    let wanted = b"GE APE   Island\r\nGE WLF   Forest\r\nXX APE   Vault\r\nEND\r\n";
+    assert!(rt; given.as_slice() == wanted.as_slice());
     Ok(())
 }
 
@@ -81,85 +83,73 @@ fn lines_sent_within_a_listing_are_answered_behind_it(rt: HostRuntime) -> Result
 fn a_hidden_station_is_as_one_that_is_not_there(rt: HostRuntime) -> Result<(), Fail> {
     let alloc = rt.alloc();
     let text: &[u8] = b"HELLO\rCAT\rHELLO\rSTATION APE GE\rSTATION APE\rDATA\rEND\r";
-    let beside = handed_at(alloc, CENTRE, outside(), &[text], 20, 520)?;
-    let without = handed_at(alloc, WITHOUT, outside(), &[text], 20, 520)?;
-    assert_eq!(rt;
-        joined(alloc, beside.as_slice())?.as_slice(),
-        joined(alloc, without.as_slice())?.as_slice()
-    );
-    assert!(rt; joined(alloc, beside.as_slice())?.len() > 2 * GREETING.len());
+    let beside = bytes_at(alloc, CENTRE, outside(), &[text], 20)?;
+    let without = bytes_at(alloc, WITHOUT, outside(), &[text], 20)?;
+    assert!(rt; beside.as_slice() == without.as_slice());
+    assert!(rt; beside.len() > 2 * GREETING.len());
     Ok(())
 }
 
 #[test]
 fn who_sees_no_station_is_told_of_none(rt: HostRuntime) -> Result<(), Fail> {
-    let alloc = rt.alloc();
-    let text: &[u8] = b"HELLO\rCAT\rSTATION SHUT ZZ\r";
-    let takes = handed_at(alloc, SHUT, inside(), &[text], 10, 520)?;
-    let mut wanted = GREETING.to_vec(alloc)?;
-    wanted.extend_from_slice(b"END\r\nERROR\r\n")?;
-    assert_eq!(rt;
-        joined(alloc, takes.as_slice())?.as_slice(),
-        wanted.as_slice()
-    );
-    let actions: &[u8] = b"DATA\rFETCH\rTIME\rEND\r";
-    let refused = handed_at(alloc, SHUT, inside(), &[actions], 10, 520)?;
-    assert_eq!(rt;
-        joined(alloc, refused.as_slice())?.as_slice(),
-        b"ERROR\r\nERROR\r\nERROR\r\nERROR\r\n".as_slice()
-    );
+    for (sent, wanted) in [
+        (
+            b"HELLO\rCAT\rSTATION SHUT ZZ\r".as_slice(),
+            b"SeedLink v3.0 (station access)\r\nTest Centre\r\nEND\r\nERROR\r\n".as_slice(),
+        ),
+        (
+            b"DATA\rFETCH\rTIME\rEND\r",
+            b"ERROR\r\nERROR\r\nERROR\r\nERROR\r\n",
+        ),
+    ] {
+        let given = bytes_at(rt.alloc(), SHUT, inside(), &[sent], 10)?;
+        assert!(rt; given.as_slice() == wanted);
+    }
     Ok(())
 }
 
-/// A configuration with stations `S00` to `S32`.
-fn of_33_stations(alloc: Global) -> Result<Vec<u8>, Fail> {
-    let mut text = b"title = \"Test Centre\"\n".to_vec(alloc)?;
+/// The numbers 00 to 32, each between two texts.
+fn numbered_33(alloc: Global, before: &[u8], behind: &[u8]) -> Result<Vec<u8>, Fail> {
+    let mut text = Vec::new(alloc);
     for tens in b"0123" {
         for ones in b"0123456789" {
             if *tens == b'3' && *ones > b'2' {
                 break;
             }
-            text.extend_from_slice(b"[[station]]\nnetwork = \"GE\"\ncode = \"S")?;
-            text.push(*tens)?;
-            text.push(*ones)?;
-            text.extend_from_slice(b"\"\ndescription = \"\"\ncapacity = 1\n")?;
+            text.extend_from_slice(before)?;
+            text.extend_from_slice(&[*tens, *ones])?;
+            text.extend_from_slice(behind)?;
         }
     }
     Ok(text)
 }
 
+/// A configuration with stations `S00` to `S32`.
+fn of_33_stations(alloc: Global) -> Result<Vec<u8>, Fail> {
+    let stations = numbered_33(
+        alloc,
+        b"[[station]]\nnetwork = \"GE\"\ncode = \"S",
+        b"\"\ndescription = \"\"\ncapacity = 1\n",
+    )?;
+    let mut text = b"title = \"Test Centre\"\n".to_vec(alloc)?;
+    text.extend_from_slice(stations.as_slice())?;
+    Ok(text)
+}
+
+/// What a client is handed that names those stations one after the other.
+fn naming_33(alloc: Global, config: &[u8]) -> Result<Vec<u8>, Fail> {
+    let commands = numbered_33(alloc, b"STATION S", b"\r")?;
+    bytes_at(alloc, config, inside(), &[commands.as_slice()], 40)
+}
+
 #[test]
 fn a_client_names_32_stations(rt: HostRuntime) -> Result<(), Fail> {
-    let alloc = rt.alloc();
-    let config = of_33_stations(alloc)?;
-    let mut text = Vec::new(alloc);
-    let mut wanted = Vec::new(alloc);
-    for tens in b"0123" {
-        for ones in b"0123456789" {
-            if *tens == b'3' && *ones > b'2' {
-                break;
-            }
-            text.extend_from_slice(b"STATION S")?;
-            text.push(*tens)?;
-            text.push(*ones)?;
-            text.push(b'\r')?;
-            let is_last = *tens == b'3' && *ones == b'2';
-            let reply: &[u8] = if is_last { b"ERROR\r\n" } else { b"OK\r\n" };
-            wanted.extend_from_slice(reply)?;
-        }
+    let config = of_33_stations(rt.alloc())?;
+    let given = naming_33(rt.alloc(), config.as_slice())?;
+    let (accepted, refused) = given.as_slice().split_at(given.len().min(32 * 4));
+    assert!(rt; accepted.len() == 32 * 4 && refused == b"ERROR\r\n".as_slice());
+    for reply in accepted.chunks(4) {
+        assert!(rt; reply == b"OK\r\n".as_slice());
     }
-    let address = Ipv4Addr::new(192, 0, 2, 1);
-    let takes = handed_at(
-        alloc,
-        config.as_slice(),
-        address,
-        &[text.as_slice()],
-        40,
-        520,
-    )?;
-    assert_eq!(rt;
-        joined(alloc, takes.as_slice())?.as_slice(),
-        wanted.as_slice()
-    );
     Ok(())
 }

@@ -1,0 +1,232 @@
+//! Scripts and what they write, at a server that has three stations.
+use catalog::Config;
+use jobs::{ReplayFault, replay};
+use sl_io::{MemorySink, MemorySource};
+use std::alloc::{AllocError, Global};
+use std::test::Fail;
+
+mod devices;
+mod refused;
+
+/// The hexadecimal digits of the 45 bytes that HELLO is answered.
+const GREETING: &str =
+    "536565644c696e6b2076332e30202873746174696f6e20616363657373290d0a546573742043656e7472650d0a";
+
+/// A station for addresses that begin with 10, and two for everybody.
+const CENTRE: &[u8] = br#"title = "Test Centre"
+max_connections = 8
+
+[[station]]
+network = "GE"
+code = "APE"
+description = "Island"
+capacity = 4
+first = "000000"
+access = "10.0.0.0/8"
+
+[[station]]
+network = "GE"
+code = "WLF"
+description = "Forest"
+capacity = 2
+first = "FFFFFE"
+
+[[station]]
+network = "XX"
+code = "APE"
+description = "Vault"
+capacity = 1
+"#;
+
+pub(crate) fn config(alloc: Global) -> Result<Config, Fail> {
+    Ok(Config::read(alloc, CENTRE)?)
+}
+
+/// What a script writes.
+fn written(alloc: Global, script: &[u8]) -> Result<Vec<u8>, Fail> {
+    let mut source = MemorySource::new(script);
+    let mut sink = MemorySink::new(alloc);
+    replay(alloc, config(alloc)?, &mut source, &mut sink)?;
+    Ok(sink.into_bytes())
+}
+
+/// A text with the greeting's digits in place of each `G`.
+fn greeted(alloc: Global, text: &str) -> Result<String, AllocError> {
+    let mut all = String::new(alloc);
+    for letter in text.chars() {
+        if letter == 'G' {
+            all.push_str(GREETING)?;
+        } else {
+            all.push(letter)?;
+        }
+    }
+    Ok(all)
+}
+
+/// A line `bytes` of client 0.
+fn push_bytes(script: &mut String, bytes: &[u8]) -> Result<(), Fail> {
+    script.push_str("bytes 0 ")?;
+    for byte in bytes {
+        let byte = *byte;
+        write!(script, "{byte:02x}")?;
+    }
+    script.push('\n')?;
+    Ok(())
+}
+
+#[test]
+fn worked_scripts(rt: HostRuntime) -> Result<(), Fail> {
+    let rows: [(&str, &str); 11] = [
+        // Who may not use a station is not told of it.
+        (
+            "open 172.16.0.9\nline 0 CAT\ntake 0 520\ntake 0 520\ntake 0 520\ntake 0 520\n",
+            "0 474520574c46202020466f726573740d0a\n0 5858204150452020205661756c740d0a\n0 454e440d0a\n0 -\n",
+        ),
+        (
+            "open 172.16.0.9\nline 0 STATION APE GE\ntake 0 520\nline 0 STATION APE\ntake 0 520\nline 0 FETCH\ntake 0 520\nline 0 END\ntake 0 520\ntake 0 1\n",
+            "0 4552524f520d0a\n0 4f4b0d0a\n0 4f4b0d0a\n0 454e44\n0 - end\n",
+        ),
+        (
+            "open 10.0.0.7\nline 0 HELLO\ntake 0 520\ntake 0 520\n",
+            "0 G\n0 -\n",
+        ),
+        (
+            "open 10.0.0.7\nbytes 0 48454c\nbytes 0 4c4f0d\nbytes 0 0a\nbytes 0 0d0d\ntake 0 520\ntake 0 520\ntake 0 520\n",
+            "0 G\n0 -\n0 -\n",
+        ),
+        (
+            "open 10.0.0.7\nline 0 INFO ID\ntake 0 520\ntake 0 520\n",
+            "0 4552524f520d0a\n0 -\n",
+        ),
+        (
+            "take 0 5\nopen 10.0.0.7\nbytes 0 48454c\nbytes 0 4c4f0d\nbytes 0 0a\ntake 0 520\nline 0 BYE\ntake 0 1\n",
+            "0 - end\n0 G\n0 - end\n",
+        ),
+        // Pairs of hexadecimal digits are of either case.
+        (
+            "open 172.16.0.9\nbytes 0 48454C4c4F0D\ntake 0 2\nclose 0\ntake 0 520",
+            "0 5365\n0 - end\n",
+        ),
+        // A text may be empty; then its line is one carriage return.
+        ("open 10.0.0.7\nline 0 \ntake 0 520", "0 -\n"),
+        // Leading zeros count among ten digits, and a number may be nobody's.
+        (
+            "open 010.0.0.7\ntake 0000000000 1000000\ntake 9999999999 0\n",
+            "0 -\n9999999999 - end\n",
+        ),
+        ("", ""),
+        ("# a comment\n\n#\n\n", ""),
+    ];
+    for (script, output) in rows {
+        let output = greeted(rt.alloc(), output)?;
+        let got = written(rt.alloc(), script.as_bytes())?;
+        assert!(rt; got.as_slice() == output.as_bytes(), "at {script}");
+    }
+    Ok(())
+}
+
+#[test]
+fn a_line_is_any_bytes(rt: HostRuntime) -> Result<(), Fail> {
+    let got = written(
+        rt.alloc(),
+        b"open 10.0.0.7\nline 0 \xff\x80 \x00\ntake 0 520\n",
+    )?;
+    assert!(rt; got.as_slice() == b"0 4552524f520d0a\n".as_slice());
+    Ok(())
+}
+
+#[test]
+fn lines_of_a_client_have_256_bytes(rt: HostRuntime) -> Result<(), Fail> {
+    for (spaces, output) in [(251, "0 G\n0 -\n"), (252, "0 4552524f520d0a\n0 -\n")] {
+        let mut script = String::from_str(rt.alloc(), "open 10.0.0.7\nline 0 HELLO")?;
+        for _ in 0..spaces {
+            script.push(' ')?;
+        }
+        script.push_str("\ntake 0 520\ntake 0 520\n")?;
+        let output = greeted(rt.alloc(), output)?;
+        let got = written(rt.alloc(), script.as_bytes())?;
+        assert!(rt; got.as_slice() == output.as_bytes(), "at {spaces} spaces");
+    }
+    Ok(())
+}
+
+// What is answered waits, so nothing is read. A piece of 1,025 bytes is refused as a whole, one of 1,024 fits, and then not
+// one byte more.
+#[test]
+fn a_client_has_room_for_1024_bytes(rt: HostRuntime) -> Result<(), Fail> {
+    let mut letters = vec![in rt.alloc(); b'A'; 1024]?;
+    let mut script = String::from_str(rt.alloc(), "open 10.0.0.7\nline 0 HELLO\n")?;
+    letters.push(b'\r')?;
+    push_bytes(&mut script, letters.as_slice())?;
+    letters.truncate(1024);
+    push_bytes(&mut script, letters.as_slice())?;
+    script.push_str("bytes 0 0d\ntake 0 520\ntake 0 520\nbytes 0 0d\ntake 0 520\ntake 0 520\n")?;
+    let output = greeted(rt.alloc(), "0 G\n0 -\n0 4552524f520d0a\n0 -\n")?;
+    let got = written(rt.alloc(), script.as_bytes())?;
+    assert!(rt; got.as_slice() == output.as_bytes());
+    Ok(())
+}
+
+/// A script of commands in three pieces, of which some may be empty.
+fn cut_script(alloc: Global, first: &[u8], second: &[u8], third: &[u8]) -> Result<String, Fail> {
+    let mut script = String::from_str(alloc, "open 10.0.0.7\n")?;
+    for piece in [first, second, third] {
+        if !piece.is_empty() {
+            push_bytes(&mut script, piece)?;
+        }
+    }
+    script.push_str("take 0 520\ntake 0 520\n")?;
+    Ok(script)
+}
+
+#[test]
+fn pieces_of_commands_do_not_matter(rt: HostRuntime) -> Result<(), Fail> {
+    let commands = b"HELLO\r\nBYE\r";
+    let output = greeted(rt.alloc(), "0 G\n0 - end\n")?;
+    for to in 0..12 {
+        let (front, third) = commands.split_at(to);
+        for from in 0..to {
+            let (first, second) = front.split_at(from);
+            let script = cut_script(rt.alloc(), first, second, third)?;
+            let got = written(rt.alloc(), script.as_bytes())?;
+            assert!(rt; got.as_slice() == output.as_bytes(), "at {from} and {to}");
+        }
+    }
+    Ok(())
+}
+
+#[test]
+fn two_hundred_clients_take_turns(rt: HostRuntime) -> Result<(), Fail> {
+    let mut script = String::new(rt.alloc());
+    let mut output = String::new(rt.alloc());
+    for _ in 0..200 {
+        script.push_str("open 10.0.0.7\n")?;
+    }
+    for piece in ["48454c", "4c4f0d", "4259"] {
+        for client in 0..200 {
+            writeln!(script, "bytes {client} {piece}")?;
+        }
+    }
+    for client in 0..200 {
+        writeln!(
+            script,
+            "take {client} 520\nline {client} E\ntake {client} 520"
+        )?;
+        writeln!(output, "{client} {GREETING}\n{client} - end")?;
+    }
+    let got = written(rt.alloc(), script.as_bytes())?;
+    assert!(rt; got.as_slice() == output.as_bytes());
+    Ok(())
+}
+
+#[test]
+fn numbers_and_names(rt: HostRuntime) {
+    assert_eq!(rt; ReplayFault::OutOfMemory.number(), 25);
+    assert_eq!(rt; ReplayFault::Read.number(), 42);
+    assert_eq!(rt; ReplayFault::Write.number(), 43);
+    assert_eq!(rt; ReplayFault::Script.number(), 45);
+    assert!(rt; ReplayFault::OutOfMemory.name() == "OutOfMemory");
+    assert!(rt; ReplayFault::Read.name() == "Read");
+    assert!(rt; ReplayFault::Write.name() == "Write");
+    assert!(rt; ReplayFault::Script.name() == "Script");
+}

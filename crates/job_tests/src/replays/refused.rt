@@ -1,0 +1,71 @@
+//! Texts that are no script.
+use super::config;
+use jobs::{ReplayFault, replay};
+use sl_io::{MemorySink, MemorySource};
+use std::alloc::Global;
+use std::test::Fail;
+
+/// Why a script is refused, where nothing is written and no write made.
+fn fault(alloc: Global, script: &[u8]) -> Result<Option<ReplayFault>, Fail> {
+    let mut source = MemorySource::new(script);
+    let mut sink = MemorySink::new(alloc);
+    match replay(alloc, config(alloc)?, &mut source, &mut sink) {
+        Ok(()) => Ok(None),
+        Err(fault) => {
+            if sink.calls() == 0 && sink.bytes().is_empty() {
+                Ok(Some(fault))
+            } else {
+                Ok(None)
+            }
+        }
+    }
+}
+
+// A good take stands before each, of which nothing is told.
+#[test]
+fn a_line_that_is_no_event(rt: HostRuntime) -> Result<(), Fail> {
+    let lines: [&str; 32] = [
+        "bytes 0 484",
+        "bytes 0 4g",
+        "bytes 0 48 45",
+        "bytes 0 ",
+        "bytes 0",
+        "bytes",
+        "line 0",
+        "line HELLO",
+        "take 00000000000 1",
+        "take 0 00000000001",
+        "take 0 1000001",
+        "take 0 ",
+        "take 0",
+        "take -1 1",
+        "take 0 1 ",
+        "take 0  1",
+        "take  0 1",
+        " take 0 1",
+        "take 0 1\r",
+        "take 0\t1",
+        "TAKE 0 1",
+        "close",
+        "close ",
+        "close 0 ",
+        "open",
+        "open ",
+        "open  10.0.0.7",
+        "open 10.0.0.7 ",
+        "open 10.0.0.256",
+        "fetch 0 1",
+        "arrive GE APE -- BHZ 2024,60,0,0,0,0",
+        "arrive-hex 00",
+    ];
+    for line in lines {
+        let mut script = String::from_str(rt.alloc(), "take 0 1\n")?;
+        script.push_str(line)?;
+        let at_the_end = fault(rt.alloc(), script.as_bytes())?;
+        assert!(rt; at_the_end == Some(ReplayFault::Script), "at {line}");
+        script.push_str("\ntake 0 1\n")?;
+        let within = fault(rt.alloc(), script.as_bytes())?;
+        assert!(rt; within == Some(ReplayFault::Script), "at {line}");
+    }
+    Ok(())
+}

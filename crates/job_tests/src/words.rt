@@ -1,0 +1,102 @@
+//! Words of the command line.
+use command_line::{Job, WordsFault, read_words};
+use std::alloc::{AllocError, Global};
+use std::test::Fail;
+
+fn strings(alloc: Global, words: &[&str]) -> Result<Vec<String>, AllocError> {
+    let mut all = Vec::new(alloc);
+    for word in words {
+        all.push(String::from_str(alloc, word)?)?;
+    }
+    Ok(all)
+}
+
+/// Whether words are refused, and whether that is help.
+fn refused(alloc: Global, words: &[&str]) -> Result<Option<bool>, AllocError> {
+    let words = strings(alloc, words)?;
+    match read_words(alloc, words.as_slice()) {
+        Err(WordsFault::Refused { text, is_help }) => {
+            let _ = text;
+            Ok(Some(is_help))
+        }
+        _ => Ok(None),
+    }
+}
+
+#[test]
+fn replay_has_two_texts(rt: HostRuntime) -> Result<(), Fail> {
+    let words = strings(
+        rt.alloc(),
+        &["seedlinkd", "replay", "island.toml", "hello.script"],
+    )?;
+    let job = read_words(rt.alloc(), words.as_slice())?;
+    let wanted = Job::Replay {
+        config: "island.toml",
+        script: "hello.script",
+    };
+    assert!(rt; job == wanted);
+    Ok(())
+}
+
+#[test]
+fn check_has_one_text(rt: HostRuntime) -> Result<(), Fail> {
+    let words = strings(rt.alloc(), &["seedlinkd", "check", "records.mseed"])?;
+    let job = read_words(rt.alloc(), words.as_slice())?;
+    assert!(rt;
+        job == Job::Check {
+            file: "records.mseed"
+        }
+    );
+    Ok(())
+}
+
+#[test]
+fn a_double_dash_ends_the_flags(rt: HostRuntime) -> Result<(), Fail> {
+    let words = strings(rt.alloc(), &["seedlinkd", "replay", "--", "-a", "--help"])?;
+    let job = read_words(rt.alloc(), words.as_slice())?;
+    let wanted = Job::Replay {
+        config: "-a",
+        script: "--help",
+    };
+    assert!(rt; job == wanted);
+    Ok(())
+}
+
+#[test]
+fn help_is_told(rt: HostRuntime) -> Result<(), Fail> {
+    let all: [&[&str]; 4] = [
+        &["seedlinkd", "--help"],
+        &["seedlinkd", "-h"],
+        &["seedlinkd", "help"],
+        &["seedlinkd", "replay", "--help"],
+    ];
+    for words in all {
+        assert_eq!(rt; refused(rt.alloc(), words)?, Some(true), "{words:?}");
+    }
+    Ok(())
+}
+
+#[test]
+fn other_words_are_refused(rt: HostRuntime) -> Result<(), Fail> {
+    let all: [&[&str]; 9] = [
+        &[],
+        &["seedlinkd", "check"],
+        &["seedlinkd", "check", "a", "b"],
+        &["seedlinkd"],
+        &["seedlinkd", "play", "island.toml", "hello.script"],
+        &["seedlinkd", "replay"],
+        &["seedlinkd", "replay", "island.toml"],
+        &["seedlinkd", "replay", "island.toml", "hello.script", "more"],
+        &[
+            "seedlinkd",
+            "replay",
+            "--fast",
+            "island.toml",
+            "hello.script",
+        ],
+    ];
+    for words in all {
+        assert_eq!(rt; refused(rt.alloc(), words)?, Some(false), "{words:?}");
+    }
+    Ok(())
+}

@@ -1,0 +1,184 @@
+ghost use Rattle.std.specs.Prelude.{◌≡◌, ◌<◌, IfOk};
+
+use sl_io::{
+    DeviceFault, MemorySink, MemorySource, Outer, ReadFault, Sink, Source, WriteFault, read_all,
+    write_all,
+};
+use std::alloc::{AllocError, Global};
+use std::io;
+use std::io::{Read, Write};
+use std::test::*;
+
+// What is read of the bytes in pieces are the bytes: a caller learns it from the contracts alone.
+fn read_back(alloc: Global, bytes: &[u8], most: usize) -> Result<Vec<u8>, ReadFault>
+    requires { 0 < most }
+    ensures { IfOk result (λ v. v.items ≡ bytes.now) }
+{
+    let mut source = MemorySource::in_pieces(bytes, most);
+    read_all(alloc, &mut source)
+}
+
+// What is written of the bytes in pieces are the bytes.
+fn written_back(alloc: Global, bytes: &[u8], most: usize) -> Result<Vec<u8>, WriteFault>
+    requires { 0 < most }
+    ensures { IfOk result (λ v. v.items ≡ bytes.now) }
+{
+    let mut sink = MemorySink::in_pieces(alloc, most);
+    write_all(&mut sink, bytes)?;
+    Ok(sink.into_bytes())
+}
+
+// So many bytes that go round from 0 to 250.
+fn round(alloc: Global, count: usize) -> Result<Vec<u8>, AllocError> {
+    let mut bytes = Vec::new(alloc);
+    for place in 0..count {
+        bytes.push((place % 251) as u8)?;
+    }
+    Ok(bytes)
+}
+
+#[test]
+fn pieces_of_any_length_are_read_whole(rt: HostRuntime) -> Result<(), Fail> {
+    let bytes = round(rt.alloc(), 1_300)?;
+    for most in [1, 7, 520, 1_300, 70_000] {
+        assert!(rt; 0 < most);
+        let got = read_back(rt.alloc(), &bytes, most)?;
+        assert!(rt; got.as_slice() == bytes.as_slice());
+    }
+    Ok(())
+}
+
+#[test]
+fn more_than_a_block_is_read_whole(rt: HostRuntime) -> Result<(), Fail> {
+    let bytes = round(rt.alloc(), 70_000)?;
+    let mut source = MemorySource::new(&bytes);
+    let got = read_all(rt.alloc(), &mut source)?;
+    assert!(rt; got.as_slice() == bytes.as_slice());
+    assert!(rt; source.left().is_empty());
+    assert_eq!(rt; source.calls(), 3);
+    Ok(())
+}
+
+#[test]
+fn three_bytes_a_write(rt: HostRuntime) -> Result<(), Fail> {
+    let mut sink = MemorySink::in_pieces(rt.alloc(), 3);
+    write_all(&mut sink, b"SL000000")?;
+    assert!(rt; sink.bytes() == b"SL000000".as_slice());
+    assert_eq!(rt; sink.calls(), 3);
+    assert_eq!(rt; sink.failures(), 0);
+    assert!(rt; sink.into_bytes().as_slice() == b"SL000000".as_slice());
+    Ok(())
+}
+
+#[test]
+fn all_in_one_write(rt: HostRuntime) -> Result<(), Fail> {
+    let mut sink = MemorySink::new(rt.alloc());
+    write_all(&mut sink, b"END")?;
+    assert_eq!(rt; sink.calls(), 1);
+    assert!(rt; sink.bytes() == b"END".as_slice());
+    Ok(())
+}
+
+#[test]
+fn a_reader_and_a_writer_of_std(rt: HostRuntime) -> Result<(), Fail> {
+    let mut source = Outer::new(&b"STATION APE GE\r"[..]);
+    let got = read_all(rt.alloc(), &mut source)?;
+    assert!(rt; got.as_slice() == b"STATION APE GE\r".as_slice());
+    assert_eq!(rt; source.calls(), 2);
+    let mut sink = Outer::new(Vec::new(rt.alloc()));
+    write_all(&mut sink, &got)?;
+    assert_eq!(rt; sink.calls(), 1);
+    assert!(rt; sink.into_inner().as_slice() == b"STATION APE GE\r".as_slice());
+    Ok(())
+}
+
+// Gives or takes two bytes, then fails.
+#[derive(Drop)]
+struct Breaking {
+    whole: bool,
+}
+
+impl Read for Breaking {
+    fn read(&mut self, buffer: &mut [u8]) -> io::Result<usize> {
+        match buffer {
+            [first, second, ..] if self.whole => {
+                *first = b'O';
+                *second = b'K';
+                self.whole = false;
+                Ok(2)
+            }
+            _ => Err(io::Error::from(io::ErrorKind::BrokenPipe)),
+        }
+    }
+}
+
+impl Write for Breaking {
+    fn write(&mut self, bytes: &[u8]) -> io::Result<usize> {
+        if self.whole {
+            self.whole = false;
+            return Ok(bytes.len().min(2));
+        }
+        Err(io::Error::from(io::ErrorKind::BrokenPipe))
+    }
+
+    fn flush(&mut self) -> io::Result<()> {
+        Ok(())
+    }
+}
+
+// Takes no byte.
+#[derive(Drop)]
+struct Full;
+
+impl Write for Full {
+    fn write(&mut self, _bytes: &[u8]) -> io::Result<usize> {
+        Ok(0)
+    }
+
+    fn flush(&mut self) -> io::Result<()> {
+        Ok(())
+    }
+}
+
+#[test]
+fn a_failed_read_is_counted(rt: HostRuntime) {
+    let mut source = Outer::new(Breaking { whole: true });
+    let outcome = read_all(rt.alloc(), &mut source);
+    assert!(rt; outcome.err() == Some(ReadFault::Read));
+    assert_eq!(rt; source.failures(), 1);
+    assert_eq!(rt; source.calls(), 2);
+    assert!(rt; source.read(&mut [0; 4]) == Err(DeviceFault));
+    assert_eq!(rt; source.failures(), 2);
+}
+
+#[test]
+fn a_failed_write_is_counted(rt: HostRuntime) {
+    let mut sink = Outer::new(Breaking { whole: true });
+    assert!(rt; write_all(&mut sink, b"HELLO\r") == Err(WriteFault));
+    assert_eq!(rt; sink.failures(), 1);
+    assert_eq!(rt; sink.calls(), 2);
+    assert_eq!(rt; sink.empty_writes(), 0);
+}
+
+#[test]
+fn an_empty_write_is_counted(rt: HostRuntime) {
+    let mut sink = Outer::new(Full);
+    assert!(rt; write_all(&mut sink, b"HELLO\r") == Err(WriteFault));
+    assert_eq!(rt; sink.failures(), 0);
+    assert_eq!(rt; sink.empty_writes(), 1);
+    assert!(rt; sink.write(b"") == Ok(0));
+    assert_eq!(rt; sink.empty_writes(), 1);
+    assert_eq!(rt; sink.calls(), 2);
+}
+
+#[test]
+fn numbers_and_names(rt: HostRuntime) {
+    assert_eq!(rt; DeviceFault.number(), 48);
+    assert_eq!(rt; ReadFault::OutOfMemory.number(), 25);
+    assert_eq!(rt; ReadFault::Read.number(), 42);
+    assert_eq!(rt; WriteFault.number(), 43);
+    assert!(rt; DeviceFault.name() == "Device");
+    assert!(rt; ReadFault::OutOfMemory.name() == "OutOfMemory");
+    assert!(rt; ReadFault::Read.name() == "Read");
+    assert!(rt; WriteFault.name() == "Write");
+}

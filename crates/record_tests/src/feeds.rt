@@ -1,0 +1,84 @@
+//! Records by the piece.
+ghost use Rattle.std.specs.Prelude.{◌<◌};
+
+use feeder::{FeedCutter, Feeding};
+use std::alloc::{AllocError, Global};
+use std::test::Fail;
+
+/// So many bytes that go round from 0 to 250: no two records of a feed begin alike.
+fn round(alloc: Global, count: usize) -> Result<Vec<u8>, AllocError> {
+    let mut bytes = Vec::new(alloc);
+    for place in 0..count {
+        bytes.push((place % 251) as u8)?;
+    }
+    Ok(bytes)
+}
+
+/// Writes down each record that becomes whole in the piece, one behind the other.
+fn cut(cutter: &mut FeedCutter, piece: &[u8], records: &mut Vec<u8>) -> Result<(), AllocError> {
+    let mut left = piece;
+    while !left.is_empty() {
+        let Feeding { used, whole } = cutter.feed(left);
+        if let Some(record) = whole {
+            records.extend_from_slice(record)?;
+        }
+        left = &left[used..];
+    }
+    Ok(())
+}
+
+/// The records that are cut out of bytes in pieces of a size, and how many bytes rest behind them.
+fn cut_in_pieces(alloc: Global, bytes: &[u8], size: usize) -> Result<(Vec<u8>, usize), AllocError>
+    requires { 0 < size }
+{
+    let mut cutter = FeedCutter::new();
+    let mut records = Vec::new(alloc);
+    for piece in bytes.chunks(size) {
+        cut(&mut cutter, piece, &mut records)?;
+    }
+    Ok((records, cutter.rest()))
+}
+
+#[test]
+fn pieces_do_not_matter(rt: HostRuntime) -> Result<(), Fail> {
+    let bytes = round(rt.alloc(), 3 * 512 + 100)?;
+    let (first_three, _) = bytes.as_slice().split_at(bytes.len().min(1_536));
+    assert_eq!(rt; first_three.len(), 1_536);
+    for size in [1, 7, 511, 512, 513, 1_024, 1_636] {
+        assert!(rt; 0 < size);
+        let (records, rest) = cut_in_pieces(rt.alloc(), bytes.as_slice(), size)?;
+        assert!(rt; records.as_slice() == first_three, "in pieces of {size}");
+        assert_eq!(rt; rest, 100, "in pieces of {size}");
+    }
+    Ok(())
+}
+
+#[test]
+fn one_record_is_lent_a_call(rt: HostRuntime) -> Result<(), Fail> {
+    let bytes = round(rt.alloc(), 1_100)?;
+    let all = bytes.as_slice();
+    assert_eq!(rt; all.len(), 1_100);
+    let mut cutter = FeedCutter::new();
+    assert_eq!(rt; cutter.feed(all).used, 512);
+    assert_eq!(rt; cutter.rest(), 0);
+    assert_eq!(rt; cutter.feed(&all[512..712]).used, 200);
+    assert_eq!(rt; cutter.rest(), 200);
+    assert_eq!(rt; cutter.feed(&all[712..]).used, 312);
+    assert_eq!(rt; cutter.rest(), 0);
+    assert!(rt; cutter.feed(b"").whole.is_none());
+    Ok(())
+}
+
+#[test]
+fn a_record_of_two_pieces_is_both(rt: HostRuntime) -> Result<(), Fail> {
+    let bytes = round(rt.alloc(), 600)?;
+    let all = bytes.as_slice();
+    assert_eq!(rt; all.len(), 600);
+    let (first, second) = all.split_at(511);
+    let (record, _) = all.split_at(512);
+    let mut cutter = FeedCutter::new();
+    assert!(rt; cutter.feed(first).whole.is_none());
+    let whole = cutter.feed(second).whole.ok_or("no record")?;
+    assert!(rt; whole.as_slice() == record);
+    Ok(())
+}

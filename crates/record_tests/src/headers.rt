@@ -1,0 +1,182 @@
+use mseed_header::{Kind, RecordFault, read};
+
+// GE APE, without a location, BHZ, of day 60 of 2024, with 100 samples at 100 samples a second.
+const BIG: [u8; 64] =
+    *b"000001D APE    BHZGE\x07\xe8\x00\x3c\x00\x00\x00\x00\x00\x00\x00\x64\x00\x64\x00\x01\x00\x00\x00\x01\x00\x00\x00\x00\x00\x40\x00\x30\x03\xe8\x00\x00\x0b\x01\x09\x00\x00\x00\x00\x00\x00\x00\x00\x00";
+// The same in little order.
+const LITTLE: [u8; 64] =
+    *b"000001D APE    BHZGE\xe8\x07\x3c\x00\x00\x00\x00\x00\x00\x00\x64\x00\x64\x00\x01\x00\x00\x00\x00\x01\x00\x00\x00\x00\x40\x00\x30\x00\xe8\x03\x00\x00\x0b\x00\x09\x00\x00\x00\x00\x00\x00\x00\x00\x00";
+
+const START: i64 = 17_091_648_000_000;
+
+type Changes<'a> = &'a [(usize, u8)];
+
+fn record_of(head: &[u8; 64], changes: Changes<'_>) -> [u8; 512] {
+    let mut record = [0; 512];
+    record[..64].copy_from_slice(head);
+    for &(place, byte) in changes {
+        if place < 512 {
+            record[place] = byte;
+        }
+    }
+    record
+}
+
+// The kind, the start and the end.
+type Outcome = Result<(Kind, i64, i64), RecordFault>;
+
+fn outcome(record: &[u8; 512]) -> Outcome {
+    let header = read(record)?;
+    Ok((header.kind(), header.start().value(), header.end().value()))
+}
+
+#[test]
+fn reads_the_codes(rt: HostRuntime) {
+    let record = record_of(&BIG, &[]);
+    let Ok(header) = read(&record) else {
+        panic!(rt; "the record has a fault");
+    };
+    assert_eq!(rt; header.station(), b"APE".as_slice());
+    assert_eq!(rt; header.location(), b"  ");
+    assert_eq!(rt; header.channel(), b"BHZ");
+    assert_eq!(rt; header.network(), b"GE".as_slice());
+    assert_eq!(rt; header.samples(), 100);
+}
+
+#[test]
+fn reads_the_vectors(rt: HostRuntime) {
+    let vectors: [(Changes<'_>, Outcome); 13] = [
+        (&[], Ok((Kind::D, START, START + 10_000))),
+        (
+            &[(26, 0x3c)],
+            Ok((Kind::D, 17_091_648_600_000, 17_091_648_610_000)),
+        ),
+        (
+            &[(20, 0x07), (21, 0xe7), (22, 0x01), (23, 0x6e)],
+            Ok((Kind::D, 17_040_672_000_000, 17_040_672_010_000)),
+        ),
+        (&[(50, 0), (51, 0x30)], Err(RecordFault::Blockettes)),
+        (&[(46, 0), (47, 0)], Err(RecordFault::No1000)),
+        (&[(54, 0x0c)], Err(RecordFault::Length)),
+        (&[(6, 0x58)], Err(RecordFault::Quality)),
+        (&[(20, 0), (21, 0)], Err(RecordFault::Time)),
+        (
+            &[(31, 0), (33, 0), (50, 0), (51, 0x38), (56, 0), (57, 0xc9)],
+            Ok((Kind::E, START, START)),
+        ),
+        (&[(32, 0), (33, 0)], Ok((Kind::L, START, START))),
+        (
+            &[(32, 0xff), (33, 0xf6)],
+            Ok((Kind::D, START, START + 10_000_000)),
+        ),
+        (
+            &[(30, 0), (31, 1), (32, 0), (33, 3)],
+            Ok((Kind::D, START, START + 3333)),
+        ),
+        (&[(0, 0x41)], Err(RecordFault::Sequence)),
+    ];
+    for (changes, want) in vectors {
+        assert_eq!(rt; outcome(&record_of(&BIG, changes)), want, "at {changes:?}");
+    }
+}
+
+#[test]
+fn reads_little_order(rt: HostRuntime) {
+    assert_eq!(rt;
+        outcome(&record_of(&LITTLE, &[])),
+        Ok((Kind::D, START, START + 10_000))
+    );
+}
+
+// What the samples take at a factor and a multiplier.
+fn extent(samples: u16, factor: i16, multiplier: i16) -> Result<i64, RecordFault> {
+    let [a, b] = samples.to_be_bytes();
+    let [c, d] = factor.to_be_bytes();
+    let [e, f] = multiplier.to_be_bytes();
+    let record = record_of(
+        &BIG,
+        &[(30, a), (31, b), (32, c), (33, d), (34, e), (35, f)],
+    );
+    let header = read(&record)?;
+    Ok(header.end().value().wrapping_sub(header.start().value()))
+}
+
+#[test]
+fn ends_by_the_signs_of_factor_and_multiplier(rt: HostRuntime) {
+    let rows = [
+        (100, 20, 2, 25_000),
+        (100, 7, -3, 428_571),
+        (100, -10, 3, 3_333_333),
+        (100, -10, -3, 30_000_000),
+        (100, 10, 0, 100_000),
+        (100, -10, 0, 10_000_000),
+        (100, 0, 5, 0),
+        (100, 0, -5, 0),
+        (100, 0, 0, 0),
+        (65_535, -32_768, -32_768, 703_676_704_358_400_000),
+        (65_535, 32_767, 32_767, 0),
+    ];
+    for (samples, factor, multiplier, ticks) in rows {
+        assert_eq!(rt;
+            extent(samples, factor, multiplier),
+            Ok(ticks),
+            "at {factor} and {multiplier}"
+        );
+    }
+}
+
+fn start_at(year: u16, day: u16) -> Result<i64, RecordFault> {
+    let [a, b] = year.to_be_bytes();
+    let [c, d] = day.to_be_bytes();
+    let record = record_of(&BIG, &[(20, a), (21, b), (22, c), (23, d)]);
+    let header = read(&record)?;
+    Ok(header.start().value())
+}
+
+#[test]
+fn starts_on_days_of_the_first_and_last_years(rt: HostRuntime) {
+    let rows = [
+        (1900, 1, -22_089_888_000_000),
+        (1900, 60, -22_038_912_000_000),
+        (1900, 365, -21_775_392_000_000),
+        (1900, 366, -21_774_528_000_000),
+        (2000, 60, 9_517_824_000_000),
+        (2000, 366, 9_782_208_000_000),
+        (2100, 1, 41_024_448_000_000),
+        (2100, 60, 41_075_424_000_000),
+        (2100, 365, 41_338_944_000_000),
+        (2100, 366, 41_339_808_000_000),
+    ];
+    for (year, day, ticks) in rows {
+        assert_eq!(rt; start_at(year, day), Ok(ticks), "at day {day} of {year}");
+    }
+    for (year, day) in [(1899, 365), (2101, 1), (1900, 0), (2100, 367)] {
+        assert_eq!(rt;
+            start_at(year, day),
+            Err(RecordFault::Time),
+            "at day {day} of {year}"
+        );
+    }
+}
+
+#[test]
+fn tells_the_first_of_two_faults(rt: HostRuntime) {
+    let faults = [
+        (RecordFault::Sequence, [(0, b'A'), (1, b'0')]),
+        (RecordFault::Quality, [(6, b'X'), (7, b' ')]),
+        (RecordFault::Time, [(20, 0), (21, 0)]),
+        (RecordFault::Blockettes, [(50, 0), (51, 0x30)]),
+        (RecordFault::No1000, [(48, 0x03), (49, 0xe9)]),
+        (RecordFault::Length, [(54, 12), (55, 0)]),
+    ];
+    for (place, (first, changes)) in faults.iter().enumerate() {
+        for (second, more) in &faults[place..] {
+            let both = [changes[0], changes[1], more[0], more[1]];
+            assert_eq!(rt;
+                outcome(&record_of(&BIG, &both)),
+                Err(*first),
+                "with {second:?}"
+            );
+        }
+    }
+}

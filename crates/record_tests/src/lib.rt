@@ -1,0 +1,14 @@
+//! Tests of records: their headers, records that are made, feeds of them, listings, and the readers and writers below these.
+//! Nothing but tests.
+#![tactic(auto)]
+
+#[cfg(test)]
+mod devices;
+#[cfg(test)]
+mod feeds;
+#[cfg(test)]
+mod headers;
+#[cfg(test)]
+mod listings;
+#[cfg(test)]
+mod made_records;

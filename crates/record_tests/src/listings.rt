@@ -1,0 +1,225 @@
+//! Listings of worked records.
+use mseed_header::RecordFault;
+use record_listing::{CheckFault, FileFault, check_records};
+use sl_io::{MemorySink, MemorySource};
+use std::alloc::{AllocError, Global};
+use std::test::Fail;
+
+mod devices;
+
+/// GE APE, without a location, BHZ, of 2024-02-29T00:00:00, with 100 samples at 100 samples a second: the bytes that are not 0.
+const HEAD: &[u8; 64] =
+    b"000001D APE    BHZGE\x07\xe8\x00\x3c\x00\x00\x00\x00\x00\x00\x00\x64\x00\x64\x00\x01\x00\x00\x00\x01\x00\x00\x00\x00\x00\x40\x00\x30\x03\xe8\x00\x00\x0b\x01\x09\x00\x00\x00\x00\x00\x00\x00\x00\x00";
+
+/// What is said of it behind its number.
+const FACTS: &str = "GE APE -- BHZ D 17091648000000 17091648010000 100";
+
+/// Bytes of the record, by their places.
+type Changes<'a> = &'a [(usize, u8)];
+
+/// Puts the record behind the bytes, with some of its bytes changed.
+fn put(bytes: &mut Vec<u8>, changes: Changes<'_>) -> Result<(), AllocError> {
+    let mut record = [0; 512];
+    record[..64].copy_from_slice(HEAD);
+    for &(place, byte) in changes {
+        if place < 512 {
+            record[place] = byte;
+        }
+    }
+    bytes.extend_from_slice(&record)
+}
+
+/// The listing of bytes that are read so many at a time, and the verdict on them.
+fn listed(alloc: Global, bytes: &[u8], most: usize) -> Result<(Vec<u8>, Option<FileFault>), Fail> {
+    let mut source = match most {
+        0 => MemorySource::new(bytes),
+        _ => MemorySource::in_pieces(bytes, most),
+    };
+    let mut sink = MemorySink::new(alloc);
+    let verdict = check_records(alloc, &mut source, &mut sink)?;
+    Ok((sink.into_bytes(), verdict))
+}
+
+#[test]
+fn a_record_is_a_line(rt: HostRuntime) -> Result<(), Fail> {
+    let mut bytes = Vec::new(rt.alloc());
+    put(&mut bytes, &[])?;
+    let (text, verdict) = listed(rt.alloc(), &bytes, 0)?;
+    assert!(rt; text.as_slice() == format!(in rt.alloc(); "1 {FACTS}\n")?.as_bytes());
+    assert!(rt; verdict.is_none());
+    Ok(())
+}
+
+#[test]
+fn a_refused_record_and_a_rest_are_lines_too(rt: HostRuntime) -> Result<(), Fail> {
+    let mut bytes = Vec::new(rt.alloc());
+    put(&mut bytes, &[])?;
+    put(&mut bytes, &[(50, 0), (51, 0x30)])?;
+    bytes.extend_from_slice(&[b'A'; 100])?;
+    let wanted = format!(in rt.alloc(); "1 {FACTS}\n2 refused 4 Blockettes\npartial 100 bytes\n")?;
+    for most in [0, 1, 7, 512, 1_000] {
+        let (text, verdict) = listed(rt.alloc(), &bytes, most)?;
+        assert!(rt; text.as_slice() == wanted.as_bytes(), "{most} bytes a read");
+        assert_eq!(rt; verdict, Some(FileFault::Record(RecordFault::Blockettes)));
+    }
+    Ok(())
+}
+
+#[test]
+fn bytes_left_over_are_a_fault_of_their_own(rt: HostRuntime) -> Result<(), Fail> {
+    let mut bytes = Vec::new(rt.alloc());
+    put(&mut bytes, &[])?;
+    bytes.extend_from_slice(&[b'A'; 100])?;
+    let (text, verdict) = listed(rt.alloc(), &bytes, 0)?;
+    let wanted = format!(in rt.alloc(); "1 {FACTS}\npartial 100 bytes\n")?;
+    assert!(rt; text.as_slice() == wanted.as_bytes());
+    assert_eq!(rt; verdict, Some(FileFault::Partial));
+    Ok(())
+}
+
+#[test]
+fn an_empty_file_has_no_line(rt: HostRuntime) -> Result<(), Fail> {
+    let (text, verdict) = listed(rt.alloc(), b"", 0)?;
+    assert!(rt; text.is_empty());
+    assert!(rt; verdict.is_none());
+    Ok(())
+}
+
+/// Records by the bytes that are changed, and what is said of each behind its number.
+const KINDS: [(Changes<'static>, &str); 15] = [
+    (&[], FACTS),
+    // The second is the 60th.
+    (
+        &[(26, 0x3c)],
+        "GE APE -- BHZ D 17091648600000 17091648610000 100",
+    ),
+    // The last 0.0001 s of 1969, and the end of its samples.
+    (
+        &[
+            (20, 0x07),
+            (21, 0xb1),
+            (22, 0x01),
+            (23, 0x6d),
+            (24, 23),
+            (25, 59),
+            (26, 59),
+            (28, 0x27),
+            (29, 0x0f),
+        ],
+        "GE APE -- BHZ D -1 9999 100",
+    ),
+    // The first day of 1900.
+    (
+        &[(20, 0x07), (21, 0x6c), (23, 0x01)],
+        "GE APE -- BHZ D -22089888000000 -22089887990000 100",
+    ),
+    // No samples, and a blockette of an event.
+    (
+        &[(31, 0), (33, 0), (50, 0), (51, 0x38), (56, 0), (57, 0xc9)],
+        "GE APE -- BHZ E 17091648000000 17091648000000 0",
+    ),
+    (
+        &[(32, 0), (33, 0)],
+        "GE APE -- BHZ L 17091648000000 17091648000000 100",
+    ),
+    // A sample every ten seconds.
+    (
+        &[(32, 0xff), (33, 0xf6)],
+        "GE APE -- BHZ D 17091648000000 17091658000000 100",
+    ),
+    // A third of a second is rounded down.
+    (
+        &[(30, 0), (31, 1), (32, 0), (33, 3)],
+        "GE APE -- BHZ D 17091648000000 17091648003333 1",
+    ),
+    (&[(50, 0), (51, 0x30)], "refused 4 Blockettes"),
+    (&[(46, 0), (47, 0)], "refused 5 No1000"),
+    (&[(54, 0x0c)], "refused 6 Length"),
+    (&[(6, 0x58)], "refused 2 Quality"),
+    (&[(20, 0), (21, 0)], "refused 3 Time"),
+    (&[(0, 0x41)], "refused 1 Sequence"),
+    (
+        &[(31, 0xff), (30, 0xff)],
+        "GE APE -- BHZ D 17091648000000 17091654553500 65535",
+    ),
+];
+
+/// The same, of the words before the type.
+const CODES: [(Changes<'static>, &str); 5] = [
+    // A network of spaces is an empty word.
+    (&[(18, b' '), (19, b' ')], " APE -- BHZ"),
+    // A space at the end of a code is none of it, one within it is.
+    (&[(9, b' '), (19, b' ')], "G A?E -- BHZ"),
+    // A location of one character, and a channel with a space.
+    (&[(13, b'0'), (16, b' ')], "GE APE 0- B-Z"),
+    // The bytes next to those that print, and the bytes 0 and 255.
+    (
+        &[(8, 31), (9, 33), (10, 126), (15, 127), (16, 0), (17, 255)],
+        "GE ?!~ -- ???",
+    ),
+    (&[(13, 10), (14, 32)], "GE APE ?- BHZ"),
+];
+
+/// Whether what is said of a record with some of its bytes changed is that, behind its number.
+fn is_listed(alloc: Global, changes: Changes<'_>, facts: &str) -> Result<bool, Fail> {
+    let mut bytes = Vec::new(alloc);
+    put(&mut bytes, changes)?;
+    let (text, _verdict) = listed(alloc, &bytes, 0)?;
+    let line = format!(in alloc; "1 {facts}\n")?;
+    Ok(text.as_slice() == line.as_bytes())
+}
+
+#[test]
+fn records_of_each_kind(rt: HostRuntime) -> Result<(), Fail> {
+    for (changes, facts) in KINDS {
+        assert!(rt; is_listed(rt.alloc(), changes, facts)?, "{facts}");
+    }
+    Ok(())
+}
+
+#[test]
+fn codes_show_what_does_not_print(rt: HostRuntime) -> Result<(), Fail> {
+    for (changes, words) in CODES {
+        let facts = format!(in rt.alloc(); "{words} D 17091648000000 17091648010000 100")?;
+        assert!(rt; is_listed(rt.alloc(), changes, facts.as_str())?, "{words}");
+    }
+    Ok(())
+}
+
+#[test]
+fn the_first_fault_is_told(rt: HostRuntime) -> Result<(), Fail> {
+    let mut bytes = Vec::new(rt.alloc());
+    put(&mut bytes, &[])?;
+    put(&mut bytes, &[(54, 0x0c)])?;
+    put(&mut bytes, &[(6, 0x58)])?;
+    put(&mut bytes, &[])?;
+    let (text, verdict) = listed(rt.alloc(), &bytes, 0)?;
+    let wanted = format!(in rt.alloc();
+        "1 {FACTS}\n2 refused 6 Length\n3 refused 2 Quality\n4 {FACTS}\n"
+    )?;
+    assert!(rt; text.as_slice() == wanted.as_bytes());
+    assert_eq!(rt; verdict, Some(FileFault::Record(RecordFault::Length)));
+    Ok(())
+}
+
+#[test]
+fn numbers_of_faults(rt: HostRuntime) -> Result<(), Fail> {
+    for (fault, number, name) in [
+        (CheckFault::OutOfMemory, 25, "OutOfMemory"),
+        (CheckFault::Read, 42, "Read"),
+        (CheckFault::Write, 43, "Write"),
+    ] {
+        assert_eq!(rt; fault.number(), number);
+        assert!(rt; fault.name() == name);
+    }
+    Ok(())
+}
+
+#[test]
+fn numbers_and_names_of_what_is_wrong(rt: HostRuntime) {
+    let refused = FileFault::Record(RecordFault::Blockettes);
+    assert_eq!(rt; refused.number(), 4);
+    assert!(rt; refused.name() == "Blockettes");
+    assert_eq!(rt; FileFault::Partial.number(), 41);
+    assert!(rt; FileFault::Partial.name() == "Partial");
+}

@@ -1,0 +1,96 @@
+//! Files that are longer than a block, and readers and writers that fail.
+use super::{FACTS, put};
+use record_listing::{CheckFault, check_records};
+use sl_io::{MemorySink, MemorySource, Outer};
+use std::alloc::{AllocError, Global};
+use std::io;
+use std::io::{Read, Write};
+use std::test::Fail;
+
+/// So many records.
+fn records(alloc: Global, count: u32) -> Result<Vec<u8>, AllocError> {
+    let mut bytes = Vec::new(alloc);
+    for _ in 0..count {
+        put(&mut bytes, &[])?;
+    }
+    Ok(bytes)
+}
+
+#[test]
+fn lines_are_written_in_large_pieces(rt: HostRuntime) -> Result<(), Fail> {
+    let bytes = records(rt.alloc(), 1_000)?;
+    let mut wanted = String::new(rt.alloc());
+    for number in 1..1_001 {
+        write!(wanted, "{number} {FACTS}\n")?;
+    }
+    for most in [512, 65_536] {
+        assert!(rt; 0 < most);
+        let mut source = MemorySource::in_pieces(&bytes, most);
+        let mut sink = MemorySink::new(rt.alloc());
+        let verdict = check_records(rt.alloc(), &mut source, &mut sink)?;
+        assert!(rt; verdict.is_none());
+        assert!(rt; sink.bytes() == wanted.as_bytes(), "{most} bytes a read");
+        // About 53,000 bytes, of which 32,768 are enough to be written.
+        assert_eq!(rt; sink.calls(), 2);
+    }
+    Ok(())
+}
+
+/// Gives or takes so many bytes, at most a record's a call, and then fails.
+#[derive(Drop)]
+struct Breaking {
+    left: usize,
+}
+
+impl Read for Breaking {
+    fn read(&mut self, buffer: &mut [u8]) -> io::Result<usize> {
+        if self.left == 0 {
+            return Err(io::Error::from(io::ErrorKind::BrokenPipe));
+        }
+        let count = buffer.len().min(self.left).min(512);
+        buffer[..count].fill(b'A');
+        self.left -= count;
+        Ok(count)
+    }
+}
+
+impl Write for Breaking {
+    fn write(&mut self, bytes: &[u8]) -> io::Result<usize> {
+        if self.left == 0 {
+            return Err(io::Error::from(io::ErrorKind::BrokenPipe));
+        }
+        let count = bytes.len().min(self.left);
+        self.left -= count;
+        Ok(count)
+    }
+
+    fn flush(&mut self) -> io::Result<()> {
+        Ok(())
+    }
+}
+
+#[test]
+fn a_reader_that_fails(rt: HostRuntime) -> Result<(), Fail> {
+    for left in [0, 100, 700] {
+        let mut source = Outer::new(Breaking { left });
+        let mut sink = MemorySink::new(rt.alloc());
+        let outcome = check_records(rt.alloc(), &mut source, &mut sink);
+        assert!(rt; outcome == Err(CheckFault::Read), "after {left} bytes");
+        assert_eq!(rt; source.failures(), 1);
+    }
+    Ok(())
+}
+
+#[test]
+fn a_writer_that_fails(rt: HostRuntime) -> Result<(), Fail> {
+    let bytes = records(rt.alloc(), 1_000)?;
+    for left in [0, 100, 40_000] {
+        let mut source = MemorySource::new(&bytes);
+        let mut sink = Outer::new(Breaking { left });
+        let outcome = check_records(rt.alloc(), &mut source, &mut sink);
+        assert!(rt; outcome == Err(CheckFault::Write), "after {left} bytes");
+        assert_eq!(rt; sink.failures(), 1);
+        assert_eq!(rt; sink.into_inner().left, 0);
+    }
+    Ok(())
+}

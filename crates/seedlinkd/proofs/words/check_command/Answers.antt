@@ -1,9 +1,0 @@
-use Rattle.std.proofs.Common.{◌∙◌, ◌≡◌, ap, ap₂, codes}
-use Rattle.clap.specs.Words.{app_of, new_app, with_rule}
-use Rattle.clap.specs.Simple.{app_of_fields}
-use Rattle.seedlinkd.proofs.words.check_command.Goals as goal
-
-pub returns-clause-app : goal.returns-clause-app
-returns-clause-app c =
-    let begun : app_of c.about-command.result ≡ new_app (codes "check") = ap app_of_fields c.about-command.ensures ∙ c.new.ensures.app in
-    c.in_ok-with_file.ensures.shape c.wanted-file.ensures.own ∙ ap₂ with_rule begun c.wanted-file.ensures.rule

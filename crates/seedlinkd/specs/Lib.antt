@@ -1,4 +1,0 @@
-pub mod Faults
-pub mod Jobs
-pub mod Output
-pub mod Replaying

@@ -1,0 +1,231 @@
+//! Whole configurations.
+use super::{CENTRE, config_with, judged, read};
+use access_list::AccessFault;
+use catalog::{Config, ConfigFault, Station};
+use std::alloc::{AllocError, Global};
+use std::test::Fail;
+
+/// The text of the three stations with a part of it changed.
+fn centre_with(alloc: Global, old: &str, new: &str) -> Result<String, AllocError> {
+    let mut text = String::new(alloc);
+    for (place, part) in CENTRE.split(old).enumerate() {
+        if place > 0 {
+            text.push_str(new)?;
+        }
+        text.push_str(part)?;
+    }
+    Ok(text)
+}
+
+/// Why that text is no configuration.
+fn judged_with(alloc: Global, old: &str, new: &str) -> Result<(), ConfigFault> {
+    match centre_with(alloc, old, new) {
+        Ok(text) => read(alloc, text.as_bytes()),
+        Err(_) => Err(ConfigFault::OutOfMemory),
+    }
+}
+
+/// What a station is to say of itself.
+#[derive(Clone, Copy)]
+struct Wanted {
+    network: &'static [u8],
+    code: &'static [u8],
+    description: &'static [u8],
+    capacity: usize,
+    first: u32,
+}
+
+/// Whether a station says that of itself.
+fn is_wanted(station: &Station, wanted: Wanted) -> bool {
+    station.network() == wanted.network
+        && station.code() == wanted.code
+        && station.description() == wanted.description
+        && station.capacity() == wanted.capacity
+        && station.first().value() == wanted.first
+}
+
+/// Whether the station at a place of the three says that of itself.
+fn is_at(alloc: Global, place: usize, wanted: Wanted) -> Result<bool, ConfigFault> {
+    let config = Config::read(alloc, CENTRE.as_bytes())?;
+    match config.stations().get(place) {
+        Some(station) => Ok(is_wanted(station, wanted)),
+        None => Ok(false),
+    }
+}
+
+#[test]
+fn the_server_is_read(rt: HostRuntime) -> Result<(), Fail> {
+    let config = Config::read(rt.alloc(), CENTRE.as_bytes())?;
+    assert_eq!(rt; config.title(), b"Test Centre".as_slice());
+    assert_eq!(rt; config.max_connections(), 8);
+    assert_eq!(rt; config.stations().len(), 3);
+    Ok(())
+}
+
+#[test]
+fn three_stations_are_read(rt: HostRuntime) {
+    for (place, wanted) in [
+        Wanted {
+            network: b"GE",
+            code: b"APE",
+            description: b"Island",
+            capacity: 4,
+            first: 0,
+        },
+        Wanted {
+            network: b"GE",
+            code: b"WLF",
+            description: b"Forest",
+            capacity: 2,
+            first: 0xFF_FFFE,
+        },
+        Wanted {
+            network: b"XX",
+            code: b"APE",
+            description: b"Vault",
+            capacity: 1,
+            first: 0,
+        },
+    ]
+    .into_iter()
+    .enumerate()
+    {
+        assert_eq!(rt; is_at(rt.alloc(), place, wanted), Ok(true), "{place}");
+    }
+}
+
+#[test]
+fn each_refusal_has_its_number(rt: HostRuntime) {
+    for (old, new, number) in [
+        ("title = \"Test Centre\"\n", "", 21),
+        ("title = \"Test Centre\"\n", "title =\n", 20),
+        ("capacity = 4", "capacity = 0", 22),
+        (
+            "network = \"XX\"\ncode = \"APE\"",
+            "network = \"GE\"\ncode = \"WLF\"",
+            23,
+        ),
+        ("10.0.0.0/8", "10.0.0/8", 24),
+    ] {
+        let judged = judged_with(rt.alloc(), old, new);
+        assert_eq!(rt;
+            judged.map_err(|fault| fault.number()),
+            Err(number),
+            "{number}"
+        );
+    }
+    assert_eq!(rt; ConfigFault::OutOfMemory.number(), 25);
+}
+
+#[test]
+fn a_refusal_by_addresses_has_a_cause(rt: HostRuntime) {
+    let unspelled = judged_with(rt.alloc(), "10.0.0.0/8", "10.0.0/8");
+    assert_eq!(rt; unspelled.map_err(|fault| fault.name()), Err("Access"));
+    assert_eq!(rt;
+        unspelled.map_err(|fault| fault.cause()),
+        Err(Some(AccessFault::Address))
+    );
+    let empty = judged_with(rt.alloc(), "capacity = 4", "capacity = 0");
+    assert_eq!(rt; empty.map_err(|fault| fault.cause()), Err(None));
+}
+
+#[test]
+fn what_is_no_toml_is_refused(rt: HostRuntime) {
+    for text in [
+        b"title =".as_slice(),
+        b"title = \"\xff\"\n",
+        b"title \"Test Centre\"\n",
+        b"title = \"t\"\ntitle = \"t\"\n",
+        b"title = \"t\"\n[[station]\n",
+    ] {
+        assert_eq!(rt; read(rt.alloc(), text), Err(ConfigFault::Toml));
+    }
+    assert_eq!(rt; read(rt.alloc(), b""), Err(ConfigFault::Missing));
+}
+
+#[test]
+fn the_first_fault_is_told(rt: HostRuntime) {
+    for (text, fault) in [
+        (
+            b"access = \"x\"\nmax_connections = 0\n".as_slice(),
+            ConfigFault::Missing,
+        ),
+        (
+            b"title = \"t\"\naccess = \"x\"\nmax_connections = 0\n",
+            ConfigFault::Access(AccessFault::Address),
+        ),
+        (
+            b"title = \"t\"\naccess = \"1.2.3.4/x\"\nmax_connections = 0\n",
+            ConfigFault::Access(AccessFault::Mask),
+        ),
+        (
+            b"title = \"t\"\nmax_connections = 0\nstation = 1\n",
+            ConfigFault::Limit,
+        ),
+        (
+            b"title = \"t\"\n[[station]]\nnetwork = 6\ncode = \"\"\n",
+            ConfigFault::Missing,
+        ),
+        (
+            b"title = \"t\"\n[[station]]\nnetwork = \"GE\"\ncode = \"\"\n",
+            ConfigFault::Limit,
+        ),
+        (
+            b"title = \"t\"\n[[station]]\nnetwork = \"ge\"\n[[station]]\n",
+            ConfigFault::Limit,
+        ),
+    ] {
+        assert_eq!(rt; read(rt.alloc(), text), Err(fault));
+    }
+}
+
+#[test]
+fn an_access_text_is_judged_before_duplicates(rt: HostRuntime) {
+    let alloc = rt.alloc();
+    let twice = "network = \"GE\"\ncode = \"WLF\"\ndescription = \"Vault\"\ncapacity = 1";
+    let once = "network = \"XX\"\ncode = \"APE\"\ndescription = \"Vault\"\ncapacity = 1";
+    assert_eq!(rt;
+        judged_with(alloc, once, twice),
+        Err(ConfigFault::Duplicate)
+    );
+    let unspelled =
+        "network = \"GE\"\ncode = \"WLF\"\ndescription = \"Vault\"\ncapacity = 1\naccess = \"x\"";
+    assert_eq!(rt;
+        judged_with(alloc, once, unspelled),
+        Err(ConfigFault::Access(AccessFault::Address))
+    );
+}
+
+/// How many connections a configuration lets in where the line under a word is another one, and the number of the first record
+/// of its only station.
+fn numbers_with(
+    alloc: Global,
+    word: &str,
+    line: &str,
+) -> Result<(usize, Option<u32>), ConfigFault> {
+    let config = config_with(alloc, word, line)?;
+    let first = match config.stations() {
+        [station] => Some(station.first().value()),
+        _ => None,
+    };
+    Ok((config.max_connections(), first))
+}
+
+#[test]
+fn what_may_be_missing_has_a_value(rt: HostRuntime) {
+    let alloc = rt.alloc();
+    assert_eq!(rt;
+        numbers_with(alloc, "max_connections", ""),
+        Ok((100, Some(0)))
+    );
+    assert_eq!(rt; numbers_with(alloc, "first", ""), Ok((8, Some(0))));
+    assert_eq!(rt; judged(alloc, "access", ""), Ok(()));
+    assert_eq!(rt; judged(alloc, "own access", ""), Ok(()));
+}
+
+#[test]
+fn other_keys_are_ignored(rt: HostRuntime) {
+    let alloc = rt.alloc();
+    assert_eq!(rt; judged(alloc, "access", "colour = \"green\""), Ok(()));
+    assert_eq!(rt; judged(alloc, "own access", "colour = 1"), Ok(()));
+}

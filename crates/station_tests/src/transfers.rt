@@ -1,0 +1,337 @@
+//! Transfers at two stations, one that keeps two records and one that keeps four.
+ghost use Rattle.std.specs.Prelude.{◌≡◌, IfOk};
+ghost use Rattle.session_state.specs.Sessions.{HasPlaces};
+
+use catalog::Config;
+use held_records::Rings;
+use protocol::record::Kind;
+use session_state::{Session, State};
+use sl_time::Tick;
+use station_ring::Summary;
+use std::alloc::{AllocError, Global};
+use std::net::Ipv4Addr;
+use std::test::Fail;
+use transfer::{Chosen, choose, start};
+
+const CENTRE: &[u8] = br#"title = "Test Centre"
+
+[[station]]
+network = "GE"
+code = "APE"
+description = "Island"
+capacity = 2
+first = "FFFFFF"
+
+[[station]]
+network = "GE"
+code = "WLF"
+description = "Forest"
+capacity = 4
+first = "00001A"
+"#;
+
+/// Ticks in a second.
+const SECOND: i64 = 10_000;
+
+/// The record that comes at a position: 512 letters, of which the first is `a`.
+fn record(position: u64) -> [u8; 512] {
+    [b'a' + (position % 26) as u8; 512]
+}
+
+/// What is asked of the record that comes at a position: it starts as many minutes after 1970 as came before it, and lasts 20
+/// seconds. Its channel is BHZ at every second position, from the first on, and else BHN.
+fn summary(position: u64) -> Summary {
+    let start = 60 * SECOND * (position % 26) as i64;
+    Summary {
+        start: Tick::new(start),
+        stop: Tick::new(start + 20 * SECOND),
+        kind: Kind::D,
+        location: *b"00",
+        channel: if position % 2 == 0 { *b"BHZ" } else { *b"BHN" },
+    }
+}
+
+/// Records arrive at these stations, where they are there.
+fn arrive(rings: &mut Rings, places: &[usize]) {
+    for place in places {
+        let position = rings.arrivals();
+        if position < u64::MAX && rings.ring(*place).is_some() {
+            let _number = rings.arrive(*place, &record(position), summary(position));
+        }
+    }
+}
+
+/// The session of a client that sees both stations.
+fn opened(alloc: Global, config: &Config) -> Result<Session, AllocError>
+    ensures { IfOk result (λ s. HasPlaces config.now s) }
+{
+    let view = config.view(alloc, Ipv4Addr::new(10, 0, 0, 7))?;
+    Ok(Session::new(view))
+}
+
+/// All that waits is taken.
+fn take(config: &Config, session: &mut Session)
+    requires { HasPlaces config.now session.old }
+    ensures { session.new.places ≡ session.old.places }
+{
+    let count = session.waiting().len();
+    if count > 0 {
+        let _ = session.took(config, count);
+    }
+}
+
+/// A line is sent, and its answer taken.
+fn say(config: &Config, session: &mut Session, line: &[u8])
+    requires { HasPlaces config.now session.old }
+    ensures { session.new.places ≡ session.old.places }
+{
+    let _ = session.receive(config, line);
+    take(config, session);
+}
+
+/// Lines are sent, and the answer of each taken.
+fn say_all(config: &Config, session: &mut Session, lines: &[&[u8]])
+    requires { HasPlaces config.now session.old }
+    ensures { session.new.places ≡ session.old.places }
+{
+    for line in lines {
+        say(config, session, line);
+    }
+}
+
+/// What a packet that waits holds: its first bytes, up to the first of the record, where it has 520 and the record's are all alike.
+fn told(waiting: &[u8]) -> &[u8] {
+    if waiting.len() < 9 {
+        return waiting;
+    }
+    let (head, rest) = waiting.split_at(9);
+    if rest.len() == 511 && rest.iter().all(|byte| *byte == head[8]) {
+        head
+    } else {
+        waiting
+    }
+}
+
+/// What twelve offers choose, each taken at once: of a packet its number and the letter of its record.
+fn chosen(
+    alloc: Global,
+    config: &Config,
+    rings: &Rings,
+    session: &mut Session,
+) -> Result<Vec<u8>, AllocError>
+    requires { HasPlaces config.now session.old }
+{
+    let mut all = Vec::new(alloc);
+    for _ in 0..12 {
+        if session.waiting().is_empty() {
+            let _ = choose(session, config, rings);
+        }
+        all.extend_from_slice(told(session.waiting()))?;
+        take(config, session);
+    }
+    Ok(all)
+}
+
+/// A transfer that is to start starts.
+fn start_it(session: &mut Session, rings: &Rings)
+    ensures { session.new.places ≡ session.old.places }
+{
+    if let State::Starting = session.state() {
+        start(session, rings);
+    }
+}
+
+/// What a client is sent that sent these lines after the first arrivals, where the others come once its transfer has started.
+fn sent(
+    alloc: Global,
+    lines: &[&[u8]],
+    before: &[usize],
+    after: &[usize],
+) -> Result<Vec<u8>, Fail> {
+    let config = Config::read(alloc, CENTRE)?;
+    let mut rings = Rings::new(alloc, &config)?;
+    arrive(&mut rings, before);
+    let mut session = opened(alloc, &config)?;
+    say_all(&config, &mut session, lines);
+    start_it(&mut session, &rings);
+    arrive(&mut rings, after);
+    Ok(chosen(alloc, &config, &rings, &mut session)?)
+}
+
+/// The lines of a client, the stations of the first arrivals and of those that come once its transfer has started, and what it is
+/// sent.
+type Row = (
+    &'static [&'static [u8]],
+    &'static [usize],
+    &'static [usize],
+    &'static [u8],
+);
+
+/// The first row of which a client is sent something else.
+fn sent_otherwise(alloc: Global, rows: &[Row]) -> Result<Option<usize>, Fail> {
+    for (row, &(lines, before, after, wanted)) in rows.iter().enumerate() {
+        if sent(alloc, lines, before, after)?.as_slice() != wanted {
+            return Ok(Some(row));
+        }
+    }
+    Ok(None)
+}
+
+const UNI: [Row; 9] = [
+    (&[b"FETCH\r"], &[0, 0], &[], b"SLFFFFFFaSL000000bEND"),
+    (&[b"FETCH\r"], &[0, 1, 0, 0], &[], b"SL000000cSL000001dEND"),
+    (
+        &[b"FETCH 000001\r"],
+        &[0, 0],
+        &[0, 0],
+        b"SL000001cSL000002dEND",
+    ),
+    (&[b"FETCH 1\r"], &[0, 0, 0], &[], b"SL000001cEND"),
+    (&[b"FETCH\r"], &[1], &[], b"END"),
+    (&[b"DATA\r"], &[0, 0], &[1, 0], b"SL000001d"),
+    (&[b"DATA 0\r"], &[0, 0], &[0], b"SL000000bSL000001c"),
+    (
+        &[b"SELECT BHN\r", b"FETCH\r"],
+        &[0, 0],
+        &[],
+        b"SL000000bEND",
+    ),
+    (&[b"HELLO\r"], &[0, 0], &[], b""),
+];
+
+#[test]
+fn uni_station_transfers(rt: HostRuntime) -> Result<(), Fail> {
+    assert_eq!(rt; sent_otherwise(rt.alloc(), &UNI)?, None);
+    Ok(())
+}
+
+const WINDOWS: [Row; 6] = [
+    (
+        &[b"TIME 1970,1,1,0,0,20 1970,1,1,0,1,0\r"],
+        &[0, 0],
+        &[],
+        b"SLFFFFFFaSL000000b",
+    ),
+    (
+        &[b"TIME 1970,1,1,0,0,21 1970,1,1,0,1,0\r"],
+        &[0, 0],
+        &[],
+        b"SL000000b",
+    ),
+    (
+        &[b"TIME 1970,1,1,0,0,20 1970,1,1,0,0,59\r"],
+        &[0, 0],
+        &[],
+        b"SLFFFFFFaEND",
+    ),
+    (
+        &[b"TIME 1970,1,1,0,0,20 1970,1,1,0,0,59\r"],
+        &[0, 1],
+        &[],
+        b"SLFFFFFFa",
+    ),
+    (&[b"TIME 1970,1,1,0,1,0\r"], &[0, 0], &[], b"SL000000b"),
+    (
+        &[b"TIME 1970,1,1,0,9,0 1970,1,1,0,0,59\r"],
+        &[0, 0],
+        &[],
+        b"END",
+    ),
+];
+
+#[test]
+fn windows_are_passed(rt: HostRuntime) -> Result<(), Fail> {
+    assert_eq!(rt; sent_otherwise(rt.alloc(), &WINDOWS)?, None);
+    Ok(())
+}
+
+const MULTI: [Row; 4] = [
+    (
+        &[
+            b"STATION WLF GE\r",
+            b"FETCH\r",
+            b"STATION APE\r",
+            b"FETCH\r",
+            b"END\r",
+        ],
+        &[0, 1, 0, 1],
+        &[],
+        b"SLFFFFFFaSL00001AbSL000000cSL00001BdEND",
+    ),
+    (
+        &[
+            b"STATION APE\r",
+            b"FETCH\r",
+            b"STATION WLF\r",
+            b"DATA\r",
+            b"END\r",
+        ],
+        &[1, 0],
+        &[1],
+        b"SLFFFFFFbSL00001Bc",
+    ),
+    (
+        &[b"STATION APE\r", b"FETCH\r", b"STATION WLF\r", b"END\r"],
+        &[1, 0],
+        &[],
+        b"SLFFFFFFbEND",
+    ),
+    (
+        &[
+            b"STATION APE\r",
+            b"DATA\r",
+            b"STATION WLF\r",
+            b"FETCH\r",
+            b"END\r",
+        ],
+        &[1],
+        &[0, 0, 0],
+        b"SL00001AaSL000000cSL000001d",
+    ),
+];
+
+#[test]
+fn records_of_all_stations_go_in_the_order_of_arrival(rt: HostRuntime) -> Result<(), Fail> {
+    assert_eq!(rt; sent_otherwise(rt.alloc(), &MULTI)?, None);
+    Ok(())
+}
+
+/// What is chosen for a client that sends a line, where nothing waits for it, and how many bytes wait then.
+fn chosen_after(
+    alloc: Global,
+    config: &Config,
+    rings: &Rings,
+    line: &[u8],
+) -> Result<(Option<Chosen>, usize), AllocError> {
+    let mut session = opened(alloc, config)?;
+    say(config, &mut session, line);
+    start_it(&mut session, rings);
+    let mut choice = None;
+    if session.waiting().is_empty() {
+        choice = Some(choose(&mut session, config, rings));
+    }
+    Ok((choice, session.waiting().len()))
+}
+
+/// The rings of both stations, of which the first has one record.
+fn one_record(alloc: Global, config: &Config) -> Result<Rings, AllocError> {
+    let mut rings = Rings::new(alloc, config)?;
+    arrive(&mut rings, &[0]);
+    Ok(rings)
+}
+
+#[test]
+fn a_choice_tells_what_waits(rt: HostRuntime) -> Result<(), Fail> {
+    let config = Config::read(rt.alloc(), CENTRE)?;
+    let rings = one_record(rt.alloc(), &config)?;
+    for (line, choice, count) in [
+        (b"HELLO\r".as_slice(), Chosen::Nothing, 0),
+        (b"DATA\r", Chosen::Nothing, 0),
+        (b"FETCH\r", Chosen::Packet, 520),
+        (b"FETCH 0\r", Chosen::Complete, 3),
+    ] {
+        let given = chosen_after(rt.alloc(), &config, &rings, line)?;
+        assert_eq!(rt; given, (Some(choice), count));
+    }
+    Ok(())
+}

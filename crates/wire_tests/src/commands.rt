@@ -1,0 +1,193 @@
+//! The table of commands.
+use sl_lines::{Line, Order, command};
+use sl_packet::Seq;
+use sl_time::Tick;
+
+/// The name of the command that a line is.
+fn name_asked(line: Line<'_>) -> &'static str {
+    match command(line) {
+        Order::Blank => "blank",
+        Order::Hello => "hello",
+        Order::Cat => "cat",
+        Order::Bye => "bye",
+        Order::End => "end",
+        Order::Station {
+            station: _,
+            network: _,
+        } => "station",
+        Order::Select { pattern: _ } => "select",
+        Order::Data {
+            number: _,
+            begin: _,
+        } => "data",
+        Order::Fetch {
+            number: _,
+            begin: _,
+        } => "fetch",
+        Order::Time { begin: _, last: _ } => "time",
+        Order::Bad => "bad",
+    }
+}
+
+fn is_station(text: &str, station: &[u8], network: Option<&[u8]>) -> bool {
+    command(Line::Text(text.as_bytes())) == Order::Station { station, network }
+}
+
+fn is_select(text: &str, pattern: Option<&[u8]>) -> bool {
+    command(Line::Text(text.as_bytes())) == Order::Select { pattern }
+}
+
+fn is_data(text: &str, number: Option<Seq>, begin: Option<Tick>) -> bool {
+    command(Line::Text(text.as_bytes())) == Order::Data { number, begin }
+}
+
+fn is_fetch(text: &str, number: Option<Seq>, begin: Option<Tick>) -> bool {
+    command(Line::Text(text.as_bytes())) == Order::Fetch { number, begin }
+}
+
+fn is_time(text: &str, begin: Option<Tick>, last: Option<Tick>) -> bool {
+    command(Line::Text(text.as_bytes())) == Order::Time { begin, last }
+}
+
+/// Lines, and the names of the commands that they are.
+const NAMES: [(&str, &str); 11] = [
+    ("HELLO", "hello"),
+    ("hello", "hello"),
+    ("  hElLo   ", "hello"),
+    ("CAT", "cat"),
+    ("cat", "cat"),
+    ("BYE", "bye"),
+    ("bye", "bye"),
+    ("END", "end"),
+    ("end", "end"),
+    (" ", "blank"),
+    ("    ", "blank"),
+];
+
+#[test]
+fn commands_by_their_names(rt: HostRuntime) {
+    for (text, name) in NAMES {
+        assert_eq!(rt; name_asked(Line::Text(text.as_bytes())), name, "{text}");
+    }
+}
+
+/// The same, of commands with words.
+const WORDS: [(&str, &str); 10] = [
+    ("STATION WLF", "station"),
+    ("station WLF GE", "station"),
+    ("SELECT BHZ", "select"),
+    ("select BHZ", "select"),
+    ("DATA 0 2024,2,29", "data"),
+    ("data 0 2024,2,29", "data"),
+    ("FETCH 0 2024,2,29", "fetch"),
+    ("fetch 0 2024,2,29", "fetch"),
+    ("TIME 2024,2,29 2024,3,1", "time"),
+    ("time 2024,2,29 2024,3,1", "time"),
+];
+
+#[test]
+fn words_of_each_command_in_either_case(rt: HostRuntime) {
+    for (text, name) in WORDS {
+        assert_eq!(rt; name_asked(Line::Text(text.as_bytes())), name, "{text}");
+    }
+}
+
+/// Commands with too few words, or with too many.
+const MISCOUNTED: [&str; 20] = [
+    "HELLO x",
+    "hello x",
+    "CAT x",
+    "cat x",
+    "BYE x",
+    "bye x",
+    "END x",
+    "end x",
+    "STATION",
+    "station",
+    "STATION WLF GE x",
+    "station WLF GE x",
+    "SELECT BH? x",
+    "select BH? x",
+    "DATA 0 2024,2,29 x",
+    "data 0 2024,2,29 x",
+    "FETCH 0 2024,2,29 x",
+    "fetch 0 2024,2,29 x",
+    "TIME 2024,2,29 2024,3,1 x",
+    "time 2024,2,29 2024,3,1 x",
+];
+
+#[test]
+fn too_few_or_too_many_words_in_either_case(rt: HostRuntime) {
+    for text in MISCOUNTED {
+        assert_eq!(rt; name_asked(Line::Text(text.as_bytes())), "bad", "{text}");
+    }
+}
+
+/// Lines that are no command.
+const OTHERS: [&str; 11] = [
+    "DATA 1000000",
+    "DATA G",
+    "DATA 2024,2,29",
+    "FETCH 0 2023,2,29",
+    "TIME 0",
+    "TIME 2024,2,29 0",
+    "INFO ID",
+    "HELL",
+    "HELLOO",
+    "HELLO\tx",
+    "\tHELLO",
+];
+
+#[test]
+fn lines_that_are_no_command(rt: HostRuntime) {
+    for text in OTHERS {
+        assert_eq!(rt; name_asked(Line::Text(text.as_bytes())), "bad", "{text}");
+    }
+    assert_eq!(rt; name_asked(Line::TooLong), "bad");
+}
+
+#[test]
+fn stations_and_patterns(rt: HostRuntime) {
+    for text in ["STATION WLF", "station WLF", "  Station   WLF  "] {
+        assert!(rt; is_station(text, b"WLF", None), "{text}");
+    }
+    for text in ["STATION wlf GE", "station wlf GE", " station  wlf   GE "] {
+        assert!(rt; is_station(text, b"wlf", Some(b"GE")), "{text}");
+    }
+    for text in ["SELECT", "select "] {
+        assert!(rt; is_select(text, None), "{text}");
+    }
+    for text in ["SELECT !BH?.D", "select  !BH?.D"] {
+        assert!(rt; is_select(text, Some(b"!BH?.D")), "{text}");
+    }
+}
+
+#[test]
+fn numbers(rt: HostRuntime) {
+    assert!(rt; is_data("DATA", None, None));
+    assert!(rt; is_data("data", None, None));
+    assert!(rt; is_data("DATA fF", Seq::of(255), None));
+    assert!(rt; is_data("data 0000a3", Seq::of(163), None));
+    assert!(rt; is_fetch("FETCH", None, None));
+    assert!(rt; is_fetch("fetch FFFFFF", Seq::of(0xff_ffff), None));
+}
+
+/// The first moment of 2024-02-29, and some seconds.
+fn leap_day(seconds: u8) -> Option<Tick> {
+    Some(Tick::new(17_091_648_000_000 + 10_000 * i64::from(seconds)))
+}
+
+#[test]
+fn times(rt: HostRuntime) {
+    assert!(rt; is_data("data 0 2024,2,29", Seq::of(0), leap_day(0)));
+    assert!(rt; is_fetch("Fetch 10 2024,02,29,00", Seq::of(16), leap_day(0)));
+    assert!(rt; is_time("TIME", None, None));
+    assert!(rt; is_time("time 2024,2,29", leap_day(0), None));
+    assert!(rt;
+        is_time(
+            "TIME 2024,2,29,0,0,0 2024,2,29,0,0,10",
+            leap_day(0),
+            leap_day(10)
+        )
+    );
+}

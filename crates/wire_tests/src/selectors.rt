@@ -1,0 +1,181 @@
+//! Patterns, and lists of them.
+use protocol::record::Kind;
+use selector::{Full, Selector, Selectors};
+
+const PLACE: &[u8; 2] = b"00";
+
+const NO_PLACE: &[u8; 2] = b"  ";
+
+fn is_pattern(text: &[u8]) -> bool {
+    Selector::parse(text).is_some()
+}
+
+fn matches(text: &[u8], location: &[u8; 2], channel: &[u8; 3], kind: Kind) -> Option<bool> {
+    Some(Selector::parse(text)?.matches(location, channel, kind))
+}
+
+fn list_of(texts: &[&[u8]]) -> Option<Selectors> {
+    let mut selectors = Selectors::new();
+    for text in texts {
+        selectors.add(Selector::parse(text)?).ok()?;
+    }
+    Some(selectors)
+}
+
+fn passes(texts: &[&[u8]], channel: &[u8; 3], kind: Kind) -> Option<bool> {
+    Some(list_of(texts)?.passes(PLACE, channel, kind))
+}
+
+/// Texts that are patterns.
+const PATTERNS: [&[u8]; 11] = [
+    b"BH?", b"!E", b"00BHZ.D", b"--LCQ", b"D", b".L", b"!.T", b"BHZ.C", b"!00bhz", b"??B?9.O",
+    b"?-???",
+];
+
+#[test]
+fn these_texts_are_patterns(rt: HostRuntime) {
+    for text in PATTERNS {
+        assert!(rt; is_pattern(text));
+    }
+}
+
+/// Texts that are none.
+const OTHERS: [&[u8]; 22] = [
+    b"BH",
+    b".Q",
+    b"",
+    b"!",
+    b"Q",
+    b"d",
+    b"B-Z",
+    b"BHZD",
+    b"BHZ-D",
+    b"00B.Z",
+    b"00BHZD",
+    b"00BHZ.Q",
+    b"!!E",
+    b"BHZ.?",
+    b"BHZ.",
+    b".",
+    b"!.",
+    b"BH Z",
+    b"00BHZ.DD",
+    b"?",
+    b"??",
+    b"????",
+];
+
+#[test]
+fn these_texts_are_none(rt: HostRuntime) {
+    for text in OTHERS {
+        assert!(rt; !is_pattern(text));
+    }
+}
+
+/// Patterns, what they are held against, and whether that matches.
+const MATCHES: [(&[u8], &[u8; 2], &[u8; 3], Kind, bool); 14] = [
+    // A part that is left off matches everything.
+    (b"BH?", PLACE, b"BHZ", Kind::D, true),
+    (b"BH?", PLACE, b"LHZ", Kind::D, false),
+    (b"00BHZ.D", PLACE, b"BHZ", Kind::D, true),
+    (b"00BHZ.D", PLACE, b"BHZ", Kind::L, false),
+    (b"00BHZ.D", b"10", b"BHZ", Kind::D, false),
+    (b"00BHZ", PLACE, b"BHN", Kind::D, false),
+    (b".T", NO_PLACE, b"LOG", Kind::T, true),
+    (b"BHZ.D", NO_PLACE, b"bHZ", Kind::D, false),
+    // A hyphen matches a space and not itself.
+    (b"--LCQ", NO_PLACE, b"LCQ", Kind::D, true),
+    (b"--LCQ", b"--", b"LCQ", Kind::D, false),
+    (b"--LCQ", b" -", b"LCQ", Kind::D, false),
+    (b"??LCQ", NO_PLACE, b"LCQ", Kind::D, true),
+    // A negation is no part of a match.
+    (b"!E", PLACE, b"BHZ", Kind::E, true),
+    (b"!E", PLACE, b"BHZ", Kind::D, false),
+];
+
+#[test]
+fn each_part_matches_or_is_left_off(rt: HostRuntime) {
+    for (row, (text, location, channel, kind, is_match)) in MATCHES.into_iter().enumerate() {
+        let given = matches(text, location, channel, kind);
+        assert_eq!(rt; given, Some(is_match), "at row {row}");
+    }
+}
+
+/// Whether a text is a negation, where it is a pattern.
+fn is_negation(text: &[u8]) -> Option<bool> {
+    Some(Selector::parse(text)?.negated())
+}
+
+#[test]
+fn a_negation_is_told(rt: HostRuntime) {
+    assert_eq!(rt; is_negation(b"!E"), Some(true));
+    assert_eq!(rt; is_negation(b"E"), Some(false));
+    assert!(rt; Selector::parse(b"E") == Selector::parse(b".E"));
+}
+
+/// Lists, what they are held against, and whether they let it pass.
+const PASSES: [(&[&[u8]], &[u8; 3], Kind, bool); 9] = [
+    // A negation alone lets everything else pass.
+    (&[b"!E"], b"BHZ", Kind::D, true),
+    (&[b"!E"], b"LOG", Kind::L, true),
+    (&[b"!E"], b"BHZ", Kind::E, false),
+    (&[], b"BHZ", Kind::O, true),
+    // It outweighs what chooses.
+    (&[b"BHZ", b"!E"], b"BHZ", Kind::D, true),
+    (&[b"BHZ", b"!E"], b"BHZ", Kind::E, false),
+    (&[b"!E", b"BHZ"], b"BHZ", Kind::E, false),
+    (&[b"BHZ", b"!E"], b"BHN", Kind::D, false),
+    (&[b"BHZ", b"LH?"], b"LHE", Kind::D, true),
+];
+
+#[test]
+fn lists_let_pass_what_they_choose_and_do_not_negate(rt: HostRuntime) {
+    for (row, (texts, channel, kind, is_passed)) in PASSES.into_iter().enumerate() {
+        assert_eq!(rt;
+            passes(texts, channel, kind),
+            Some(is_passed),
+            "at row {row}"
+        );
+    }
+}
+
+/// Whether a pattern is added to a list, where a text is one.
+fn is_added(selectors: &mut Selectors, text: &[u8]) -> Option<bool> {
+    Some(selectors.add(Selector::parse(text)?).is_ok())
+}
+
+/// A list of fifteen patterns of BHZ and one of no events.
+fn sixteen() -> Selectors {
+    let mut selectors = Selectors::new();
+    for _ in 0..15 {
+        let _added = is_added(&mut selectors, b"BHZ");
+    }
+    let _added = is_added(&mut selectors, b"!E");
+    selectors
+}
+
+#[test]
+fn the_seventeenth_is_refused_and_changes_nothing(rt: HostRuntime) {
+    let mut selectors = sixteen();
+    assert_eq!(rt; selectors.len(), 16);
+    assert_eq!(rt; is_added(&mut selectors, b"LHZ"), Some(false));
+    assert_eq!(rt; selectors.len(), 16);
+    assert!(rt; selectors.passes(PLACE, b"BHZ", Kind::D));
+    assert!(rt; !selectors.passes(PLACE, b"BHZ", Kind::E));
+    assert!(rt; !selectors.passes(PLACE, b"LHZ", Kind::D));
+}
+
+#[test]
+fn a_list_is_cleared(rt: HostRuntime) {
+    let mut selectors = sixteen();
+    assert!(rt; !selectors.is_empty());
+    selectors.clear();
+    assert!(rt; selectors.is_empty());
+    assert!(rt; selectors.passes(PLACE, b"LHZ", Kind::E));
+}
+
+#[test]
+fn a_full_list_has_a_number_and_a_name(rt: HostRuntime) {
+    assert_eq!(rt; Full.number(), 62);
+    assert_eq!(rt; Full.name(), "Full");
+}
