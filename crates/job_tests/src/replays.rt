@@ -74,96 +74,110 @@ fn push_bytes(script: &mut String, bytes: &[u8]) -> Result<(), Fail> {
     Ok(())
 }
 
+/// Whether a script writes that text, where `G` stands for the greeting's digits.
+fn writes(alloc: Global, script: &[u8], text: &str) -> Result<bool, Fail> {
+    let output = greeted(alloc, text)?;
+    Ok(written(alloc, script)?.as_slice() == output.as_bytes())
+}
+
+/// Scripts, and what they write.
+static WORKED: [(&[u8], &str); 12] = [
+    // Who may not use a station is not told of it.
+    (
+        b"open 172.16.0.9\nline 0 CAT\ntake 0 520\ntake 0 520\ntake 0 520\ntake 0 520\n",
+        "0 474520574c46202020466f726573740d0a\n0 5858204150452020205661756c740d0a\n0 454e440d0a\n0 -\n",
+    ),
+    (
+        b"open 172.16.0.9\nline 0 STATION APE GE\ntake 0 520\nline 0 STATION APE\ntake 0 520\nline 0 FETCH\ntake 0 520\nline 0 END\ntake 0 520\ntake 0 1\n",
+        "0 4552524f520d0a\n0 4f4b0d0a\n0 4f4b0d0a\n0 454e44\n0 - end\n",
+    ),
+    (
+        b"open 10.0.0.7\nline 0 HELLO\ntake 0 520\ntake 0 520\n",
+        "0 G\n0 -\n",
+    ),
+    (
+        b"open 10.0.0.7\nbytes 0 48454c\nbytes 0 4c4f0d\nbytes 0 0a\nbytes 0 0d0d\ntake 0 520\ntake 0 520\ntake 0 520\n",
+        "0 G\n0 -\n0 -\n",
+    ),
+    (
+        b"open 10.0.0.7\nline 0 INFO ID\ntake 0 520\ntake 0 520\n",
+        "0 4552524f520d0a\n0 -\n",
+    ),
+    (
+        b"take 0 5\nopen 10.0.0.7\nbytes 0 48454c\nbytes 0 4c4f0d\nbytes 0 0a\ntake 0 520\nline 0 BYE\ntake 0 1\n",
+        "0 - end\n0 G\n0 - end\n",
+    ),
+    // Pairs of hexadecimal digits are of either case.
+    (
+        b"open 172.16.0.9\nbytes 0 48454C4c4F0D\ntake 0 2\nclose 0\ntake 0 520",
+        "0 5365\n0 - end\n",
+    ),
+    // A text may be empty; then its line is one carriage return.
+    (b"open 10.0.0.7\nline 0 \ntake 0 520", "0 -\n"),
+    // Leading zeros count among ten digits, and a number may be nobody's.
+    (
+        b"open 010.0.0.7\ntake 0000000000 1000000\ntake 9999999999 0\n",
+        "0 -\n9999999999 - end\n",
+    ),
+    (b"", ""),
+    (b"# a comment\n\n#\n\n", ""),
+    // A line is any bytes.
+    (
+        b"open 10.0.0.7\nline 0 \xff\x80 \x00\ntake 0 520\n",
+        "0 4552524f520d0a\n",
+    ),
+];
+
 #[test]
 fn worked_scripts(rt: HostRuntime) -> Result<(), Fail> {
-    let rows: [(&str, &str); 11] = [
-        // Who may not use a station is not told of it.
-        (
-            "open 172.16.0.9\nline 0 CAT\ntake 0 520\ntake 0 520\ntake 0 520\ntake 0 520\n",
-            "0 474520574c46202020466f726573740d0a\n0 5858204150452020205661756c740d0a\n0 454e440d0a\n0 -\n",
-        ),
-        (
-            "open 172.16.0.9\nline 0 STATION APE GE\ntake 0 520\nline 0 STATION APE\ntake 0 520\nline 0 FETCH\ntake 0 520\nline 0 END\ntake 0 520\ntake 0 1\n",
-            "0 4552524f520d0a\n0 4f4b0d0a\n0 4f4b0d0a\n0 454e44\n0 - end\n",
-        ),
-        (
-            "open 10.0.0.7\nline 0 HELLO\ntake 0 520\ntake 0 520\n",
-            "0 G\n0 -\n",
-        ),
-        (
-            "open 10.0.0.7\nbytes 0 48454c\nbytes 0 4c4f0d\nbytes 0 0a\nbytes 0 0d0d\ntake 0 520\ntake 0 520\ntake 0 520\n",
-            "0 G\n0 -\n0 -\n",
-        ),
-        (
-            "open 10.0.0.7\nline 0 INFO ID\ntake 0 520\ntake 0 520\n",
-            "0 4552524f520d0a\n0 -\n",
-        ),
-        (
-            "take 0 5\nopen 10.0.0.7\nbytes 0 48454c\nbytes 0 4c4f0d\nbytes 0 0a\ntake 0 520\nline 0 BYE\ntake 0 1\n",
-            "0 - end\n0 G\n0 - end\n",
-        ),
-        // Pairs of hexadecimal digits are of either case.
-        (
-            "open 172.16.0.9\nbytes 0 48454C4c4F0D\ntake 0 2\nclose 0\ntake 0 520",
-            "0 5365\n0 - end\n",
-        ),
-        // A text may be empty; then its line is one carriage return.
-        ("open 10.0.0.7\nline 0 \ntake 0 520", "0 -\n"),
-        // Leading zeros count among ten digits, and a number may be nobody's.
-        (
-            "open 010.0.0.7\ntake 0000000000 1000000\ntake 9999999999 0\n",
-            "0 -\n9999999999 - end\n",
-        ),
-        ("", ""),
-        ("# a comment\n\n#\n\n", ""),
-    ];
-    for (script, output) in rows {
-        let output = greeted(rt.alloc(), output)?;
-        let got = written(rt.alloc(), script.as_bytes())?;
-        assert!(rt; got.as_slice() == output.as_bytes(), "at {script}");
+    for (row, &(script, output)) in WORKED.iter().enumerate() {
+        assert!(rt; writes(rt.alloc(), script, output)?, "in row {row}");
     }
     Ok(())
 }
 
-#[test]
-fn a_line_is_any_bytes(rt: HostRuntime) -> Result<(), Fail> {
-    let got = written(
-        rt.alloc(),
-        b"open 10.0.0.7\nline 0 \xff\x80 \x00\ntake 0 520\n",
-    )?;
-    assert!(rt; got.as_slice() == b"0 4552524f520d0a\n".as_slice());
-    Ok(())
+/// A script of a line that is HELLO and so many spaces.
+fn spaced(alloc: Global, spaces: usize) -> Result<String, Fail> {
+    let mut script = String::from_str(alloc, "open 10.0.0.7\nline 0 HELLO")?;
+    for _ in 0..spaces {
+        script.push(' ')?;
+    }
+    script.push_str("\ntake 0 520\ntake 0 520\n")?;
+    Ok(script)
 }
 
 #[test]
 fn lines_of_a_client_have_256_bytes(rt: HostRuntime) -> Result<(), Fail> {
     for (spaces, output) in [(251, "0 G\n0 -\n"), (252, "0 4552524f520d0a\n0 -\n")] {
-        let mut script = String::from_str(rt.alloc(), "open 10.0.0.7\nline 0 HELLO")?;
-        for _ in 0..spaces {
-            script.push(' ')?;
-        }
-        script.push_str("\ntake 0 520\ntake 0 520\n")?;
-        let output = greeted(rt.alloc(), output)?;
-        let got = written(rt.alloc(), script.as_bytes())?;
-        assert!(rt; got.as_slice() == output.as_bytes(), "at {spaces} spaces");
+        let script = spaced(rt.alloc(), spaces)?;
+        assert!(rt;
+            writes(rt.alloc(), script.as_bytes(), output)?,
+            "at {spaces} spaces"
+        );
     }
     Ok(())
+}
+
+/// A script in which 1,025 bytes come while an answer waits, and then 1,024, and then one.
+fn crowded(alloc: Global) -> Result<String, Fail> {
+    let letters = vec![in alloc; b'A'; 1024]?;
+    let mut script = String::from_str(alloc, "open 10.0.0.7\nline 0 HELLO\nbytes 0 ")?;
+    for _ in 0..1024 {
+        script.push_str("41")?;
+    }
+    script.push_str("0d\n")?;
+    push_bytes(&mut script, letters.as_slice())?;
+    script.push_str("bytes 0 0d\ntake 0 520\ntake 0 520\nbytes 0 0d\ntake 0 520\ntake 0 520\n")?;
+    Ok(script)
 }
 
 // What is answered waits, so nothing is read. A piece of 1,025 bytes is refused as a whole, one of 1,024 fits, and then not
 // one byte more.
 #[test]
 fn a_client_has_room_for_1024_bytes(rt: HostRuntime) -> Result<(), Fail> {
-    let mut letters = vec![in rt.alloc(); b'A'; 1024]?;
-    let mut script = String::from_str(rt.alloc(), "open 10.0.0.7\nline 0 HELLO\n")?;
-    letters.push(b'\r')?;
-    push_bytes(&mut script, letters.as_slice())?;
-    letters.truncate(1024);
-    push_bytes(&mut script, letters.as_slice())?;
-    script.push_str("bytes 0 0d\ntake 0 520\ntake 0 520\nbytes 0 0d\ntake 0 520\ntake 0 520\n")?;
-    let output = greeted(rt.alloc(), "0 G\n0 -\n0 4552524f520d0a\n0 -\n")?;
-    let got = written(rt.alloc(), script.as_bytes())?;
-    assert!(rt; got.as_slice() == output.as_bytes());
+    let script = crowded(rt.alloc())?;
+    let output = "0 G\n0 -\n0 4552524f520d0a\n0 -\n";
+    assert!(rt; writes(rt.alloc(), script.as_bytes(), output)?);
     Ok(())
 }
 
@@ -182,23 +196,21 @@ fn cut_script(alloc: Global, first: &[u8], second: &[u8], third: &[u8]) -> Resul
 #[test]
 fn pieces_of_commands_do_not_matter(rt: HostRuntime) -> Result<(), Fail> {
     let commands = b"HELLO\r\nBYE\r";
-    let output = greeted(rt.alloc(), "0 G\n0 - end\n")?;
     for to in 0..12 {
         let (front, third) = commands.split_at(to);
         for from in 0..to {
             let (first, second) = front.split_at(from);
             let script = cut_script(rt.alloc(), first, second, third)?;
-            let got = written(rt.alloc(), script.as_bytes())?;
-            assert!(rt; got.as_slice() == output.as_bytes(), "at {from} and {to}");
+            let is_same = writes(rt.alloc(), script.as_bytes(), "0 G\n0 - end\n")?;
+            assert!(rt; is_same, "at {from} and {to}");
         }
     }
     Ok(())
 }
 
-#[test]
-fn two_hundred_clients_take_turns(rt: HostRuntime) -> Result<(), Fail> {
-    let mut script = String::new(rt.alloc());
-    let mut output = String::new(rt.alloc());
+/// What two hundred clients send by turns.
+fn by_turns(alloc: Global) -> Result<String, Fail> {
+    let mut script = String::new(alloc);
     for _ in 0..200 {
         script.push_str("open 10.0.0.7\n")?;
     }
@@ -212,21 +224,29 @@ fn two_hundred_clients_take_turns(rt: HostRuntime) -> Result<(), Fail> {
             script,
             "take {client} 520\nline {client} E\ntake {client} 520"
         )?;
-        writeln!(output, "{client} {GREETING}\n{client} - end")?;
     }
-    let got = written(rt.alloc(), script.as_bytes())?;
-    assert!(rt; got.as_slice() == output.as_bytes());
+    Ok(script)
+}
+
+#[test]
+fn two_hundred_clients_take_turns(rt: HostRuntime) -> Result<(), Fail> {
+    let script = by_turns(rt.alloc())?;
+    let mut output = String::new(rt.alloc());
+    for client in 0..200 {
+        writeln!(output, "{client} G\n{client} - end")?;
+    }
+    assert!(rt; writes(rt.alloc(), script.as_bytes(), output.as_str())?);
     Ok(())
 }
 
 #[test]
 fn numbers_and_names(rt: HostRuntime) {
-    assert_eq!(rt; ReplayFault::OutOfMemory.number(), 25);
-    assert_eq!(rt; ReplayFault::Read.number(), 42);
-    assert_eq!(rt; ReplayFault::Write.number(), 43);
-    assert_eq!(rt; ReplayFault::Script.number(), 45);
-    assert!(rt; ReplayFault::OutOfMemory.name() == "OutOfMemory");
-    assert!(rt; ReplayFault::Read.name() == "Read");
-    assert!(rt; ReplayFault::Write.name() == "Write");
-    assert!(rt; ReplayFault::Script.name() == "Script");
+    for (fault, number, name) in [
+        (ReplayFault::OutOfMemory, 25, "OutOfMemory"),
+        (ReplayFault::Read, 42, "Read"),
+        (ReplayFault::Write, 43, "Write"),
+        (ReplayFault::Script, 45, "Script"),
+    ] {
+        assert!(rt; fault.number() == number && fault.name() == name, "{name}");
+    }
 }

@@ -173,12 +173,12 @@ fn an_empty_write_is_counted(rt: HostRuntime) {
 
 #[test]
 fn numbers_and_names(rt: HostRuntime) {
-    assert_eq!(rt; DeviceFault.number(), 48);
-    assert_eq!(rt; ReadFault::OutOfMemory.number(), 25);
-    assert_eq!(rt; ReadFault::Read.number(), 42);
-    assert_eq!(rt; WriteFault.number(), 43);
-    assert!(rt; DeviceFault.name() == "Device");
-    assert!(rt; ReadFault::OutOfMemory.name() == "OutOfMemory");
-    assert!(rt; ReadFault::Read.name() == "Read");
-    assert!(rt; WriteFault.name() == "Write");
+    assert!(rt; DeviceFault.number() == 48 && DeviceFault.name() == "Device");
+    assert!(rt; WriteFault.number() == 43 && WriteFault.name() == "Write");
+    for (fault, number, name) in [
+        (ReadFault::OutOfMemory, 25, "OutOfMemory"),
+        (ReadFault::Read, 42, "Read"),
+    ] {
+        assert!(rt; fault.number() == number && fault.name() == name, "{name}");
+    }
 }

@@ -56,15 +56,20 @@ fn pieces_do_not_matter(rt: HostRuntime) -> Result<(), Fail> {
 #[test]
 fn one_record_is_lent_a_call(rt: HostRuntime) -> Result<(), Fail> {
     let bytes = round(rt.alloc(), 1_100)?;
-    let all = bytes.as_slice();
-    assert_eq!(rt; all.len(), 1_100);
+    assert!(rt; bytes.len() == 1_100);
     let mut cutter = FeedCutter::new();
-    assert_eq!(rt; cutter.feed(all).used, 512);
-    assert_eq!(rt; cutter.rest(), 0);
-    assert_eq!(rt; cutter.feed(&all[512..712]).used, 200);
-    assert_eq!(rt; cutter.rest(), 200);
-    assert_eq!(rt; cutter.feed(&all[712..]).used, 312);
-    assert_eq!(rt; cutter.rest(), 0);
+    for (start, end, used, rest) in [
+        (0, 1_100, 512, 0),
+        (512, 712, 200, 200),
+        (712, 1_100, 312, 0),
+    ] {
+        assert!(rt; start <= end && end <= 1_100);
+        assert!(rt;
+            cutter.feed(&bytes.as_slice()[start..end]).used == used,
+            "from {start}"
+        );
+        assert!(rt; cutter.rest() == rest, "from {start}");
+    }
     assert!(rt; cutter.feed(b"").whole.is_none());
     Ok(())
 }

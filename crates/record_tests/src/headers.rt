@@ -1,4 +1,4 @@
-use mseed_header::{Kind, RecordFault, read};
+use mseed_header::{Header, Kind, RecordFault, read};
 
 // GE APE, without a location, BHZ, of day 60 of 2024, with 100 samples at 100 samples a second.
 const BIG: [u8; 64] =
@@ -30,62 +30,67 @@ fn outcome(record: &[u8; 512]) -> Outcome {
     Ok((header.kind(), header.start().value(), header.end().value()))
 }
 
-#[test]
-fn reads_the_codes(rt: HostRuntime) {
-    let record = record_of(&BIG, &[]);
-    let Ok(header) = read(&record) else {
-        panic!(rt; "the record has a fault");
-    };
-    assert_eq!(rt; header.station(), b"APE".as_slice());
-    assert_eq!(rt; header.location(), b"  ");
-    assert_eq!(rt; header.channel(), b"BHZ");
-    assert_eq!(rt; header.network(), b"GE".as_slice());
-    assert_eq!(rt; header.samples(), 100);
+/// Whether a header says the codes and the count of samples of that record.
+fn has_its_codes(header: &Header<'_>) -> bool {
+    header.station() == b"APE".as_slice()
+        && header.location() == b"  "
+        && header.channel() == b"BHZ"
+        && header.network() == b"GE".as_slice()
+        && header.samples() == 100
 }
 
 #[test]
+fn reads_the_codes(rt: HostRuntime) {
+    let record = record_of(&BIG, &[]);
+    assert!(rt; read(&record).is_ok_and(|header| has_its_codes(&header)));
+}
+
+/// Changes of that record, and what is read then.
+static VECTORS: [(Changes<'static>, Outcome); 13] = [
+    (&[], Ok((Kind::D, START, START + 10_000))),
+    (
+        &[(26, 0x3c)],
+        Ok((Kind::D, 17_091_648_600_000, 17_091_648_610_000)),
+    ),
+    (
+        &[(20, 0x07), (21, 0xe7), (22, 0x01), (23, 0x6e)],
+        Ok((Kind::D, 17_040_672_000_000, 17_040_672_010_000)),
+    ),
+    (&[(50, 0), (51, 0x30)], Err(RecordFault::Blockettes)),
+    (&[(46, 0), (47, 0)], Err(RecordFault::No1000)),
+    (&[(54, 0x0c)], Err(RecordFault::Length)),
+    (&[(6, 0x58)], Err(RecordFault::Quality)),
+    (&[(20, 0), (21, 0)], Err(RecordFault::Time)),
+    (
+        &[(31, 0), (33, 0), (50, 0), (51, 0x38), (56, 0), (57, 0xc9)],
+        Ok((Kind::E, START, START)),
+    ),
+    (&[(32, 0), (33, 0)], Ok((Kind::L, START, START))),
+    (
+        &[(32, 0xff), (33, 0xf6)],
+        Ok((Kind::D, START, START + 10_000_000)),
+    ),
+    (
+        &[(30, 0), (31, 1), (32, 0), (33, 3)],
+        Ok((Kind::D, START, START + 3333)),
+    ),
+    (&[(0, 0x41)], Err(RecordFault::Sequence)),
+];
+
+#[test]
 fn reads_the_vectors(rt: HostRuntime) {
-    let vectors: [(Changes<'_>, Outcome); 13] = [
-        (&[], Ok((Kind::D, START, START + 10_000))),
-        (
-            &[(26, 0x3c)],
-            Ok((Kind::D, 17_091_648_600_000, 17_091_648_610_000)),
-        ),
-        (
-            &[(20, 0x07), (21, 0xe7), (22, 0x01), (23, 0x6e)],
-            Ok((Kind::D, 17_040_672_000_000, 17_040_672_010_000)),
-        ),
-        (&[(50, 0), (51, 0x30)], Err(RecordFault::Blockettes)),
-        (&[(46, 0), (47, 0)], Err(RecordFault::No1000)),
-        (&[(54, 0x0c)], Err(RecordFault::Length)),
-        (&[(6, 0x58)], Err(RecordFault::Quality)),
-        (&[(20, 0), (21, 0)], Err(RecordFault::Time)),
-        (
-            &[(31, 0), (33, 0), (50, 0), (51, 0x38), (56, 0), (57, 0xc9)],
-            Ok((Kind::E, START, START)),
-        ),
-        (&[(32, 0), (33, 0)], Ok((Kind::L, START, START))),
-        (
-            &[(32, 0xff), (33, 0xf6)],
-            Ok((Kind::D, START, START + 10_000_000)),
-        ),
-        (
-            &[(30, 0), (31, 1), (32, 0), (33, 3)],
-            Ok((Kind::D, START, START + 3333)),
-        ),
-        (&[(0, 0x41)], Err(RecordFault::Sequence)),
-    ];
-    for (changes, want) in vectors {
-        assert_eq!(rt; outcome(&record_of(&BIG, changes)), want, "at {changes:?}");
+    for (row, &(changes, wanted)) in VECTORS.iter().enumerate() {
+        assert!(rt;
+            outcome(&record_of(&BIG, changes)) == wanted,
+            "in row {row}"
+        );
     }
 }
 
 #[test]
 fn reads_little_order(rt: HostRuntime) {
-    assert_eq!(rt;
-        outcome(&record_of(&LITTLE, &[])),
-        Ok((Kind::D, START, START + 10_000))
-    );
+    let given = outcome(&record_of(&LITTLE, &[]));
+    assert!(rt; given == Ok((Kind::D, START, START + 10_000)));
 }
 
 // What the samples take at a factor and a multiplier.
@@ -117,10 +122,9 @@ fn ends_by_the_signs_of_factor_and_multiplier(rt: HostRuntime) {
         (65_535, 32_767, 32_767, 0),
     ];
     for (samples, factor, multiplier, ticks) in rows {
-        assert_eq!(rt;
-            extent(samples, factor, multiplier),
-            Ok(ticks),
-            "at {factor} and {multiplier}"
+        assert!(rt;
+            extent(samples, factor, multiplier) == Ok(ticks),
+            "{factor} {multiplier}"
         );
     }
 }
@@ -133,49 +137,49 @@ fn start_at(year: u16, day: u16) -> Result<i64, RecordFault> {
     Ok(header.start().value())
 }
 
+/// Years, days, and the ticks of their starts, where these are in range.
+static STARTS: [(u16, u16, Result<i64, RecordFault>); 14] = [
+    (1900, 1, Ok(-22_089_888_000_000)),
+    (1900, 60, Ok(-22_038_912_000_000)),
+    (1900, 365, Ok(-21_775_392_000_000)),
+    (1900, 366, Ok(-21_774_528_000_000)),
+    (2000, 60, Ok(9_517_824_000_000)),
+    (2000, 366, Ok(9_782_208_000_000)),
+    (2100, 1, Ok(41_024_448_000_000)),
+    (2100, 60, Ok(41_075_424_000_000)),
+    (2100, 365, Ok(41_338_944_000_000)),
+    (2100, 366, Ok(41_339_808_000_000)),
+    (1899, 365, Err(RecordFault::Time)),
+    (2101, 1, Err(RecordFault::Time)),
+    (1900, 0, Err(RecordFault::Time)),
+    (2100, 367, Err(RecordFault::Time)),
+];
+
 #[test]
 fn starts_on_days_of_the_first_and_last_years(rt: HostRuntime) {
-    let rows = [
-        (1900, 1, -22_089_888_000_000),
-        (1900, 60, -22_038_912_000_000),
-        (1900, 365, -21_775_392_000_000),
-        (1900, 366, -21_774_528_000_000),
-        (2000, 60, 9_517_824_000_000),
-        (2000, 366, 9_782_208_000_000),
-        (2100, 1, 41_024_448_000_000),
-        (2100, 60, 41_075_424_000_000),
-        (2100, 365, 41_338_944_000_000),
-        (2100, 366, 41_339_808_000_000),
-    ];
-    for (year, day, ticks) in rows {
-        assert_eq!(rt; start_at(year, day), Ok(ticks), "at day {day} of {year}");
-    }
-    for (year, day) in [(1899, 365), (2101, 1), (1900, 0), (2100, 367)] {
-        assert_eq!(rt;
-            start_at(year, day),
-            Err(RecordFault::Time),
-            "at day {day} of {year}"
-        );
+    for &(year, day, ticks) in &STARTS {
+        assert!(rt; start_at(year, day) == ticks, "at day {day} of {year}");
     }
 }
 
+/// Faults in the order in which they are looked for, and two bytes that make each.
+const FAULTS: [(RecordFault, [(usize, u8); 2]); 6] = [
+    (RecordFault::Sequence, [(0, b'A'), (1, b'0')]),
+    (RecordFault::Quality, [(6, b'X'), (7, b' ')]),
+    (RecordFault::Time, [(20, 0), (21, 0)]),
+    (RecordFault::Blockettes, [(50, 0), (51, 0x30)]),
+    (RecordFault::No1000, [(48, 0x03), (49, 0xe9)]),
+    (RecordFault::Length, [(54, 12), (55, 0)]),
+];
+
 #[test]
 fn tells_the_first_of_two_faults(rt: HostRuntime) {
-    let faults = [
-        (RecordFault::Sequence, [(0, b'A'), (1, b'0')]),
-        (RecordFault::Quality, [(6, b'X'), (7, b' ')]),
-        (RecordFault::Time, [(20, 0), (21, 0)]),
-        (RecordFault::Blockettes, [(50, 0), (51, 0x30)]),
-        (RecordFault::No1000, [(48, 0x03), (49, 0xe9)]),
-        (RecordFault::Length, [(54, 12), (55, 0)]),
-    ];
-    for (place, (first, changes)) in faults.iter().enumerate() {
-        for (second, more) in &faults[place..] {
+    for (place, (first, changes)) in FAULTS.iter().enumerate() {
+        for (_second, more) in &FAULTS[place..] {
             let both = [changes[0], changes[1], more[0], more[1]];
-            assert_eq!(rt;
-                outcome(&record_of(&BIG, &both)),
-                Err(*first),
-                "with {second:?}"
+            assert!(rt;
+                outcome(&record_of(&BIG, &both)) == Err(*first),
+                "in row {place}"
             );
         }
     }

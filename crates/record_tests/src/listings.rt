@@ -86,7 +86,7 @@ fn an_empty_file_has_no_line(rt: HostRuntime) -> Result<(), Fail> {
 }
 
 /// Records by the bytes that are changed, and what is said of each behind its number.
-const KINDS: [(Changes<'static>, &str); 15] = [
+static KINDS: [(Changes<'static>, &str); 15] = [
     (&[], FACTS),
     // The second is the 60th.
     (
@@ -145,7 +145,7 @@ const KINDS: [(Changes<'static>, &str); 15] = [
 ];
 
 /// The same, of the words before the type.
-const CODES: [(Changes<'static>, &str); 5] = [
+static CODES: [(Changes<'static>, &str); 5] = [
     // A network of spaces is an empty word.
     (&[(18, b' '), (19, b' ')], " APE -- BHZ"),
     // A space at the end of a code is none of it, one within it is.
@@ -171,7 +171,7 @@ fn is_listed(alloc: Global, changes: Changes<'_>, facts: &str) -> Result<bool, F
 
 #[test]
 fn records_of_each_kind(rt: HostRuntime) -> Result<(), Fail> {
-    for (changes, facts) in KINDS {
+    for &(changes, facts) in &KINDS {
         assert!(rt; is_listed(rt.alloc(), changes, facts)?, "{facts}");
     }
     Ok(())
@@ -179,7 +179,7 @@ fn records_of_each_kind(rt: HostRuntime) -> Result<(), Fail> {
 
 #[test]
 fn codes_show_what_does_not_print(rt: HostRuntime) -> Result<(), Fail> {
-    for (changes, words) in CODES {
+    for &(changes, words) in &CODES {
         let facts = format!(in rt.alloc(); "{words} D 17091648000000 17091648010000 100")?;
         assert!(rt; is_listed(rt.alloc(), changes, facts.as_str())?, "{words}");
     }

@@ -1,4 +1,5 @@
 use mseed_header::{ByteOrder, FieldFault, Fields, Header, Kind, make, read};
+use sl_time::{Tick, of_btime};
 
 // GE APE, without a location, BHZ, of day 60 of 2024, with 100 samples at 100 samples a second.
 const FIRST: Fields<'static> = Fields {
@@ -64,7 +65,7 @@ fn refuses_codes_that_are_none(rt: HostRuntime) {
     ];
     for (row, (station, location, channel, network)) in codes.into_iter().enumerate() {
         let fields = with_codes(station, location, channel, network);
-        assert!(rt; is_refused(fields), "at row {row}");
+        assert!(rt; is_refused(fields), "in row {row}");
     }
 }
 
@@ -96,7 +97,7 @@ fn refuses_starts_that_are_none(rt: HostRuntime) {
     .enumerate()
     {
         let fields = with_start(year, day, time, fraction);
-        assert!(rt; is_refused(fields), "at row {row}");
+        assert!(rt; is_refused(fields), "in row {row}");
     }
 }
 
@@ -114,8 +115,18 @@ fn refuses_other_fields_out_of_range(rt: HostRuntime) {
 
 #[test]
 fn a_refusal_of_fields_has_a_number_and_a_name(rt: HostRuntime) {
-    assert_eq!(rt; FieldFault::Field.number(), 8);
-    assert!(rt; FieldFault::Field.name() == "Field");
+    assert!(rt; FieldFault::Field.number() == 8 && FieldFault::Field.name() == "Field");
+}
+
+/// Whether a record is made of that day of 2056 in an order of bytes.
+fn is_made(day: u16, order: ByteOrder) -> bool {
+    make(&Fields {
+        year: 2056,
+        day,
+        order,
+        ..FIRST
+    })
+    .is_ok()
 }
 
 #[test]
@@ -128,42 +139,32 @@ fn refuses_three_days_in_little_order(rt: HostRuntime) {
         (257, false),
         (258, true),
     ] {
-        let fields = Fields {
-            year: 2056,
-            day,
-            ..FIRST
-        };
-        assert!(rt; make(&fields).is_ok());
-        let little = Fields {
-            order: ByteOrder::Little,
-            ..fields
-        };
-        assert_eq!(rt; make(&little).is_ok(), makes, "at day {day}");
+        assert!(rt; is_made(day, ByteOrder::Big), "at day {day}");
+        assert!(rt; is_made(day, ByteOrder::Little) == makes, "at day {day}");
     }
+}
+
+/// The type of a record without samples, and with a blockette.
+fn kind_with(extra: Option<u16>) -> Option<Kind> {
+    let fields = Fields {
+        samples: 0,
+        factor: 0,
+        extra,
+        ..FIRST
+    };
+    Some(read(&make(&fields).ok()?).ok()?.kind())
 }
 
 #[test]
 fn gives_a_record_without_samples_its_kind(rt: HostRuntime) {
-    let rows = [
+    for (extra, kind) in [
         (None, Kind::D),
         (Some(201), Kind::E),
         (Some(395), Kind::C),
         (Some(500), Kind::T),
         (Some(2000), Kind::O),
-    ];
-    for (extra, kind) in rows {
-        let fields = Fields {
-            samples: 0,
-            factor: 0,
-            extra,
-            ..FIRST
-        };
-        let record = make(&fields).unwrap_or([0; 512]);
-        assert_eq!(rt;
-            read(&record).map(|header| header.kind()),
-            Ok(kind),
-            "at {extra:?}"
-        );
+    ] {
+        assert!(rt; kind_with(extra) == Some(kind), "{extra:?}");
     }
 }
 
@@ -200,28 +201,31 @@ fn has_codes(header: &Header<'_>, fields: &Fields<'_>) -> bool {
         && header.channel().starts_with(fields.channel)
 }
 
+/// The start that fields name.
+fn start_of(fields: &Fields<'_>) -> Option<Tick> {
+    of_btime(
+        fields.year,
+        fields.day,
+        fields.hour,
+        fields.minute,
+        fields.second,
+        fields.fraction,
+    )
+}
+
+/// Whether the record that is made of fields is read as they are.
+fn is_read_back(fields: &Fields<'_>) -> bool {
+    let record = make(fields).unwrap_or([0; 512]);
+    read(&record).is_ok_and(|header| {
+        has_codes(&header, fields)
+            && Some(header.start()) == start_of(fields)
+            && header.samples() == fields.samples
+    })
+}
+
 #[test]
 fn is_read_as_its_fields(rt: HostRuntime) {
     for row in 0..300 {
-        let fields = varied(row * 199);
-        let record = make(&fields).unwrap_or([0; 512]);
-        let Ok(header) = read(&record) else {
-            panic!(rt; "row {row} is not read");
-        };
-        assert!(rt; has_codes(&header, &fields), "the codes at row {row}");
-        let start = sl_time::of_btime(
-            fields.year,
-            fields.day,
-            fields.hour,
-            fields.minute,
-            fields.second,
-            fields.fraction,
-        );
-        assert_eq!(rt; Some(header.start()), start, "the start at row {row}");
-        assert_eq!(rt;
-            header.samples(),
-            fields.samples,
-            "the samples at row {row}"
-        );
+        assert!(rt; is_read_back(&varied(row * 199)), "in row {row}");
     }
 }

@@ -34,7 +34,7 @@ capacity = 1
 "#;
 
 /// The lines of a configuration with one station, each under a word of its own.
-const LINES: [(&str, &str); 10] = [
+static LINES: [(&str, &str); 10] = [
     ("title", "title = \"Test Centre\""),
     ("access", "access = \"0.0.0.0/0\""),
     ("max_connections", "max_connections = 8"),
@@ -50,7 +50,7 @@ const LINES: [(&str, &str); 10] = [
 /// Those lines, with another one in place of the line under a word.
 fn with_line(alloc: Global, word: &str, line: &str) -> Result<String, AllocError> {
     let mut text = String::new(alloc);
-    for (at, usual) in LINES {
+    for &(at, usual) in &LINES {
         text.push_str(if at == word { line } else { usual })?;
         text.push_str("\n")?;
     }
@@ -69,6 +69,19 @@ fn config_with(alloc: Global, word: &str, line: &str) -> Result<Config, ConfigFa
 fn judged(alloc: Global, word: &str, line: &str) -> Result<(), ConfigFault> {
     let _ = config_with(alloc, word, line)?;
     Ok(())
+}
+
+/// The word of a line, another line in its place, and what is said of that.
+type Judged = (&'static str, &'static str, Result<(), ConfigFault>);
+
+/// The first row of which something else is said.
+fn judged_otherwise(alloc: Global, rows: &[Judged]) -> Option<usize> {
+    for (row, &(word, line, wanted)) in rows.iter().enumerate() {
+        if judged(alloc, word, line) != wanted {
+            return Some(row);
+        }
+    }
+    None
 }
 
 /// Whether a text is a configuration, or why it is none.

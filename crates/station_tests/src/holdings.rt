@@ -100,38 +100,46 @@ fn each_station_has_numbers_of_its_own(rt: HostRuntime) -> Result<(), Fail> {
         (2, Some(0xFFFF00)),
         (0, Some(2)),
     ] {
-        assert_eq!(rt; arrive(&mut rings, place), number, "{place}");
+        assert!(rt; arrive(&mut rings, place) == number, "{place}");
     }
     assert_eq!(rt; rings.arrivals(), 8);
     Ok(())
 }
 
+/// Stations, numbers, and the positions at which requests from them start.
+static POSITIONS: [(usize, u32, u64); 13] = [
+    (0, 0xFFFFFE, 3),
+    (0, 0xFFFFFF, 3),
+    (0, 0, 3),
+    (0, 1, 5),
+    (0, 2, 7),
+    (0, 3, 8),
+    (0, 4, 3),
+    (1, 0x10, 4),
+    (1, 0x11, 4),
+    (1, 0x12, 8),
+    (2, 0xFFFF00, 6),
+    (2, 0xFFFF01, 8),
+    (NOWHERE, 0, 8),
+];
+
 #[test]
 fn requests_start_at_positions(rt: HostRuntime) -> Result<(), Fail> {
     let rings = filled(rt.alloc())?;
-    for (place, oldest) in [(0, 3), (1, 4), (2, 6), (NOWHERE, 8)] {
-        assert_eq!(rt; rings.oldest_held(place), oldest, "{place}");
-    }
-    for (place, number, position) in [
-        (0, 0xFFFFFE, 3),
-        (0, 0xFFFFFF, 3),
-        (0, 0, 3),
-        (0, 1, 5),
-        (0, 2, 7),
-        (0, 3, 8),
-        (0, 4, 3),
-        (1, 0x10, 4),
-        (1, 0x11, 4),
-        (1, 0x12, 8),
-        (2, 0xFFFF00, 6),
-        (2, 0xFFFF01, 8),
-        (NOWHERE, 0, 8),
-    ] {
-        assert_eq!(rt;
-            from(&rings, place, number),
-            Some(position),
+    for &(place, number, position) in &POSITIONS {
+        assert!(rt;
+            from(&rings, place, number) == Some(position),
             "{place} {number}"
         );
+    }
+    Ok(())
+}
+
+#[test]
+fn each_station_has_an_oldest_record(rt: HostRuntime) -> Result<(), Fail> {
+    let rings = filled(rt.alloc())?;
+    for (place, oldest) in [(0, 3), (1, 4), (2, 6), (NOWHERE, 8)] {
+        assert!(rt; rings.oldest_held(place) == oldest, "{place}");
     }
     Ok(())
 }
@@ -149,9 +157,8 @@ fn rings_hold_the_last_of_each_station(rt: HostRuntime) -> Result<(), Fail> {
         (2, 0, Some(6)),
         (NOWHERE, 0, None),
     ] {
-        assert_eq!(rt;
-            position_at(&rings, station, place),
-            position,
+        assert!(rt;
+            position_at(&rings, station, place) == position,
             "{station} {place}"
         );
     }
@@ -172,24 +179,28 @@ fn a_held_record_starts_after_a_moment(rt: HostRuntime) -> Result<(), Fail> {
         (2, -1, true),
         (NOWHERE, -1, false),
     ] {
-        assert_eq!(rt;
-            rings.holds_after(place, Tick::new(last)),
-            after,
+        assert!(rt;
+            rings.holds_after(place, Tick::new(last)) == after,
             "{place} {last}"
         );
     }
     Ok(())
 }
 
+/// Whether nothing is held of a station, and requests start at the next arrival.
+fn is_empty_at(rings: &Rings, place: usize) -> bool {
+    rings.oldest_held(place) == rings.arrivals()
+        && from(rings, place, 0x10) == Some(rings.arrivals())
+        && !rings.holds_after(place, Tick::new(-1))
+        && position_at(rings, place, 0).is_none()
+}
+
 #[test]
 fn empty_rings_hold_nothing(rt: HostRuntime) -> Result<(), Fail> {
     let rings = empty(rt.alloc())?;
-    assert_eq!(rt; rings.arrivals(), 0);
+    assert!(rt; rings.arrivals() == 0);
     for place in [0, 1, 2, NOWHERE] {
-        assert_eq!(rt; rings.oldest_held(place), 0, "{place}");
-        assert_eq!(rt; from(&rings, place, 0x10), Some(0), "{place}");
-        assert!(rt; !rings.holds_after(place, Tick::new(-1)), "{place}");
-        assert_eq!(rt; position_at(&rings, place, 0), None, "{place}");
+        assert!(rt; is_empty_at(&rings, place), "{place}");
     }
     Ok(())
 }
@@ -211,7 +222,7 @@ fn the_largest_ring_keeps_all_but_the_first(rt: HostRuntime) -> Result<(), Fail>
         (0x00FF01, 65_537),
         (0x00FF02, 1),
     ] {
-        assert_eq!(rt; from(&rings, 2, number), Some(position), "{number}");
+        assert!(rt; from(&rings, 2, number) == Some(position), "{number}");
     }
     Ok(())
 }

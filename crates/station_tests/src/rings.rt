@@ -83,67 +83,50 @@ fn three_of_four(alloc: Global) -> Result<Ring, AllocError> {
 fn a_ring_of_three_keeps_three_of_four(rt: HostRuntime) -> Result<(), Fail> {
     let ring = three_of_four(rt.alloc())?;
     ring.holds_its_last();
-    assert_eq!(rt; ring.pushes(), 4);
-    assert_eq!(rt; ring.oldest(), Some(1));
+    assert!(rt; ring.pushes() == 4 && ring.oldest() == Some(1));
+    assert!(rt; ring.next_number().digits() == *b"000002");
+    assert!(rt; ring.number_at(0).digits() == *b"FFFFFE");
+    assert!(rt; ring.number_at(3).digits() == *b"000001");
     Ok(())
 }
 
-#[test]
-fn numbers_wrap(rt: HostRuntime) -> Result<(), Fail> {
-    let ring = three_of_four(rt.alloc())?;
-    assert_eq!(rt; ring.next_number().digits(), *b"000002");
-    assert_eq!(rt; ring.number_at(0).digits(), *b"FFFFFE");
-    assert_eq!(rt; ring.number_at(3).digits(), *b"000001");
-    Ok(())
-}
+/// Numbers, and the places of that ring that are found by them.
+static FOUND: [(u32, Option<u64>); 7] = [
+    (0xFFFFFD, None),
+    (0xFFFFFE, None),
+    (0xFFFFFF, Some(1)),
+    (0, Some(2)),
+    (1, Some(3)),
+    (2, None),
+    (3, None),
+];
 
 #[test]
 fn held_places_are_found_by_their_numbers(rt: HostRuntime) -> Result<(), Fail> {
     let ring = three_of_four(rt.alloc())?;
-    for (value, place) in [
-        (0xFFFFFD, None),
-        (0xFFFFFE, None),
-        (0xFFFFFF, Some(1)),
-        (0, Some(2)),
-        (1, Some(3)),
-        (2, None),
-        (3, None),
-    ] {
-        assert_eq!(rt; found(&ring, value), place, "{value}");
+    for &(value, place) in &FOUND {
+        assert!(rt; found(&ring, value) == place, "{value}");
     }
     Ok(())
 }
 
-#[test]
-fn held_places_have_their_records(rt: HostRuntime) -> Result<(), Fail> {
-    let ring = three_of_four(rt.alloc())?;
-    for (place, stamp) in [
-        (0, None),
-        (1, Some(1)),
-        (2, Some(2)),
-        (3, Some(3)),
-        (4, None),
-        (5, None),
-        (u64::MAX, None),
-    ] {
-        assert_eq!(rt; stamp_at(&ring, place), stamp, "{place}");
-    }
-    Ok(())
-}
+/// Places, the stamps of what that ring holds there, and the place and stamp of what it holds there or next.
+static HELD: [(u64, Option<u64>, Option<(u64, u64)>); 7] = [
+    (0, None, Some((1, 1))),
+    (1, Some(1), Some((1, 1))),
+    (2, Some(2), Some((2, 2))),
+    (3, Some(3), Some((3, 3))),
+    (4, None, None),
+    (5, None, None),
+    (u64::MAX, None, None),
+];
 
 #[test]
-fn a_place_leads_to_the_next_that_is_held(rt: HostRuntime) -> Result<(), Fail> {
+fn places_have_their_records_or_lead_to_the_next(rt: HostRuntime) -> Result<(), Fail> {
     let ring = three_of_four(rt.alloc())?;
-    for (place, next) in [
-        (0, Some((1, 1))),
-        (1, Some((1, 1))),
-        (2, Some((2, 2))),
-        (3, Some((3, 3))),
-        (4, None),
-        (5, None),
-        (u64::MAX, None),
-    ] {
-        assert_eq!(rt; stamp_from(&ring, place), next, "{place}");
+    for &(place, stamp, next) in &HELD {
+        assert!(rt; stamp_at(&ring, place) == stamp, "{place}");
+        assert!(rt; stamp_from(&ring, place) == next, "{place}");
     }
     Ok(())
 }
@@ -158,9 +141,8 @@ fn a_push_answers_its_number(rt: HostRuntime) -> Result<(), Fail> {
         (4, Some(1)),
         (5, Some(2)),
     ] {
-        assert_eq!(rt;
-            last_answer(rt.alloc(), 0xFFFFFE, count)?,
-            answer,
+        assert!(rt;
+            last_answer(rt.alloc(), 0xFFFFFE, count)? == answer,
             "{count}"
         );
     }
@@ -187,12 +169,9 @@ fn what_is_held_is_what_was_pushed(rt: HostRuntime) -> Result<(), Fail> {
 #[test]
 fn an_empty_ring_holds_nothing(rt: HostRuntime) -> Result<(), Fail> {
     let ring = filled(rt.alloc(), 3, 0x12, 0)?;
-    assert_eq!(rt; ring.pushes(), 0);
-    assert_eq!(rt; ring.oldest(), None);
-    assert_eq!(rt; ring.next_number().value(), 0x12);
-    assert_eq!(rt; found(&ring, 0x12), None);
-    assert_eq!(rt; stamp_at(&ring, 0), None);
-    assert_eq!(rt; stamp_from(&ring, 0), None);
+    assert!(rt; ring.pushes() == 0 && ring.oldest().is_none());
+    assert!(rt; ring.next_number().value() == 0x12 && found(&ring, 0x12).is_none());
+    assert!(rt; stamp_at(&ring, 0).is_none() && stamp_from(&ring, 0).is_none());
     Ok(())
 }
 
@@ -209,12 +188,11 @@ fn a_ring_of_one_keeps_the_last(rt: HostRuntime) -> Result<(), Fail> {
     for last in [0u8, 1, 2, 199] {
         let ring = filled(rt.alloc(), 1, 0, u64::from(last) + 1)?;
         assert!(rt; holds_the_last(&ring, u64::from(last)), "{last}");
-        assert_eq!(rt;
-            found(&ring, u32::from(last)),
-            Some(u64::from(last)),
+        assert!(rt;
+            found(&ring, u32::from(last)) == Some(u64::from(last)),
             "{last}"
         );
-        assert_eq!(rt; found(&ring, u32::from(last) + 1), None, "{last}");
+        assert!(rt; found(&ring, u32::from(last) + 1).is_none(), "{last}");
     }
     Ok(())
 }
@@ -224,35 +202,32 @@ fn the_largest(alloc: Global) -> Result<Ring, AllocError> {
     filled(alloc, 65_536, 0xFFFF00, 65_537)
 }
 
+/// Numbers, and the places of the largest ring that are found by them.
+static LARGEST: [(u32, Option<u64>); 6] = [
+    (0xFFFF00, None),
+    (0xFFFF01, Some(1)),
+    (0xFFFFFF, Some(255)),
+    (0, Some(256)),
+    (0x00FF00, Some(65_536)),
+    (0x00FF01, None),
+];
+
 #[test]
-fn the_largest_ring_keeps_all_but_the_first(rt: HostRuntime) -> Result<(), Fail> {
+fn the_largest_ring_is_found_by_its_numbers(rt: HostRuntime) -> Result<(), Fail> {
     let ring = the_largest(rt.alloc())?;
-    assert_eq!(rt; ring.oldest(), Some(1));
-    assert_eq!(rt; stamp_from(&ring, 0), Some((1, 1)));
-    for (place, stamp) in [
-        (0, None),
-        (1, Some(1)),
-        (65_536, Some(65_536)),
-        (65_537, None),
-    ] {
-        assert_eq!(rt; stamp_at(&ring, place), stamp, "{place}");
+    assert!(rt; ring.next_number().value() == 0x00FF01);
+    for &(value, place) in &LARGEST {
+        assert!(rt; found(&ring, value) == place, "{value}");
     }
     Ok(())
 }
 
 #[test]
-fn the_largest_ring_is_found_by_its_numbers(rt: HostRuntime) -> Result<(), Fail> {
+fn the_largest_ring_keeps_all_but_the_first(rt: HostRuntime) -> Result<(), Fail> {
     let ring = the_largest(rt.alloc())?;
-    assert_eq!(rt; ring.next_number().value(), 0x00FF01);
-    for (value, place) in [
-        (0xFFFF00, None),
-        (0xFFFF01, Some(1)),
-        (0xFFFFFF, Some(255)),
-        (0, Some(256)),
-        (0x00FF00, Some(65_536)),
-        (0x00FF01, None),
-    ] {
-        assert_eq!(rt; found(&ring, value), place, "{value}");
-    }
+    assert!(rt; ring.oldest() == Some(1) && stamp_from(&ring, 0) == Some((1, 1)));
+    assert!(rt; stamp_at(&ring, 0).is_none() && stamp_at(&ring, 65_537).is_none());
+    assert!(rt; stamp_at(&ring, 1) == Some(1));
+    assert!(rt; stamp_at(&ring, 65_536) == Some(65_536));
     Ok(())
 }

@@ -177,7 +177,7 @@ fn sent_otherwise(alloc: Global, rows: &[Row]) -> Result<Option<usize>, Fail> {
     Ok(None)
 }
 
-const UNI: [Row; 9] = [
+static UNI: [Row; 9] = [
     (&[b"FETCH\r"], &[0, 0], &[], b"SLFFFFFFaSL000000bEND"),
     (&[b"FETCH\r"], &[0, 1, 0, 0], &[], b"SL000000cSL000001dEND"),
     (
@@ -205,7 +205,7 @@ fn uni_station_transfers(rt: HostRuntime) -> Result<(), Fail> {
     Ok(())
 }
 
-const WINDOWS: [Row; 6] = [
+static WINDOWS: [Row; 6] = [
     (
         &[b"TIME 1970,1,1,0,0,20 1970,1,1,0,1,0\r"],
         &[0, 0],
@@ -245,7 +245,7 @@ fn windows_are_passed(rt: HostRuntime) -> Result<(), Fail> {
     Ok(())
 }
 
-const MULTI: [Row; 4] = [
+static MULTI: [Row; 4] = [
     (
         &[
             b"STATION WLF GE\r",

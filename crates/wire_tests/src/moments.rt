@@ -13,10 +13,9 @@ fn ticks_of_start(year: u16, day: u16, second: u8, fraction: u16) -> Option<i64>
     Some(of_btime(year, day, hour, minute, second, fraction)?.value())
 }
 
-/// A text, and the ticks of its time or the number of its fault.
-type Time = (&'static [u8], Result<i64, u8>);
-
-const NUMBERS: [Time; 7] = [
+/// Texts, and the ticks of their times or the number of their fault.
+static TIMES: [(&[u8], Result<i64, u8>); 33] = [
+    // Its numbers have leading zeros or not, and those that are left off are 0.
     (b"2024,2,29", Ok(17_091_648_000_000)),
     (b"2024,2,29,5", Ok(17_091_828_000_000)),
     (b"2024,02,29,05,6", Ok(17_091_831_600_000)),
@@ -24,9 +23,7 @@ const NUMBERS: [Time; 7] = [
     (b"2024,2,29,23,59,60", Ok(17_092_512_000_000)),
     (b"1970,1,1", Ok(0)),
     (b"1969,12,31,23,59,59", Ok(-10_000)),
-];
-
-const YEARS: [Time; 7] = [
+    // The years are 1900 to 2100.
     (b"1900,1,1", Ok(-22_089_888_000_000)),
     (b"1900,12,31", Ok(-21_775_392_000_000)),
     (b"2100,1,1", Ok(41_024_448_000_000)),
@@ -34,9 +31,7 @@ const YEARS: [Time; 7] = [
     (b"2100,12,31,23,59,60", Ok(41_339_808_000_000)),
     (b"1899,12,31", Err(61)),
     (b"2101,1,1", Err(61)),
-];
-
-const CALENDAR: [Time; 8] = [
+    // The calendar says which dates exist.
     (b"1900,2,29", Err(61)),
     (b"2000,2,29", Ok(9_517_824_000_000)),
     (b"2023,2,29", Err(61)),
@@ -45,15 +40,11 @@ const CALENDAR: [Time; 8] = [
     (b"2024,13,1", Err(61)),
     (b"2024,0,1", Err(61)),
     (b"2024,1,0", Err(61)),
-];
-
-const DAY: [Time; 3] = [
+    // A time of a day has a range.
     (b"2024,2,29,24", Err(61)),
     (b"2024,2,29,0,60", Err(61)),
     (b"2024,2,29,0,0,61", Err(61)),
-];
-
-const SHAPE: [Time; 8] = [
+    // The shape is judged first.
     (b"2024,2", Err(60)),
     (b"", Err(60)),
     (b"24,2,29", Err(60)),
@@ -64,43 +55,15 @@ const SHAPE: [Time; 8] = [
     (b"0000,99,99,99,99,9x", Err(60)),
 ];
 
-/// The first row that is read otherwise.
-fn read_otherwise(rows: &[Time]) -> Option<usize> {
-    for (row, &(text, ticks)) in rows.iter().enumerate() {
-        if ticks_of(text) != ticks {
-            return Some(row);
-        }
+#[test]
+fn texts_are_times_or_none(rt: HostRuntime) {
+    for (row, &(text, ticks)) in TIMES.iter().enumerate() {
+        assert!(rt; ticks_of(text) == ticks, "in row {row}");
     }
-    None
-}
-
-#[test]
-fn the_numbers_of_a_time_give_its_ticks(rt: HostRuntime) {
-    assert_eq!(rt; read_otherwise(&NUMBERS), None);
-}
-
-#[test]
-fn the_years_are_1900_to_2100(rt: HostRuntime) {
-    assert_eq!(rt; read_otherwise(&YEARS), None);
-}
-
-#[test]
-fn the_calendar_says_which_dates_exist(rt: HostRuntime) {
-    assert_eq!(rt; read_otherwise(&CALENDAR), None);
-}
-
-#[test]
-fn a_time_of_a_day_has_a_range(rt: HostRuntime) {
-    assert_eq!(rt; read_otherwise(&DAY), None);
-}
-
-#[test]
-fn the_shape_is_judged_first(rt: HostRuntime) {
-    assert_eq!(rt; read_otherwise(&SHAPE), None);
 }
 
 /// Years, days, seconds and fractions of starts, and their ticks.
-const STARTS: [(u16, u16, u8, u16, i64); 7] = [
+static STARTS: [(u16, u16, u8, u16, i64); 7] = [
     (2024, 60, 0, 0, 17_091_648_000_000),
     (1900, 1, 0, 0, -22_089_888_000_000),
     (1900, 60, 0, 0, -22_038_912_000_000),
@@ -112,14 +75,14 @@ const STARTS: [(u16, u16, u8, u16, i64); 7] = [
 
 #[test]
 fn the_start_of_a_record_gives_its_ticks(rt: HostRuntime) {
-    for (year, day, second, fraction, ticks) in STARTS {
+    for &(year, day, second, fraction, ticks) in &STARTS {
         let given = ticks_of_start(year, day, second, fraction);
-        assert_eq!(rt; given, Some(ticks), "{year} {day}");
+        assert!(rt; given == Some(ticks), "{year} {day}");
     }
 }
 
 /// Years, days, hours, minutes, seconds and fractions that are no start.
-const NO_STARTS: [(u16, u16, u8, u8, u8, u16); 8] = [
+static NO_STARTS: [(u16, u16, u8, u8, u8, u16); 8] = [
     (1899, 365, 0, 0, 0, 0),
     (2101, 1, 0, 0, 0, 0),
     (2024, 0, 0, 0, 0, 0),
@@ -132,7 +95,7 @@ const NO_STARTS: [(u16, u16, u8, u8, u8, u16); 8] = [
 
 #[test]
 fn a_start_out_of_range_is_none(rt: HostRuntime) {
-    for (year, day, hour, minute, second, fraction) in NO_STARTS {
+    for &(year, day, hour, minute, second, fraction) in &NO_STARTS {
         let given = of_btime(year, day, hour, minute, second, fraction);
         assert!(rt; given.is_none(), "{year} {day}");
     }
@@ -140,13 +103,11 @@ fn a_start_out_of_range_is_none(rt: HostRuntime) {
 
 #[test]
 fn ticks_are_ordered_in_time(rt: HostRuntime) {
-    assert!(rt; Tick::new(-1) < Tick::new(0));
-    assert_eq!(rt; Tick::new(7), Tick::new(7));
-    assert_eq!(rt; of_btime(1970, 1, 0, 0, 0, 1), Some(Tick::new(1)));
+    assert!(rt; Tick::new(-1) < Tick::new(0) && Tick::new(7) == Tick::new(7));
+    assert!(rt; of_btime(1970, 1, 0, 0, 0, 1) == Some(Tick::new(1)));
 }
 
 #[test]
 fn the_faults_have_names(rt: HostRuntime) {
-    assert_eq!(rt; TimeFault::Shape.name(), "Shape");
-    assert_eq!(rt; TimeFault::Range.name(), "Range");
+    assert!(rt; TimeFault::Shape.name() == "Shape" && TimeFault::Range.name() == "Range");
 }

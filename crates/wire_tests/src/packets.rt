@@ -114,7 +114,7 @@ fn one_packet_is_lent_a_call(rt: HostRuntime) -> Result<(), Fail> {
 }
 
 /// Streams in three pieces, and how many ends and faults they give, and how many bytes rest.
-const SHORT: [([&[u8]; 3], (u32, u32, usize)); 9] = [
+static SHORT: [([&[u8]; 3], (u32, u32, usize)); 9] = [
     ([b"EN", b"D", b""], (1, 0, 0)),
     ([b"E", b"N", b"D"], (1, 0, 0)),
     ([b"END", b"", b""], (1, 0, 0)),
@@ -138,7 +138,7 @@ fn counts_of(alloc: Global, pieces: [&[u8]; 3]) -> Result<(u32, u32, usize), All
 
 #[test]
 fn short_streams_end_or_fail(rt: HostRuntime) -> Result<(), Fail> {
-    for (row, (pieces, counts)) in SHORT.into_iter().enumerate() {
+    for (row, &(pieces, counts)) in SHORT.iter().enumerate() {
         assert_eq!(rt; counts_of(rt.alloc(), pieces)?, counts, "at row {row}");
     }
     Ok(())

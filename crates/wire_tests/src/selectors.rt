@@ -26,54 +26,52 @@ fn passes(texts: &[&[u8]], channel: &[u8; 3], kind: Kind) -> Option<bool> {
     Some(list_of(texts)?.passes(PLACE, channel, kind))
 }
 
-/// Texts that are patterns.
-const PATTERNS: [&[u8]; 11] = [
-    b"BH?", b"!E", b"00BHZ.D", b"--LCQ", b"D", b".L", b"!.T", b"BHZ.C", b"!00bhz", b"??B?9.O",
-    b"?-???",
+/// Texts, and whether they are patterns.
+static PATTERNS: [(&[u8], bool); 33] = [
+    (b"BH?", true),
+    (b"!E", true),
+    (b"00BHZ.D", true),
+    (b"--LCQ", true),
+    (b"D", true),
+    (b".L", true),
+    (b"!.T", true),
+    (b"BHZ.C", true),
+    (b"!00bhz", true),
+    (b"??B?9.O", true),
+    (b"?-???", true),
+    (b"BH", false),
+    (b".Q", false),
+    (b"", false),
+    (b"!", false),
+    (b"Q", false),
+    (b"d", false),
+    (b"B-Z", false),
+    (b"BHZD", false),
+    (b"BHZ-D", false),
+    (b"00B.Z", false),
+    (b"00BHZD", false),
+    (b"00BHZ.Q", false),
+    (b"!!E", false),
+    (b"BHZ.?", false),
+    (b"BHZ.", false),
+    (b".", false),
+    (b"!.", false),
+    (b"BH Z", false),
+    (b"00BHZ.DD", false),
+    (b"?", false),
+    (b"??", false),
+    (b"????", false),
 ];
 
 #[test]
-fn these_texts_are_patterns(rt: HostRuntime) {
-    for text in PATTERNS {
-        assert!(rt; is_pattern(text));
-    }
-}
-
-/// Texts that are none.
-const OTHERS: [&[u8]; 22] = [
-    b"BH",
-    b".Q",
-    b"",
-    b"!",
-    b"Q",
-    b"d",
-    b"B-Z",
-    b"BHZD",
-    b"BHZ-D",
-    b"00B.Z",
-    b"00BHZD",
-    b"00BHZ.Q",
-    b"!!E",
-    b"BHZ.?",
-    b"BHZ.",
-    b".",
-    b"!.",
-    b"BH Z",
-    b"00BHZ.DD",
-    b"?",
-    b"??",
-    b"????",
-];
-
-#[test]
-fn these_texts_are_none(rt: HostRuntime) {
-    for text in OTHERS {
-        assert!(rt; !is_pattern(text));
+fn texts_are_patterns_or_none(rt: HostRuntime) {
+    for (row, &(text, is_one)) in PATTERNS.iter().enumerate() {
+        assert!(rt; is_pattern(text) == is_one, "in row {row}");
     }
 }
 
 /// Patterns, what they are held against, and whether that matches.
-const MATCHES: [(&[u8], &[u8; 2], &[u8; 3], Kind, bool); 14] = [
+static MATCHES: [(&[u8], &[u8; 2], &[u8; 3], Kind, bool); 14] = [
     // A part that is left off matches everything.
     (b"BH?", PLACE, b"BHZ", Kind::D, true),
     (b"BH?", PLACE, b"LHZ", Kind::D, false),
@@ -95,9 +93,9 @@ const MATCHES: [(&[u8], &[u8; 2], &[u8; 3], Kind, bool); 14] = [
 
 #[test]
 fn each_part_matches_or_is_left_off(rt: HostRuntime) {
-    for (row, (text, location, channel, kind, is_match)) in MATCHES.into_iter().enumerate() {
+    for (row, &(text, location, channel, kind, is_match)) in MATCHES.iter().enumerate() {
         let given = matches(text, location, channel, kind);
-        assert_eq!(rt; given, Some(is_match), "at row {row}");
+        assert!(rt; given == Some(is_match), "in row {row}");
     }
 }
 
@@ -114,7 +112,7 @@ fn a_negation_is_told(rt: HostRuntime) {
 }
 
 /// Lists, what they are held against, and whether they let it pass.
-const PASSES: [(&[&[u8]], &[u8; 3], Kind, bool); 9] = [
+static PASSES: [(&[&[u8]], &[u8; 3], Kind, bool); 9] = [
     // A negation alone lets everything else pass.
     (&[b"!E"], b"BHZ", Kind::D, true),
     (&[b"!E"], b"LOG", Kind::L, true),
@@ -130,11 +128,10 @@ const PASSES: [(&[&[u8]], &[u8; 3], Kind, bool); 9] = [
 
 #[test]
 fn lists_let_pass_what_they_choose_and_do_not_negate(rt: HostRuntime) {
-    for (row, (texts, channel, kind, is_passed)) in PASSES.into_iter().enumerate() {
-        assert_eq!(rt;
-            passes(texts, channel, kind),
-            Some(is_passed),
-            "at row {row}"
+    for (row, &(texts, channel, kind, is_passed)) in PASSES.iter().enumerate() {
+        assert!(rt;
+            passes(texts, channel, kind) == Some(is_passed),
+            "in row {row}"
         );
     }
 }

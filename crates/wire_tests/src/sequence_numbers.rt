@@ -10,7 +10,7 @@ fn digits_of(value: u32) -> Option<[u8; 6]> {
 }
 
 /// Texts, and the numbers of which they are the digits.
-const TEXTS: [(&[u8], Option<u32>); 11] = [
+static TEXTS: [(&[u8], Option<u32>); 11] = [
     (b"0", Some(0)),
     (b"A3", Some(0xA3)),
     (b"0000a3", Some(0xA3)),
@@ -26,13 +26,13 @@ const TEXTS: [(&[u8], Option<u32>); 11] = [
 
 #[test]
 fn one_to_six_digits_of_either_case_are_read(rt: HostRuntime) {
-    for (row, (text, number)) in TEXTS.into_iter().enumerate() {
-        assert_eq!(rt; value_of(text), number, "at row {row}");
+    for (row, &(text, number)) in TEXTS.iter().enumerate() {
+        assert!(rt; value_of(text) == number, "in row {row}");
     }
 }
 
 /// Numbers and their digits.
-const DIGITS: [(u32, &[u8; 6]); 4] = [
+static DIGITS: [(u32, &[u8; 6]); 4] = [
     (0, b"000000"),
     (0xA3, b"0000A3"),
     (0xfedcba, b"FEDCBA"),
@@ -41,7 +41,7 @@ const DIGITS: [(u32, &[u8; 6]); 4] = [
 
 #[test]
 fn digits_are_six_in_upper_case(rt: HostRuntime) {
-    for (number, digits) in DIGITS {
+    for &(number, digits) in &DIGITS {
         assert!(rt; digits_of(number) == Some(*digits), "{number}");
     }
 }
@@ -49,14 +49,18 @@ fn digits_are_six_in_upper_case(rt: HostRuntime) {
 #[test]
 fn the_number_after_the_last_is_0(rt: HostRuntime) {
     let last = Seq::of(0xFFFFFF);
-    assert_eq!(rt; last.map(|number| number.next().digits()), Some(*b"000000"));
-    assert_eq!(rt; Seq::of(0xFFFFFE).map(|number| number.next()), last);
+    assert!(rt; last.map(|number| number.next().digits()) == Some(*b"000000"));
+    assert!(rt; Seq::of(0xFFFFFE).map(|number| number.next()) == last);
 }
 
 #[test]
 fn numbers_are_below_two_to_the_24(rt: HostRuntime) {
-    assert!(rt; Seq::of(0x1000000).is_none());
-    assert!(rt; Seq::of(u32::MAX).is_none());
-    assert!(rt; Seq::of(0xFFFFFF).is_some());
-    assert!(rt; Seq::of(1) != Seq::of(2));
+    for (number, is_one) in [
+        (0, true),
+        (0xFFFFFF, true),
+        (0x1000000, false),
+        (u32::MAX, false),
+    ] {
+        assert!(rt; Seq::of(number).is_some() == is_one, "{number}");
+    }
 }

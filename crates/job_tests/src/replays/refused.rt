@@ -21,51 +21,56 @@ fn fault(alloc: Global, script: &[u8]) -> Result<Option<ReplayFault>, Fail> {
     }
 }
 
+/// Lines that are no event.
+static LINES: [&str; 32] = [
+    "bytes 0 484",
+    "bytes 0 4g",
+    "bytes 0 48 45",
+    "bytes 0 ",
+    "bytes 0",
+    "bytes",
+    "line 0",
+    "line HELLO",
+    "take 00000000000 1",
+    "take 0 00000000001",
+    "take 0 1000001",
+    "take 0 ",
+    "take 0",
+    "take -1 1",
+    "take 0 1 ",
+    "take 0  1",
+    "take  0 1",
+    " take 0 1",
+    "take 0 1\r",
+    "take 0\t1",
+    "TAKE 0 1",
+    "close",
+    "close ",
+    "close 0 ",
+    "open",
+    "open ",
+    "open  10.0.0.7",
+    "open 10.0.0.7 ",
+    "open 10.0.0.256",
+    "fetch 0 1",
+    "arrive GE APE -- BHZ 2024,60,0,0,0,0",
+    "arrive-hex 00",
+];
+
+/// Why a script is refused of which that line is the second.
+fn fault_of(alloc: Global, line: &str, behind: &str) -> Result<Option<ReplayFault>, Fail> {
+    let script = format!(in alloc; "take 0 1\n{line}{behind}")?;
+    fault(alloc, script.as_bytes())
+}
+
 // A good take stands before each, of which nothing is told.
 #[test]
 fn a_line_that_is_no_event(rt: HostRuntime) -> Result<(), Fail> {
-    let lines: [&str; 32] = [
-        "bytes 0 484",
-        "bytes 0 4g",
-        "bytes 0 48 45",
-        "bytes 0 ",
-        "bytes 0",
-        "bytes",
-        "line 0",
-        "line HELLO",
-        "take 00000000000 1",
-        "take 0 00000000001",
-        "take 0 1000001",
-        "take 0 ",
-        "take 0",
-        "take -1 1",
-        "take 0 1 ",
-        "take 0  1",
-        "take  0 1",
-        " take 0 1",
-        "take 0 1\r",
-        "take 0\t1",
-        "TAKE 0 1",
-        "close",
-        "close ",
-        "close 0 ",
-        "open",
-        "open ",
-        "open  10.0.0.7",
-        "open 10.0.0.7 ",
-        "open 10.0.0.256",
-        "fetch 0 1",
-        "arrive GE APE -- BHZ 2024,60,0,0,0,0",
-        "arrive-hex 00",
-    ];
-    for line in lines {
-        let mut script = String::from_str(rt.alloc(), "take 0 1\n")?;
-        script.push_str(line)?;
-        let at_the_end = fault(rt.alloc(), script.as_bytes())?;
-        assert!(rt; at_the_end == Some(ReplayFault::Script), "at {line}");
-        script.push_str("\ntake 0 1\n")?;
-        let within = fault(rt.alloc(), script.as_bytes())?;
-        assert!(rt; within == Some(ReplayFault::Script), "at {line}");
+    for &line in &LINES {
+        for behind in ["", "\ntake 0 1\n"] {
+            let fault = fault_of(rt.alloc(), line, behind)?;
+            assert!(rt; fault == Some(ReplayFault::Script), "at {line}");
+        }
     }
     Ok(())
 }

@@ -1,84 +1,89 @@
 //! Keys that are missing, and keys with values of another kind.
-use super::{judged, read};
+use super::{Judged, judged_otherwise, read};
 use catalog::ConfigFault;
 
-#[test]
-fn keys_that_have_to_be_there(rt: HostRuntime) {
-    for key in ["title", "network", "code", "description", "capacity"] {
-        assert_eq!(rt;
-            judged(rt.alloc(), key, ""),
-            Err(ConfigFault::Missing),
-            "{key}"
-        );
-    }
-    assert_eq!(rt;
-        read(rt.alloc(), b"title = \"Test Centre\"\n"),
-        Err(ConfigFault::Missing)
-    );
-}
+/// Keys, lines in place of theirs, and what is said of these.
+static KINDS: [Judged; 24] = [
+    // Keys that have to be there, and others.
+    ("title", "", Err(ConfigFault::Missing)),
+    ("network", "", Err(ConfigFault::Missing)),
+    ("code", "", Err(ConfigFault::Missing)),
+    ("description", "", Err(ConfigFault::Missing)),
+    ("capacity", "", Err(ConfigFault::Missing)),
+    ("access", "", Ok(())),
+    ("max_connections", "", Ok(())),
+    ("first", "", Ok(())),
+    ("own access", "", Ok(())),
+    // Texts and numbers of another kind.
+    ("title", "title = 1", Err(ConfigFault::Missing)),
+    (
+        "title",
+        "title = [\"Test Centre\"]",
+        Err(ConfigFault::Missing),
+    ),
+    ("access", "access = true", Err(ConfigFault::Missing)),
+    (
+        "access",
+        "access = [\"10.0.0.0/8\"]",
+        Err(ConfigFault::Missing),
+    ),
+    ("network", "network = 6", Err(ConfigFault::Missing)),
+    ("code", "code = 1.5", Err(ConfigFault::Missing)),
+    (
+        "description",
+        "description = 2024-02-29",
+        Err(ConfigFault::Missing),
+    ),
+    ("first", "first = 0", Err(ConfigFault::Missing)),
+    ("own access", "access = 10", Err(ConfigFault::Missing)),
+    (
+        "own access",
+        "access = { address = \"10.0.0.0\" }",
+        Err(ConfigFault::Missing),
+    ),
+    (
+        "max_connections",
+        "max_connections = \"8\"",
+        Err(ConfigFault::Missing),
+    ),
+    (
+        "max_connections",
+        "max_connections = 8.0",
+        Err(ConfigFault::Missing),
+    ),
+    ("capacity", "capacity = \"4\"", Err(ConfigFault::Missing)),
+    ("capacity", "capacity = 4.0", Err(ConfigFault::Missing)),
+    ("capacity", "capacity = true", Err(ConfigFault::Missing)),
+];
 
 #[test]
-fn keys_that_may_be_missing(rt: HostRuntime) {
-    for key in ["access", "max_connections", "first", "own access"] {
-        assert_eq!(rt; judged(rt.alloc(), key, ""), Ok(()), "{key}");
-    }
+fn values_have_their_kinds(rt: HostRuntime) {
+    assert!(rt; judged_otherwise(rt.alloc(), &KINDS).is_none());
 }
 
-#[test]
-fn texts_of_another_kind(rt: HostRuntime) {
-    for (key, line) in [
-        ("title", "title = 1"),
-        ("title", "title = [\"Test Centre\"]"),
-        ("access", "access = true"),
-        ("access", "access = [\"10.0.0.0/8\"]"),
-        ("network", "network = 6"),
-        ("code", "code = 1.5"),
-        ("description", "description = 2024-02-29"),
-        ("first", "first = 0"),
-        ("own access", "access = 10"),
-        ("own access", "access = { address = \"10.0.0.0\" }"),
-    ] {
-        assert_eq!(rt;
-            judged(rt.alloc(), key, line),
-            Err(ConfigFault::Missing),
-            "{line}"
-        );
-    }
-}
-
-#[test]
-fn numbers_of_another_kind(rt: HostRuntime) {
-    for (key, line) in [
-        ("max_connections", "max_connections = \"8\""),
-        ("max_connections", "max_connections = 8.0"),
-        ("capacity", "capacity = \"4\""),
-        ("capacity", "capacity = 4.0"),
-        ("capacity", "capacity = true"),
-    ] {
-        assert_eq!(rt;
-            judged(rt.alloc(), key, line),
-            Err(ConfigFault::Missing),
-            "{line}"
-        );
-    }
-}
-
-#[test]
-fn stations_of_another_kind(rt: HostRuntime) {
-    for text in [
-        b"title = \"t\"\nstation = \"GE\"\n".as_slice(),
-        b"title = \"t\"\nstation = [1]\n",
+/// Texts, and why they are no configuration.
+static STATIONS: [(&[u8], ConfigFault); 6] = [
+    (b"title = \"Test Centre\"\n", ConfigFault::Missing),
+    (b"title = \"t\"\nstation = \"GE\"\n", ConfigFault::Missing),
+    (b"title = \"t\"\nstation = [1]\n", ConfigFault::Missing),
+    (
         b"title = \"t\"\n[station]\nnetwork = \"GE\"\n",
-        b"title = \"t\"\nstation = [{ network = \"\" }, 1]\n",
-    ] {
-        assert_eq!(rt; read(rt.alloc(), text), Err(ConfigFault::Missing));
-    }
+        ConfigFault::Missing,
+    ),
     // An element that is no table is told before what another element has.
-    assert_eq!(rt;
-        read(
-            rt.alloc(),
-            b"title = \"t\"\nstation = [{ network = \"\" }]\n"
-        ),
-        Err(ConfigFault::Limit)
-    );
+    (
+        b"title = \"t\"\nstation = [{ network = \"\" }, 1]\n",
+        ConfigFault::Missing,
+    ),
+    (
+        b"title = \"t\"\nstation = [{ network = \"\" }]\n",
+        ConfigFault::Limit,
+    ),
+];
+
+#[test]
+fn stations_are_tables(rt: HostRuntime) {
+    for (row, &(text, fault)) in STATIONS.iter().enumerate() {
+        assert!(rt; read(rt.alloc(), text) == Err(fault), "in row {row}");
+    }
 }

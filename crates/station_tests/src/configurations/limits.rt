@@ -1,5 +1,5 @@
 //! The limits of a configuration, at each of them and on both sides.
-use super::{config_with, judged, line_of, read};
+use super::{Judged, config_with, judged, judged_otherwise, line_of, read};
 use catalog::ConfigFault;
 use std::alloc::{AllocError, Global};
 use std::test::Fail;
@@ -43,161 +43,140 @@ fn first_of(alloc: Global, line: &str) -> Result<Option<u32>, ConfigFault> {
     )
 }
 
+/// Keys, how many letters their texts have, and whether that is within their limits.
+static LENGTHS: [(&str, usize, bool); 15] = [
+    ("title", 1, true),
+    ("title", 100, true),
+    ("network", 1, true),
+    ("network", 2, true),
+    ("code", 1, true),
+    ("code", 5, true),
+    ("description", 0, true),
+    ("description", 60, true),
+    ("title", 0, false),
+    ("title", 101, false),
+    ("network", 0, false),
+    ("network", 3, false),
+    ("code", 0, false),
+    ("code", 6, false),
+    ("description", 61, false),
+];
+
 #[test]
 fn texts_have_so_many_bytes(rt: HostRuntime) {
-    for (key, count) in [
-        ("title", 1),
-        ("title", 100),
-        ("network", 1),
-        ("network", 2),
-        ("code", 1),
-        ("code", 5),
-        ("description", 0),
-        ("description", 60),
-    ] {
-        assert_eq!(rt;
-            judged_letters(rt.alloc(), key, count),
-            Ok(()),
-            "{key} {count}"
-        );
+    for &(key, count, is_within) in &LENGTHS {
+        let judged = judged_letters(rt.alloc(), key, count);
+        let wanted = if is_within {
+            Ok(())
+        } else {
+            Err(ConfigFault::Limit)
+        };
+        assert!(rt; judged == wanted, "{key} {count}");
     }
 }
 
+/// Keys, lines that give them texts and numbers, and what is said of these.
+static VALUES: [Judged; 27] = [
+    // The bytes of texts.
+    ("title", "title = \" ~\"", Ok(())),
+    ("description", "description = \" ~\"", Ok(())),
+    ("network", "network = \"A0\"", Ok(())),
+    ("network", "network = \"Z9\"", Ok(())),
+    ("code", "code = \"AZ09\"", Ok(())),
+    ("title", "title = \"a\\u001fb\"", Err(ConfigFault::Limit)),
+    ("title", "title = \"a\\u007fb\"", Err(ConfigFault::Limit)),
+    ("title", "title = \"Zürich\"", Err(ConfigFault::Limit)),
+    (
+        "description",
+        "description = \"\\t\"",
+        Err(ConfigFault::Limit),
+    ),
+    (
+        "description",
+        "description = \"\\u007f\"",
+        Err(ConfigFault::Limit),
+    ),
+    ("network", "network = \"ge\"", Err(ConfigFault::Limit)),
+    ("network", "network = \"G \"", Err(ConfigFault::Limit)),
+    ("code", "code = \"@\"", Err(ConfigFault::Limit)),
+    ("code", "code = \"[\"", Err(ConfigFault::Limit)),
+    ("code", "code = \"/\"", Err(ConfigFault::Limit)),
+    ("code", "code = \":\"", Err(ConfigFault::Limit)),
+    // Numbers at their limits, and beyond.
+    ("max_connections", "max_connections = 1", Ok(())),
+    ("max_connections", "max_connections = 10000", Ok(())),
+    ("capacity", "capacity = 1", Ok(())),
+    ("capacity", "capacity = 65536", Ok(())),
+    (
+        "max_connections",
+        "max_connections = -1",
+        Err(ConfigFault::Limit),
+    ),
+    (
+        "max_connections",
+        "max_connections = 0",
+        Err(ConfigFault::Limit),
+    ),
+    (
+        "max_connections",
+        "max_connections = 10001",
+        Err(ConfigFault::Limit),
+    ),
+    ("capacity", "capacity = -1", Err(ConfigFault::Limit)),
+    ("capacity", "capacity = 0", Err(ConfigFault::Limit)),
+    ("capacity", "capacity = 65537", Err(ConfigFault::Limit)),
+    (
+        "capacity",
+        "capacity = 9223372036854775807",
+        Err(ConfigFault::Limit),
+    ),
+];
+
 #[test]
-fn texts_are_not_shorter_and_not_longer(rt: HostRuntime) {
-    for (key, count) in [
-        ("title", 0),
-        ("title", 101),
-        ("network", 0),
-        ("network", 3),
-        ("code", 0),
-        ("code", 6),
-        ("description", 61),
-    ] {
-        assert_eq!(rt;
-            judged_letters(rt.alloc(), key, count),
-            Err(ConfigFault::Limit),
-            "{key} {count}"
-        );
-    }
+fn values_have_limits(rt: HostRuntime) {
+    assert!(rt; judged_otherwise(rt.alloc(), &VALUES).is_none());
 }
 
 #[test]
-fn texts_have_certain_bytes(rt: HostRuntime) {
-    for (key, line) in [
-        ("title", "title = \" ~\""),
-        ("description", "description = \" ~\""),
-        ("network", "network = \"A0\""),
-        ("network", "network = \"Z9\""),
-        ("code", "code = \"AZ09\""),
-    ] {
-        assert_eq!(rt; judged(rt.alloc(), key, line), Ok(()), "{line}");
-    }
-}
-
-#[test]
-fn texts_have_no_other_bytes(rt: HostRuntime) {
-    for (key, line) in [
-        ("title", "title = \"a\\u001fb\""),
-        ("title", "title = \"a\\u007fb\""),
-        ("title", "title = \"Zürich\""),
-        ("description", "description = \"\\t\""),
-        ("description", "description = \"\\u007f\""),
-        ("network", "network = \"ge\""),
-        ("network", "network = \"G \""),
-        ("code", "code = \"@\""),
-        ("code", "code = \"[\""),
-        ("code", "code = \"/\""),
-        ("code", "code = \":\""),
-    ] {
-        assert_eq!(rt;
-            judged(rt.alloc(), key, line),
-            Err(ConfigFault::Limit),
-            "{line}"
-        );
-    }
-}
-
-#[test]
-fn numbers_have_limits(rt: HostRuntime) {
-    for (key, line) in [
-        ("max_connections", "max_connections = 1"),
-        ("max_connections", "max_connections = 10000"),
-        ("capacity", "capacity = 1"),
-        ("capacity", "capacity = 65536"),
-    ] {
-        assert_eq!(rt; judged(rt.alloc(), key, line), Ok(()), "{line}");
-    }
-}
-
-#[test]
-fn numbers_are_not_beyond_their_limits(rt: HostRuntime) {
-    for (key, line) in [
-        ("max_connections", "max_connections = -1"),
-        ("max_connections", "max_connections = 0"),
-        ("max_connections", "max_connections = 10001"),
-        ("capacity", "capacity = -1"),
-        ("capacity", "capacity = 0"),
-        ("capacity", "capacity = 65537"),
-        ("capacity", "capacity = 9223372036854775807"),
-    ] {
-        assert_eq!(rt;
-            judged(rt.alloc(), key, line),
-            Err(ConfigFault::Limit),
-            "{line}"
-        );
-    }
-}
-
-#[test]
-fn numbers_are_kept(rt: HostRuntime) -> Result<(), Fail> {
+fn the_number_of_connections_is_kept(rt: HostRuntime) -> Result<(), Fail> {
     let config = config_with(rt.alloc(), "max_connections", "max_connections = 10000")?;
-    assert_eq!(rt; config.max_connections(), 10_000);
-    let config = config_with(rt.alloc(), "capacity", "capacity = 65536")?;
-    assert_eq!(rt;
-        config.stations().first().map(|station| station.capacity()),
-        Some(65_536)
-    );
+    assert!(rt; config.max_connections() == 10_000);
     Ok(())
 }
 
 #[test]
-fn the_first_number_has_1_to_6_digits_of_either_case(rt: HostRuntime) {
-    for (line, number) in [
-        ("first = \"0\"", 0),
-        ("first = \"a\"", 10),
-        ("first = \"A\"", 10),
-        ("first = \"FfFfFe\"", 0xFF_FFFE),
-    ] {
-        assert_eq!(rt; first_of(rt.alloc(), line), Ok(Some(number)), "{line}");
-    }
+fn a_capacity_is_kept(rt: HostRuntime) -> Result<(), Fail> {
+    let config = config_with(rt.alloc(), "capacity", "capacity = 65536")?;
+    let station = config.stations().first();
+    assert!(rt; station.is_some_and(|station| station.capacity() == 65_536));
+    Ok(())
 }
 
+/// Lines, and the numbers of the first record that they spell, in 1 to 6 digits of either case.
+static FIRST: [(&str, Result<Option<u32>, ConfigFault>); 9] = [
+    ("first = \"0\"", Ok(Some(0))),
+    ("first = \"a\"", Ok(Some(10))),
+    ("first = \"A\"", Ok(Some(10))),
+    ("first = \"FfFfFe\"", Ok(Some(0xFF_FFFE))),
+    ("first = \"\"", Err(ConfigFault::Limit)),
+    ("first = \"0000000\"", Err(ConfigFault::Limit)),
+    ("first = \"00000G\"", Err(ConfigFault::Limit)),
+    ("first = \"0x1\"", Err(ConfigFault::Limit)),
+    ("first = \" 1\"", Err(ConfigFault::Limit)),
+];
+
 #[test]
-fn the_first_number_has_no_other_form(rt: HostRuntime) {
-    for line in [
-        "first = \"\"",
-        "first = \"0000000\"",
-        "first = \"00000G\"",
-        "first = \"0x1\"",
-        "first = \" 1\"",
-    ] {
-        assert_eq!(rt;
-            first_of(rt.alloc(), line),
-            Err(ConfigFault::Limit),
-            "{line}"
-        );
+fn the_first_number_has_1_to_6_digits_of_either_case(rt: HostRuntime) {
+    for &(line, number) in &FIRST {
+        assert!(rt; first_of(rt.alloc(), line) == number, "{line}");
     }
 }
 
 #[test]
 fn there_are_1_to_1024_stations(rt: HostRuntime) {
-    let alloc = rt.alloc();
-    assert_eq!(rt;
-        read(alloc, b"title = \"None\"\nstation = []\n"),
-        Err(ConfigFault::Limit)
-    );
-    assert_eq!(rt; judged_stations(alloc, 1), Ok(()));
-    assert_eq!(rt; judged_stations(alloc, 1024), Ok(()));
-    assert_eq!(rt; judged_stations(alloc, 1025), Err(ConfigFault::Limit));
+    let none = read(rt.alloc(), b"title = \"None\"\nstation = []\n");
+    assert!(rt; none == Err(ConfigFault::Limit));
+    for (count, wanted) in [(1, Ok(())), (1024, Ok(())), (1025, Err(ConfigFault::Limit))] {
+        assert!(rt; judged_stations(rt.alloc(), count) == wanted, "{count}");
+    }
 }

@@ -89,9 +89,8 @@ fn a_station_is_found_among_all_to_an_address_inside(rt: HostRuntime) -> Result<
         ("AP", None, None),
         ("WLF", Some("XX"), None),
     ] {
-        assert_eq!(rt;
-            found(rt.alloc(), inside(), code, network)?,
-            place,
+        assert!(rt;
+            found(rt.alloc(), inside(), code, network)? == place,
             "{code}"
         );
     }
@@ -106,9 +105,8 @@ fn a_station_is_found_among_the_visible_ones(rt: HostRuntime) -> Result<(), Fail
         ("WLF", None, Some(1)),
         ("NONE", Some("GE"), None),
     ] {
-        assert_eq!(rt;
-            found(rt.alloc(), outside(), code, network)?,
-            place,
+        assert!(rt;
+            found(rt.alloc(), outside(), code, network)? == place,
             "{code}"
         );
     }
@@ -128,9 +126,8 @@ fn codes_have_a_place(rt: HostRuntime) -> Result<(), Fail> {
         ("ge", "APE", None),
         ("", "APE", None),
     ] {
-        assert_eq!(rt;
-            config.place_of(network.as_bytes(), code.as_bytes()),
-            place,
+        assert!(rt;
+            config.place_of(network.as_bytes(), code.as_bytes()) == place,
             "{network} {code}"
         );
     }

@@ -56,65 +56,65 @@ fn is_at(alloc: Global, place: usize, wanted: Wanted) -> Result<bool, ConfigFaul
 #[test]
 fn the_server_is_read(rt: HostRuntime) -> Result<(), Fail> {
     let config = Config::read(rt.alloc(), CENTRE.as_bytes())?;
-    assert_eq!(rt; config.title(), b"Test Centre".as_slice());
-    assert_eq!(rt; config.max_connections(), 8);
-    assert_eq!(rt; config.stations().len(), 3);
+    assert!(rt; config.title() == b"Test Centre".as_slice());
+    assert!(rt; config.max_connections() == 8 && config.stations().len() == 3);
     Ok(())
 }
 
+static THREE: [Wanted; 3] = [
+    Wanted {
+        network: b"GE",
+        code: b"APE",
+        description: b"Island",
+        capacity: 4,
+        first: 0,
+    },
+    Wanted {
+        network: b"GE",
+        code: b"WLF",
+        description: b"Forest",
+        capacity: 2,
+        first: 0xFF_FFFE,
+    },
+    Wanted {
+        network: b"XX",
+        code: b"APE",
+        description: b"Vault",
+        capacity: 1,
+        first: 0,
+    },
+];
+
 #[test]
 fn three_stations_are_read(rt: HostRuntime) {
-    for (place, wanted) in [
-        Wanted {
-            network: b"GE",
-            code: b"APE",
-            description: b"Island",
-            capacity: 4,
-            first: 0,
-        },
-        Wanted {
-            network: b"GE",
-            code: b"WLF",
-            description: b"Forest",
-            capacity: 2,
-            first: 0xFF_FFFE,
-        },
-        Wanted {
-            network: b"XX",
-            code: b"APE",
-            description: b"Vault",
-            capacity: 1,
-            first: 0,
-        },
-    ]
-    .into_iter()
-    .enumerate()
-    {
-        assert_eq!(rt; is_at(rt.alloc(), place, wanted), Ok(true), "{place}");
+    for (place, &wanted) in THREE.iter().enumerate() {
+        assert!(rt; is_at(rt.alloc(), place, wanted) == Ok(true), "{place}");
     }
 }
 
+/// Parts of that text, others in their places, and the number of the refusal.
+static NUMBERS: [(&str, &str, u8); 5] = [
+    ("title = \"Test Centre\"\n", "", 21),
+    ("title = \"Test Centre\"\n", "title =\n", 20),
+    ("capacity = 4", "capacity = 0", 22),
+    (
+        "network = \"XX\"\ncode = \"APE\"",
+        "network = \"GE\"\ncode = \"WLF\"",
+        23,
+    ),
+    ("10.0.0.0/8", "10.0.0/8", 24),
+];
+
 #[test]
 fn each_refusal_has_its_number(rt: HostRuntime) {
-    for (old, new, number) in [
-        ("title = \"Test Centre\"\n", "", 21),
-        ("title = \"Test Centre\"\n", "title =\n", 20),
-        ("capacity = 4", "capacity = 0", 22),
-        (
-            "network = \"XX\"\ncode = \"APE\"",
-            "network = \"GE\"\ncode = \"WLF\"",
-            23,
-        ),
-        ("10.0.0.0/8", "10.0.0/8", 24),
-    ] {
+    for &(old, new, number) in &NUMBERS {
         let judged = judged_with(rt.alloc(), old, new);
-        assert_eq!(rt;
-            judged.map_err(|fault| fault.number()),
-            Err(number),
+        assert!(rt;
+            judged.map_err(|fault| fault.number()) == Err(number),
             "{number}"
         );
     }
-    assert_eq!(rt; ConfigFault::OutOfMemory.number(), 25);
+    assert!(rt; ConfigFault::OutOfMemory.number() == 25);
 }
 
 #[test]
@@ -129,53 +129,50 @@ fn a_refusal_by_addresses_has_a_cause(rt: HostRuntime) {
     assert_eq!(rt; empty.map_err(|fault| fault.cause()), Err(None));
 }
 
-#[test]
-fn what_is_no_toml_is_refused(rt: HostRuntime) {
-    for text in [
-        b"title =".as_slice(),
-        b"title = \"\xff\"\n",
-        b"title \"Test Centre\"\n",
-        b"title = \"t\"\ntitle = \"t\"\n",
-        b"title = \"t\"\n[[station]\n",
-    ] {
-        assert_eq!(rt; read(rt.alloc(), text), Err(ConfigFault::Toml));
-    }
-    assert_eq!(rt; read(rt.alloc(), b""), Err(ConfigFault::Missing));
-}
+/// Texts, and why they are no configuration.
+static REFUSED: [(&[u8], ConfigFault); 13] = [
+    // No TOML.
+    (b"title =", ConfigFault::Toml),
+    (b"title = \"\xff\"\n", ConfigFault::Toml),
+    (b"title \"Test Centre\"\n", ConfigFault::Toml),
+    (b"title = \"t\"\ntitle = \"t\"\n", ConfigFault::Toml),
+    (b"title = \"t\"\n[[station]\n", ConfigFault::Toml),
+    (b"", ConfigFault::Missing),
+    // The first fault is told.
+    (
+        b"access = \"x\"\nmax_connections = 0\n",
+        ConfigFault::Missing,
+    ),
+    (
+        b"title = \"t\"\naccess = \"x\"\nmax_connections = 0\n",
+        ConfigFault::Access(AccessFault::Address),
+    ),
+    (
+        b"title = \"t\"\naccess = \"1.2.3.4/x\"\nmax_connections = 0\n",
+        ConfigFault::Access(AccessFault::Mask),
+    ),
+    (
+        b"title = \"t\"\nmax_connections = 0\nstation = 1\n",
+        ConfigFault::Limit,
+    ),
+    (
+        b"title = \"t\"\n[[station]]\nnetwork = 6\ncode = \"\"\n",
+        ConfigFault::Missing,
+    ),
+    (
+        b"title = \"t\"\n[[station]]\nnetwork = \"GE\"\ncode = \"\"\n",
+        ConfigFault::Limit,
+    ),
+    (
+        b"title = \"t\"\n[[station]]\nnetwork = \"ge\"\n[[station]]\n",
+        ConfigFault::Limit,
+    ),
+];
 
 #[test]
 fn the_first_fault_is_told(rt: HostRuntime) {
-    for (text, fault) in [
-        (
-            b"access = \"x\"\nmax_connections = 0\n".as_slice(),
-            ConfigFault::Missing,
-        ),
-        (
-            b"title = \"t\"\naccess = \"x\"\nmax_connections = 0\n",
-            ConfigFault::Access(AccessFault::Address),
-        ),
-        (
-            b"title = \"t\"\naccess = \"1.2.3.4/x\"\nmax_connections = 0\n",
-            ConfigFault::Access(AccessFault::Mask),
-        ),
-        (
-            b"title = \"t\"\nmax_connections = 0\nstation = 1\n",
-            ConfigFault::Limit,
-        ),
-        (
-            b"title = \"t\"\n[[station]]\nnetwork = 6\ncode = \"\"\n",
-            ConfigFault::Missing,
-        ),
-        (
-            b"title = \"t\"\n[[station]]\nnetwork = \"GE\"\ncode = \"\"\n",
-            ConfigFault::Limit,
-        ),
-        (
-            b"title = \"t\"\n[[station]]\nnetwork = \"ge\"\n[[station]]\n",
-            ConfigFault::Limit,
-        ),
-    ] {
-        assert_eq!(rt; read(rt.alloc(), text), Err(fault));
+    for (row, &(text, fault)) in REFUSED.iter().enumerate() {
+        assert!(rt; read(rt.alloc(), text) == Err(fault), "in row {row}");
     }
 }
 
