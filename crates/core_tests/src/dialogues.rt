@@ -1,6 +1,6 @@
 //! Dialogues with a server that has three stations.
 use catalog::Config;
-use server_core::{Client, Event, Handed, Offer, Refusal, Server, run};
+use server_core::{Event, Handed, Offer, Refusal, Server, run};
 use std::alloc::Global;
 use std::net::Ipv4Addr;
 use std::test::Fail;
@@ -113,37 +113,30 @@ fn ends(alloc: Global, address: Ipv4Addr, text: &[u8]) -> Result<bool, Fail> {
 
 #[test]
 fn hello_is_greeted(rt: HostRuntime) -> Result<(), Fail> {
-    let alloc = rt.alloc();
-    assert_eq!(rt; GREETING.len(), 45);
-    assert_eq!(rt; bytes(alloc, &[b"HELLO\r"], 2)?.as_slice(), GREETING);
-    assert_eq!(rt;
-        bytes(alloc, &[b"HEL", b"LO\r", b"\n", b"\r\r"], 2)?.as_slice(),
-        GREETING
-    );
-    assert!(rt; !ends(alloc, inside(), b"HELLO\r")?);
+    assert!(rt; GREETING.len() == 45);
+    let pieces: [&[&[u8]]; 2] = [&[b"HELLO\r"], &[b"HEL", b"LO\r", b"\n", b"\r\r"]];
+    for pieces in pieces {
+        let given = bytes(rt.alloc(), pieces, 2)?;
+        assert!(rt; given.as_slice() == GREETING);
+    }
+    assert!(rt; !ends(rt.alloc(), inside(), b"HELLO\r")?);
     Ok(())
 }
 
 #[test]
 fn bye_ends_the_connection(rt: HostRuntime) -> Result<(), Fail> {
-    let alloc = rt.alloc();
-    assert!(rt; ends(alloc, inside(), b"BYE\r\nHELLO\r\n")?);
-    assert_eq!(rt; bytes(alloc, &[b"BYE\r\nHELLO\r\n"], 2)?.len(), 0);
+    assert!(rt; ends(rt.alloc(), inside(), b"BYE\r\nHELLO\r\n")?);
+    assert!(rt; bytes(rt.alloc(), &[b"BYE\r\nHELLO\r\n"], 2)?.is_empty());
     Ok(())
 }
 
 #[test]
 fn lines_have_at_most_256_bytes(rt: HostRuntime) -> Result<(), Fail> {
-    let alloc = rt.alloc();
     let spaces = [b' '; 252];
-    assert_eq!(rt;
-        bytes(alloc, &[b"HELLO", &spaces[..251], b"\r"], 2)?.as_slice(),
-        GREETING
-    );
-    assert_eq!(rt;
-        bytes(alloc, &[b"HELLO", &spaces, b"\r"], 2)?.as_slice(),
-        b"ERROR\r\n".as_slice()
-    );
+    let most = bytes(rt.alloc(), &[b"HELLO", &spaces[..251], b"\r"], 2)?;
+    assert!(rt; most.as_slice() == GREETING);
+    let too_many = bytes(rt.alloc(), &[b"HELLO", &spaces, b"\r"], 2)?;
+    assert!(rt; too_many.as_slice() == b"ERROR\r\n".as_slice());
     Ok(())
 }
 
@@ -158,88 +151,61 @@ fn each_split_of_a_dialogue_is_answered_alike(rt: HostRuntime) -> Result<(), Fai
     Ok(())
 }
 
-/// Why the last of some pieces is refused, where it is.
-fn refusal(server: &mut Server, client: Client, pieces: &[&[u8]]) -> Option<Refusal> {
-    let mut refusal = None;
-    for piece in pieces {
-        refusal = server.receive(client, piece).err();
-    }
-    refusal
-}
-
-/// Why the last of some pieces is refused, where it is, and how much room there is behind it.
-fn received(alloc: Global, pieces: &[&[u8]]) -> Result<(Option<Refusal>, usize), Fail> {
-    let mut server = server(alloc)?;
-    let client = server.open(alloc, inside())?;
-    let refusal = refusal(&mut server, client, pieces);
-    Ok((refusal, server.room(client)?))
-}
-
-#[test]
-fn a_piece_that_has_no_room_is_refused_whole(rt: HostRuntime) -> Result<(), Fail> {
-    let many = [b'A'; 1025];
-    let most = &many[1..];
-    let no_room = Some(Refusal::NoRoom);
-    assert_eq!(rt;
-        received(rt.alloc(), &[b"HELLO\r", &many])?,
-        (no_room, 1024)
-    );
-    assert_eq!(rt; received(rt.alloc(), &[b"HELLO\r", most])?, (None, 0));
-    assert_eq!(rt;
-        received(rt.alloc(), &[b"HELLO\r", most, b"A"])?,
-        (no_room, 0)
-    );
-    Ok(())
-}
-
 /// A server of the three stations.
 fn server(alloc: Global) -> Result<Server, Fail> {
     Ok(Server::new(alloc, config(alloc)?)?)
 }
 
-/// A client that came and closed.
-fn gone_client(server: &mut Server, alloc: Global) -> Result<Client, Fail> {
+/// Why the last of some pieces of a new client is refused, where it is, and how much room there is behind it.
+fn received(
+    server: &mut Server,
+    alloc: Global,
+    pieces: &[&[u8]],
+) -> Result<(Option<Refusal>, usize), Fail> {
+    let client = server.open(alloc, inside())?;
+    let mut refusal = None;
+    for piece in pieces {
+        refusal = server.receive(client, piece).err();
+    }
+    Ok((refusal, server.room(client)?))
+}
+
+/// Whether a piece that has no room is refused as a whole.
+fn are_refused_whole(server: &mut Server, alloc: Global) -> Result<bool, Fail> {
+    let many = [b'A'; 1025];
+    let most = &many[1..];
+    let no_room = Some(Refusal::NoRoom);
+    Ok(
+        received(server, alloc, &[b"HELLO\r", &many])? == (no_room, 1024)
+            && received(server, alloc, &[b"HELLO\r", most])? == (None, 0)
+            && received(server, alloc, &[b"HELLO\r", most, b"A"])? == (no_room, 0),
+    )
+}
+
+/// Whether a client that closes is gone: its lines are refused, and nothing waits for it.
+fn is_gone_once_closed(server: &mut Server, alloc: Global) -> Result<bool, Fail> {
     let client = server.open(alloc, inside())?;
     server.close(client)?;
-    Ok(client)
+    let is_refused = server.receive(client, b"HELLO\r") == Err(Refusal::Gone);
+    Ok(is_refused && server.waiting(client).is_err())
 }
 
-#[test]
-fn a_line_of_a_client_that_closed_is_refused(rt: HostRuntime) -> Result<(), Fail> {
-    let mut server = server(rt.alloc())?;
-    let client = gone_client(&mut server, rt.alloc())?;
-    assert!(rt; server.receive(client, b"HELLO\r") == Err(Refusal::Gone));
-    Ok(())
-}
-
-#[test]
-fn nothing_waits_for_a_client_that_closed(rt: HostRuntime) -> Result<(), Fail> {
-    let mut server = server(rt.alloc())?;
-    let client = gone_client(&mut server, rt.alloc())?;
-    assert!(rt; server.waiting(client).is_err());
-    Ok(())
-}
-
-/// The second client, which greets after the first one closed.
-fn second_client(server: &mut Server, alloc: Global) -> Result<Client, Fail> {
+/// Whether a client has the next number, and is greeted, after the one before it closed.
+fn is_greeted_beside_a_closed_one(server: &mut Server, alloc: Global) -> Result<bool, Fail> {
     let first = server.open(alloc, inside())?;
     let second = server.open(alloc, outside())?;
     server.close(first)?;
     server.receive(second, b"HELLO\r")?;
-    Ok(second)
-}
-
-/// Whether a client is offered the greeting.
-fn is_greeted(server: &mut Server, client: Client) -> Result<bool, Fail> {
-    let offer = server.offer(client)?;
-    Ok(offer == Offer::Bytes && server.waiting(client)? == GREETING)
+    let is_offered = server.offer(second)? == Offer::Bytes;
+    let is_next = second.number().checked_sub(first.number()) == Some(1);
+    Ok(is_offered && is_next && server.waiting(second)? == GREETING)
 }
 
 #[test]
-fn a_client_beside_one_that_closed_is_served(rt: HostRuntime) -> Result<(), Fail> {
+fn clients_come_send_and_close(rt: HostRuntime) -> Result<(), Fail> {
     let mut server = server(rt.alloc())?;
-    let second = second_client(&mut server, rt.alloc())?;
-    assert_eq!(rt; second.number(), 1);
-    assert!(rt; is_greeted(&mut server, second)?);
+    assert!(rt; are_refused_whole(&mut server, rt.alloc())?);
+    assert!(rt; is_gone_once_closed(&mut server, rt.alloc())?);
+    assert!(rt; is_greeted_beside_a_closed_one(&mut server, rt.alloc())?);
     Ok(())
 }

@@ -4,7 +4,7 @@ use std::alloc::Global;
 use std::test::Fail;
 
 /// Lines of a client outside, in uni-station mode, and all that it is handed.
-const UNI: [(&[u8], &[u8]); 10] = [
+static UNI: [(&[u8], &[u8]); 10] = [
     (b"\r   \r\n", b""),
     (
         b"hello\r",
@@ -24,7 +24,7 @@ const UNI: [(&[u8], &[u8]); 10] = [
 ];
 
 /// The same in multi-station mode.
-const MULTI: [(&[u8], &[u8]); 12] = [
+static MULTI: [(&[u8], &[u8]); 12] = [
     (
         b"STATION WLF\rHELLO\r",
         b"OK\r\nSeedLink v3.0 (station access)\r\nTest Centre\r\n",

@@ -11,7 +11,7 @@ use std::alloc::Global;
 use std::test::Fail;
 
 /// Transfers in uni-station mode.
-const UNI: [&[Step]; 5] = [
+static UNI: [&[Step]; 5] = [
     // The first station that the client sees is not the first of the catalogue.
     &[
         Outside,
@@ -83,7 +83,7 @@ const UNI: [&[Step]; 5] = [
 ];
 
 /// Windows of time.
-const TIME: [&[Step]; 2] = [
+static TIME: [&[Step]; 2] = [
     // A day that is not there; and a window that a held record is behind.
     &[
         Inside,
@@ -108,7 +108,7 @@ const TIME: [&[Step]; 2] = [
 ];
 
 /// Transfers in multi-station mode.
-const MULTI: [&[Step]; 3] = [
+static MULTI: [&[Step]; 3] = [
     // A packet that waits is kept, whatever arrives.
     &[
         Outside,
@@ -171,7 +171,7 @@ fn each_take_hands_what_is_wanted(rt: HostRuntime) -> Result<(), Fail> {
 }
 
 /// A client asks for two stations; two records of each arrive.
-const BOTH: [Step; 14] = [
+static BOTH: [Step; 14] = [
     Inside,
     Sends(0, b"STATION APE GE\r"),
     Takes(0, 520, OK),
@@ -366,7 +366,7 @@ capacity = 65536
 "#;
 
 /// Three records are fetched.
-const THREE: [Step; 10] = [
+static THREE: [Step; 10] = [
     Arrives(Record::Forest(1)),
     Arrives(Record::Forest(2)),
     Arrives(Record::Forest(3)),

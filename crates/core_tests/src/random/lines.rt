@@ -3,23 +3,23 @@ use super::draws::Draws;
 use super::sites::Site;
 use std::alloc::AllocError;
 
-const PATTERNS: [&[u8]; 16] = [
+static PATTERNS: [&[u8]; 16] = [
     b"BHZ", b"BH?", b"BH?", b"LHZ", b"!BHZ", b"!LH?", b"!D", b"D", b".D", b"!.T", b"BHZ.D",
     b"!BH?.D", b"00BHZ", b"--BH?", b"!??BHZ", b"1-???.D",
 ];
 
 /// Patterns that are seldom asked for, and what is none.
-const ODD_PATTERNS: [&[u8]; 20] = [
+static ODD_PATTERNS: [&[u8]; 20] = [
     b"E", b"L", b"O", b".C", b"BHN.E", b"!00BHZ", b"?-HH?", b"bhz", b"BH", b".Q", b"!", b"BHZ.",
     b"0BHZ", b"000BHZ", b"HH-", b"B.Z", b"!!HZ", b"BH\xff", b"?", b"B?Z.?",
 ];
 
-const NUMBERS: [&[u8]; 20] = [
+static NUMBERS: [&[u8]; 20] = [
     b"000000", b"0", b"1", b"2", b"3", b"4", b"FFFFFC", b"FFFFFD", b"FFFFFE", b"FFFFFF", b"fffffe",
     b"ffffff", b"1F", b"20", b"FE", b"FF", b"100", b"21", b"x", b"0000000",
 ];
 
-const MOMENTS: [&[u8]; 10] = [
+static MOMENTS: [&[u8]; 10] = [
     b"2024,2,29",
     b"2024,2,29,0,0,0",
     b"2024,2,29,0,0,1",
@@ -33,7 +33,7 @@ const MOMENTS: [&[u8]; 10] = [
 ];
 
 /// Moments far away, and what is none.
-const ODD_MOMENTS: [&[u8]; 10] = [
+static ODD_MOMENTS: [&[u8]; 10] = [
     b"2025,1,1",
     b"2000,1,1",
     b"2024,3,1,1",
@@ -46,7 +46,7 @@ const ODD_MOMENTS: [&[u8]; 10] = [
     b"now",
 ];
 
-const OTHERS: [&[u8]; 14] = [
+static OTHERS: [&[u8]; 14] = [
     b"",
     b" ",
     b"INFO ID",
