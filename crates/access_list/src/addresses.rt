@@ -5,7 +5,7 @@ ghost use Rattle.std.specs.Net.Addr.{ipv4_bits};
 ghost use Rattle.protocol.specs.Pieces.{split};
 ghost use Rattle.access_list.specs.Addresses.{address_of, is_dot, octet_of, octets_of};
 
-use crate::decimal;
+use decimal::number;
 use std::net::Ipv4Addr;
 
 /// The address that a text spells: four decimal numbers 0 to 255 of one to three digits each, joined by dots. Leading zeros
@@ -48,6 +48,6 @@ fn dot_in(text: &[u8]) -> Option<usize>
 fn octet(digits: &[u8]) -> Option<u8>
     ensures { result ≡ octet_of digits.now }
 {
-    let number = decimal::number(digits, 3)?;
+    let number = number(digits, 1, 3)?;
     u8::try_from(number).ok()
 }

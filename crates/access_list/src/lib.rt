@@ -2,7 +2,6 @@
 #![tactic(auto)]
 
 pub mod addresses;
-mod decimal;
 pub mod fault;
 pub mod list;
 mod masks;

@@ -3,7 +3,7 @@ ghost use Rattle.std.specs.Prelude.{◌≡◌, ◌≤◌};
 ghost use Rattle.access_list.specs.Tokens.{mask_of, leading_ones_of, ones};
 
 use crate::addresses::address;
-use crate::decimal;
+use decimal::number;
 
 /// The mask that a text spells, its high byte for the first number of an address: a number 0 to 32 of one or two digits,
 /// which is that many leading one-bits, or four numbers joined by dots, whose one-bits may stand anywhere.
@@ -20,11 +20,11 @@ pub fn mask(text: &[u8]) -> Option<u32>
 fn leading_ones(text: &[u8]) -> Option<u32>
     ensures { result ≡ leading_ones_of text.now }
 {
-    let count = decimal::number(text, 2)?;
+    let count = number(text, 1, 2)?;
     if count > 32 {
         return None;
     }
-    Some(ones(u32::from(count)))
+    Some(ones(count as u32))
 }
 
 /// The mask of that many leading one-bits.

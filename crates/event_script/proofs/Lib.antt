@@ -1,5 +1,4 @@
 mod ArriveRows
-mod Digits
 mod Examples
 mod FittingLemmas
 mod HexRecords

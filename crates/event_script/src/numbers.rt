@@ -1,11 +1,11 @@
 //! Numbers and bytes as a script spells them.
-ghost use Rattle.std.specs.Prelude.{◌≡◌, ◌<◌, ◌≤◌, length, Some, None, IfSome, MatchResult};
-ghost use Rattle.protocol.specs.Time.{decimal_digit, decimal_number};
+ghost use Rattle.std.specs.Prelude.{◌≡◌, Some, None, MatchResult};
 ghost use Rattle.event_script.specs.Fitting.{byte_of, short_of};
 ghost use Rattle.event_script.specs.Script.{count_of, decimal_of, hex_of, hex_record_of};
 ghost use Rattle.event_script.specs.declared.fault.ScriptFault.TheVariants.{Script};
 
 use crate::fault::ScriptFault;
+use decimal::number;
 use hex::{FromHex, FromHexError};
 use std::alloc::Global;
 
@@ -19,33 +19,7 @@ const MOST_TAKEN: usize = 1_000_000;
 pub(crate) fn decimal(digits: &[u8]) -> Option<usize>
     ensures { result ≡ decimal_of digits.now }
 {
-    if digits.is_empty() || digits.len() > DIGITS {
-        return None;
-    }
-    spelled(digits)
-}
-
-/// The number that decimal digits spell, at most ten.
-fn spelled(digits: &[u8]) -> Option<usize>
-    requires { length digits.now ≤ 10 }
-    ensures { result ≡ decimal_number 0 digits.now }
-{
-    let mut number: usize = 0;
-    for byte in digits {
-        number = 10 * number + digit(*byte)?;
-    }
-    Some(number)
-}
-
-/// The value of a decimal digit.
-fn digit(byte: u8) -> Option<usize>
-    ensures value { result ≡ decimal_digit byte }
-    ensures below { IfSome result (λ d. d < 10) }
-{
-    match byte {
-        b'0'..=b'9' => Some(usize::from(byte - b'0')),
-        _ => None,
-    }
+    number(digits, 1, DIGITS)
 }
 
 /// How many bytes a take asks for: a number to 1,000,000.

@@ -1,10 +1,11 @@
 //! The parts of a text between commas, one after the other.
-ghost use Rattle.std.specs.Prelude.{◌≡◌, ◌≤◌, ◌<◌, ◌^◌, IfSome, position, length};
+ghost use Rattle.std.specs.Prelude.{◌≡◌, position};
 ghost use Rattle.std.specs.Option.{option_copied};
 ghost use Rattle.protocol.specs.Pieces.{split};
-ghost use Rattle.protocol.specs.Time.{decimal_digit, decimal_number, digits_between};
+ghost use Rattle.protocol.specs.Time.{digits_between};
 ghost use Rattle.sl_time.specs.Parts.{is_comma, first_part, first_number, first_year, is_over, number_or_zero, other_parts};
 
+use decimal::number;
 use std::marker::Model;
 
 /// The parts that are left of a text.
@@ -101,44 +102,14 @@ fn comma(text: &[u8]) -> Option<usize>
 fn year_of(digits: &[u8]) -> Option<u16>
     ensures { result ≡ digits_between 4 4 digits.now }
 {
-    if digits.len() == 4 {
-        decimal(digits)
-    } else {
-        None
-    }
+    let year = number(digits, 4, 4)?;
+    Some(year as u16)
 }
 
 /// The number that one or two decimal digits spell.
 fn number_of(digits: &[u8]) -> Option<u8>
     ensures { result ≡ digits_between 1 2 digits.now }
 {
-    if digits.is_empty() || digits.len() > 2 {
-        return None;
-    }
-    let number = decimal(digits)?;
+    let number = number(digits, 1, 2)?;
     Some(number as u8)
-}
-
-/// The number that decimal digits spell, at most four.
-fn decimal(digits: &[u8]) -> Option<u16>
-    requires { length digits.now ≤ 4 }
-    ensures value { result ≡ decimal_number 0 digits.now }
-    ensures below { IfSome result (λ n. n < 10 ^ length digits.now) }
-{
-    let mut number = 0;
-    for byte in digits {
-        number = 10 * number + u16::from(digit(*byte)?);
-    }
-    Some(number)
-}
-
-/// The value of a decimal digit.
-fn digit(byte: u8) -> Option<u8>
-    ensures value { result ≡ decimal_digit byte }
-    ensures below { IfSome result (λ d. d < 10) }
-{
-    match byte {
-        b'0'..=b'9' => Some(byte - b'0'),
-        _ => None,
-    }
 }

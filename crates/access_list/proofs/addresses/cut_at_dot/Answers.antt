@@ -1,6 +1,6 @@
 use Rattle.std.proofs.Common.{◌+◌}
+use Rattle.protocol.proofs.Splitting.{first_cut, rest_whole}
 use Rattle.access_list.specs.Addresses.{is_dot}
-use Rattle.access_list.proofs.Cuts.{first_cut, rest_whole}
 use Rattle.access_list.proofs.addresses.cut_at_dot.Goals as goal
 
 pub returns-in_err-dot : goal.returns-in_err-dot

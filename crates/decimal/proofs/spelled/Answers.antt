@@ -1,6 +1,6 @@
 use Rattle.std.proofs.Common.{arith}
-use Rattle.event_script.proofs.Digits.{power_nine}
-use Rattle.event_script.proofs.numbers.spelled.Goals as goal
+use Rattle.decimal.proofs.Digits.{power_nine}
+use Rattle.decimal.proofs.spelled.Goals as goal
 
 pub overflow_mul-number : goal.overflow_mul-number
 overflow_mul-number c =
