@@ -24,7 +24,7 @@ fn outside() -> Ipv4Addr {
 }
 
 /// A station for addresses that begin with 10, and two for everybody.
-const CENTRE: &[u8] = br#"title = "Test Centre"
+pub const CENTRE: &[u8] = br#"title = "Test Centre"
 max_connections = 8
 
 [[station]]

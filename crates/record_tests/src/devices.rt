@@ -1,15 +1,17 @@
+//! Readers and writers: whole reads, whole writes, and what is counted of them.
 ghost use Rattle.std.specs.Prelude.{◌≡◌, ◌<◌, IfOk};
 
+use crate::worked::round;
 use sl_io::{
     DeviceFault, MemorySink, MemorySource, Outer, ReadFault, Sink, Source, WriteFault, read_all,
     write_all,
 };
-use std::alloc::{AllocError, Global};
+use std::alloc::Global;
 use std::io;
 use std::io::{Read, Write};
 use std::test::*;
 
-// What is read of the bytes in pieces are the bytes: a caller learns it from the contracts alone.
+/// What is read of the bytes in pieces are the bytes: a caller learns it from the contracts alone.
 fn read_back(alloc: Global, bytes: &[u8], most: usize) -> Result<Vec<u8>, ReadFault>
     requires { 0 < most }
     ensures { IfOk result (λ v. v.items ≡ bytes.now) }
@@ -18,7 +20,7 @@ fn read_back(alloc: Global, bytes: &[u8], most: usize) -> Result<Vec<u8>, ReadFa
     read_all(alloc, &mut source)
 }
 
-// What is written of the bytes in pieces are the bytes.
+/// What is written of the bytes in pieces are the bytes.
 fn written_back(alloc: Global, bytes: &[u8], most: usize) -> Result<Vec<u8>, WriteFault>
     requires { 0 < most }
     ensures { IfOk result (λ v. v.items ≡ bytes.now) }
@@ -26,15 +28,6 @@ fn written_back(alloc: Global, bytes: &[u8], most: usize) -> Result<Vec<u8>, Wri
     let mut sink = MemorySink::in_pieces(alloc, most);
     write_all(&mut sink, bytes)?;
     Ok(sink.into_bytes())
-}
-
-// So many bytes that go round from 0 to 250.
-fn round(alloc: Global, count: usize) -> Result<Vec<u8>, AllocError> {
-    let mut bytes = Vec::new(alloc);
-    for place in 0..count {
-        bytes.push((place % 251) as u8)?;
-    }
-    Ok(bytes)
 }
 
 #[test]
@@ -92,33 +85,32 @@ fn a_reader_and_a_writer_of_std(rt: HostRuntime) -> Result<(), Fail> {
     Ok(())
 }
 
-// Gives or takes two bytes, then fails.
+/// Gives or takes so many bytes, at most a record's a call, and then fails.
 #[derive(Drop)]
-struct Breaking {
-    whole: bool,
+pub struct Breaking {
+    pub left: usize,
 }
 
 impl Read for Breaking {
     fn read(&mut self, buffer: &mut [u8]) -> io::Result<usize> {
-        match buffer {
-            [first, second, ..] if self.whole => {
-                *first = b'O';
-                *second = b'K';
-                self.whole = false;
-                Ok(2)
-            }
-            _ => Err(io::Error::from(io::ErrorKind::BrokenPipe)),
+        if self.left == 0 {
+            return Err(io::Error::from(io::ErrorKind::BrokenPipe));
         }
+        let count = buffer.len().min(self.left).min(512);
+        buffer[..count].fill(b'A');
+        self.left -= count;
+        Ok(count)
     }
 }
 
 impl Write for Breaking {
     fn write(&mut self, bytes: &[u8]) -> io::Result<usize> {
-        if self.whole {
-            self.whole = false;
-            return Ok(bytes.len().min(2));
+        if self.left == 0 {
+            return Err(io::Error::from(io::ErrorKind::BrokenPipe));
         }
-        Err(io::Error::from(io::ErrorKind::BrokenPipe))
+        let count = bytes.len().min(self.left);
+        self.left -= count;
+        Ok(count)
     }
 
     fn flush(&mut self) -> io::Result<()> {
@@ -126,7 +118,7 @@ impl Write for Breaking {
     }
 }
 
-// Takes no byte.
+/// Takes no byte.
 #[derive(Drop)]
 struct Full;
 
@@ -142,7 +134,7 @@ impl Write for Full {
 
 #[test]
 fn a_failed_read_is_counted(rt: HostRuntime) {
-    let mut source = Outer::new(Breaking { whole: true });
+    let mut source = Outer::new(Breaking { left: 2 });
     let outcome = read_all(rt.alloc(), &mut source);
     assert!(rt; outcome.err() == Some(ReadFault::Read));
     assert_eq!(rt; source.failures(), 1);
@@ -153,7 +145,7 @@ fn a_failed_read_is_counted(rt: HostRuntime) {
 
 #[test]
 fn a_failed_write_is_counted(rt: HostRuntime) {
-    let mut sink = Outer::new(Breaking { whole: true });
+    let mut sink = Outer::new(Breaking { left: 2 });
     assert!(rt; write_all(&mut sink, b"HELLO\r") == Err(WriteFault));
     assert_eq!(rt; sink.failures(), 1);
     assert_eq!(rt; sink.calls(), 2);

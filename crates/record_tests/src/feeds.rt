@@ -1,18 +1,10 @@
 //! Records by the piece.
 ghost use Rattle.std.specs.Prelude.{◌<◌};
 
+use crate::worked::round;
 use feeder::{FeedCutter, Feeding};
 use std::alloc::{AllocError, Global};
 use std::test::Fail;
-
-/// So many bytes that go round from 0 to 250: no two records of a feed begin alike.
-fn round(alloc: Global, count: usize) -> Result<Vec<u8>, AllocError> {
-    let mut bytes = Vec::new(alloc);
-    for place in 0..count {
-        bytes.push((place % 251) as u8)?;
-    }
-    Ok(bytes)
-}
 
 /// Writes down each record that becomes whole in the piece, one behind the other.
 fn cut(cutter: &mut FeedCutter, piece: &[u8], records: &mut Vec<u8>) -> Result<(), AllocError> {

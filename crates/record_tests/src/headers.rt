@@ -1,28 +1,14 @@
+//! Headers as they are read.
+use crate::worked::{Changes, HEAD, record_of};
 use mseed_header::{Header, Kind, RecordFault, read};
 
-// GE APE, without a location, BHZ, of day 60 of 2024, with 100 samples at 100 samples a second.
-const BIG: [u8; 64] =
-    *b"000001D APE    BHZGE\x07\xe8\x00\x3c\x00\x00\x00\x00\x00\x00\x00\x64\x00\x64\x00\x01\x00\x00\x00\x01\x00\x00\x00\x00\x00\x40\x00\x30\x03\xe8\x00\x00\x0b\x01\x09\x00\x00\x00\x00\x00\x00\x00\x00\x00";
-// The same in little order.
+/// The worked record in little order.
 const LITTLE: [u8; 64] =
     *b"000001D APE    BHZGE\xe8\x07\x3c\x00\x00\x00\x00\x00\x00\x00\x64\x00\x64\x00\x01\x00\x00\x00\x00\x01\x00\x00\x00\x00\x40\x00\x30\x00\xe8\x03\x00\x00\x0b\x00\x09\x00\x00\x00\x00\x00\x00\x00\x00\x00";
 
 const START: i64 = 17_091_648_000_000;
 
-type Changes<'a> = &'a [(usize, u8)];
-
-fn record_of(head: &[u8; 64], changes: Changes<'_>) -> [u8; 512] {
-    let mut record = [0; 512];
-    record[..64].copy_from_slice(head);
-    for &(place, byte) in changes {
-        if place < 512 {
-            record[place] = byte;
-        }
-    }
-    record
-}
-
-// The kind, the start and the end.
+/// The kind, the start and the end.
 type Outcome = Result<(Kind, i64, i64), RecordFault>;
 
 fn outcome(record: &[u8; 512]) -> Outcome {
@@ -41,7 +27,7 @@ fn has_its_codes(header: &Header<'_>) -> bool {
 
 #[test]
 fn reads_the_codes(rt: HostRuntime) {
-    let record = record_of(&BIG, &[]);
+    let record = record_of(&HEAD, &[]);
     assert!(rt; read(&record).is_ok_and(|header| has_its_codes(&header)));
 }
 
@@ -81,7 +67,7 @@ static VECTORS: [(Changes<'static>, Outcome); 13] = [
 fn reads_the_vectors(rt: HostRuntime) {
     for (row, &(changes, wanted)) in VECTORS.iter().enumerate() {
         assert!(rt;
-            outcome(&record_of(&BIG, changes)) == wanted,
+            outcome(&record_of(&HEAD, changes)) == wanted,
             "in row {row}"
         );
     }
@@ -93,13 +79,13 @@ fn reads_little_order(rt: HostRuntime) {
     assert!(rt; given == Ok((Kind::D, START, START + 10_000)));
 }
 
-// What the samples take at a factor and a multiplier.
+/// What the samples take at a factor and a multiplier.
 fn extent(samples: u16, factor: i16, multiplier: i16) -> Result<i64, RecordFault> {
     let [a, b] = samples.to_be_bytes();
     let [c, d] = factor.to_be_bytes();
     let [e, f] = multiplier.to_be_bytes();
     let record = record_of(
-        &BIG,
+        &HEAD,
         &[(30, a), (31, b), (32, c), (33, d), (34, e), (35, f)],
     );
     let header = read(&record)?;
@@ -132,7 +118,7 @@ fn ends_by_the_signs_of_factor_and_multiplier(rt: HostRuntime) {
 fn start_at(year: u16, day: u16) -> Result<i64, RecordFault> {
     let [a, b] = year.to_be_bytes();
     let [c, d] = day.to_be_bytes();
-    let record = record_of(&BIG, &[(20, a), (21, b), (22, c), (23, d)]);
+    let record = record_of(&HEAD, &[(20, a), (21, b), (22, c), (23, d)]);
     let header = read(&record)?;
     Ok(header.start().value())
 }
@@ -178,7 +164,7 @@ fn tells_the_first_of_two_faults(rt: HostRuntime) {
         for (_second, more) in &FAULTS[place..] {
             let both = [changes[0], changes[1], more[0], more[1]];
             assert!(rt;
-                outcome(&record_of(&BIG, &both)) == Err(*first),
+                outcome(&record_of(&HEAD, &both)) == Err(*first),
                 "in row {place}"
             );
         }

@@ -12,3 +12,5 @@ mod headers;
 mod listings;
 #[cfg(test)]
 mod made_records;
+#[cfg(test)]
+mod worked;

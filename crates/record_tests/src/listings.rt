@@ -1,4 +1,5 @@
 //! Listings of worked records.
+use crate::worked::{Changes, HEAD, record_of};
 use mseed_header::RecordFault;
 use record_listing::{CheckFault, FileFault, check_records};
 use sl_io::{MemorySink, MemorySource};
@@ -7,26 +8,12 @@ use std::test::Fail;
 
 mod devices;
 
-/// GE APE, without a location, BHZ, of 2024-02-29T00:00:00, with 100 samples at 100 samples a second: the bytes that are not 0.
-const HEAD: &[u8; 64] =
-    b"000001D APE    BHZGE\x07\xe8\x00\x3c\x00\x00\x00\x00\x00\x00\x00\x64\x00\x64\x00\x01\x00\x00\x00\x01\x00\x00\x00\x00\x00\x40\x00\x30\x03\xe8\x00\x00\x0b\x01\x09\x00\x00\x00\x00\x00\x00\x00\x00\x00";
-
-/// What is said of it behind its number.
+/// What is said of the worked record behind its number.
 const FACTS: &str = "GE APE -- BHZ D 17091648000000 17091648010000 100";
-
-/// Bytes of the record, by their places.
-type Changes<'a> = &'a [(usize, u8)];
 
 /// Puts the record behind the bytes, with some of its bytes changed.
 fn put(bytes: &mut Vec<u8>, changes: Changes<'_>) -> Result<(), AllocError> {
-    let mut record = [0; 512];
-    record[..64].copy_from_slice(HEAD);
-    for &(place, byte) in changes {
-        if place < 512 {
-            record[place] = byte;
-        }
-    }
-    bytes.extend_from_slice(&record)
+    bytes.extend_from_slice(&record_of(&HEAD, changes))
 }
 
 /// The listing of bytes that are read so many at a time, and the verdict on them.

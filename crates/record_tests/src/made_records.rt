@@ -1,7 +1,9 @@
+//! Records as they are made.
+use crate::worked::{HEAD, record_of};
 use mseed_header::{ByteOrder, FieldFault, Fields, Header, Kind, make, read};
 use sl_time::{Tick, of_btime};
 
-// GE APE, without a location, BHZ, of day 60 of 2024, with 100 samples at 100 samples a second.
+/// The fields of the worked record.
 const FIRST: Fields<'static> = Fields {
     sequence: 1,
     quality: b'D',
@@ -25,12 +27,8 @@ const FIRST: Fields<'static> = Fields {
 };
 
 #[test]
-fn makes_the_first_vector(rt: HostRuntime) {
-    let head =
-        b"000001D APE    BHZGE\x07\xe8\x00\x3c\x00\x00\x00\x00\x00\x00\x00\x64\x00\x64\x00\x01\x00\x00\x00\x01\x00\x00\x00\x00\x00\x40\x00\x30\x03\xe8\x00\x00\x0b\x01\x09\x00\x00\x00\x00\x00\x00\x00\x00\x00";
-    let mut want = [0; 512];
-    want[..64].copy_from_slice(head);
-    assert_eq!(rt; make(&FIRST), Ok(want));
+fn makes_the_worked_record(rt: HostRuntime) {
+    assert_eq!(rt; make(&FIRST), Ok(record_of(&HEAD, &[])));
 }
 
 /// Whether fields are refused for one that is out of range.
@@ -168,7 +166,7 @@ fn gives_a_record_without_samples_its_kind(rt: HostRuntime) {
     }
 }
 
-// Fields that differ from row to row.
+/// Fields that differ from row to row.
 fn varied(row: u16) -> Fields<'static> {
     let size = usize::from(row);
     Fields {

@@ -1,10 +1,9 @@
 //! Rings of three records, of one, and of as many as there may be, at stations whose records come in turn.
+use crate::arrivals::{record, summary};
 use catalog::Config;
 use held_records::Rings;
-use protocol::record::Kind;
 use sl_packet::Seq;
 use sl_time::Tick;
-use station_ring::Summary;
 use std::alloc::Global;
 use std::test::Fail;
 
@@ -39,22 +38,6 @@ const NOWHERE: usize = 3;
 fn empty(alloc: Global) -> Result<Rings, Fail> {
     let config = Config::read(alloc, CENTRE)?;
     Ok(Rings::new(alloc, &config)?)
-}
-
-/// The record that comes at a position: no two of 256 in a row are alike.
-fn record(position: u64) -> [u8; 512] {
-    [(position % 256) as u8; 512]
-}
-
-/// What is asked of the record that comes at a position: it starts so many ticks after 1970.
-fn summary(position: u64) -> Summary {
-    Summary {
-        start: Tick::new((position % 256) as i64),
-        stop: Tick::new(10_000),
-        kind: Kind::D,
-        location: *b"00",
-        channel: *b"BHZ",
-    }
 }
 
 /// A record of the station at a place arrives, where one is there: its number.

@@ -2,10 +2,9 @@
 ghost use Rattle.std.specs.Prelude.{◌<◌, ◌≤◌, ◌^◌};
 ghost use Rattle.protocol.specs.Packet.{numbers};
 
-use protocol::record::Kind;
+use crate::arrivals::{record, summary};
 use sl_packet::Seq;
-use sl_time::Tick;
-use station_ring::{Ring, Summary};
+use station_ring::Ring;
 use std::alloc::{AllocError, Global};
 use std::test::Fail;
 
@@ -14,22 +13,6 @@ fn number(value: u32) -> Seq
     requires { value < numbers }
 {
     Seq::of(value).unwrap()
-}
-
-/// The record that comes with a stamp: no two of 256 in a row are alike.
-fn record(stamp: u64) -> [u8; 512] {
-    [(stamp % 256) as u8; 512]
-}
-
-/// What is asked of the record that comes with a stamp.
-fn summary(stamp: u64) -> Summary {
-    Summary {
-        start: Tick::new((stamp % 256) as i64),
-        stop: Tick::new(10_000),
-        kind: Kind::D,
-        location: *b"00",
-        channel: *b"BHZ",
-    }
 }
 
 /// A ring to which so many records were pushed. The stamp of each is its place.

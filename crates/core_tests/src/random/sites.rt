@@ -1,4 +1,5 @@
 //! The configurations: each as the text that the server reads, and as the table that the plain server goes by.
+use crate::dialogues::CENTRE;
 use std::net::Ipv4Addr;
 
 /// A station.
@@ -31,29 +32,7 @@ pub fn address(place: usize) -> Ipv4Addr {
 
 /// Three stations, of which the first is hidden from two addresses, and two have one code.
 pub const ISLAND: Centre = Centre {
-    text: br#"title = "Test Centre"
-
-[[station]]
-network = "GE"
-code = "APE"
-description = "Island"
-capacity = 4
-first = "000000"
-access = "10.0.0.0/8"
-
-[[station]]
-network = "GE"
-code = "WLF"
-description = "Forest"
-capacity = 2
-first = "FFFFFE"
-
-[[station]]
-network = "XX"
-code = "APE"
-description = "Vault"
-capacity = 1
-"#,
+    text: CENTRE,
     title: b"Test Centre",
     sites: &[
         Site {

@@ -1,10 +1,9 @@
 //! Files that are longer than a block, and readers and writers that fail.
 use super::{FACTS, put};
+use crate::devices::Breaking;
 use record_listing::{CheckFault, check_records};
 use sl_io::{MemorySink, MemorySource, Outer};
 use std::alloc::{AllocError, Global};
-use std::io;
-use std::io::{Read, Write};
 use std::test::Fail;
 
 /// So many records.
@@ -34,39 +33,6 @@ fn lines_are_written_in_large_pieces(rt: HostRuntime) -> Result<(), Fail> {
         assert_eq!(rt; sink.calls(), 2);
     }
     Ok(())
-}
-
-/// Gives or takes so many bytes, at most a record's a call, and then fails.
-#[derive(Drop)]
-struct Breaking {
-    left: usize,
-}
-
-impl Read for Breaking {
-    fn read(&mut self, buffer: &mut [u8]) -> io::Result<usize> {
-        if self.left == 0 {
-            return Err(io::Error::from(io::ErrorKind::BrokenPipe));
-        }
-        let count = buffer.len().min(self.left).min(512);
-        buffer[..count].fill(b'A');
-        self.left -= count;
-        Ok(count)
-    }
-}
-
-impl Write for Breaking {
-    fn write(&mut self, bytes: &[u8]) -> io::Result<usize> {
-        if self.left == 0 {
-            return Err(io::Error::from(io::ErrorKind::BrokenPipe));
-        }
-        let count = bytes.len().min(self.left);
-        self.left -= count;
-        Ok(count)
-    }
-
-    fn flush(&mut self) -> io::Result<()> {
-        Ok(())
-    }
 }
 
 #[test]
