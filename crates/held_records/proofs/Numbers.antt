@@ -1,5 +1,5 @@
 -- Held records by their numbers.
-use Rattle.std.proofs.Common.{◌≡◌, ℕ, ◌+◌, ◌-◌, ◌%◌, ◌≤◌, Bool, true, false, List, [], ◌∷◌, length, drop, slice_get, nat_le, Option, Some, None, option_map, find, suc, zero, refl, sym, ap, ◌∙◌, arith, length-drop}
+use Rattle.std.proofs.Common.{◌≡◌, ℕ, ◌+◌, ◌-◌, ◌%◌, ◌≤◌, Bool, true, false, List, [], ◌∷◌, length, drop, slice_get, nat_le, Option, Some, None, option_map, find, suc, refl, sym, ap, ◌∙◌, arith, length-drop}
 use Rattle.std.specs.Prelude.{◌==◌}
 use Rattle.std.specs.Option.{option_and_then}
 use Rattle.std.proofs.lemmas.List.{take_all}
@@ -11,6 +11,7 @@ use Rattle.protocol.proofs.Found.{both}
 use Rattle.station_ring.specs.declared.held.Held.{Held}
 use Rattle.station_ring.specs.Rings.{Holding, first_place, held_at, number_at, place_among, place_with}
 use Rattle.station_ring.proofs.Numbers.{found}
+use Rattle.station_ring.proofs.Reaching.{slice_get-drop}
 use Rattle.held_records.specs.Holdings.{arrivals_of, ring_of}
 use Rattle.held_records.proofs.Arrivals.{length-arrivals_of, number_of_arrival}
 use Rattle.held_records.proofs.Walks.{walk_all}
@@ -40,13 +41,6 @@ find_among first number start on_held (x ∷ items) same =
     (λ n. rw (here, n)
     (find_among first number (start + 1) on_held items later
     ∙ stamp_behind start x items (place_among first number (start + 1) (length items)) (λ q e. (found first number (start + 1) (length items) q e).low)))
-
--- what stands behind the first n
-slice_get-drop : (n i : ℕ) (items : List Held) → slice_get (drop n items) i ≡ slice_get items (n + i)
-slice_get-drop zero i items = ap (slice_get items) (omega arith)
-slice_get-drop (suc n) i [] = refl
-slice_get-drop (suc n) i (x ∷ items) =
-    let e : suc n + i ≡ suc (n + i) = omega arith in rw e (slice_get-drop n i items)
 
 -- The j-th of the held records is the arrival at its place.
 held_index : (s : Station) (h : List Arrival) (j : ℕ) → slice_get (ring_of s h).held j ≡ slice_get (arrivals_of s 0 h) (first_place (ring_of s h) + j)

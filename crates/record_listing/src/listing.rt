@@ -44,14 +44,14 @@ impl Listing {
         })
     }
 
-    /// Lists one record more.
-    pub(crate) fn list(&mut self, record: &[u8; 512]) -> Result<(), AllocError>
+    /// Lists one record more, by its bytes.
+    pub(crate) fn list(&mut self, bytes: &[u8; 512]) -> Result<(), AllocError>
         requires { self.old.count < 2 ^ 100 }
-        ensures { OnOk result (self.new ≡ with_record self.old «record».now) }
+        ensures { OnOk result (self.new ≡ with_record self.old bytes.now) }
     {
         self.count += 1;
         put_number_word(&mut self.lines, self.count)?;
-        let fault = put_record(&mut self.lines, record)?;
+        let fault = put_record(&mut self.lines, bytes)?;
         self.lines.push(b'\n')?;
         self.fault = self.fault.or(fault);
         Ok(())

@@ -6,7 +6,7 @@ use Rattle.station_ring.specs.declared.held.Held.{Held}
 use Rattle.station_ring.specs.Rings.{held_at, holding_of}
 
 -- what stands behind the first n
-slice_get-drop : (n i : ℕ) (items : List Held) → slice_get (drop n items) i ≡ slice_get items (n + i)
+pub slice_get-drop : (n i : ℕ) (items : List Held) → slice_get (drop n items) i ≡ slice_get items (n + i)
 slice_get-drop zero i items = ap (slice_get items) (omega arith)
 slice_get-drop (suc n) i [] = refl
 slice_get-drop (suc n) i (x ∷ items) =
