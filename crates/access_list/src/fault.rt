@@ -2,6 +2,7 @@
 ghost use Rattle.std.specs.Prelude.{◌≡◌};
 ghost use Rattle.access_list.specs.Faults.{fault_number, fault_name};
 
+use protocol::report::Report;
 use thiserror::Error;
 
 /// Why a text is no list of addresses and masks: the fault of its first token that is none, or want of memory.
@@ -19,25 +20,15 @@ pub enum AccessFault {
 }
 
 impl AccessFault {
-    /// The number by which the program reports it: 11, 12 or 25.
-    pub fn number(self) -> u8
-        ensures { result ≡ fault_number self }
+    /// The number and the name by which the program reports it: 11, 12 or 25.
+    pub fn report(self) -> Report
+        ensures number { result.number ≡ fault_number self }
+        ensures name { result.name.now ≡ fault_name self }
     {
         match self {
-            AccessFault::Address => 11,
-            AccessFault::Mask => 12,
-            AccessFault::OutOfMemory => 25,
-        }
-    }
-
-    /// The name by which the program reports it.
-    pub fn name(self) -> &'static str
-        ensures { result.now ≡ fault_name self }
-    {
-        match self {
-            AccessFault::Address => "Address",
-            AccessFault::Mask => "Mask",
-            AccessFault::OutOfMemory => "OutOfMemory",
+            AccessFault::Address => Report::new(11, "Address"),
+            AccessFault::Mask => Report::new(12, "Mask"),
+            AccessFault::OutOfMemory => Report::new(25, "OutOfMemory"),
         }
     }
 }

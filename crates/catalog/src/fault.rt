@@ -3,6 +3,7 @@ ghost use Rattle.std.specs.Prelude.{◌≡◌};
 ghost use Rattle.catalog.specs.Faults.{fault_number, fault_name, fault_cause};
 
 use access_list::AccessFault;
+use protocol::report::Report;
 use thiserror::Error;
 
 /// Why a text is no configuration: the fault of the first step of its reading that fails, or want of memory.
@@ -29,31 +30,18 @@ pub enum ConfigFault {
 }
 
 impl ConfigFault {
-    /// The number by which the program reports it: 20 to 25.
-    pub fn number(self) -> u8
-        ensures { result ≡ fault_number self }
+    /// The number and the name by which the program reports it: 20 to 25.
+    pub fn report(self) -> Report
+        ensures number { result.number ≡ fault_number self }
+        ensures name { result.name.now ≡ fault_name self }
     {
         match self {
-            ConfigFault::Toml => 20,
-            ConfigFault::Missing => 21,
-            ConfigFault::Limit => 22,
-            ConfigFault::Duplicate => 23,
-            ConfigFault::Access(_) => 24,
-            ConfigFault::OutOfMemory => 25,
-        }
-    }
-
-    /// The name by which the program reports it.
-    pub fn name(self) -> &'static str
-        ensures { result.now ≡ fault_name self }
-    {
-        match self {
-            ConfigFault::Toml => "Toml",
-            ConfigFault::Missing => "Missing",
-            ConfigFault::Limit => "Limit",
-            ConfigFault::Duplicate => "Duplicate",
-            ConfigFault::Access(_) => "Access",
-            ConfigFault::OutOfMemory => "OutOfMemory",
+            ConfigFault::Toml => Report::new(20, "Toml"),
+            ConfigFault::Missing => Report::new(21, "Missing"),
+            ConfigFault::Limit => Report::new(22, "Limit"),
+            ConfigFault::Duplicate => Report::new(23, "Duplicate"),
+            ConfigFault::Access(_) => Report::new(24, "Access"),
+            ConfigFault::OutOfMemory => Report::new(25, "OutOfMemory"),
         }
     }
 

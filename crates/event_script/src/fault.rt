@@ -3,6 +3,7 @@ ghost use Rattle.std.specs.Prelude.{◌≡◌};
 ghost use Rattle.event_script.specs.Faults.{script_fault_number, script_fault_name};
 ghost use Rattle.event_script.specs.declared.fault.ScriptFault.TheVariants.{OutOfMemory as ScriptOutOfMemory};
 
+use protocol::report::Report;
 use std::alloc::{AllocError, AllocFailed};
 use thiserror::Error;
 
@@ -18,23 +19,14 @@ pub enum ScriptFault {
 }
 
 impl ScriptFault {
-    /// The number by which the program reports it, 25 or 45.
-    pub fn number(self) -> u8
-        ensures { result ≡ script_fault_number self }
+    /// The number and the name by which the program reports it: 25 or 45.
+    pub fn report(self) -> Report
+        ensures number { result.number ≡ script_fault_number self }
+        ensures name { result.name.now ≡ script_fault_name self }
     {
         match self {
-            ScriptFault::OutOfMemory => 25,
-            ScriptFault::Script => 45,
-        }
-    }
-
-    /// The name by which the program reports it.
-    pub fn name(self) -> &'static str
-        ensures { result.now ≡ script_fault_name self }
-    {
-        match self {
-            ScriptFault::OutOfMemory => "OutOfMemory",
-            ScriptFault::Script => "Script",
+            ScriptFault::OutOfMemory => Report::new(25, "OutOfMemory"),
+            ScriptFault::Script => Report::new(45, "Script"),
         }
     }
 }

@@ -247,6 +247,9 @@ fn numbers_and_names(rt: HostRuntime) {
         (ReplayFault::Write, 43, "Write"),
         (ReplayFault::Script, 45, "Script"),
     ] {
-        assert!(rt; fault.number() == number && fault.name() == name, "{name}");
+        assert!(rt;
+            fault.report().number == number && fault.report().name == name,
+            "{name}"
+        );
     }
 }

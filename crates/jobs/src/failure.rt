@@ -5,6 +5,7 @@ ghost use Rattle.jobs.specs.declared.failure.Failure.TheVariants.{Config as Conf
 
 use crate::faults::ReplayFault;
 use catalog::ConfigFault;
+use protocol::report::Report;
 use record_listing::{CheckFault, FileFault};
 use thiserror::Error;
 
@@ -35,33 +36,19 @@ pub enum Failure {
 }
 
 impl Failure {
-    /// The number by which the program reports it.
-    pub fn number(self) -> u8
-        ensures { result ≡ failure_number self }
+    /// The number and the name by which the program reports it: 1 to 6, 20 to 25 or 41 to 45.
+    pub fn report(self) -> Report
+        ensures number { result.number ≡ failure_number self }
+        ensures name { result.name.now ≡ failure_name self }
     {
         match self {
-            Failure::OutOfMemory => 25,
-            Failure::Write => 43,
-            Failure::File => 44,
-            Failure::Config(fault) => fault.number(),
-            Failure::Replay(fault) => fault.number(),
-            Failure::Check(fault) => fault.number(),
-            Failure::Records(fault) => fault.number(),
-        }
-    }
-
-    /// The name by which the program reports it.
-    pub fn name(self) -> &'static str
-        ensures { result.now ≡ failure_name self }
-    {
-        match self {
-            Failure::OutOfMemory => "OutOfMemory",
-            Failure::Write => "Write",
-            Failure::File => "File",
-            Failure::Config(fault) => fault.name(),
-            Failure::Replay(fault) => fault.name(),
-            Failure::Check(fault) => fault.name(),
-            Failure::Records(fault) => fault.name(),
+            Failure::OutOfMemory => Report::new(25, "OutOfMemory"),
+            Failure::Write => Report::new(43, "Write"),
+            Failure::File => Report::new(44, "File"),
+            Failure::Config(fault) => fault.report(),
+            Failure::Replay(fault) => fault.report(),
+            Failure::Check(fault) => fault.report(),
+            Failure::Records(fault) => fault.report(),
         }
     }
 }

@@ -2,6 +2,7 @@
 ghost use Rattle.std.specs.Prelude.{◌≡◌};
 ghost use Rattle.jobs.specs.Faults.{replay_fault_number, replay_fault_name};
 
+use protocol::report::Report;
 use thiserror::Error;
 
 /// Why a script was not replayed.
@@ -22,27 +23,16 @@ pub enum ReplayFault {
 }
 
 impl ReplayFault {
-    /// The number by which the program reports it, 25, 42, 43 or 45.
-    pub fn number(self) -> u8
-        ensures { result ≡ replay_fault_number self }
+    /// The number and the name by which the program reports it: 25, 42, 43 or 45.
+    pub fn report(self) -> Report
+        ensures number { result.number ≡ replay_fault_number self }
+        ensures name { result.name.now ≡ replay_fault_name self }
     {
         match self {
-            ReplayFault::OutOfMemory => 25,
-            ReplayFault::Read => 42,
-            ReplayFault::Write => 43,
-            ReplayFault::Script => 45,
-        }
-    }
-
-    /// The name by which the program reports it.
-    pub fn name(self) -> &'static str
-        ensures { result.now ≡ replay_fault_name self }
-    {
-        match self {
-            ReplayFault::OutOfMemory => "OutOfMemory",
-            ReplayFault::Read => "Read",
-            ReplayFault::Write => "Write",
-            ReplayFault::Script => "Script",
+            ReplayFault::OutOfMemory => Report::new(25, "OutOfMemory"),
+            ReplayFault::Read => Report::new(42, "Read"),
+            ReplayFault::Write => Report::new(43, "Write"),
+            ReplayFault::Script => Report::new(45, "Script"),
         }
     }
 }

@@ -7,6 +7,7 @@ ghost use Rattle.command_line.specs.Jobs.{IsJob, IsMistake};
 use crate::failure::Failure;
 use crate::files::run_job;
 use command_line::{WordsFault, read_words};
+use protocol::report::Report;
 use std::process::ExitCode;
 use std::rt::Files;
 
@@ -17,8 +18,7 @@ const REFUSED: u8 = 2;
 pub fn failed<R: Eprint>(rt: &R, failure: Failure) -> ExitCode
     ensures { exit_status result ≡ 1 }
 {
-    let number = failure.number();
-    let name = failure.name();
+    let Report { number, name } = failure.report();
     let _ = eprintln!(rt; "seedlinkd: {number} {name}");
     ExitCode::FAILURE
 }

@@ -9,6 +9,7 @@ ghost use Rattle.mseed_header.specs.Fields.{fields_value, has_codes_of};
 use crate::fields::Fields;
 use crate::header::{Header, read};
 use crate::layout::{layout_of, padded};
+use protocol::report::Report;
 use sl_time::{Tick, of_btime};
 use thiserror::Error;
 
@@ -21,21 +22,13 @@ pub enum FieldFault {
 }
 
 impl FieldFault {
-    /// The number by which the program reports it, 8.
-    pub fn number(self) -> u8
-        ensures { result ≡ 8 }
+    /// The number and the name by which the program reports it: 8 Field.
+    pub fn report(self) -> Report
+        ensures number { result.number ≡ 8 }
+        ensures name { result.name.now ≡ codes "Field" }
     {
         match self {
-            FieldFault::Field => 8,
-        }
-    }
-
-    /// The name by which the program reports it.
-    pub fn name(self) -> &'static str
-        ensures { result.now ≡ codes "Field" }
-    {
-        match self {
-            FieldFault::Field => "Field",
+            FieldFault::Field => Report::new(8, "Field"),
         }
     }
 }

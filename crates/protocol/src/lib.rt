@@ -28,6 +28,7 @@ ghost use Rattle.protocol.specs.Offers.{arrivals, client_after, offers, bytes_si
 ghost use Rattle.protocol.specs.Transfers.{KeepsUp, MissesAreOverruns, HandsItsChoices, MissesNothing};
 
 pub mod record;
+pub mod report;
 
 // ---- Records
 

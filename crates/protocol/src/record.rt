@@ -2,6 +2,7 @@
 ghost use Rattle.std.specs.Prelude.{◌≡◌};
 ghost use Rattle.protocol.specs.Record.{fault_number, fault_name};
 
+use crate::report::Report;
 use thiserror::Error;
 
 /// The type of a record, by the letter that a selector names it with (SeedLink 3, SELECT).
@@ -55,31 +56,18 @@ pub enum RecordFault {
 }
 
 impl RecordFault {
-    /// The number by which the program reports it, 1 to 6.
-    pub fn number(self) -> u8
-        ensures { result ≡ fault_number self }
+    /// The number and the name by which the program reports it: 1 to 6.
+    pub fn report(self) -> Report
+        ensures number { result.number ≡ fault_number self }
+        ensures name { result.name.now ≡ fault_name self }
     {
         match self {
-            RecordFault::Sequence => 1,
-            RecordFault::Quality => 2,
-            RecordFault::Time => 3,
-            RecordFault::Blockettes => 4,
-            RecordFault::No1000 => 5,
-            RecordFault::Length => 6,
-        }
-    }
-
-    /// The name by which the program reports it.
-    pub fn name(self) -> &'static str
-        ensures { result.now ≡ fault_name self }
-    {
-        match self {
-            RecordFault::Sequence => "Sequence",
-            RecordFault::Quality => "Quality",
-            RecordFault::Time => "Time",
-            RecordFault::Blockettes => "Blockettes",
-            RecordFault::No1000 => "No1000",
-            RecordFault::Length => "Length",
+            RecordFault::Sequence => Report::new(1, "Sequence"),
+            RecordFault::Quality => Report::new(2, "Quality"),
+            RecordFault::Time => Report::new(3, "Time"),
+            RecordFault::Blockettes => Report::new(4, "Blockettes"),
+            RecordFault::No1000 => Report::new(5, "No1000"),
+            RecordFault::Length => Report::new(6, "Length"),
         }
     }
 }

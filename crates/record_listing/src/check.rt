@@ -9,6 +9,7 @@ ghost use Rattle.record_listing.specs.Checks.{check_fault_number, check_fault_na
 use crate::fault::FileFault;
 use crate::listing::Listing;
 use feeder::{FeedCutter, Feeding};
+use protocol::report::Report;
 use sl_io::{ReadFault, Sink, Source, WriteFault, write_all};
 use std::alloc::{AllocError, Global};
 use thiserror::Error;
@@ -31,25 +32,15 @@ pub enum CheckFault {
 }
 
 impl CheckFault {
-    /// The number by which the program reports it: 25, 42 or 43.
-    pub fn number(self) -> u8
-        ensures { result ≡ check_fault_number self }
+    /// The number and the name by which the program reports it: 25, 42 or 43.
+    pub fn report(self) -> Report
+        ensures number { result.number ≡ check_fault_number self }
+        ensures name { result.name.now ≡ check_fault_name self }
     {
         match self {
-            CheckFault::OutOfMemory => 25,
-            CheckFault::Read => 42,
-            CheckFault::Write => 43,
-        }
-    }
-
-    /// The name by which the program reports it.
-    pub fn name(self) -> &'static str
-        ensures { result.now ≡ check_fault_name self }
-    {
-        match self {
-            CheckFault::OutOfMemory => "OutOfMemory",
-            CheckFault::Read => "Read",
-            CheckFault::Write => "Write",
+            CheckFault::OutOfMemory => Report::new(25, "OutOfMemory"),
+            CheckFault::Read => Report::new(42, "Read"),
+            CheckFault::Write => Report::new(43, "Write"),
         }
     }
 }

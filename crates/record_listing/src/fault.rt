@@ -3,6 +3,7 @@ ghost use Rattle.std.specs.Prelude.{◌≡◌};
 ghost use Rattle.record_listing.specs.Listing.{file_fault_number, file_fault_name};
 
 use mseed_header::RecordFault;
+use protocol::report::Report;
 use thiserror::Error;
 
 /// What is wrong with a file of records.
@@ -17,23 +18,14 @@ pub enum FileFault {
 }
 
 impl FileFault {
-    /// The number by which the program reports it: that of the record's fault, 1 to 6, or 41.
-    pub fn number(self) -> u8
-        ensures { result ≡ file_fault_number self }
+    /// The number and the name by which the program reports it: those of the record's fault, 1 to 6, or 41.
+    pub fn report(self) -> Report
+        ensures number { result.number ≡ file_fault_number self }
+        ensures name { result.name.now ≡ file_fault_name self }
     {
         match self {
-            FileFault::Record(fault) => fault.number(),
-            FileFault::Partial => 41,
-        }
-    }
-
-    /// The name by which the program reports it.
-    pub fn name(self) -> &'static str
-        ensures { result.now ≡ file_fault_name self }
-    {
-        match self {
-            FileFault::Record(fault) => fault.name(),
-            FileFault::Partial => "Partial",
+            FileFault::Record(fault) => fault.report(),
+            FileFault::Partial => Report::new(41, "Partial"),
         }
     }
 }

@@ -105,8 +105,9 @@ fn put_refusal(text: &mut Vec<u8>, fault: RecordFault) -> Result<(), AllocError>
     ensures { OnOk result (text.new.items ≡ text.old.items ++ refusal_text fault) }
 {
     text.extend_from_slice(b"refused ")?;
-    put_number_word(text, fault.number())?;
-    text.extend_from_slice(fault.name().as_bytes())?;
+    let report = fault.report();
+    put_number_word(text, report.number)?;
+    text.extend_from_slice(report.name.as_bytes())?;
     Ok(())
 }
 

@@ -2,6 +2,7 @@
 ghost use Rattle.std.specs.Prelude.{◌≡◌, ◌<◌, IfOk};
 
 use crate::worked::round;
+use protocol::report::Report;
 use sl_io::{
     DeviceFault, MemorySink, MemorySource, Outer, ReadFault, Sink, Source, WriteFault, read_all,
     write_all,
@@ -48,7 +49,7 @@ fn more_than_a_block_is_read_whole(rt: HostRuntime) -> Result<(), Fail> {
     let got = read_all(rt.alloc(), &mut source)?;
     assert!(rt; got.as_slice() == bytes.as_slice());
     assert!(rt; source.left().is_empty());
-    assert_eq!(rt; source.calls(), 3);
+    assert_eq!(rt; source.counts().calls, 3);
     Ok(())
 }
 
@@ -57,8 +58,8 @@ fn three_bytes_a_write(rt: HostRuntime) -> Result<(), Fail> {
     let mut sink = MemorySink::in_pieces(rt.alloc(), 3);
     write_all(&mut sink, b"SL000000")?;
     assert!(rt; sink.bytes() == b"SL000000".as_slice());
-    assert_eq!(rt; sink.calls(), 3);
-    assert_eq!(rt; sink.failures(), 0);
+    assert_eq!(rt; sink.counts().calls, 3);
+    assert_eq!(rt; sink.counts().failures, 0);
     assert!(rt; sink.into_bytes().as_slice() == b"SL000000".as_slice());
     Ok(())
 }
@@ -67,7 +68,7 @@ fn three_bytes_a_write(rt: HostRuntime) -> Result<(), Fail> {
 fn all_in_one_write(rt: HostRuntime) -> Result<(), Fail> {
     let mut sink = MemorySink::new(rt.alloc());
     write_all(&mut sink, b"END")?;
-    assert_eq!(rt; sink.calls(), 1);
+    assert_eq!(rt; sink.counts().calls, 1);
     assert!(rt; sink.bytes() == b"END".as_slice());
     Ok(())
 }
@@ -77,10 +78,10 @@ fn a_reader_and_a_writer_of_std(rt: HostRuntime) -> Result<(), Fail> {
     let mut source = Outer::new(&b"STATION APE GE\r"[..]);
     let got = read_all(rt.alloc(), &mut source)?;
     assert!(rt; got.as_slice() == b"STATION APE GE\r".as_slice());
-    assert_eq!(rt; source.calls(), 2);
+    assert_eq!(rt; source.counts().calls, 2);
     let mut sink = Outer::new(Vec::new(rt.alloc()));
     write_all(&mut sink, &got)?;
-    assert_eq!(rt; sink.calls(), 1);
+    assert_eq!(rt; sink.counts().calls, 1);
     assert!(rt; sink.into_inner().as_slice() == b"STATION APE GE\r".as_slice());
     Ok(())
 }
@@ -137,40 +138,40 @@ fn a_failed_read_is_counted(rt: HostRuntime) {
     let mut source = Outer::new(Breaking { left: 2 });
     let outcome = read_all(rt.alloc(), &mut source);
     assert!(rt; outcome.err() == Some(ReadFault::Read));
-    assert_eq!(rt; source.failures(), 1);
-    assert_eq!(rt; source.calls(), 2);
+    assert_eq!(rt; source.counts().failures, 1);
+    assert_eq!(rt; source.counts().calls, 2);
     assert!(rt; source.read(&mut [0; 4]) == Err(DeviceFault));
-    assert_eq!(rt; source.failures(), 2);
+    assert_eq!(rt; source.counts().failures, 2);
 }
 
 #[test]
 fn a_failed_write_is_counted(rt: HostRuntime) {
     let mut sink = Outer::new(Breaking { left: 2 });
     assert!(rt; write_all(&mut sink, b"HELLO\r") == Err(WriteFault));
-    assert_eq!(rt; sink.failures(), 1);
-    assert_eq!(rt; sink.calls(), 2);
-    assert_eq!(rt; sink.empty_writes(), 0);
+    assert_eq!(rt; sink.counts().failures, 1);
+    assert_eq!(rt; sink.counts().calls, 2);
+    assert_eq!(rt; sink.counts().empty_writes, 0);
 }
 
 #[test]
 fn an_empty_write_is_counted(rt: HostRuntime) {
     let mut sink = Outer::new(Full);
     assert!(rt; write_all(&mut sink, b"HELLO\r") == Err(WriteFault));
-    assert_eq!(rt; sink.failures(), 0);
-    assert_eq!(rt; sink.empty_writes(), 1);
+    assert_eq!(rt; sink.counts().failures, 0);
+    assert_eq!(rt; sink.counts().empty_writes, 1);
     assert!(rt; sink.write(b"") == Ok(0));
-    assert_eq!(rt; sink.empty_writes(), 1);
-    assert_eq!(rt; sink.calls(), 2);
+    assert_eq!(rt; sink.counts().empty_writes, 1);
+    assert_eq!(rt; sink.counts().calls, 2);
 }
 
 #[test]
 fn numbers_and_names(rt: HostRuntime) {
-    assert!(rt; DeviceFault.number() == 48 && DeviceFault.name() == "Device");
-    assert!(rt; WriteFault.number() == 43 && WriteFault.name() == "Write");
+    assert!(rt; DeviceFault.report() == Report::new(48, "Device"));
+    assert!(rt; WriteFault.report() == Report::new(43, "Write"));
     for (fault, number, name) in [
         (ReadFault::OutOfMemory, 25, "OutOfMemory"),
         (ReadFault::Read, 42, "Read"),
     ] {
-        assert!(rt; fault.number() == number && fault.name() == name, "{name}");
+        assert!(rt; fault.report() == Report::new(number, name), "{name}");
     }
 }

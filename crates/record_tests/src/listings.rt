@@ -1,6 +1,7 @@
 //! Listings of worked records.
 use crate::worked::{Changes, HEAD, record_of};
 use mseed_header::RecordFault;
+use protocol::report::Report;
 use record_listing::{CheckFault, FileFault, check_records};
 use sl_io::{MemorySink, MemorySource};
 use std::alloc::{AllocError, Global};
@@ -196,8 +197,7 @@ fn numbers_of_faults(rt: HostRuntime) -> Result<(), Fail> {
         (CheckFault::Read, 42, "Read"),
         (CheckFault::Write, 43, "Write"),
     ] {
-        assert_eq!(rt; fault.number(), number);
-        assert!(rt; fault.name() == name);
+        assert!(rt; fault.report() == Report::new(number, name), "{name}");
     }
     Ok(())
 }
@@ -205,8 +205,6 @@ fn numbers_of_faults(rt: HostRuntime) -> Result<(), Fail> {
 #[test]
 fn numbers_and_names_of_what_is_wrong(rt: HostRuntime) {
     let refused = FileFault::Record(RecordFault::Blockettes);
-    assert_eq!(rt; refused.number(), 4);
-    assert!(rt; refused.name() == "Blockettes");
-    assert_eq!(rt; FileFault::Partial.number(), 41);
-    assert!(rt; FileFault::Partial.name() == "Partial");
+    assert!(rt; refused.report() == Report::new(4, "Blockettes"));
+    assert!(rt; FileFault::Partial.report() == Report::new(41, "Partial"));
 }

@@ -7,6 +7,7 @@ ghost use Rattle.selector.specs.Matching.{passes_parts};
 use crate::pattern::Selector;
 use arrayvec::ArrayVec;
 use protocol::record::Kind;
+use protocol::report::Report;
 use std::marker::Model;
 use thiserror::Error;
 
@@ -19,18 +20,12 @@ const CAPACITY: usize = 16;
 pub struct Full;
 
 impl Full {
-    /// The number by which the program reports it.
-    pub fn number(self) -> u8
-        ensures { result ≡ 62 }
+    /// The number and the name by which the program reports it: 62 Full.
+    pub fn report(self) -> Report
+        ensures number { result.number ≡ 62 }
+        ensures name { result.name.now ≡ codes "Full" }
     {
-        62
-    }
-
-    /// The name by which the program reports it.
-    pub fn name(self) -> &'static str
-        ensures { result.now ≡ codes "Full" }
-    {
-        "Full"
+        Report::new(62, "Full")
     }
 }
 

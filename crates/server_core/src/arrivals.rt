@@ -7,6 +7,7 @@ ghost use Rattle.server_core.specs.declared.arrivals.ArriveFault.TheVariants.{Ex
 
 use catalog::Config;
 use mseed_header::{Header, RecordFault, read};
+use protocol::report::Report;
 use station_ring::Summary;
 use thiserror::Error;
 
@@ -25,25 +26,15 @@ pub enum ArriveFault {
 }
 
 impl ArriveFault {
-    /// The number by which the program reports it: that of the record's fault, 1 to 6, or 32 or 33.
-    pub fn number(self) -> u8
-        ensures { result ≡ arrive_number self }
+    /// The number and the name by which the program reports it: those of the record's fault, 1 to 6, or 32 or 33.
+    pub fn report(self) -> Report
+        ensures number { result.number ≡ arrive_number self }
+        ensures name { result.name.now ≡ arrive_name self }
     {
         match self {
-            ArriveFault::Record(fault) => fault.number(),
-            ArriveFault::UnknownStation => 32,
-            ArriveFault::Exhausted => 33,
-        }
-    }
-
-    /// The name by which the program reports it.
-    pub fn name(self) -> &'static str
-        ensures { result.now ≡ arrive_name self }
-    {
-        match self {
-            ArriveFault::Record(fault) => fault.name(),
-            ArriveFault::UnknownStation => "UnknownStation",
-            ArriveFault::Exhausted => "Exhausted",
+            ArriveFault::Record(fault) => fault.report(),
+            ArriveFault::UnknownStation => Report::new(32, "UnknownStation"),
+            ArriveFault::Exhausted => Report::new(33, "Exhausted"),
         }
     }
 }

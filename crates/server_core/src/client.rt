@@ -2,6 +2,7 @@
 ghost use Rattle.std.specs.Prelude.{◌≡◌, codes};
 ghost use Rattle.server_core.specs.Refusals.{refusal_number, refusal_name};
 
+use protocol::report::Report;
 use std::marker::Model;
 use thiserror::Error;
 
@@ -53,18 +54,12 @@ pub enum Offer {
 pub struct Gone;
 
 impl Gone {
-    /// The number by which the program reports it.
-    pub fn number(self) -> u8
-        ensures { result ≡ 30 }
+    /// The number and the name by which the program reports it: 30 Gone.
+    pub fn report(self) -> Report
+        ensures number { result.number ≡ 30 }
+        ensures name { result.name.now ≡ codes "Gone" }
     {
-        30
-    }
-
-    /// The name by which the program reports it.
-    pub fn name(self) -> &'static str
-        ensures { result.now ≡ codes "Gone" }
-    {
-        "Gone"
+        Report::new(30, "Gone")
     }
 }
 
@@ -80,23 +75,14 @@ pub enum Refusal {
 }
 
 impl Refusal {
-    /// The number by which the program reports it.
-    pub fn number(self) -> u8
-        ensures { result ≡ refusal_number self }
+    /// The number and the name by which the program reports it: 30 or 31.
+    pub fn report(self) -> Report
+        ensures number { result.number ≡ refusal_number self }
+        ensures name { result.name.now ≡ refusal_name self }
     {
         match self {
-            Refusal::Gone => 30,
-            Refusal::NoRoom => 31,
-        }
-    }
-
-    /// The name by which the program reports it.
-    pub fn name(self) -> &'static str
-        ensures { result.now ≡ refusal_name self }
-    {
-        match self {
-            Refusal::Gone => "Gone",
-            Refusal::NoRoom => "NoRoom",
+            Refusal::Gone => Report::new(30, "Gone"),
+            Refusal::NoRoom => Report::new(31, "NoRoom"),
         }
     }
 }

@@ -1,6 +1,7 @@
 //! Why bytes are not taken.
 ghost use Rattle.std.specs.Prelude.{◌≡◌, codes};
 
+use protocol::report::Report;
 use thiserror::Error;
 
 /// There are more bytes than there is room for: 1,024 less the unread ones.
@@ -9,17 +10,11 @@ use thiserror::Error;
 pub struct NoRoom;
 
 impl NoRoom {
-    /// The number by which the program reports it.
-    pub fn number(self) -> u8
-        ensures { result ≡ 31 }
+    /// The number and the name by which the program reports it: 31 NoRoom.
+    pub fn report(self) -> Report
+        ensures number { result.number ≡ 31 }
+        ensures name { result.name.now ≡ codes "NoRoom" }
     {
-        31
-    }
-
-    /// The name by which the program reports it.
-    pub fn name(self) -> &'static str
-        ensures { result.now ≡ codes "NoRoom" }
-    {
-        "NoRoom"
+        Report::new(31, "NoRoom")
     }
 }

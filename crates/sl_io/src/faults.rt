@@ -2,6 +2,7 @@
 ghost use Rattle.std.specs.Prelude.{◌≡◌, codes};
 ghost use Rattle.sl_io.specs.Faults.{read_fault_number, read_fault_name};
 
+use protocol::report::Report;
 use thiserror::Error;
 
 /// One read or write failed.
@@ -10,18 +11,12 @@ use thiserror::Error;
 pub struct DeviceFault;
 
 impl DeviceFault {
-    /// The number by which the program reports it, 48.
-    pub fn number(self) -> u8
-        ensures { result ≡ 48 }
+    /// The number and the name by which the program reports it: 48 Device.
+    pub fn report(self) -> Report
+        ensures number { result.number ≡ 48 }
+        ensures name { result.name.now ≡ codes "Device" }
     {
-        48
-    }
-
-    /// The name by which the program reports it.
-    pub fn name(self) -> &'static str
-        ensures { result.now ≡ codes "Device" }
-    {
-        "Device"
+        Report::new(48, "Device")
     }
 }
 
@@ -37,23 +32,14 @@ pub enum ReadFault {
 }
 
 impl ReadFault {
-    /// The number by which the program reports it, 25 or 42.
-    pub fn number(self) -> u8
-        ensures { result ≡ read_fault_number self }
+    /// The number and the name by which the program reports it: 25 or 42.
+    pub fn report(self) -> Report
+        ensures number { result.number ≡ read_fault_number self }
+        ensures name { result.name.now ≡ read_fault_name self }
     {
         match self {
-            ReadFault::OutOfMemory => 25,
-            ReadFault::Read => 42,
-        }
-    }
-
-    /// The name by which the program reports it.
-    pub fn name(self) -> &'static str
-        ensures { result.now ≡ read_fault_name self }
-    {
-        match self {
-            ReadFault::OutOfMemory => "OutOfMemory",
-            ReadFault::Read => "Read",
+            ReadFault::OutOfMemory => Report::new(25, "OutOfMemory"),
+            ReadFault::Read => Report::new(42, "Read"),
         }
     }
 }
@@ -64,17 +50,11 @@ impl ReadFault {
 pub struct WriteFault;
 
 impl WriteFault {
-    /// The number by which the program reports it, 43.
-    pub fn number(self) -> u8
-        ensures { result ≡ 43 }
+    /// The number and the name by which the program reports it: 43 Write.
+    pub fn report(self) -> Report
+        ensures number { result.number ≡ 43 }
+        ensures name { result.name.now ≡ codes "Write" }
     {
-        43
-    }
-
-    /// The name by which the program reports it.
-    pub fn name(self) -> &'static str
-        ensures { result.now ≡ codes "Write" }
-    {
-        "Write"
+        Report::new(43, "Write")
     }
 }

@@ -9,12 +9,14 @@ ghost use Rattle.std.specs.Io.{ReadsAtMost, WritesAtMost};
 ghost use Rattle.std.specs.Io.KnownBytes.{ReadConsumes, WriteAppends};
 ghost use Rattle.sl_io.specs.Counts.{IsMore, CountsFailure, CountsEmptyWrite};
 
+mod counts;
 mod faults;
 mod memory_sink;
 mod memory_source;
 mod outer;
 mod whole;
 
+pub use counts::Counts;
 pub use faults::{DeviceFault, ReadFault, WriteFault};
 pub use memory_sink::MemorySink;
 pub use memory_source::MemorySource;

@@ -4,7 +4,7 @@ ghost use Rattle.std.specs.Io.{WritesAtMost};
 ghost use Rattle.std.specs.Io.KnownBytes.{WriteAppends};
 ghost use Rattle.sl_io.specs.Counts.{IsMore, CountsFailure, CountsEmptyWrite};
 
-use crate::{DeviceFault, Sink};
+use crate::{Counts, DeviceFault, Sink};
 use std::alloc::Global;
 
 /// A writer into memory. It takes at most `most` bytes a call, and tells its bytes. A write for which there is no memory fails.
@@ -56,18 +56,15 @@ impl MemorySink {
         self.bytes
     }
 
-    /// How many writes failed, modulo 2^64.
-    pub fn failures(&self) -> u64
-        ensures { result ≡ self.now.failures }
+    /// How many writes were made, and how many failed. No write is an empty one.
+    pub fn counts(&self) -> Counts
+        ensures { result ≡ record { failures = self.now.failures; calls = self.now.calls; empty_writes = 0 } }
     {
-        self.failures
-    }
-
-    /// How many writes were made, modulo 2^64.
-    pub fn calls(&self) -> u64
-        ensures { result ≡ self.now.calls }
-    {
-        self.calls
+        Counts {
+            failures: self.failures,
+            calls: self.calls,
+            empty_writes: 0,
+        }
     }
 }
 

@@ -4,7 +4,7 @@ ghost use Rattle.std.specs.Io.{ReadsAtMost};
 ghost use Rattle.std.specs.Io.KnownBytes.{ReadConsumes};
 ghost use Rattle.sl_io.specs.Counts.{IsMore, CountsFailure};
 
-use crate::{DeviceFault, Source};
+use crate::{Counts, DeviceFault, Source};
 
 /// A reader of bytes in memory. It gives at most `most` bytes a call, never fails, and tells its bytes.
 #[derive(Drop)]
@@ -46,11 +46,15 @@ impl<'a> MemorySource<'a> {
         self.left
     }
 
-    /// How many reads were made, modulo 2^64.
-    pub fn calls(&self) -> u64
-        ensures { result ≡ self.now.calls }
+    /// How many reads were made. None fails.
+    pub fn counts(&self) -> Counts
+        ensures { result ≡ record { failures = 0; calls = self.now.calls; empty_writes = 0 } }
     {
-        self.calls
+        Counts {
+            failures: 0,
+            calls: self.calls,
+            empty_writes: 0,
+        }
     }
 }
 

@@ -1,6 +1,8 @@
 //! Readers and writers of the outer world.
 ghost use Rattle.std.specs.Prelude.{◌≡◌};
 
+use crate::Counts;
+
 mod reading;
 mod writing;
 
@@ -36,24 +38,14 @@ impl<T> Outer<T> {
         self.inner
     }
 
-    /// How many reads and writes failed, modulo 2^64.
-    pub fn failures(&self) -> u64
-        ensures { result ≡ self.now.failures }
+    /// How many reads and writes were made, how many of them failed, and how many writes were empty ones.
+    pub fn counts(&self) -> Counts
+        ensures { result ≡ record { failures = self.now.failures; calls = self.now.calls; empty_writes = self.now.empty_writes } }
     {
-        self.failures
-    }
-
-    /// How many reads and writes were made, modulo 2^64.
-    pub fn calls(&self) -> u64
-        ensures { result ≡ self.now.calls }
-    {
-        self.calls
-    }
-
-    /// How many writes took no byte of a slice that is not empty, modulo 2^64.
-    pub fn empty_writes(&self) -> u64
-        ensures { result ≡ self.now.empty_writes }
-    {
-        self.empty_writes
+        Counts {
+            failures: self.failures,
+            calls: self.calls,
+            empty_writes: self.empty_writes,
+        }
     }
 }

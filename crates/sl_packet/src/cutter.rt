@@ -3,6 +3,7 @@ ghost use Rattle.std.specs.Prelude.{◌≡◌, ◌+◌, ◌<◌, ◌≤◌, ◌+
 ghost use Rattle.sl_packet.specs.States.{end_piece};
 
 use crate::packets::{PACKET, may_continue};
+use protocol::report::Report;
 use std::marker::Model;
 use thiserror::Error;
 
@@ -12,18 +13,12 @@ use thiserror::Error;
 pub struct NotAPacket;
 
 impl NotAPacket {
-    /// The number by which the program reports it, 10.
-    pub fn number(self) -> u8
-        ensures { result ≡ 10 }
+    /// The number and the name by which the program reports it: 10 NotAPacket.
+    pub fn report(self) -> Report
+        ensures number { result.number ≡ 10 }
+        ensures name { result.name.now ≡ codes "NotAPacket" }
     {
-        10
-    }
-
-    /// The name by which the program reports it.
-    pub fn name(self) -> &'static str
-        ensures { result.now ≡ codes "NotAPacket" }
-    {
-        "NotAPacket"
+        Report::new(10, "NotAPacket")
     }
 }
 

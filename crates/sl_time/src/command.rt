@@ -7,6 +7,7 @@ ghost use Rattle.sl_time.specs.Parsed.{fault_number, fault_name, parsed};
 use crate::calendar;
 use crate::parts::Parts;
 use crate::ticks::{self, Tick};
+use protocol::report::Report;
 use std::marker::Model;
 use thiserror::Error;
 
@@ -22,23 +23,14 @@ pub enum TimeFault {
 }
 
 impl TimeFault {
-    /// The number by which the program reports it, 60 or 61.
-    pub fn number(self) -> u8
-        ensures { result ≡ fault_number self }
+    /// The number and the name by which the program reports it: 60 or 61.
+    pub fn report(self) -> Report
+        ensures number { result.number ≡ fault_number self }
+        ensures name { result.name.now ≡ fault_name self }
     {
         match self {
-            TimeFault::Shape => 60,
-            TimeFault::Range => 61,
-        }
-    }
-
-    /// The name by which the program reports it.
-    pub fn name(self) -> &'static str
-        ensures { result.now ≡ fault_name self }
-    {
-        match self {
-            TimeFault::Shape => "Shape",
-            TimeFault::Range => "Range",
+            TimeFault::Shape => Report::new(60, "Shape"),
+            TimeFault::Range => Report::new(61, "Range"),
         }
     }
 }

@@ -1,5 +1,6 @@
 //! Texts of addresses, and whom they allow.
 use access_list::{AccessFault, AccessList, address};
+use protocol::report::Report;
 use std::alloc::Global;
 use std::net::Ipv4Addr;
 
@@ -84,6 +85,6 @@ fn faults_have_numbers_and_names(rt: HostRuntime) {
         (AccessFault::Mask, 12, "Mask"),
         (AccessFault::OutOfMemory, 25, "OutOfMemory"),
     ] {
-        assert!(rt; fault.number() == number && fault.name() == name, "{name}");
+        assert!(rt; fault.report() == Report::new(number, name), "{name}");
     }
 }

@@ -1,10 +1,11 @@
 //! Times of commands, and starts of records.
+use protocol::report::Report;
 use sl_time::{Tick, TimeFault, of_btime, parse};
 
 fn ticks_of(text: &[u8]) -> Result<i64, u8> {
     match parse(text) {
         Ok(tick) => Ok(tick.value()),
-        Err(fault) => Err(fault.number()),
+        Err(fault) => Err(fault.report().number),
     }
 }
 
@@ -109,5 +110,6 @@ fn ticks_are_ordered_in_time(rt: HostRuntime) {
 
 #[test]
 fn the_faults_have_names(rt: HostRuntime) {
-    assert!(rt; TimeFault::Shape.name() == "Shape" && TimeFault::Range.name() == "Range");
+    assert!(rt; TimeFault::Shape.report() == Report::new(60, "Shape"));
+    assert!(rt; TimeFault::Range.report() == Report::new(61, "Range"));
 }

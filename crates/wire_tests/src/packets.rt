@@ -1,6 +1,7 @@
 //! Streams of packets by the piece.
 ghost use Rattle.std.specs.Prelude.{◌<◌};
 
+use protocol::report::Report;
 use sl_packet::{Cut, Fed, NotAPacket, PacketCutter, Seq, frame};
 use std::alloc::{AllocError, Global};
 use std::test::Fail;
@@ -168,6 +169,5 @@ fn a_framed_record_is_cut(rt: HostRuntime) -> Result<(), Fail> {
 
 #[test]
 fn the_fault_says_what_it_is(rt: HostRuntime) {
-    assert_eq!(rt; NotAPacket.number(), 10);
-    assert_eq!(rt; NotAPacket.name(), "NotAPacket");
+    assert!(rt; NotAPacket.report() == Report::new(10, "NotAPacket"));
 }

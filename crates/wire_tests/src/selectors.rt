@@ -1,5 +1,6 @@
 //! Patterns, and lists of them.
 use protocol::record::Kind;
+use protocol::report::Report;
 use selector::{Full, Selector, Selectors};
 
 const PLACE: &[u8; 2] = b"00";
@@ -173,6 +174,5 @@ fn a_list_is_cleared(rt: HostRuntime) {
 
 #[test]
 fn a_full_list_has_a_number_and_a_name(rt: HostRuntime) {
-    assert_eq!(rt; Full.number(), 62);
-    assert_eq!(rt; Full.name(), "Full");
+    assert!(rt; Full.report() == Report::new(62, "Full"));
 }

@@ -42,7 +42,7 @@ fn records_are_numbered_by_their_station_or_refused(rt: HostRuntime) -> Result<(
 #[test]
 fn refusals_have_numbers_and_names(rt: HostRuntime) {
     let unknown = ArriveFault::UnknownStation;
-    assert!(rt; unknown.number() == 32 && unknown.name() == "UnknownStation");
+    assert!(rt; unknown.report().number == 32 && unknown.report().name == "UnknownStation");
     let poor = ArriveFault::Record(RecordFault::Quality);
-    assert!(rt; poor.number() == 2 && poor.name() == "Quality");
+    assert!(rt; poor.report().number == 2 && poor.report().name == "Quality");
 }

@@ -16,8 +16,8 @@ fn a_byte_at_a_time(rt: HostRuntime) -> Result<(), Fail> {
     let output = greeted(rt.alloc(), "0 G\n0 -\n")?;
     assert!(rt; sink.bytes() == output.as_bytes());
     // One read a byte, and one that finds the end.
-    assert_eq!(rt; source.calls(), SCRIPT.len() as u64 + 1);
-    assert_eq!(rt; sink.calls(), 97);
+    assert_eq!(rt; source.counts().calls, SCRIPT.len() as u64 + 1);
+    assert_eq!(rt; sink.counts().calls, 97);
     Ok(())
 }
 
@@ -26,11 +26,11 @@ fn one_write_and_none_for_nothing(rt: HostRuntime) -> Result<(), Fail> {
     let mut sink = MemorySink::new(rt.alloc());
     let mut source = MemorySource::new(SCRIPT);
     replay(rt.alloc(), config(rt.alloc())?, &mut source, &mut sink)?;
-    assert_eq!(rt; sink.calls(), 1);
+    assert_eq!(rt; sink.counts().calls, 1);
     let mut sink = MemorySink::new(rt.alloc());
     let mut source = MemorySource::new(b"");
     replay(rt.alloc(), config(rt.alloc())?, &mut source, &mut sink)?;
-    assert_eq!(rt; sink.calls(), 0);
+    assert_eq!(rt; sink.counts().calls, 0);
     Ok(())
 }
 
@@ -100,8 +100,8 @@ fn a_reader_that_fails(rt: HostRuntime) -> Result<(), Fail> {
     let mut sink = MemorySink::new(rt.alloc());
     let outcome = replay(rt.alloc(), config(rt.alloc())?, &mut source, &mut sink);
     assert!(rt; outcome == Err(ReplayFault::Read));
-    assert_eq!(rt; source.failures(), 1);
-    assert_eq!(rt; sink.calls(), 0);
+    assert_eq!(rt; source.counts().failures, 1);
+    assert_eq!(rt; sink.counts().calls, 0);
     Ok(())
 }
 
@@ -111,12 +111,12 @@ fn a_writer_that_fails(rt: HostRuntime) -> Result<(), Fail> {
     let mut sink = Outer::new(Breaking::new());
     let outcome = replay(rt.alloc(), config(rt.alloc())?, &mut source, &mut sink);
     assert!(rt; outcome == Err(ReplayFault::Write));
-    assert_eq!(rt; sink.failures(), 1);
+    assert_eq!(rt; sink.counts().failures, 1);
     assert_eq!(rt; sink.into_inner().taken, 10);
     let mut source = MemorySource::new(SCRIPT);
     let mut sink = Outer::new(Full);
     let outcome = replay(rt.alloc(), config(rt.alloc())?, &mut source, &mut sink);
     assert!(rt; outcome == Err(ReplayFault::Write));
-    assert_eq!(rt; sink.empty_writes(), 1);
+    assert_eq!(rt; sink.counts().empty_writes, 1);
     Ok(())
 }

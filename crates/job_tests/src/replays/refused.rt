@@ -12,7 +12,7 @@ fn fault(alloc: Global, script: &[u8]) -> Result<Option<ReplayFault>, Fail> {
     match replay(alloc, config(alloc)?, &mut source, &mut sink) {
         Ok(()) => Ok(None),
         Err(fault) => {
-            if sink.calls() == 0 && sink.bytes().is_empty() {
+            if sink.counts().calls == 0 && sink.bytes().is_empty() {
                 Ok(Some(fault))
             } else {
                 Ok(None)

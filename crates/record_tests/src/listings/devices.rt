@@ -30,7 +30,7 @@ fn lines_are_written_in_large_pieces(rt: HostRuntime) -> Result<(), Fail> {
         assert!(rt; verdict.is_none());
         assert!(rt; sink.bytes() == wanted.as_bytes(), "{most} bytes a read");
         // About 53,000 bytes, of which 32,768 are enough to be written.
-        assert_eq!(rt; sink.calls(), 2);
+        assert_eq!(rt; sink.counts().calls, 2);
     }
     Ok(())
 }
@@ -42,7 +42,7 @@ fn a_reader_that_fails(rt: HostRuntime) -> Result<(), Fail> {
         let mut sink = MemorySink::new(rt.alloc());
         let outcome = check_records(rt.alloc(), &mut source, &mut sink);
         assert!(rt; outcome == Err(CheckFault::Read), "after {left} bytes");
-        assert_eq!(rt; source.failures(), 1);
+        assert_eq!(rt; source.counts().failures, 1);
     }
     Ok(())
 }
@@ -55,7 +55,7 @@ fn a_writer_that_fails(rt: HostRuntime) -> Result<(), Fail> {
         let mut sink = Outer::new(Breaking { left });
         let outcome = check_records(rt.alloc(), &mut source, &mut sink);
         assert!(rt; outcome == Err(CheckFault::Write), "after {left} bytes");
-        assert_eq!(rt; sink.failures(), 1);
+        assert_eq!(rt; sink.counts().failures, 1);
         assert_eq!(rt; sink.into_inner().left, 0);
     }
     Ok(())

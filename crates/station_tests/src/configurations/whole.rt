@@ -2,24 +2,12 @@
 use super::{CENTRE, config_with, judged, read};
 use access_list::AccessFault;
 use catalog::{Config, ConfigFault, Station};
-use std::alloc::{AllocError, Global};
+use std::alloc::Global;
 use std::test::Fail;
 
-/// The text of the three stations with a part of it changed.
-fn centre_with(alloc: Global, old: &str, new: &str) -> Result<String, AllocError> {
-    let mut text = String::new(alloc);
-    for (place, part) in CENTRE.split(old).enumerate() {
-        if place > 0 {
-            text.push_str(new)?;
-        }
-        text.push_str(part)?;
-    }
-    Ok(text)
-}
-
-/// Why that text is no configuration.
+/// Why the text of the three stations is no configuration, with a part of it changed.
 fn judged_with(alloc: Global, old: &str, new: &str) -> Result<(), ConfigFault> {
-    match centre_with(alloc, old, new) {
+    match CENTRE.replace(alloc, old, new) {
         Ok(text) => read(alloc, text.as_bytes()),
         Err(_) => Err(ConfigFault::OutOfMemory),
     }
@@ -110,17 +98,17 @@ fn each_refusal_has_its_number(rt: HostRuntime) {
     for &(old, new, number) in &NUMBERS {
         let judged = judged_with(rt.alloc(), old, new);
         assert!(rt;
-            judged.map_err(|fault| fault.number()) == Err(number),
+            judged.map_err(|fault| fault.report().number) == Err(number),
             "{number}"
         );
     }
-    assert!(rt; ConfigFault::OutOfMemory.number() == 25);
+    assert!(rt; ConfigFault::OutOfMemory.report().number == 25);
 }
 
 #[test]
 fn a_refusal_by_addresses_has_a_cause(rt: HostRuntime) {
     let unspelled = judged_with(rt.alloc(), "10.0.0.0/8", "10.0.0/8");
-    assert_eq!(rt; unspelled.map_err(|fault| fault.name()), Err("Access"));
+    assert!(rt; unspelled.map_err(|fault| fault.report().name) == Err("Access"));
     assert_eq!(rt;
         unspelled.map_err(|fault| fault.cause()),
         Err(Some(AccessFault::Address))
