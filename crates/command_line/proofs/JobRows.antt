@@ -1,9 +1,10 @@
 -- Worked words of a command line.
-use Rattle.std.specs.Prelude.{◌≡◌, refl, List, [], ◌∷◌, Some, true, false, codes}
-use Rattle.clap.specs.Words.{Text, takes}
+use Rattle.std.specs.Prelude.{◌≡◌, refl, ℕ, List, [], ◌∷◌, Some, None, true, false, codes}
+use Rattle.clap.specs.Words.{Text, fault_of}
+use Rattle.clap.specs.declared.error.ErrorKind.TheVariants.{DisplayVersion, MissingRequiredArgument, UnknownArgument, ValueValidation}
 use Rattle.clap.proofs.OnLiterals.{clap_on_literals}
 use Rattle.command_line.specs.Jobs.{job_of, program_app}
-use Rattle.command_line.specs.Jobs.Asked.{Check, Replay}
+use Rattle.command_line.specs.Jobs.Asked.{Check, Replay, Serve, Feed, Read}
 
 abbrev replay_words : List Text
 replay_words = codes "seedlinkd" ∷ codes "replay" ∷ codes "island.toml" ∷ codes "hello.script" ∷ []
@@ -12,7 +13,7 @@ pub replay_asked : job_of replay_words ≡ Some (Replay (codes "island.toml") (c
 unfolding clap_on_literals
 replay_asked = refl
 
-pub replay_taken : takes program_app replay_words ≡ true
+pub replay_taken : fault_of program_app replay_words ≡ []
 unfolding clap_on_literals
 replay_taken = refl
 
@@ -23,18 +24,66 @@ pub check_asked : job_of check_words ≡ Some (Check (codes "records.mseed"))
 unfolding clap_on_literals
 check_asked = refl
 
-pub check_taken : takes program_app check_words ≡ true
-unfolding clap_on_literals
-check_taken = refl
+abbrev serve_words : List Text
+serve_words =
+    codes "seedlinkd" ∷ codes "serve" ∷ codes "c.toml" ∷ codes "--listen" ∷ codes "127.0.0.1:18000" ∷ codes "--feed"
+    ∷ codes "127.0.0.1:18001" ∷ []
 
-pub one_text_too_few : takes program_app (codes "seedlinkd" ∷ codes "replay" ∷ codes "island.toml" ∷ []) ≡ false
+pub serve_asked : job_of serve_words ≡ Some (Serve (codes "c.toml") (codes "127.0.0.1:18000") (codes "127.0.0.1:18001") None)
+unfolding clap_on_literals
+serve_asked = refl
+
+pub serve_taken : fault_of program_app serve_words ≡ []
+unfolding clap_on_literals
+serve_taken = refl
+
+abbrev turns_words : List Text
+turns_words =
+    codes "seedlinkd" ∷ codes "serve" ∷ codes "--turns" ∷ codes "20" ∷ codes "c" ∷ codes "--feed=b" ∷ codes "--listen=a" ∷ []
+
+pub turns_asked : job_of turns_words ≡ Some (Serve (codes "c") (codes "a") (codes "b") (Some 20))
+unfolding clap_on_literals
+turns_asked = refl
+
+pub feed_asked : job_of (codes "seedlinkd" ∷ codes "feed" ∷ codes "a" ∷ codes "f" ∷ []) ≡ Some (Feed (codes "a") (codes "f"))
+unfolding clap_on_literals
+feed_asked = refl
+
+abbrev read_words : List Text
+read_words = codes "seedlinkd" ∷ codes "read" ∷ codes "a" ∷ codes "GE_WLF" ∷ codes "XX_APE" ∷ codes "--fetch" ∷ []
+
+pub read_asked : job_of read_words ≡ Some (Read (codes "a") (codes "GE_WLF" ∷ codes "XX_APE" ∷ []) true None)
+unfolding clap_on_literals
+read_asked = refl
+
+pub read_taken : fault_of program_app read_words ≡ []
+unfolding clap_on_literals
+read_taken = refl
+
+abbrev output_words : List Text
+output_words =
+    codes "seedlinkd" ∷ codes "read" ∷ codes "a" ∷ codes "GE_WLF" ∷ codes "--output" ∷ codes "-" ∷ []
+
+pub output_asked : job_of output_words ≡ Some (Read (codes "a") (codes "GE_WLF" ∷ []) false (Some (codes "-")))
+unfolding clap_on_literals
+output_asked = refl
+
+pub version_asked : fault_of program_app (codes "seedlinkd" ∷ codes "--version" ∷ []) ≡ DisplayVersion ∷ []
+unfolding clap_on_literals
+version_asked = refl
+
+pub one_text_too_few :
+    fault_of program_app (codes "seedlinkd" ∷ codes "replay" ∷ codes "island.toml" ∷ []) ≡ MissingRequiredArgument ∷ []
 unfolding clap_on_literals
 one_text_too_few = refl
 
-pub one_text_too_many : takes program_app (codes "seedlinkd" ∷ codes "replay" ∷ codes "a" ∷ codes "b" ∷ codes "c" ∷ []) ≡ false
+pub one_text_too_many :
+    fault_of program_app (codes "seedlinkd" ∷ codes "replay" ∷ codes "a" ∷ codes "b" ∷ codes "c" ∷ []) ≡ UnknownArgument ∷ []
 unfolding clap_on_literals
 one_text_too_many = refl
 
-pub no_such_job : takes program_app (codes "seedlinkd" ∷ codes "play" ∷ codes "a" ∷ codes "b" ∷ []) ≡ false
+pub no_turns :
+    fault_of program_app (codes "seedlinkd" ∷ codes "serve" ∷ codes "c" ∷ codes "--listen=a" ∷ codes "--feed=b" ∷ codes "--turns=0" ∷ [])
+    ≡ ValueValidation ∷ []
 unfolding clap_on_literals
-no_such_job = refl
+no_turns = refl

@@ -1,6 +1,9 @@
-//! The words of the command line of `seedlinkd`: which job they ask for, and what is told of those that ask for none.
+//! The command line of `seedlinkd`: which job its words ask for, or why they ask for none.
 #![tactic(auto)]
 
+mod commands;
+mod job;
 mod words;
 
-pub use words::{Job, WordsFault, read_words};
+pub use job::{Job, WordsFault};
+pub use words::read_words;
