@@ -1,6 +1,7 @@
 -- The table of commands, row by row.
-use Rattle.std.proofs.Common.{◌≡◌, ℕ, true, List, [], ◌∷◌, Option, Some, None, ℤ, refl, sym, ap, ◌∙◌, subst, inl, inr}
+use Rattle.std.proofs.Common.{◌≡◌, ◌≤◌, ◌<◌, ℕ, true, false, length, nat_le, arith, List, [], ◌∷◌, Option, Some, None, ℤ, refl, sym, ap, ◌∙◌, subst, inl, inr}
 use Rattle.std.specs.Prelude.{◌↔◌, ◌⊎◌, codes}
+use Rattle.std.proofs.lemmas.Bool.Decides.{leb_tells}
 use Rattle.std.specs.Str.{bytes_eq}
 use Rattle.std.proofs.lemmas.Slice.Eq.{bytes_eq-Decides}
 use Rattle.protocol.specs.Time.{time_of}
@@ -147,9 +148,37 @@ is_asked ws c (inr (none, bad)) (inr is_bad) = is_bad ∙ sym bad
 pub table_law : (ws : List (List ℕ)) (c : Command) → (command_of_words ws ≡ c) ↔ AsksFor ws c
 table_law ws c = (λ e. asks ws c e (read_row ws), λ h. is_asked ws c h (read_row ws))
 
-pub command_law : (line : Line) (c : Command) → (command_of line ≡ c) ↔ Asks line c
-command_law (Text bytes) c = (
-  λ e. (words bytes, (words_law bytes (words bytes)).0 refl, (table_law (words bytes) c).0 e),
-  λ (ws, has, asks_for). ap command_of_words ((words_law bytes ws).1 has) ∙ (table_law ws c).1 asks_for,
+-- a line of at most 256 bytes
+short_law : (bytes : List ℕ) (c : Command) → length bytes ≤ 256 → nat_le (length bytes) 256 ≡ true →
+    (command_of (Text bytes) ≡ c) ↔ Asks (Text bytes) c
+short_law bytes c fits holds = (
+  λ e. inl (fits, (words bytes, (words_law bytes (words bytes)).0 refl, (table_law (words bytes) c).0 (sym asked ∙ e))),
+  λ h. elim h [
+    | inl (_, (ws, has, asks_for)) ↦ asked ∙ ap command_of_words ((words_law bytes ws).1 has) ∙ (table_law ws c).1 asks_for
+    | inr (more, _) ↦ absurd (omega (arith, fits, more))
+  ],
 )
+  where
+    asked : command_of (Text bytes) ≡ command_of_words (words bytes)
+    asked = rw holds refl
+
+-- a longer one
+long_law : (bytes : List ℕ) (c : Command) → 256 < length bytes → nat_le (length bytes) 256 ≡ false →
+    (command_of (Text bytes) ≡ c) ↔ Asks (Text bytes) c
+long_law bytes c more fails = (
+  λ e. inr (more, sym e ∙ asked),
+  λ h. elim h [
+    | inl (fits, _) ↦ absurd (omega (arith, fits, more))
+    | inr (_, bad) ↦ asked ∙ sym bad
+  ],
+)
+  where
+    asked : command_of (Text bytes) ≡ Bad
+    asked = rw fails refl
+
+pub command_law : (line : Line) (c : Command) → (command_of line ≡ c) ↔ Asks line c
+command_law (Text bytes) c = elim (leb_tells (length bytes) 256) [
+  | inl (holds, fits) ↦ short_law bytes c fits holds
+  | inr (fails, more) ↦ long_law bytes c more fails
+]
 command_law TooLong c = (λ e. sym e, λ e. sym e)

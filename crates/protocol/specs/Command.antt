@@ -1,7 +1,8 @@
 -- What a line of a client asks.
 -- SeedLink 3, commands: HELLO, CAT, BYE, END, STATION, SELECT, DATA, FETCH and TIME.
 -- Left out: INFO, BATCH and CAPABILITIES, which are Bad here, and wildcards in a station's code.
-use Rattle.std.specs.Prelude.{◌≡◌, ◌≢◌, ◌⊎◌, ℕ, ◌-◌, ◌&&◌, nat_le, ◌==◌, if◌then◌else◌, List, [], ◌∷◌, ◌++◌, ℤ, Option, Some, None, codes, All}
+use Rattle.std.specs.Prelude.{◌≡◌, ◌≢◌, ◌⊎◌, ◌≤◌, ◌<◌, ℕ, ◌-◌, ◌&&◌, nat_le, ◌==◌, if◌then◌else◌, List, [], ◌∷◌, ◌++◌, length}
+use Rattle.std.specs.Prelude.{ℤ, Option, Some, None, codes, All}
 use Rattle.std.specs.Str.{bytes_eq}
 use Rattle.protocol.specs.Pieces.{split, without_empty}
 use Rattle.protocol.specs.Time.{time_of}
@@ -109,7 +110,7 @@ command_of_words (name ∷ ws) = named (uppercased name) ws
 
 -- what a line asks; one of more than 256 bytes is Bad, whatever it holds
 abbrev pub command_of : Line → Command
-command_of (Text bs) = command_of_words (words bs)
+command_of (Text bs) = if nat_le (length bs) 256 then command_of_words (words bs) else Bad
 command_of TooLong = Bad
 
 -- ---- the same in words
@@ -172,5 +173,7 @@ AsksFor ws c = IsRow ws c ⊎ (((d : Command) → Not (IsRow ws d)) × (c ≡ Ba
 
 -- what a line asks, by its words; one of more than 256 bytes is Bad, whatever it holds
 abbrev pub Asks : Line → Command → Type 0
-Asks (Text bytes) c = (ws : List (List ℕ)) × HasWords bytes ws × AsksFor ws c
+Asks (Text bytes) c =
+    ((length bytes ≤ 256) × ((ws : List (List ℕ)) × HasWords bytes ws × AsksFor ws c))
+    ⊎ ((256 < length bytes) × (c ≡ Bad))
 Asks TooLong c = c ≡ Bad
