@@ -12,6 +12,9 @@ use crate::words::{Arguments, arguments_of, first_word, is_named};
 use sl_packet::Seq;
 use sl_time::Tick;
 
+/// The most bytes of a line that can be a command.
+const LONGEST: usize = 256;
+
 /// What a line asks (SeedLink 3, commands). Codes and patterns are the line's own bytes, 1 to 256 of them and none a
 /// space: whether a station, a network or a pattern is meant by them is not judged here.
 #[derive(Clone, Copy, Debug, PartialEq, Eq)]
@@ -84,13 +87,19 @@ struct Interval {
 }
 
 /// What a line asks: its first word is a command's name in letters of either case, and the others are what the command
-/// takes. Runs of spaces (byte 32) part words, and those at either end count for nothing. A number is 1 to 6 hexadecimal
+/// takes. Runs of spaces (byte 32) separate words, and those at either end count for nothing. A line of more than 256 bytes
+/// is Bad, whatever it holds. A number is 1 to 6 hexadecimal
 /// digits; a time is `year,month,day` and up to three of `,hour`, `,minute` and `,second`.
 pub fn command(line: Line<'_>) -> Order<'_>
     ensures { order_value result ≡ command_of (line_value line.entry) }
 {
     match line {
-        Line::Text(text) => command_of_text(text),
+        Line::Text(text) => {
+            if text.len() > LONGEST {
+                return Order::Bad;
+            }
+            command_of_text(text)
+        }
         Line::TooLong => Order::Bad,
     }
 }
