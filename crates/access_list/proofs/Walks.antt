@@ -13,10 +13,6 @@ abbrev pub with_tokens : List Token → Result (List Token) AccessFault → Resu
 with_tokens ts (Ok us) = Ok (ts ++ us)
 with_tokens ts (Err e) = Err e
 
-pub with_none : (r : Result (List Token) AccessFault) → with_tokens [] r ≡ r
-with_none (Ok us) = refl
-with_none (Err e) = refl
-
 pub with_one_more : (ts : List Token) (t : Token) (r : Result (List Token) AccessFault) → with_tokens ts (cons_token (Ok t) r) ≡ with_tokens (ts ++ t ∷ []) r
 with_one_more ts t (Ok us) = ap Ok (sym (append_assoc ts (t ∷ []) us))
 with_one_more ts t (Err e) = refl

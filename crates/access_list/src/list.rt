@@ -26,20 +26,24 @@ impl Model for AccessList {
 }
 
 impl AccessList {
-    ghost use Rattle.std.specs.Prelude.{Ok, Err, IfOk, IfErr, ◌≢◌};
+    ghost use Rattle.std.specs.Prelude.{◌≢◌, ◌↔◌, ℕ, true, Ok, Err, IfOk, IfErr};
     ghost use Rattle.std.specs.Net.Addr.{ipv4_bits};
-    ghost use Rattle.protocol.specs.Access.{allows};
+    ghost use Rattle.protocol.specs.Access.{allows, IsAllowed};
     ghost use Rattle.access_list.specs.Tokens.{list_of};
     ghost use Rattle.access_list.specs.declared.fault.AccessFault.TheVariants.{OutOfMemory};
 
-    /// The list that a text spells. Any number of spaces and commas part its tokens, and nothing else does. A token is an
+    /// The list that a text spells. Any number of spaces and commas separate its tokens, and nothing else does. A token is an
     /// address, which is that address alone, or an address, `/` and a mask: a number 0 to 32 of one or two digits, which is
     /// that many leading one-bits, or four numbers joined by dots.
     ///
     /// It fails with the fault of the first bad token: Address where the part before its first `/` is no address, and else
-    /// Mask where the part behind it is no mask. It fails with OutOfMemory only where there is no memory.
+    /// Mask where the part after it is no mask. It fails with OutOfMemory only where there is no memory.
+    ///
+    /// The list allows an address exactly where one of its tokens has the same bit as the address in each of the 32 bits in
+    /// which its mask is one.
     pub fn parse(alloc: Global, text: &[u8]) -> Result<AccessList, AccessFault>
         ensures ok { IfOk result (λ list. list_of text.now ≡ Ok list) }
+        ensures words { IfOk result (λ list. (a : ℕ) → (allows list a ≡ true) ↔ IsAllowed list a) }
         ensures err { IfErr result (λ fault. fault ≢ OutOfMemory → list_of text.now ≡ Err fault) }
     {
         let mut tokens = Vec::new(alloc);

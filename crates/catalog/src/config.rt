@@ -1,5 +1,5 @@
 //! What a server is set up with.
-ghost use Rattle.std.specs.Prelude.{◌≡◌, ◌≢◌, ◌≤◌, All, length, slice_get, option_map, IfOk, IfErr, OnOk, Ok, Err, Some, None};
+ghost use Rattle.std.specs.Prelude.{◌≡◌, ◌≢◌, ◌≤◌, All, length, slice_get, option_map, unwrap_or, false, IfOk, IfErr, OnOk, Ok, Err, Some, None};
 ghost use Rattle.std.specs.List.{position};
 ghost use Rattle.std.specs.Str.{IsUtf8};
 ghost use Rattle.std.specs.Net.Addr.{ipv4_bits};
@@ -154,13 +154,15 @@ impl Config {
     }
 
     /// Whether an address may use the station at a place: the station's own list decides, without one the global list, and
-    /// without either everybody may.
+    /// without either everybody may. At a place without a station nobody sees anything.
     pub fn sees(&self, place: usize, address: Ipv4Addr) -> bool
-        requires { IsPlace self.now place }
-        ensures { option_map (λ e. sees e.access self.now.access (ipv4_bits address)) (slice_get self.now.entries place) ≡ Some result }
+        ensures { result ≡ unwrap_or (option_map (λ e. sees e.access self.now.access (ipv4_bits address))
+            (slice_get self.now.entries place)) false }
     {
-        let station = &self.stations[place];
-        station.is_open_to(&self.access, address)
+        match self.stations.get(place) {
+            Some(station) => station.is_open_to(&self.access, address),
+            None => false,
+        }
     }
 
     /// What an address sees: the stations that it may use, in order. Only memory can lack.

@@ -1,6 +1,7 @@
 //! What one address sees of a configuration.
-ghost use Rattle.std.specs.Prelude.{◌≡◌, All, IfSome, option_map, map, find, length};
+ghost use Rattle.std.specs.Prelude.{◌≡◌, ◌<◌, true, false, All, IfSome, None, option_map, map, find, length};
 ghost use Rattle.protocol.specs.Catalog.{find_station};
+ghost use Rattle.protocol.specs.Reading.{Not};
 ghost use Rattle.catalog.specs.Places.{station_at, view_in, IsPlace};
 ghost use Rattle.catalog.specs.Finding.{IsWithin, fits};
 
@@ -37,16 +38,29 @@ impl View {
         self.places.as_slice()
     }
 
-    /// The place of the first of its stations that has these codes, byte for byte (SeedLink 3, STATION). Without a network it is
-    /// the first with that code.
+    /// The place of the first of its stations that has these codes, byte for byte (SeedLink 3, STATION). Without a network
+    /// it is the first with that code. A view with places that the configuration doesn't have finds nothing.
     #[tactic(auto, using(crate::proofs::Finds::find_station_fits))]
     pub fn find(&self, config: &Config, code: &[u8], network: Option<&[u8]>) -> Option<usize>
-        requires { All (IsPlace config.now) self.now }
-        ensures found { option_map (station_at config.now.entries) result ≡ find_station (view_in config.now self.now) code.now (option_map (λ n. n.now) network.entry) }
+        ensures found { All (IsPlace config.now) self.now → option_map (station_at config.now.entries) result
+            ≡ find_station (view_in config.now self.now) code.now (option_map (λ n. n.now) network.entry) }
+        ensures none { Not (All (IsPlace config.now) self.now) → result ≡ None }
         ensures place { IfSome result (λ p. IsPlace config.now p) }
     {
-        find_in(config.stations(), self.places(), code, network)
+        let stations = config.stations();
+        if !are_within(stations.len(), self.places()) {
+            return None;
+        }
+        find_in(stations, self.places(), code, network)
     }
+}
+
+/// Whether all places are below a count.
+fn are_within(count: usize, places: &[usize]) -> bool
+    ensures yes { result ≡ true → All (λ p. p < count) places.now }
+    ensures no { result ≡ false → Not (All (λ p. p < count) places.now) }
+{
+    places.iter().all(|place| *place < count)
 }
 
 /// The first of the places whose station has these codes.

@@ -9,6 +9,7 @@ use Rattle.std.proofs.lemmas.Bool.Decides.{nat_tests}
 use Rattle.std.proofs.lemmas.List.{length_push, drop_all}
 use Rattle.protocol.specs.Pieces.{split}
 use Rattle.access_list.specs.Tokens.{is_separator}
+use Rattle.access_list.proofs.MaskBits.{list_allows}
 use Rattle.access_list.proofs.Walks.{pieces_are, left-empty, left-token, left-fault, left-end}
 use Rattle.access_list.proofs.list.AccessList.parse.Goals as goal
 
@@ -51,3 +52,9 @@ pub returns-clause-ok : goal.returns-clause-ok
 returns-clause-ok c =
     let end = rw (pieces_are is_separator c.args.text.now) at (end_of c.loop-word.yielded _ c.loop-word.yielded_by _ _ c.in-None.is c.next.ensures.steps (YieldsList-at c.into_iter-word-iterator.ensures.into_iter_gives (YieldsList-from_slice_split _ is_separator c.args.text.now c.split-words.ensures.rest c.split-words.ensures.done c.split-words.ensures.closure (λ x b q k. search (rules, tests))))) in
     c.loop-word.invariant ∙ left-end c.loop-word.tokens.items (split is_separator c.args.text.now) (length c.loop-word.yielded) (drop_all (length c.loop-word.yielded) (split is_separator c.args.text.now) (omega (arith, end.1)))
+
+pub returns-clause-words : goal.returns-clause-words
+returns-clause-words c =
+    let end = rw (pieces_are is_separator c.args.text.now) at (end_of c.loop-word.yielded _ c.loop-word.yielded_by _ _ c.in-None.is c.next.ensures.steps (YieldsList-at c.into_iter-word-iterator.ensures.into_iter_gives (YieldsList-from_slice_split _ is_separator c.args.text.now c.split-words.ensures.rest c.split-words.ensures.done c.split-words.ensures.closure (λ x b q k. search (rules, tests))))) in
+    list_allows c.args.text.now c.loop-word.tokens.items
+    (c.loop-word.invariant ∙ left-end c.loop-word.tokens.items (split is_separator c.args.text.now) (length c.loop-word.yielded) (drop_all (length c.loop-word.yielded) (split is_separator c.args.text.now) (omega (arith, end.1))))
