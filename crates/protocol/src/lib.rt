@@ -157,9 +157,9 @@ pub fn requests_begin()
 
 /// What comes next is the least position that is held and wanted, and nothing comes where there is none.
 pub fn records_chosen()
-    ensures next { (h : List Arrival) (requests : List Request) (q p : ℕ) → q ≤ length h →
+    ensures next { (h : List Arrival) (requests : List Request) (q p : ℕ) →
         (next h requests q ≡ Some p) ↔ IsNext h requests q p }
-    ensures none { (h : List Arrival) (requests : List Request) (q : ℕ) → q ≤ length h →
+    ensures none { (h : List Arrival) (requests : List Request) (q : ℕ) →
         (next h requests q ≡ None) ↔ ((k : ℕ) → q ≤ k → Not (IsWanted requests h k)) }
     ensures over { (s : Station) (h : List Arrival) (action : Action) → (is_over_by s h action ≡ true) ↔ IsOver s h action }
 {}
