@@ -58,7 +58,7 @@ abbrev pub arrival_of : List ℕ → Facts → Arrival
 arrival_of r x = record { bytes = r; facts = x }
 
 -- A record of a station that is there is accepted.
-accepted-there : (config : Config) (r : List ℕ) (place : ℕ) (summary : Summary) (is : IsPlaced config r place summary) → accepted config r ≡ Some (arrival_of r is.facts)
+pub accepted-there : (config : Config) (r : List ℕ) (place : ℕ) (summary : Summary) (is : IsPlaced config r place summary) → accepted config r ≡ Some (arrival_of r is.facts)
 accepted-there config r place summary is =
     ap (arrival_with config r) is.is_read ∙ ap (λ b. if b then Some (arrival_of r is.facts) else None) (configured-there config is.facts place is.at)
 

@@ -1,10 +1,11 @@
 -- What a record that arrives is answered.
 -- SeedLink 3, sequence numbers. Left out: where the record is kept.
-use Rattle.std.specs.Prelude.{◌≡◌, ℕ, List, length, position, Option, Some, None, Result, Ok, Err, codes}
+use Rattle.std.specs.Prelude.{◌≡◌, ℕ, List, ◌-◌, ◌^◌, true, is_some, length, position, Option, Some, None, Result, Ok, Err, codes}
 use Rattle.protocol.specs.declared.record.RecordFault.{RecordFault}
 use Rattle.protocol.specs.Record.{Facts, header_of, fault_number, fault_name}
 use Rattle.protocol.specs.Catalog.{Config, has_codes}
 use Rattle.protocol.specs.History.{Arrival, number_at}
+use Rattle.protocol.specs.World.{accepted}
 use Rattle.catalog.specs.Places.{station_at}
 use Rattle.station_ring.specs.declared.held.Summary.{Summary}
 use Rattle.held_records.specs.Holdings.{summary_of}
@@ -45,6 +46,11 @@ numbered config h (Ok place) = Ok (number_at (station_at config.entries place) h
 -- what a record is answered after the history: the number that it is given, or why it is refused
 abbrev pub answer_to : Config → List Arrival → List ℕ → Result ℕ ArriveFault
 answer_to config h r = numbered config h (placed_by config (header_of r))
+
+-- The record is of a station of the configuration, and as many arrived as can be counted.
+pub record IsExhausted (config : Config) (h : List Arrival) (r : List ℕ) : Type 0 where
+  pub would_be_taken : is_some (accepted config r) ≡ true
+  pub full : length h ≡ 2 ^ 64 - 1
 
 -- A record's place, with what is kept of its facts.
 pub record IsPlaced (config : Config) (r : List ℕ) (place : ℕ) (summary : Summary) : Type 0 where

@@ -201,7 +201,8 @@ pub fn offer_at(
 
 /// The bytes that wait for a client, where it is open.
 pub fn waiting_at(sessions: &[Option<Session>], number: usize) -> Option<&[u8]>
-    ensures { (config : ProtocolConfig) (h : List Arrival) → option_map (λ bytes. bytes.now) result ≡ option_map (λ c. c.waiting) (seat_client (seated config h (slice_get sessions.now number))) }
+    ensures sitting { (s : Sitting) → slice_get sessions.now number ≡ Some (Some s) → option_map (λ bytes. bytes.now) result ≡ Some s.waiting }
+    ensures answer { (config : ProtocolConfig) (h : List Arrival) → option_map (λ bytes. bytes.now) result ≡ option_map (λ c. c.waiting) (seat_client (seated config h (slice_get sessions.now number))) }
 {
     match sessions.get(number) {
         Some(Some(session)) => Some(session.waiting()),

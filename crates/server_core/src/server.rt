@@ -43,7 +43,7 @@ impl Server {
     ghost use Rattle.server_core.specs.Standing.{StandsAt};
     ghost use Rattle.server_core.specs.Handings.{taken_value};
     ghost use Rattle.server_core.specs.Refusals.{room_of, receipt, offer_of};
-    ghost use Rattle.server_core.specs.Arrivals.{answer_to, IsPlaced};
+    ghost use Rattle.server_core.specs.Arrivals.{answer_to, IsExhausted, IsPlaced};
     ghost use Rattle.server_core.specs.declared.arrivals.ArriveFault.TheVariants.{Exhausted};
 
     /// A server that no one has come to, and where no record arrived. Only memory can lack.
@@ -107,7 +107,8 @@ impl Server {
 
     /// The bytes that wait for a client.
     pub fn waiting(&self, client: Client) -> Result<&[u8], Gone>
-        ensures { (config : ProtocolConfig) (w : World) → StandsAt self.now config w → option_map (λ bytes. bytes.now) (result_ok result) ≡ option_map (λ c. c.waiting) (client_of (slice_get w.connections client)) }
+        ensures sitting { (s : Sitting) → slice_get self.now.sessions client ≡ Some (Some s) → option_map (λ bytes. bytes.now) (result_ok result) ≡ Some s.waiting }
+        ensures answer { (config : ProtocolConfig) (w : World) → StandsAt self.now config w → option_map (λ bytes. bytes.now) (result_ok result) ≡ option_map (λ c. c.waiting) (client_of (slice_get w.connections client)) }
     {
         seats::waiting_at(self.sessions.as_slice(), client.number()).ok_or(Gone)
     }
@@ -156,11 +157,14 @@ impl Server {
 
     /// A record comes from a feeder. Where it is one, and of a station of the configuration, it is the last arrival, is held, and
     /// is answered its number. It fails with Record where it is no record, else with UnknownStation where no station has its
-    /// codes, and else with Exhausted only where 2^64 - 1 records arrived. It takes no memory.
+    /// codes, and else with Exhausted exactly where 2^64 - 1 records arrived. It takes no memory.
     pub fn arrive(&mut self, bytes: &[u8; 512]) -> Result<Seq, ArriveFault>
         ensures stands { result ≢ Err Exhausted → (config : ProtocolConfig) (w : World) → StandsAt self.old config w → StandsAt self.new config (step config w (Arrive bytes.now)) }
         ensures answer { result ≢ Err Exhausted → (config : ProtocolConfig) (w : World) → StandsAt self.old config w → result ≡ answer_to config w.history bytes.now }
-        ensures exhausted { result ≡ Err Exhausted → (config : ProtocolConfig) (w : World) → StandsAt self.old config w → length w.history ≡ 2 ^ 64 - 1 }
+        ensures exhausted { result ≡ Err Exhausted → (config : ProtocolConfig) (w : World) → StandsAt self.old config w →
+            IsExhausted config w.history bytes.now }
+        ensures counted { OnOk result ((config : ProtocolConfig) (w : World) → StandsAt self.old config w →
+            length w.history < 2 ^ 64 - 1) }
         ensures unchanged { OnErr result (self.new ≡ self.old) }
     {
         match placed(&self.config, bytes) {
@@ -174,7 +178,10 @@ impl Server {
         requires { IsPlaced self.old.config bytes.now placing.place placing.summary }
         ensures stands { result ≢ Err Exhausted → (config : ProtocolConfig) (w : World) → StandsAt self.old config w → StandsAt self.new config (step config w (Arrive bytes.now)) }
         ensures answer { result ≢ Err Exhausted → (config : ProtocolConfig) (w : World) → StandsAt self.old config w → result ≡ answer_to config w.history bytes.now }
-        ensures exhausted { result ≡ Err Exhausted → (config : ProtocolConfig) (w : World) → StandsAt self.old config w → length w.history ≡ 2 ^ 64 - 1 }
+        ensures exhausted { result ≡ Err Exhausted → (config : ProtocolConfig) (w : World) → StandsAt self.old config w →
+            IsExhausted config w.history bytes.now }
+        ensures counted { OnOk result ((config : ProtocolConfig) (w : World) → StandsAt self.old config w →
+            length w.history < 2 ^ 64 - 1) }
         ensures unchanged { OnErr result (self.new ≡ self.old) }
     {
         self.config.codes_are_distinct();

@@ -1,0 +1,62 @@
+//! Ports in memory, that follow a script and tell every call.
+ghost use Rattle.std.specs.Prelude.{◌≡◌, Some, []};
+ghost use Rattle.ports.specs.Made.{told};
+
+use crate::{Got, Happening, PortFault, Ports, Put};
+use std::alloc::Global;
+
+mod log;
+mod script;
+
+pub use log::{Gave, Log, Made};
+pub use script::{PortScript, ReadAnswer, Script, WriteAnswer};
+
+/// Ports in memory. They answer by a script, and keep each call with its answer. Once there was no memory to keep one, which
+/// is a failure of that call, they tell their calls no more.
+#[derive(Drop)]
+pub struct MemoryPorts {
+    script: Script,
+    log: Log,
+}
+
+impl MemoryPorts {
+    /// Ports that follow the script.
+    pub fn new(alloc: Global, script: Script) -> MemoryPorts
+        ensures { told result.log ≡ Some [] }
+    {
+        MemoryPorts {
+            script,
+            log: Log::new(alloc),
+        }
+    }
+
+    /// The calls that were made.
+    pub fn log(&self) -> &Log {
+        &self.log
+    }
+}
+
+impl Ports for MemoryPorts {
+    ghost calls = { λ s. told s.log };
+
+    ghost failures = { λ s. s.log.failures };
+
+    fn next(&mut self) -> Result<Happening, PortFault> {
+        let happening = self.script.next();
+        self.log.next(happening)
+    }
+
+    fn read(&mut self, port: u64, buffer: &mut [u8]) -> Result<Got, PortFault> {
+        let answer = self.script.read(port, buffer);
+        self.log.read(port, buffer, answer)
+    }
+
+    fn write(&mut self, port: u64, bytes: &[u8]) -> Result<Put, PortFault> {
+        let answer = self.script.write(port, bytes.len());
+        self.log.write(port, bytes, answer)
+    }
+
+    fn shut(&mut self, port: u64) {
+        self.log.shut(port);
+    }
+}
