@@ -61,10 +61,6 @@ pub record Stands (left left' written written' : Option (List ℕ)) (held : List
   pub is_held : held ≡ (feed_of consumed).rest
   pub is_listed : record p { lines = done ++ p.lines } ≡ with_records nothing_listed (feed_of consumed).records
 
--- before the first byte
-pub stands_first : (left written : Option (List ℕ)) (held : List ℕ) (p : Progress) → held ≡ [] → p ≡ nothing_listed → Stands left left written written held p
-stands_first left written held p h e = record { consumed = []; done = []; consumes = Consumes-nil left; appends = Appends-nil written; is_held = h; is_listed = e }
-
 read_on : (consumed piece held : List ℕ) → held ≡ (feed_of consumed).rest → feed_of (consumed ++ piece) ≡ feed_read ((feed_of consumed).records ++ (piece_read held piece).records) (piece_read held piece).rest
 read_on consumed piece held h =
     rw h (feed_from-append (feed_read [] []) consumed piece ∙ records_behind (feed_of consumed).records (feed_of consumed).rest piece)

@@ -131,9 +131,6 @@ pub answers-number : (config : Config) (h : List Arrival) (r : List ℕ) (place 
 answers-number config h r place number summary is e =
     ap Ok e ∙ sym (ap (λ x. numbered config h (placed_by config x)) is.is_read ∙ ap (λ o. numbered config h (place_or_unknown o)) is.at)
 
-pub answers-fault : (config : Config) (h : List Arrival) (r : List ℕ) (fault : ArriveFault) → placed_by config (header_of r) ≡ Err fault → Err fault ≡ answer_to config h r
-answers-fault config h r fault e = sym (ap (numbered config h) e)
-
 -- ---- reading a record
 
 pub placed-unknown : (config : Config) (r : List ℕ) (x : Facts) → header_of r ≡ Ok x → place_of config x ≡ None → placed_by config (header_of r) ≡ Err UnknownStation

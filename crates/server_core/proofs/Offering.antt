@@ -36,15 +36,6 @@ pub ruleset fill_lemmas = (fill-waiting, fill-negotiating, fill-ending)
 
 -- ---- transfers that start
 
--- A session that was to start its transfer goes on with what is unread.
-pub started : (config : Config) (h : List Arrival) (a n r : Sitting) (settled : Settled) (c : Client) → client_in config h n ≡ client_in config h a → n.state ≡ Transfer 0 → n.places ≡ a.places → n.unread ≡ a.unread → (never_starts n.state ≡ true → settled ≡ Rest) → Comes settled config h r (read_on (sitting_view config n) h n.unread (client_in config h n)) → Comes Start config h a c → client_in config h r ≡ c
-started config h a n r settled c same state places unread stays goes_on comes =
-    let rest : settled ≡ Rest = stays (ap never_starts state) in
-    subst (λ x. Comes x config h r (read_on (sitting_view config n) h n.unread (client_in config h n))) rest goes_on
-    ∙ ap (λ p. read_on (view_in config p) h n.unread (client_in config h n)) places
-    ∙ ap₂ (λ u x. read_on (sitting_view config a) h u x) unread same
-    ∙ comes.1
-
 pub proceeds : (config : Config) (h : List Arrival) (s : Sitting) (c : Client) → Comes Rest config h s c → client_in config h s ≡ c
 proceeds config h s c comes = comes
 

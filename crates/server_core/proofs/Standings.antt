@@ -159,10 +159,6 @@ settled-pushed config (x ∷ xs) s there here (suc k) t e = settled-pushed confi
 
 pub ruleset seat_lemmas = (goes_on-stands)
 
--- the form over events follows from the form over worlds
-pub stands-after : (old new : Serving) (e : Event) → ((config : Config) (w : World) → StandsAt old config w → StandsAt new config (step config w e)) → (config : Config) (es : List Event) → Stands old config es → Stands new config (es ++ e ∷ [])
-stands-after old new e steps config es stands = subst (λ w. StandsAt new config w) (sym (world_from-append config empty_world es (e ∷ []))) (steps config (world_after config es) stands)
-
 -- ---- a client that is gone
 seat_at-closed : (x : Option Connection) → seat_at (option_map closed x) ≡ None
 seat_at-closed None = refl

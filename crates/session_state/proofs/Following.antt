@@ -30,10 +30,6 @@ reading places mode l u = record { places = places; mode = mode; state = Negotia
 is_reading : (a : Sitting) → a.state ≡ Negotiating → a.waiting ≡ [] → a ≡ reading a.places a.mode a.open_line a.unread
 is_reading a state none = ap (λ t. record a { state = t }) state ∙ ap (λ w. record a { state = Negotiating; waiting = w }) none
 
--- what a session that negotiates while nothing waits comes to
-abbrev Follows : Config → List Arrival → Sitting → Sitting → Outcome → Type 0
-Follows config h a r o = client_in config h r ≡ follow (sitting_view config a) h (client_in config h a) (negotiated_in config a.mode) o
-
 pub silent : (config : Config) (h : List Arrival) (a : Sitting) → a.state ≡ Negotiating → a.waiting ≡ [] → client_in config h a ≡ follow (sitting_view config a) h (client_in config h a) (negotiated_in config a.mode) (Stays [] (negotiated_in config a.mode))
 silent config h a state none = ap (client_in config h) (is_reading a state none)
 

@@ -71,11 +71,3 @@ settles config h a d first Start start rest kept done so_far =
     let d_is : d ≡ a = kept ∙ ap (λ t. record a { unread = kept_unread t a.unread }) state in
     (start refl, ap (λ (s : Sitting). read_on (sitting_view config s) h s.unread (client_in config h s)) d_is ∙ so_far.same h)
 
-pub settles-stay : (config : Config) (a d first : Sitting) (settled : Settled) → (settled ≡ Start → d.state ≡ Starting) → d ≡ record a { unread = kept_unread a.state a.unread } → SettlesAs config a first → never_starts first.state ≡ true → settled ≡ Rest
-settles-stay config a d first Rest start kept so_far e = refl
-settles-stay config a d first Start start kept so_far e =
-    let state : a.state ≡ Starting = sym (ap (λ (s : Sitting). s.state) kept) ∙ start refl in
-    absurd (apart (sym (ap never_starts state) ∙ so_far.stays e))
-  where
-    apart : false ≡ true → ⊥
-    apart t = grind arith
