@@ -1,1 +1,2 @@
 pub mod Feedings
+pub mod Sending
