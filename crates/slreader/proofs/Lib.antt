@@ -1,0 +1,5 @@
+pub mod AgendaLemmas
+pub mod TallyLemmas
+pub mod TextLemmas
+pub mod TalkLemmas
+pub mod TransferLemmas

@@ -1,0 +1,17 @@
+//! The reader's side of SeedLink 3: what a reader asks for, what it is sent, and what it makes of that, over bytes alone. No call
+//! allocates, but for those that take an allocator.
+#![tactic(auto)]
+
+mod agenda;
+mod commands;
+mod dialogue;
+mod fault;
+mod outbox;
+mod pieces;
+mod spelling;
+mod stage;
+mod tally;
+mod want;
+
+pub use fault::ReaderFault;
+pub use want::{Action, Plan, Want};
