@@ -3,3 +3,5 @@ pub mod TallyLemmas
 pub mod TextLemmas
 pub mod TalkLemmas
 pub mod TransferLemmas
+pub mod CutLemmas
+pub mod ReceiveLemmas

@@ -6,14 +6,14 @@ use Rattle.protocol.specs.Streams.StreamRead.{Going, Ended, NoStream}
 use Rattle.slreader.specs.declared.fault.ReaderFault.{ReaderFault}
 use Rattle.slreader.specs.declared.fault.ReaderFault.TheVariants.{NotAPacket}
 use Rattle.slreader.specs.Tallies.{counted}
-use Rattle.slreader.specs.Dialogue.{ReaderValue, Stage, FirstGiven, behind, fails, goes_on, read_first, after_byte, given_by, transferred, packet_given}
+use Rattle.slreader.specs.Dialogue.{ReaderValue, Stage, FirstGiven, at_stage, behind, fails, goes_on, read_first, after_byte, given_by, transferred, packet_given}
 use Rattle.slreader.specs.Dialogue.Stage.{Transfer, Over, Failed}
 use Rattle.slreader.specs.Dialogue.Given.{Packet, End}
 use Rattle.slreader.proofs.TalkLemmas.{behind_more, behind_none}
 
 -- ---- what never comes back
 
-no_stream_stays : (bytes : List ℕ) → stream_from NoStream bytes ≡ NoStream
+pub no_stream_stays : (bytes : List ℕ) → stream_from NoStream bytes ≡ NoStream
 no_stream_stays [] = refl
 no_stream_stays (b ∷ bytes) = no_stream_stays bytes
 
@@ -81,10 +81,6 @@ past_stays (Ended ps) (b ∷ bytes) past = past_stays NoStream bytes tt
 past_stays NoStream (b ∷ bytes) past = past_stays NoStream bytes tt
 
 -- ---- one byte
-
--- the reader at that stage
-abbrev pub at_stage : ReaderValue → Stage → ReaderValue
-at_stage r stage = record r { stage = stage }
 
 -- one byte of a packet or of the end, by what the bytes are then
 at_byte : (r : ReaderValue) (rest : List ℕ) (b : ℕ) (more : List ℕ) (q : Piece) → piece_of (rest ++ b ∷ []) ≡ q →
@@ -170,7 +166,7 @@ packet_bytes r rest (b ∷ bytes) more packet s =
 abbrev gave_end : ReaderValue → ℕ → FirstGiven
 gave_end r n = record { used = n; given = Some End; reader = at_stage r Over }
 
-only_end : (bytes : List ℕ) → stream_from (Ended []) bytes ≡ Ended [] → bytes ≡ []
+pub only_end : (bytes : List ℕ) → stream_from (Ended []) bytes ≡ Ended [] → bytes ≡ []
 only_end [] s = refl
 only_end (b ∷ bytes) s = let none = no_stream_stays bytes in absurd cc
 

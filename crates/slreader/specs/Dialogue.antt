@@ -69,6 +69,10 @@ asking r (c ∷ ahead) = record r { stage = stage_after c.want; ahead = ahead; a
 abbrev pub ask_next : ReaderValue → ReaderValue
 ask_next r = asking r r.ahead
 
+-- the reader at another stage
+abbrev pub at_stage : ReaderValue → Stage → ReaderValue
+at_stage r stage = record r { stage = stage }
+
 abbrev pub fails : ReaderValue → ReaderFault → ReaderValue
 fails r fault = record r { stage = Failed fault }
 

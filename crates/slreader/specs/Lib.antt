@@ -9,3 +9,4 @@ pub mod Dialogue
 pub mod Faults
 pub mod ReaderViews
 pub mod Reads
+pub mod Comings

@@ -1,12 +1,19 @@
 //! The dialogue of a reader.
-use crate::agenda::Agenda;
+use crate::agenda::{Agenda, size_behind};
+use crate::commands::commands_of;
 use crate::fault::ReaderFault;
 use crate::outbox::Outbox;
+use crate::packets::read_packet;
 use crate::pieces::{LinePiece, ReplyPiece, line_piece, reply_piece};
 use crate::stage::{Event, Stage, Step};
 use crate::tally::Tally;
-use sl_packet::PacketCutter;
+use crate::want::Plan;
+use sl_packet::{PacketCutter, Seq};
+use std::alloc::{AllocError, Global};
 use std::marker::Model;
+
+/// The first line that is asked.
+const HELLO: &[u8] = b"HELLO";
 
 /// What the first line that answers HELLO begins with.
 const GREETING: &[u8] = b"SeedLink v";
@@ -33,6 +40,66 @@ impl Model for Dialogue {
     ghost view = { λ d. reader_value d.stage d.cutter d.agenda d.kept d.outbox d.tally };
 
     ghost invariant = { λ d. size_of d.agenda ≤ d.outbox.room };
+}
+
+/// What is there before the first byte, and what is told of it.
+impl Dialogue {
+    ghost use Rattle.std.specs.Prelude.{◌≡◌, ◌≤◌, ◌+◌, length, drop, IfOk};
+    ghost use Rattle.slreader.specs.Views.{plan_value};
+    ghost use Rattle.slreader.specs.Tallies.{next_of};
+    ghost use Rattle.slreader.specs.Dialogue.{begun};
+
+    /// A reader that was sent nothing.
+    pub(crate) fn new(alloc: Global, plan: &Plan<'_>) -> Result<Dialogue, AllocError>
+        ensures { IfOk result (λ d. d ≡ begun (plan_value plan.now)) }
+    {
+        let lines = commands_of(alloc, plan)?;
+        let Some(room) = size_behind(HELLO.len() + 1, &lines) else {
+            return Err(AllocError);
+        };
+        let mut outbox = Outbox::new(alloc, room)?;
+        outbox.ask(HELLO);
+        Ok(Dialogue {
+            stage: Stage::FirstLine {
+                count: 0,
+                after_cr: false,
+            },
+            cutter: PacketCutter::new(),
+            agenda: Agenda::new(lines),
+            kept: plan.len(),
+            outbox,
+            tally: Tally::new(alloc, plan)?,
+        })
+    }
+
+    /// The bytes that are to be sent.
+    pub(crate) fn outgoing(&self) -> &[u8]
+        ensures { result.now ≡ drop self.now.sent self.now.asked }
+    {
+        self.outbox.waiting()
+    }
+
+    /// The first `count` of the bytes that are to be sent were sent.
+    pub(crate) fn sent(&mut self, count: usize)
+        requires { count ≤ length (drop self.old.sent self.old.asked) }
+        ensures { self.new ≡ record self.old { sent = self.old.sent + count } }
+    {
+        self.outbox.confirm(count);
+    }
+
+    /// How many packets were given.
+    pub(crate) fn records(&self) -> u64
+        ensures { result ≡ self.now.tally.records }
+    {
+        self.tally.records()
+    }
+
+    /// Where a want goes on.
+    pub(crate) fn next_wanted(&self, want: usize) -> Option<Seq>
+        ensures { result ≡ next_of self.now.tally want }
+    {
+        self.tally.next(want)
+    }
 }
 
 /// What is done at one byte.
@@ -205,7 +272,7 @@ impl Dialogue {
     ghost use Rattle.std.specs.Prelude.{◌≡◌, ◌≤◌, ◌+◌, ◌<◌, ◌^◌, Bool, List, true, length};
     ghost use Rattle.slreader.specs.Dialogue.{behind, outcome_of, read_first};
     ghost use Rattle.slreader.specs.ReaderViews.{is_talk, step_outcome};
-    ghost use Rattle.slreader.specs.Reads.{TalkedOf};
+    ghost use Rattle.slreader.specs.Reads.{TalkedOf, tally_after};
 
     /// Reads lines and answers, up to the first that gives something.
     fn talk(&mut self, piece: &[u8]) -> Step
@@ -231,5 +298,64 @@ impl Dialogue {
             used: piece.len(),
             event: None,
         }
+    }
+
+    /// Counts a packet that was given.
+    fn count(&mut self, event: &Option<Event>, packet: &[u8; 520])
+        ensures { self.new ≡ record self.old { tally = tally_after self.old.tally event.now packet.now } }
+    {
+        if let Some(Event::Packet) = event {
+            self.tally.count(packet);
+        }
+    }
+
+    /// Reads what follows the lines and answers: the first `before` bytes of a piece were read already.
+    fn receive(
+        &mut self,
+        before: usize,
+        piece: &[u8],
+        packet: &mut [u8; 520],
+    ) -> Result<Step, ReaderFault>
+        requires fits { before + length piece.now < 2 ^ 64 }
+        requires talked { is_talk self.old.stage ≡ true → length piece.now ≡ 0 }
+        ensures outcome { step_outcome result packet.new ≡ outcome_of (behind before (read_first self.old piece.now)) }
+        ensures read { self.new ≡ (read_first self.old piece.now).reader }
+    {
+        match self.stage {
+            Stage::FirstLine { .. } | Stage::SecondLine { .. } | Stage::Answer { .. } => Ok(Step {
+                used: before,
+                event: None,
+            }),
+            Stage::Transfer => match read_packet(&mut self.cutter, piece, packet) {
+                Ok(step) => {
+                    self.count(&step.event, packet);
+                    Ok(Step {
+                        used: before + step.used,
+                        event: step.event,
+                    })
+                }
+                Err(_) => {
+                    self.fail(ReaderFault::NotAPacket);
+                    Err(ReaderFault::NotAPacket)
+                }
+            },
+            Stage::Failed(fault) => Err(fault),
+        }
+    }
+
+    /// Reads the piece up to the first thing that it gives, else to its end. A packet that is given is copied to `packet`.
+    pub(crate) fn read(
+        &mut self,
+        piece: &[u8],
+        packet: &mut [u8; 520],
+    ) -> Result<Step, ReaderFault>
+        ensures outcome { step_outcome result packet.new ≡ outcome_of (read_first self.old piece.now) }
+        ensures read { self.new ≡ (read_first self.old piece.now).reader }
+    {
+        let talked = self.talk(piece);
+        if talked.event.is_some() {
+            return Ok(talked);
+        }
+        self.receive(talked.used, &piece[talked.used..], packet)
     }
 }

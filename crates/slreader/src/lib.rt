@@ -7,11 +7,14 @@ mod commands;
 mod dialogue;
 mod fault;
 mod outbox;
+mod packets;
 mod pieces;
+mod reader;
 mod spelling;
 mod stage;
 mod tally;
 mod want;
 
 pub use fault::ReaderFault;
+pub use reader::{Came, ReaderCore, What};
 pub use want::{Action, Plan, Want};

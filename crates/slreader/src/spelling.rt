@@ -1,8 +1,8 @@
 //! Whether a plan can be asked for.
-ghost use Rattle.std.specs.Prelude.{◌≡◌, is_some, IsTrue};
+ghost use Rattle.std.specs.Prelude.{◌≡◌, length};
 ghost use Rattle.std.specs.List.{list_all};
 ghost use Rattle.std.specs.Option.{option_copied};
-ghost use Rattle.slreader.specs.Wants.{is_action as spec_is_action, is_code as spec_is_code, is_code_byte as spec_is_code_byte, is_led, is_moment as spec_is_moment, is_pattern as spec_is_pattern, has_patterns as spec_has_patterns, is_plan, is_want};
+ghost use Rattle.slreader.specs.Wants.{is_action as spec_is_action, is_code as spec_is_code, is_code_byte as spec_is_code_byte, is_led, is_moment as spec_is_moment, is_pattern as spec_is_pattern, has_patterns as spec_has_patterns, is_plan, is_want, wants_of};
 ghost use Rattle.slreader.specs.WantTexts.{action_value, texts};
 ghost use Rattle.slreader.specs.Views.{plan_value};
 
@@ -130,6 +130,16 @@ fn are_wants(wants: &[Want<'_>]) -> bool
 }
 
 impl<'a> Plan<'a> {
+    /// How many wants it has.
+    pub fn len(&self) -> usize
+        ensures { result ≡ length (wants_of (plan_value self.now)) }
+    {
+        match self {
+            Plan::Uni(_) => 1,
+            Plan::Multi(wants) => wants.len(),
+        }
+    }
+
     /// Whether it can be asked for: there are 1 to 32 wants, and each of them can be.
     pub fn is_spellable(&self) -> bool
         ensures { result ≡ is_plan (plan_value self.now) }
