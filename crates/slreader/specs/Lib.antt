@@ -10,3 +10,4 @@ pub mod Faults
 pub mod ReaderViews
 pub mod Reads
 pub mod Comings
+pub mod Words

@@ -14,6 +14,7 @@ mod spelling;
 mod stage;
 mod tally;
 mod want;
+mod words;
 
 pub use fault::ReaderFault;
 pub use reader::{Came, ReaderCore, What};
