@@ -5,3 +5,5 @@ pub mod TalkLemmas
 pub mod TransferLemmas
 pub mod CutLemmas
 pub mod ReceiveLemmas
+pub mod ReadingLaws
+pub mod CameLemmas

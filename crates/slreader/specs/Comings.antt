@@ -1,28 +1,18 @@
 -- What a reader gives of a piece, and what is left of it.
 -- SeedLink 3: the dialogue of a reader.
-use Rattle.std.specs.Prelude.{◌≡◌, ℕ, true, false, List, Option, Some, None, Result, Ok, Err, ⊤}
+use Rattle.std.specs.Prelude.{◌≡◌, ℕ, true, false, List, Result, Ok, Err, ⊤}
 use Rattle.std.specs.Borrow.{MutBor, Fml}
 use mathlib.Core.Option.{none}
 use denote.Follow.{follows_so}
 use Rattle.slreader.specs.declared.fault.ReaderFault.{ReaderFault}
 use Rattle.slreader.specs.declared.fault.ReaderFault.TheVariants as fault
-use Rattle.slreader.specs.declared.reader.What.{What}
-use Rattle.slreader.specs.declared.reader.What.TheVariants as what
-use Rattle.slreader.specs.declared.reader.Came.{Came}
+use Rattle.slreader.specs.declared.came.Came.{Came}
 use Rattle.slreader.specs.declared.reader.ReaderCore.{ReaderCore}
 use Rattle.slreader.specs.contracts.reader.ReaderCore.{the_row}
 use Rattle.slreader.specs.Wants.{PlanValue, is_plan}
-use Rattle.slreader.specs.Dialogue.{Given, Outcome, read_first}
-use Rattle.slreader.specs.Dialogue.Given.{Hello, Refused, Packet, End}
+use Rattle.slreader.specs.Whats.{what_value}
+use Rattle.slreader.specs.Dialogue.{Outcome, read_first}
 use Rattle.slreader.specs.Dialogue.Outcome.{Gave, Stopped}
-
--- what was given
-abbrev pub what_value : What → Option Given
-what_value what.Nothing = None
-what_value what.Hello = Some Hello
-what_value (what.Refused want) = Some (Refused want)
-what_value (what.Packet packet) = Some (Packet packet.now)
-what_value what.End = Some End
 
 -- what a call answered
 abbrev pub came_outcome : Result Came ReaderFault → Outcome

@@ -11,3 +11,4 @@ pub mod ReaderViews
 pub mod Reads
 pub mod Comings
 pub mod Words
+pub mod Whats

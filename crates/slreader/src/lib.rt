@@ -3,6 +3,7 @@
 #![tactic(auto)]
 
 mod agenda;
+mod came;
 mod commands;
 mod dialogue;
 mod fault;
@@ -16,6 +17,7 @@ mod tally;
 mod want;
 mod words;
 
+pub use came::{Came, What};
 pub use fault::ReaderFault;
-pub use reader::{Came, ReaderCore, What};
+pub use reader::ReaderCore;
 pub use want::{Action, Plan, Want};

@@ -1,7 +1,7 @@
 //! A reader.
+use crate::came::{Came, what_of};
 use crate::dialogue::Dialogue;
 use crate::fault::ReaderFault;
-use crate::stage::Event;
 use crate::want::Plan;
 use sl_packet::Seq;
 use std::alloc::Global;
@@ -9,30 +9,6 @@ use std::marker::Model;
 
 /// The length of a packet, in bytes.
 const PACKET: usize = 520;
-
-/// What a reader is given.
-#[derive(Clone, Copy, Debug, PartialEq, Eq)]
-pub enum What<'a> {
-    /// Nothing became whole.
-    Nothing,
-    /// The server answered HELLO.
-    Hello,
-    /// A command of the want with that index was answered ERROR. Its other commands are not asked.
-    Refused(usize),
-    /// A packet.
-    Packet(&'a [u8; 520]),
-    /// The end of the transfer.
-    End,
-}
-
-/// What a piece gives.
-#[derive(Clone, Copy, Debug, PartialEq, Eq)]
-pub struct Came<'a> {
-    /// How many bytes of the piece were read: up to the last byte of the first thing that became whole, else all of them.
-    pub used: usize,
-    /// What became whole.
-    pub what: What<'a>,
-}
 
 /// A reader by its bytes: it lends what it asks, is given what the server sends in whatever pieces it comes, and gives what that
 /// is (SeedLink 3). It asks HELLO; then for each want STATION (in a plan of several), a SELECT for each pattern and the action; and
@@ -61,6 +37,7 @@ impl ReaderCore {
     ghost use Rattle.slreader.specs.Tallies.{next_of};
     ghost use Rattle.slreader.specs.Dialogue.{begun, outcome_of, read_first};
     ghost use Rattle.slreader.specs.Comings.{came_outcome, IsNotBegun, Leaves};
+    ghost use Rattle.slreader.specs.Whats.{Reads};
 
     /// A reader that was sent nothing. It fails with Limit exactly where the plan has no want or more than 32, or has a want that
     /// can't be asked for, and with OutOfMemory only where there is no memory for its commands.
@@ -103,23 +80,16 @@ impl ReaderCore {
     /// call is answered so.
     pub fn incoming(&mut self, piece: &[u8]) -> Result<Came<'_>, ReaderFault>
         ensures outcome { came_outcome result ≡ outcome_of (read_first self.old piece.now) }
+        ensures reads { IfOk result (λ came. Reads came.used came.what (length piece.now)) }
         ensures* left { sem 𝓛 (Leaves self.entry piece.now) }
     {
-        let step = match self.dialogue.read(piece, &mut self.packet) {
-            Ok(step) => step,
-            Err(fault) => return Err(fault),
-        };
-        let what = match step.event {
-            None => What::Nothing,
-            Some(Event::Hello) => What::Hello,
-            Some(Event::Refused(want)) => What::Refused(want),
-            Some(Event::Packet) => What::Packet(&self.packet),
-            Some(Event::End) => What::End,
-        };
-        Ok(Came {
-            used: step.used,
-            what,
-        })
+        match self.dialogue.read(piece, &mut self.packet) {
+            Ok(step) => Ok(Came {
+                used: step.used,
+                what: what_of(step.event, &self.packet),
+            }),
+            Err(fault) => Err(fault),
+        }
     }
 
     /// How many packets were given, at most 2^64 - 1.
