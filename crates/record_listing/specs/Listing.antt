@@ -47,13 +47,17 @@ extent_text x =
     word_text (kind_letter x.kind ∷ []) ++ word_text (signed_decimal x.start) ++ word_text (signed_decimal x.stop)
     ++ decimal x.samples
 
+-- all of that
+abbrev pub header_text : Facts → List ℕ
+header_text x = codes_text x ++ extent_text x
+
 -- why there is no record
 abbrev pub refusal_text : RecordFault → List ℕ
 refusal_text fault = codes "refused " ++ word_text (decimal (fault_number fault)) ++ fault_name fault
 
 -- what a record says, or why there is none
 abbrev pub record_text : Result Facts RecordFault → List ℕ
-record_text (Ok x) = codes_text x ++ extent_text x
+record_text (Ok x) = header_text x
 record_text (Err fault) = refusal_text fault
 
 -- what 512 bytes are read as

@@ -8,3 +8,4 @@ mod texts;
 
 pub use check::{CheckFault, check_records};
 pub use fault::FileFault;
+pub use texts::put_header;
