@@ -1,5 +1,5 @@
 -- What a record that arrives does to what a server stands for.
-use Rattle.std.proofs.Common.{◌≡◌, ◌≢◌, ℕ, ◌+◌, ◌<◌, true, false, Bool, List, [], ◌∷◌, ◌++◌, length, position, Option, Some, None, Result, Ok, Err, slice_get, nat_lt, lt-ltb, suc, unwrap_or, option_map, if◌then◌else◌, refl, sym, ap, subst, ◌∙◌, arith}
+use Rattle.std.proofs.Common.{◌≡◌, ◌≢◌, ℕ, ◌+◌, ◌<◌, true, false, Bool, is_some, is_ok, List, [], ◌∷◌, ◌++◌, length, position, Option, Some, None, Result, Ok, Err, slice_get, nat_lt, lt-ltb, suc, unwrap_or, option_map, if◌then◌else◌, refl, sym, ap, subst, ◌∙◌, arith}
 use Rattle.std.specs.List.{list_any, position_or_len}
 use Rattle.std.proofs.lemmas.Bool.Decides.{nat_tests}
 use Rattle.std.proofs.lemmas.List.Quantifiers.{position-Some}
@@ -140,3 +140,20 @@ placed-unknown config r x is none = ap (placed_by config) is ∙ ap place_or_unk
 
 pub none-settled : (config : Config) → AreSettled config []
 none-settled config k s e = absurd cc
+
+-- ---- whether a record is accepted
+
+-- A record is answered a number exactly if it is accepted.
+pub answered-as-accepted : (config : Config) (h : List Arrival) (r : List ℕ) → is_ok (answer_to config h r) ≡ is_some (accepted config r)
+answered-as-accepted config h r = by (header_of r)
+  where
+    inner : (x : Facts) (o : Option ℕ) → place_of config x ≡ o →
+        is_ok (numbered config h (place_or_unknown o)) ≡ is_some (if is_configured config x then Some (arrival_of r x) else None)
+    inner x None none =
+        sym (ap (λ b. is_some (if b then Some (arrival_of r x) else None)) (none-passes (λ y. has_codes x.network x.station y.station) config.entries none))
+    inner x (Some place) some =
+        sym (ap (λ b. is_some (if b then Some (arrival_of r x) else None)) (configured-there config x place some))
+
+    by : (q : Result Facts RecordFault) → is_ok (numbered config h (placed_by config q)) ≡ is_some (arrival_with config r q)
+    by (Err f) = refl
+    by (Ok x) = inner x (place_of config x) refl
