@@ -1,3 +1,4 @@
+pub mod Endpoints
 pub mod Faults
 pub mod Output
 pub mod Replaying

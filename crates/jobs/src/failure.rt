@@ -1,12 +1,15 @@
 //! Why the program ends with status 1.
 ghost use Rattle.std.specs.Prelude.{◌≡◌};
 ghost use Rattle.jobs.specs.Faults.{failure_number, failure_name};
-ghost use Rattle.jobs.specs.declared.failure.Failure.TheVariants.{Config as ConfigFailure, Replay as ReplayFailure, Check as CheckFailure, Records as RecordsFailure};
+ghost use Rattle.jobs.specs.declared.failure.Failure.TheVariants.{Config as ConfigFailure, Replay as ReplayFailure, Check as CheckFailure, Records as RecordsFailure, Listen as ListenFailure, Serve as ServeFailure, Send as SendFailure};
 
 use crate::faults::ReplayFault;
+use crate::serving::ServeFault;
 use catalog::ConfigFault;
+use feeder::SendFault;
 use protocol::report::Report;
 use record_listing::{CheckFault, FileFault};
+use socket_ports::ListenFault;
 use thiserror::Error;
 
 /// What keeps the program from doing its job, once its words are read.
@@ -33,10 +36,25 @@ pub enum Failure {
     /// A file of records has a record that is none, or ends inside one.
     #[error("{0}")]
     Records(FileFault),
+    /// A word is no address with a port.
+    #[error("a word is no address with a port")]
+    Address,
+    /// An address could not be listened on.
+    #[error("{0}")]
+    Listen(ListenFault),
+    /// No connection to the server could be made.
+    #[error("no connection to the server could be made")]
+    Connect,
+    /// The server ended before its turns were done.
+    #[error("{0}")]
+    Serve(ServeFault),
+    /// Not all of a feed was sent.
+    #[error("{0}")]
+    Send(SendFault),
 }
 
 impl Failure {
-    /// The number and the name by which the program reports it: 1 to 6, 20 to 25 or 41 to 45.
+    /// The number and the name by which the program reports it: 1 to 6, 11, 20 to 25 or 40 to 47.
     pub fn report(self) -> Report
         ensures number { result.number ≡ failure_number self }
         ensures name { result.name.now ≡ failure_name self }
@@ -49,6 +67,11 @@ impl Failure {
             Failure::Replay(fault) => fault.report(),
             Failure::Check(fault) => fault.report(),
             Failure::Records(fault) => fault.report(),
+            Failure::Address => Report::new(11, "Address"),
+            Failure::Listen(fault) => fault.report(),
+            Failure::Connect => Report::new(47, "Connect"),
+            Failure::Serve(fault) => fault.report(),
+            Failure::Send(fault) => fault.report(),
         }
     }
 }
@@ -82,5 +105,29 @@ impl From<FileFault> for Failure {
 
     fn from(fault: FileFault) -> Failure {
         Failure::Records(fault)
+    }
+}
+
+impl From<ListenFault> for Failure {
+    ghost from_gives = { λ fault failure. failure ≡ ListenFailure fault };
+
+    fn from(fault: ListenFault) -> Failure {
+        Failure::Listen(fault)
+    }
+}
+
+impl From<ServeFault> for Failure {
+    ghost from_gives = { λ fault failure. failure ≡ ServeFailure fault };
+
+    fn from(fault: ServeFault) -> Failure {
+        Failure::Serve(fault)
+    }
+}
+
+impl From<SendFault> for Failure {
+    ghost from_gives = { λ fault failure. failure ≡ SendFailure fault };
+
+    fn from(fault: SendFault) -> Failure {
+        Failure::Send(fault)
     }
 }

@@ -3,22 +3,13 @@
 use crate::failure::Failure;
 use crate::replaying::replay;
 use catalog::Config;
-use command_line::Job;
 use record_listing::check_records;
 use sl_io::{Outer, ReadFault, read_all};
 use std::rt::Files;
 use std::{fs, io};
 
-/// Does what a job asks.
-pub fn run_job<R: Files + Print + AllocGlobal>(rt: &R, job: Job<'_>) -> Result<(), Failure> {
-    match job {
-        Job::Check { file } => check_file(rt, file),
-        Job::Replay { config, script } => replay_files(rt, config, script),
-    }
-}
-
 /// Writes a line for each record of a file. It fails where one is refused, or where the file ends inside one.
-fn check_file<R: Files + Print + AllocGlobal>(rt: &R, path: &str) -> Result<(), Failure> {
+pub fn check_file<R: Files + Print + AllocGlobal>(rt: &R, path: &str) -> Result<(), Failure> {
     let mut file = Outer::new(open(rt, path)?);
     let mut out = Outer::new(io::writer(rt));
     match check_records(rt.alloc(), &mut file, &mut out)? {
@@ -28,7 +19,7 @@ fn check_file<R: Files + Print + AllocGlobal>(rt: &R, path: &str) -> Result<(), 
 }
 
 /// Writes the output of a script. The configuration is judged before the script is opened.
-fn replay_files<R: Files + Print + AllocGlobal>(
+pub fn replay_files<R: Files + Print + AllocGlobal>(
     rt: &R,
     config: &str,
     script: &str,
@@ -41,7 +32,7 @@ fn replay_files<R: Files + Print + AllocGlobal>(
 }
 
 /// The configuration in a file.
-fn config_at<R: Files + AllocGlobal>(rt: &R, path: &str) -> Result<Config, Failure> {
+pub fn config_at<R: Files + AllocGlobal>(rt: &R, path: &str) -> Result<Config, Failure> {
     let mut file = Outer::new(open(rt, path)?);
     let text = match read_all(rt.alloc(), &mut file) {
         Ok(text) => text,
@@ -53,7 +44,7 @@ fn config_at<R: Files + AllocGlobal>(rt: &R, path: &str) -> Result<Config, Failu
 }
 
 /// A file that is opened to be read.
-fn open<R: Files>(rt: &R, path: &str) -> Result<R::File, Failure> {
+pub fn open<R: Files>(rt: &R, path: &str) -> Result<R::File, Failure> {
     match fs::open(rt, path) {
         Ok(file) => Ok(file),
         Err(error) => {

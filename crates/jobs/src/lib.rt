@@ -1,14 +1,20 @@
-//! The jobs of `seedlinkd`: a replay of a script and a check of records, over files and the standard output, why they fail,
-//! and what the exit status is.
+//! The jobs of `seedlinkd`, over files, sockets and the standard output: a server, a feeder, a reader, a replay of a script and
+//! a check of records. Why they fail, and what the exit status is.
 #![tactic(auto)]
 
+mod endpoint;
 mod failure;
 mod faults;
 mod files;
+mod network;
 mod replaying;
+mod serving;
 mod statuses;
+mod work;
 
+pub use endpoint::Endpoint;
 pub use failure::Failure;
 pub use faults::ReplayFault;
 pub use replaying::replay;
+pub use serving::{ServeFault, serve};
 pub use statuses::{failed, obey, told};

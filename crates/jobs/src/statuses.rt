@@ -5,9 +5,10 @@ ghost use Rattle.std.specs.Process.{exit_status};
 ghost use Rattle.command_line.specs.Jobs.{IsJob, IsMistake};
 
 use crate::failure::Failure;
-use crate::files::run_job;
+use crate::work::run_job;
 use command_line::{WordsFault, read_words};
 use protocol::report::Report;
+use std::net::Net;
 use std::process::ExitCode;
 use std::rt::Files;
 
@@ -41,7 +42,7 @@ pub fn told<R: Print + Eprint>(rt: &R, text: &str, is_help: bool) -> ExitCode
 
 /// Does the job that the words of a command line ask, of which the first is the program's name. The status is never 2 where
 /// they are a job, and never 0 where they are a mistake.
-pub fn obey<R: Files + Print + Eprint + AllocGlobal>(rt: &R, words: &[String]) -> ExitCode
+pub fn obey<R: Files + Print + Eprint + Net + AllocGlobal>(rt: &R, words: &[String]) -> ExitCode
     ensures job { IsJob (map string_bytes words.now) → exit_status result ≢ 2 }
     ensures mistake { IsMistake (map string_bytes words.now) → exit_status result ≢ 0 }
 {
