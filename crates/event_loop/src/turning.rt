@@ -193,6 +193,13 @@ impl<P: Ports> Loop<P> {
         &self.ports
     }
 
+    /// The ports, once the loop is over. The server is dropped.
+    pub fn into_ports(self) -> P
+        ensures { result ≡ self.ports }
+    {
+        self.ports
+    }
+
     /// How many clients' ports are open.
     pub fn clients(&self) -> usize
         ensures { result ≡ clients_in self.now.seats.items }

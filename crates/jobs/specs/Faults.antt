@@ -2,6 +2,8 @@
 use Rattle.std.specs.Prelude.{ℕ, List, codes}
 use Rattle.catalog.specs.Faults.{fault_number, fault_name}
 use Rattle.feeder.specs.Sending.{send_fault_number, send_fault_name}
+use Rattle.slreader.specs.Faults.{reader_fault_number, reader_fault_name}
+use Rattle.packet_listing.specs.Faults.{listing_fault_number, listing_fault_name}
 use Rattle.socket_ports.specs.Faults.{listen_fault_number, listen_fault_name}
 use Rattle.record_listing.specs.Checks.{check_fault_number, check_fault_name}
 use Rattle.record_listing.specs.Listing.{file_fault_number, file_fault_name}
@@ -50,6 +52,8 @@ failure_number (failure.Listen fault) = listen_fault_number fault
 failure_number failure.Connect = 47
 failure_number (failure.Serve fault) = serve_fault_number fault
 failure_number (failure.Send fault) = send_fault_number fault
+failure_number (failure.Want fault) = reader_fault_number fault
+failure_number (failure.Packets fault) = listing_fault_number fault
 
 -- its name
 abbrev pub failure_name : Failure → List ℕ
@@ -65,3 +69,5 @@ failure_name (failure.Listen fault) = listen_fault_name fault
 failure_name failure.Connect = codes "Connect"
 failure_name (failure.Serve fault) = serve_fault_name fault
 failure_name (failure.Send fault) = send_fault_name fault
+failure_name (failure.Want fault) = reader_fault_name fault
+failure_name (failure.Packets fault) = listing_fault_name fault

@@ -1,14 +1,16 @@
 //! Why the program ends with status 1.
 ghost use Rattle.std.specs.Prelude.{◌≡◌};
 ghost use Rattle.jobs.specs.Faults.{failure_number, failure_name};
-ghost use Rattle.jobs.specs.declared.failure.Failure.TheVariants.{Config as ConfigFailure, Replay as ReplayFailure, Check as CheckFailure, Records as RecordsFailure, Listen as ListenFailure, Serve as ServeFailure, Send as SendFailure};
+ghost use Rattle.jobs.specs.declared.failure.Failure.TheVariants.{Config as ConfigFailure, Replay as ReplayFailure, Check as CheckFailure, Records as RecordsFailure, Listen as ListenFailure, Serve as ServeFailure, Send as SendFailure, Want as WantFailure, Packets as PacketsFailure};
 
 use crate::faults::ReplayFault;
 use crate::serving::ServeFault;
 use catalog::ConfigFault;
 use feeder::SendFault;
+use packet_listing::ListingFault;
 use protocol::report::Report;
 use record_listing::{CheckFault, FileFault};
+use slreader::ReaderFault;
 use socket_ports::ListenFault;
 use thiserror::Error;
 
@@ -51,10 +53,16 @@ pub enum Failure {
     /// Not all of a feed was sent.
     #[error("{0}")]
     Send(SendFault),
+    /// A word is no want, or the plan is outside the reader's limits.
+    #[error("{0}")]
+    Want(ReaderFault),
+    /// Not all that was asked for was read.
+    #[error("{0}")]
+    Packets(ListingFault),
 }
 
 impl Failure {
-    /// The number and the name by which the program reports it: 1 to 6, 11, 20 to 25 or 40 to 47.
+    /// The number and the name by which the program reports it: 1 to 6, 10, 11, 20 to 25, 40 to 47, 51 or 52.
     pub fn report(self) -> Report
         ensures number { result.number ≡ failure_number self }
         ensures name { result.name.now ≡ failure_name self }
@@ -72,6 +80,8 @@ impl Failure {
             Failure::Connect => Report::new(47, "Connect"),
             Failure::Serve(fault) => fault.report(),
             Failure::Send(fault) => fault.report(),
+            Failure::Want(fault) => fault.report(),
+            Failure::Packets(fault) => fault.report(),
         }
     }
 }
@@ -129,5 +139,21 @@ impl From<SendFault> for Failure {
 
     fn from(fault: SendFault) -> Failure {
         Failure::Send(fault)
+    }
+}
+
+impl From<ReaderFault> for Failure {
+    ghost from_gives = { λ fault failure. failure ≡ WantFailure fault };
+
+    fn from(fault: ReaderFault) -> Failure {
+        Failure::Want(fault)
+    }
+}
+
+impl From<ListingFault> for Failure {
+    ghost from_gives = { λ fault failure. failure ≡ PacketsFailure fault };
+
+    fn from(fault: ListingFault) -> Failure {
+        Failure::Packets(fault)
     }
 }

@@ -9,6 +9,7 @@ mod files;
 mod network;
 mod replaying;
 mod serving;
+mod standard_error;
 mod statuses;
 mod work;
 
