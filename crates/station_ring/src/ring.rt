@@ -37,7 +37,7 @@ impl Model for Ring {
 }
 
 impl Ring {
-    ghost use Rattle.station_ring.specs.Rings.{IsHolding, empty, pushed, first_place, oldest_place, number_at, place_with, held_at, held_from};
+    ghost use Rattle.station_ring.specs.Rings.{IsHolding, empty, pushed, first_place, oldest_place, number_at, place_with, held_at, held_from, Grows};
 
     /// A ring that holds nothing yet: at most `capacity` records, 1 to 65,536, the first of which has the number `first`. It
     /// fails only where there is no memory for them.
@@ -64,6 +64,7 @@ impl Ring {
         ensures held { self.new ≡ pushed self.old (record { stamp = stamp; bytes = bytes.now; summary = summary }) }
         ensures number { result ≡ number_at self.old self.old.pushes }
         ensures latest { All (λ h. h.stamp ≤ stamp) self.new.held }
+        ensures grows { Grows self.old self.new }
     {
         let number = self.next_number();
         let item = Held {
