@@ -50,6 +50,7 @@ impl Rings {
     pub fn arrivals(&self) -> u64
         ensures value { result ≡ self.now.arrivals }
         ensures count { (config : ProtocolConfig) (h : List Arrival) → self.now ≡ holdings_of config h → result ≡ length h }
+        ensures behind { AreBehind result self.now.rings }
     {
         let _ = &self.rings;
         self.arrivals

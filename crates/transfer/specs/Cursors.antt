@@ -63,7 +63,7 @@ pub record HasPassed (r : Holding) (next : ℕ) (c : Choice) (cursor : Cursor) :
   pub after : (place : ℕ) (x : Held) → cursor.after_end ≡ Some place → held_at r place ≡ Some x → is_after_end c.action x ≡ true
 
 -- Besides, the cursor is not before the oldest record, and the request wants the record at the cursor, where one is there.
-pub record StandsAt (r : Holding) (next : ℕ) (c : Choice) (cursor : Cursor) : Type 0 where
+pub record RestsAt (r : Holding) (next : ℕ) (c : Choice) (cursor : Cursor) : Type 0 where
   pub passed : HasPassed r next c cursor
   pub low : first_place r ≤ cursor.place
   pub wanted : (x : Held) → held_at r cursor.place ≡ Some x → wants_held c next x ≡ true
@@ -72,8 +72,8 @@ pub record StandsAt (r : Holding) (next : ℕ) (c : Choice) (cursor : Cursor) : 
 pub record PassedIn (rings : Holdings) (next : ℕ) (c : Choice) : Type 0 where
   pub passed : (r : Holding) (action : Action) → slice_get rings.rings c.place ≡ Some r → c.action ≡ Some action → HasPassed r next c c.cursor
 
-pub record StandsIn (rings : Holdings) (next : ℕ) (c : Choice) : Type 0 where
-  pub stands : (r : Holding) (action : Action) → slice_get rings.rings c.place ≡ Some r → c.action ≡ Some action → StandsAt r next c c.cursor
+pub record RestsIn (rings : Holdings) (next : ℕ) (c : Choice) : Type 0 where
+  pub rests : (r : Holding) (action : Action) → slice_get rings.rings c.place ≡ Some r → c.action ≡ Some action → RestsAt r next c c.cursor
 
 -- All records of the station were passed.
 pub record IsReached (rings : Holdings) (c : Choice) : Type 0 where

@@ -1,11 +1,11 @@
 //! Which held records a request wants.
-ghost use Rattle.std.specs.Prelude.{◌≡◌, ◌≤◌, ℕ, find, option_map, IfSome, Some, None};
+ghost use Rattle.std.specs.Prelude.{◌≡◌, ◌≤◌, ℕ, find, option_map, IfSome, Some, None, is_some};
 ghost use Rattle.std.specs.List.{list_any};
 ghost use Rattle.protocol.specs.History.{ends_from, starts_by};
 ghost use Rattle.station_ring.specs.declared.held.Held.{Held as HeldValue};
 ghost use Rattle.station_ring.specs.Rings.{held_at};
 ghost use Rattle.transfer.specs.Wanting.{facts_of, is_in_window_of, wants_held, HoldsRecord};
-ghost use Rattle.transfer.specs.Cursors.{is_after_end, HasPassed, StandsAt};
+ghost use Rattle.transfer.specs.Cursors.{is_after_end, HasPassed, RestsAt};
 ghost use Rattle.transfer.specs.Founds.{found_of};
 
 use session_state::{Action, Choice, Cursor};
@@ -82,13 +82,31 @@ fn is_after_end(choice: &Choice, summary: &Summary) -> bool
     ensures { (x : HeldValue) → x.summary ≡ summary.now → result ≡ is_after_end choice.now.action x }
 {
     match choice.action {
+        None => false,
+        Some(
+            Action::Data {
+                number: _number,
+                begin: _begin,
+            },
+        ) => false,
+        Some(
+            Action::Fetch {
+                number: _number,
+                begin: _begin,
+            },
+        ) => false,
+        Some(
+            Action::Time {
+                begin: _begin,
+                last: None,
+            },
+        ) => false,
         Some(
             Action::Time {
                 begin: _begin,
                 last: Some(last),
             },
         ) => last.value() < summary.start.value(),
-        _ => false,
     }
 }
 
@@ -121,7 +139,7 @@ fn found_at(ring: &Ring, place: u64, choice: &Choice, next: u64) -> Found
 /// How far a request comes that passes what it doesn't want: to the first record from its cursor on that it wants, else to the
 /// end. A cursor that was overrun goes on at the oldest record.
 pub fn cursor_in(ring: &Ring, choice: &Choice, next: u64) -> Cursor
-    ensures { HasPassed ring.now next choice.now choice.now.cursor → StandsAt ring.now next choice.now result }
+    ensures { HasPassed ring.now next choice.now choice.now.cursor → RestsAt ring.now next choice.now result }
 {
     ring.holds_its_last();
     let Some(oldest) = ring.oldest() else {
@@ -144,10 +162,10 @@ pub fn cursor_in(ring: &Ring, choice: &Choice, next: u64) -> Cursor
 
 /// The record at a request's cursor, where one is there.
 pub fn at_cursor(ring: &Ring, choice: &Choice) -> Option<Candidate>
-    ensures position { (next : ℕ) → StandsAt ring.now next choice.now choice.now.cursor →
+    ensures position { (next : ℕ) → RestsAt ring.now next choice.now choice.now.cursor →
         option_map (λ c. c.position) result ≡ option_map (λ x. x.stamp) (find (wants_held choice.now next) ring.now.held) }
-    ensures late { (next : ℕ) → StandsAt ring.now next choice.now choice.now.cursor → IfSome result (λ c. next ≤ c.position) }
-    ensures none { (next : ℕ) → StandsAt ring.now next choice.now choice.now.cursor → result ≡ None →
+    ensures late { (next : ℕ) → RestsAt ring.now next choice.now choice.now.cursor → IfSome result (λ c. next ≤ c.position) }
+    ensures none { (next : ℕ) → RestsAt ring.now next choice.now choice.now.cursor → result ≡ None →
         choice.now.cursor.place ≡ ring.now.pushes }
     ensures held { IfSome result (λ c. HoldsRecord ring.now c.place c.position) }
     ensures station { IfSome result (λ c. c.station ≡ choice.now.place) }
@@ -168,7 +186,16 @@ pub fn has_passed_its_end(ring: &Ring, choice: &Choice) -> bool
 {
     ring.holds_its_last();
     match choice.cursor.after_end {
-        Some(place) => ring.get(place).is_some(),
+        Some(place) => is_held(ring, place),
+        None => false,
+    }
+}
+
+fn is_held(ring: &Ring, place: u64) -> bool
+    ensures { result ≡ is_some (held_at ring.now place) }
+{
+    match ring.get(place) {
+        Some(_held) => true,
         None => false,
     }
 }
