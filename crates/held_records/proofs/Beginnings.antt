@@ -1,13 +1,11 @@
 -- Where a request for a number begins, and what a push leaves of the rings.
-use Rattle.std.proofs.Common.{◌≡◌, ◌≢◌, ℕ, ◌+◌, ◌-◌, ◌<◌, ◌≤◌, true, false, Bool, List, [], ◌∷◌, length, Option, Some, None, suc, zero, arith, refl, sym, ap, subst, ◌∙◌, unwrap_or, slice_get, slice_set, get_or, All, nat_le}
+use Rattle.std.proofs.Common.{◌≡◌, ◌≢◌, ℕ, ◌-◌, ◌<◌, ◌≤◌, false, Bool, List, [], ◌∷◌, length, Some, None, suc, zero, arith, sym, ap, subst, ◌∙◌, unwrap_or, slice_get, slice_set, get_or, All}
 use Rattle.std.specs.Prelude.{◌==◌, if◌then◌else◌}
-use Rattle.std.proofs.lemmas.Option.{slice_get_cases, slice_get-get_or}
-use Rattle.protocol.proofs.Found.{both}
 use Rattle.station_ring.specs.declared.held.Held.{Held}
 use Rattle.station_ring.specs.Rings.{Holding, IsHolding, Grows, first_place, held_at, number_at, place_with}
 use Rattle.station_ring.proofs.Growing.{held_at-low}
 use Rattle.station_ring.proofs.Numbers.{place_with_law}
-use Rattle.held_records.specs.Holdings.{AllGrow, IsBefore, IsBehind, WasThere, place_from}
+use Rattle.held_records.specs.Holdings.{AllGrow, IsBefore, IsBehind, place_from}
 use Rattle.held_records.proofs.Places.{is_held}
 
 -- Before the oldest place nothing is held.

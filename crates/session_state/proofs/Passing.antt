@@ -1,5 +1,5 @@
 -- How far a request has come, and sessions that stay in their transfer.
-use Rattle.std.proofs.Common.{◌≡◌, ◌≢◌, ℕ, ◌<◌, true, false, List, [], ◌∷◌, length, map, slice_get, slice_set, Some, None, Option, suc, zero, refl, sym, ap, subst, ◌∙◌, arith, unwrap_or, drop, nat_lt, if◌then◌else◌}
+use Rattle.std.proofs.Common.{◌≡◌, ◌≢◌, ℕ, List, [], ◌∷◌, length, map, slice_get, Some, None, Option, suc, zero, refl, sym, ap, subst, ◌∙◌, unwrap_or, nat_lt}
 use Rattle.protocol.specs.Catalog.{Config}
 use Rattle.protocol.proofs.Found.{both}
 use Rattle.session_state.specs.declared.choices.Choice.{Choice}
@@ -11,7 +11,7 @@ use Rattle.session_state.specs.declared.modes.Effect.TheVariants.{Done, Refused,
 use Rattle.session_state.specs.declared.session.State.{State}
 use Rattle.session_state.specs.declared.session.State.TheVariants.{Negotiating, Listing, Starting, Transfer, Ending}
 use Rattle.session_state.specs.Choices.{all_at_start, at_start, chosen_of, passed_at, passed_in}
-use Rattle.session_state.specs.Sessions.{Sitting, KeepsTransfer, but_for_cursors, effected, kept_unread, line_made, listed_in, with_line}
+use Rattle.session_state.specs.Sessions.{Sitting, KeepsTransfer, but_for_cursors, effected, line_made, listed_in, with_line}
 
 -- ---- how far a request has come
 
@@ -90,10 +90,12 @@ pub keeps-same : (a : Sitting) → KeepsTransfer a a
 keeps-same a = record { kept = λ next e. (e, refl) }
 
 pub keeps-then : (a b c : Sitting) → KeepsTransfer a b → KeepsTransfer b c → KeepsTransfer a c
-keeps-then a b c first second = record { kept = λ next e.
-    let later = second.kept next e in
-    let before = first.kept next later.0 in
-    (before.0, later.1 ∙ before.1) }
+keeps-then a b c first second = record {
+  kept = λ next e.
+      let later = second.kept next e in
+      let before = first.kept next later.0 in
+      (before.0, later.1 ∙ before.1);
+}
 
 -- a step that changes neither the state nor the requests
 pub keeps-apart : (a b : Sitting) → b.state ≡ a.state → b.mode ≡ a.mode → KeepsTransfer a b
@@ -119,8 +121,10 @@ listed-kept places (Transfer q) next e = e
 listed-kept places Ending next e = e
 
 pub listed-keeps : (a b : Sitting) → b ≡ record a { state = listed_in a.places a.state } → KeepsTransfer a b
-listed-keeps a b ends = record { kept = λ next e.
-    (listed-kept a.places a.state next (ap (λ (s : Sitting). s.state) (sym ends) ∙ e), ap (λ (s : Sitting). s.mode) ends) }
+listed-keeps a b ends = record {
+  kept = λ next e.
+      (listed-kept a.places a.state next (ap (λ (s : Sitting). s.state) (sym ends) ∙ e), ap (λ (s : Sitting). s.mode) ends);
+}
 
 pub lined-keeps : (config : Config) (made : ℕ) (a b : Sitting) → b ≡ line_made config made a → KeepsTransfer a b
 lined-keeps config made a b e = subst (λ (s : Sitting). KeepsTransfer a s) (sym e) (with_it (slice_get _ made))

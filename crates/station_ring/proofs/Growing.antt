@@ -1,5 +1,5 @@
 -- What a push leaves at the places that were pushed before, and how stamps rise with places.
-use Rattle.std.proofs.Common.{◌≡◌, ℕ, ◌+◌, ◌-◌, ◌<◌, ◌≤◌, List, [], ◌∷◌, ◌++◌, length, drop, Some, None, suc, zero, arith, refl, sym, ap, subst, ◌∙◌, length-append, length-drop, nat_le, get_or, unwrap_or, slice_get, true, false}
+use Rattle.std.proofs.Common.{◌≡◌, ℕ, ◌+◌, ◌-◌, ◌<◌, ◌≤◌, List, [], ◌∷◌, ◌++◌, length, drop, Some, None, suc, zero, arith, refl, sym, ap, ◌∙◌, length-append, length-drop, nat_le, slice_get, true}
 use Rattle.std.proofs.lemmas.Bool.Decides.{leb_tells, nat_tests}
 use Rattle.std.proofs.Common.{inl, inr}
 use Rattle.station_ring.specs.declared.held.Held.{Held}
@@ -42,7 +42,7 @@ pushed-grows r item holds = record { pushes = omega arith; held = there_before }
         let test : nat_le (first_place r) place ≡ true = grind (arith, nat_tests) in
         let index : gone + (place - first_place (pushed r item)) ≡ place - first_place r = omega (arith, now.0) in
         rw test (
-          sym (slice_get-front r.held (item ∷ []) (place - first_place r) (omega arith))
-          ∙ ap (slice_get all) (sym index)
-          ∙ sym (slice_get-drop gone (place - first_place (pushed r item)) all)
-          ∙ now.1)
+        sym (slice_get-front r.held (item ∷ []) (place - first_place r) (omega arith))
+        ∙ ap (slice_get all) (sym index)
+        ∙ sym (slice_get-drop gone (place - first_place (pushed r item)) all)
+        ∙ now.1)

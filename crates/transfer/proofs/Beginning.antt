@@ -1,15 +1,13 @@
 -- Where requests begin, and sessions that differ in cursors alone.
-use Rattle.std.proofs.Common.{◌≡◌, ◌≢◌, ℕ, ◌+◌, ◌<◌, ◌≤◌, zero, suc, Bool, true, false, ◌&&◌, nat_le, List, [], ◌∷◌, length, map, filter_map, All, Option, Some, None, slice_get, unwrap_or, refl, sym, ap, ap₂, subst, ◌∙◌, arith}
+use Rattle.std.proofs.Common.{◌≡◌, ℕ, ◌<◌, zero, suc, true, false, nat_le, List, [], ◌∷◌, map, filter_map, All, Option, Some, None, slice_get, unwrap_or, refl, sym, ap, subst, ◌∙◌, arith}
 use Rattle.std.proofs.lemmas.Bool.Decides.{nat_tests}
 use Rattle.protocol.specs.Catalog.{Config, View}
 use Rattle.protocol.specs.History.{Arrival}
-use Rattle.protocol.specs.Session.{wish_of}
 use Rattle.protocol.specs.Session.Negotiated.{Multi as NegotiatedMulti}
-use Rattle.protocol.specs.Client.{Client, request_of}
-use Rattle.protocol.specs.Client.State.{Transfer as ClientTransfer, Negotiating as ClientNegotiating}
+use Rattle.protocol.specs.Client.{Client}
 use Rattle.protocol.proofs.Found.{both}
 use Rattle.station_ring.specs.declared.held.Held.{Held}
-use Rattle.station_ring.specs.Rings.{Holding, first_place, held_at}
+use Rattle.station_ring.specs.Rings.{Holding, held_at}
 use Rattle.station_ring.proofs.Growing.{held_at-low}
 use Rattle.held_records.specs.Holdings.{Holdings, IsBehind, IsBefore}
 use Rattle.session_state.specs.declared.choices.Action.{Action}
@@ -23,7 +21,7 @@ use Rattle.session_state.specs.declared.session.State.TheVariants.{Negotiating, 
 use Rattle.session_state.specs.Choices.{all_at_start, at_start, choices_in, chosen_of, negotiated_in, request_in}
 use Rattle.session_state.specs.Sessions.{Sitting, but_for_cursors, client_in, sitting_view, state_in}
 use Rattle.transfer.specs.Wanting.{wants_held}
-use Rattle.transfer.specs.Cursors.{ArePassed, BeginsIn, HasPassed, IsAtBegin, IsTold, OfAll, PassedIn, StartsIn, begin_place, is_after_end}
+use Rattle.transfer.specs.Cursors.{ArePassed, BeginsIn, HasPassed, IsAtBegin, OfAll, StartsIn, begin_place, is_after_end}
 use Rattle.transfer.proofs.Resting.{same-ring}
 
 -- ---- where requests begin
@@ -43,10 +41,12 @@ pub starts-nowhere : (rings : Holdings) (c : Choice) → slice_get rings.rings c
 starts-nowhere rings c none = record { starts = λ x action at asked. absurd (let t : None ≡ Some x = sym none ∙ at in cc) }
 
 pub starts-ring : (rings : Holdings) (c : Choice) (r : Holding) (a : Action) → slice_get rings.rings c.place ≡ Some r → c.action ≡ Some a → IsAtBegin r a c.cursor → StartsIn rings c
-starts-ring rings c r a there asks begins = record { starts = λ x action at asked.
-    let action_is : a ≡ action = (let t : Some a ≡ Some action = sym asks ∙ asked in cc) in
-    subst (λ (y : Holding). IsAtBegin y action c.cursor) (same-ring r x (slice_get rings.rings c.place) there at)
-    (subst (λ z. IsAtBegin r z c.cursor) action_is begins) }
+starts-ring rings c r a there asks begins = record {
+  starts = λ x action at asked.
+      let action_is : a ≡ action = (let t : Some a ≡ Some action = sym asks ∙ asked in cc) in
+      subst (λ (y : Holding). IsAtBegin y action c.cursor) (same-ring r x (slice_get rings.rings c.place) there at)
+      (subst (λ z. IsAtBegin r z c.cursor) action_is begins);
+}
 
 -- What came before the first that is wanted is not wanted.
 too-early : (c : Choice) (next : ℕ) (x : Held) → x.stamp < c.first → wants_held c next x ≡ false
@@ -66,15 +66,20 @@ begin-passed r a next c asked before begins = record {
   within = begins.within;
   unwanted = λ place x low there. too-early c next x (before.stamps place x (omega (arith, begins.place)) there);
   told = λ place x low there after. absurd (
-    let t : true ≡ false = sym after ∙ ap (λ o. is_after_end o x) asked ∙ none-after-end r a place x (omega (arith, begins.place)) there in cc);
+      let t : true ≡ false = sym after ∙ ap (λ o. is_after_end o x) asked ∙ none-after-end r a place x (omega (arith, begins.place)) there in cc);
   before = λ place e. absurd (let t : None ≡ Some place = sym begins.after_end ∙ e in cc);
   after = λ place x e there. absurd (let t : None ≡ Some place = sym begins.after_end ∙ e in cc);
 }
 
 -- A session whose requests have just begun has passed nothing that it wants.
 pub starts-passed : (rings : Holdings) (s : Sitting) → OfAll (StartsIn rings) (chosen_of s.mode) → OfAll (BeginsIn rings) (chosen_of s.mode) → ArePassed rings s
-starts-passed rings s starts begins = record { passed = λ next state i c at. record { passed = λ r action there asked.
-    begin-passed r action next c asked ((begins i c at).before r action there asked) ((starts i c at).starts r action there asked) } }
+unfolding ArePassed
+starts-passed rings s starts begins = record {
+  passed = λ next state i c at. record {
+    passed = λ r action there asked.
+        begin-passed r action next c asked ((begins i c at).before r action there asked) ((starts i c at).starts r action there asked);
+  };
+}
 
 -- ---- sessions that differ in cursors alone
 

@@ -10,7 +10,7 @@ use Rattle.held_records.specs.Holdings.{Holdings, holdings_of}
 use Rattle.session_state.specs.declared.choices.Choice.{Choice}
 use Rattle.session_state.specs.Choices.{request_in}
 use Rattle.transfer.specs.declared.wanting.Candidate.{Candidate}
-use Rattle.transfer.specs.Choosing.{HoldsThere, comes_before, least_of}
+use Rattle.transfer.specs.Choosing.{HoldsThere, comes_before}
 use Rattle.transfer.specs.Cursors.{IsReached, OfAll, RestsIn}
 use Rattle.transfer.proofs.Positions.{next-none}
 use Rattle.transfer.proofs.Nexts.{after-best, before-best, least-none, lesser-found}
@@ -61,7 +61,7 @@ leads-second rings choices i c best found low is comes second so_far =
       held = so_far.held;
       late = so_far.late;
       reached = λ q rests none j x below there. absurd (
-        let t : true ≡ false = ap (λ o. comes_before (option_map (λ (y : Candidate). y.position) o) found.position) (sym none) ∙ second in cc);
+          let t : true ≡ false = ap (λ o. comes_before (option_map (λ (y : Candidate). y.position) o) found.position) (sym none) ∙ second in cc);
     }
 
 pub leads-same : (rings : Holdings) (choices : List Choice) (i : ℕ) (c : Choice) (best : Option Candidate) → i < length choices → c ≡ get_or choices i c → Comes rings c None → LeadsSoFar rings choices i best → LeadsSoFar rings choices (i + 1) best

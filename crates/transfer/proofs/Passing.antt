@@ -1,19 +1,19 @@
 -- What a request passes in its ring.
-use Rattle.std.proofs.Common.{◌≡◌, ◌≢◌, ℕ, ◌+◌, ◌-◌, ◌<◌, ◌≤◌, zero, suc, Bool, true, false, ◌&&◌, nat_le, List, [], ◌∷◌, length, drop, max, Option, Some, None, option_map, slice_get, unwrap_or, refl, sym, ap, subst, ◌∙◌, arith}
+use Rattle.std.proofs.Common.{◌≡◌, ◌≢◌, ℕ, ◌+◌, ◌-◌, ◌<◌, ◌≤◌, zero, suc, Bool, true, false, ◌&&◌, nat_le, List, [], ◌∷◌, length, drop, max, Option, Some, None, option_map, slice_get, refl, sym, ap, subst, ◌∙◌, arith}
 use Rattle.std.specs.Prelude.{find, if◌then◌else◌, is_some, ◌==◌}
 use Rattle.std.specs.List.{list_any}
 use Rattle.std.proofs.lemmas.Bool.Decides.{nat_tests}
 use Rattle.protocol.proofs.Found.{both}
 use Rattle.held_records.proofs.Places.{oldest-first, any-here}
 use Rattle.station_ring.specs.declared.held.Held.{Held}
-use Rattle.station_ring.specs.Rings.{Holding, IsHolding, Grows, first_place, held_at, oldest_place}
+use Rattle.station_ring.specs.Rings.{Holding, IsHolding, first_place, held_at, oldest_place}
 use Rattle.station_ring.proofs.Growing.{held_at-low}
 use Rattle.session_state.specs.declared.choices.Choice.{Choice}
 use Rattle.session_state.specs.declared.choices.Cursor.{Cursor}
 use Rattle.transfer.specs.declared.wanting.Found.{Found}
 use Rattle.transfer.specs.declared.wanting.Found.TheVariants.{Wanted, AfterEnd, Unwanted}
 use Rattle.transfer.specs.Wanting.{wants_held}
-use Rattle.transfer.specs.Cursors.{HasPassed, IsTold, RestsAt, is_after_end}
+use Rattle.transfer.specs.Cursors.{HasPassed, RestsAt, is_after_end}
 use Rattle.transfer.specs.Founds.{found_of}
 use Rattle.transfer.proofs.Scanning.{Scans, scans-found, scans-none, there-at}
 
@@ -181,9 +181,9 @@ cursor-end r next c k holds rests none =
     both (nat_le r.pushes k.place)
     (λ y. let over : r.pushes ≤ k.place = grind (arith, nat_tests) in omega (arith, rests.passed.within))
     (λ n. absurd (
-      let under : k.place < r.pushes = grind (arith, nat_tests) in
-      let x = there-at r k.place rests.low under in
-      let some : None ≡ Some (x.0) = none ∙ x.1 in cc))
+    let under : k.place < r.pushes = grind (arith, nat_tests) in
+    let x = there-at r k.place rests.low under in
+    let some : None ≡ Some (x.0) = none ∙ x.1 in cc))
 
 pub cursor-none : (r : Holding) (next : ℕ) (c : Choice) (k : Cursor) → IsHolding r → RestsAt r next c k → None ≡ held_at r k.place → None ≡ option_map (λ y. y.stamp) (find (wants_held c next) r.held)
 cursor-none r next c k holds rests none =
@@ -214,11 +214,11 @@ none-after : (r : Holding) (next : ℕ) (c : Choice) → IsHolding r → HasPass
 none-after r next c holds passed all none = sym (none-says (is_after_end c.action) r.held (λ i x e.
     both (is_after_end c.action x)
     (λ y.
-      let at : held_at r (first_place r + i) ≡ Some x = held-index r i x e in
-      let high : first_place r + i < r.pushes = held_at-high r (first_place r + i) x holds at in
-      let it = passed.told (first_place r + i) x (omega arith) at y in
-      let before : it.last < c.cursor.place = passed.before it.last it.is in
-      absurd (none it.last (omega (arith, it.from)) (omega arith) it.is))
+    let at : held_at r (first_place r + i) ≡ Some x = held-index r i x e in
+    let high : first_place r + i < r.pushes = held_at-high r (first_place r + i) x holds at in
+    let it = passed.told (first_place r + i) x (omega arith) at y in
+    let before : it.last < c.cursor.place = passed.before it.last it.is in
+    absurd (none it.last (omega (arith, it.from)) (omega arith) it.is))
     (λ n. n)))
 
 pub end-none : (r : Holding) (next : ℕ) (c : Choice) → IsHolding r → c.cursor.after_end ≡ None → HasPassed r next c c.cursor → c.cursor.place ≡ r.pushes → false ≡ list_any (is_after_end c.action) r.held

@@ -1,22 +1,16 @@
 -- Where the requests of a session rest.
-use Rattle.std.proofs.Common.{◌≡◌, ◌≢◌, ℕ, ◌+◌, ◌<◌, ◌≤◌, zero, suc, List, [], ◌∷◌, length, Option, Some, None, slice_get, get_or, slice_index_or, unwrap_or, true, false, Bool, nat_le, ◌&&◌, refl, sym, ap, subst, ◌∙◌, arith}
-use Rattle.std.specs.Prelude.{◌==◌, IfSome}
+use Rattle.std.proofs.Common.{◌≡◌, ◌≢◌, ℕ, ◌+◌, ◌<◌, ◌≤◌, zero, suc, List, [], ◌∷◌, length, Option, Some, None, slice_get, slice_index_or, unwrap_or, refl, sym, ap, subst, ◌∙◌, arith}
+use Rattle.std.specs.Prelude.{◌==◌}
 use Rattle.std.proofs.lemmas.Bool.Decides.{nat_tests}
 use Rattle.std.proofs.lemmas.Option.{slice_get-get_or}
 use Rattle.protocol.proofs.Found.{both}
-use Rattle.station_ring.specs.declared.held.Held.{Held}
-use Rattle.station_ring.specs.Rings.{Holding, Grows, first_place, held_at}
-use Rattle.station_ring.proofs.Growing.{held_at-low}
-use Rattle.held_records.specs.Holdings.{Holdings, AllGrow, IsBefore}
-use Rattle.session_state.specs.declared.choices.Action.{Action}
-use Rattle.session_state.specs.declared.choices.Action.TheVariants.{Data, Fetch, Time}
+use Rattle.station_ring.specs.Rings.{Holding}
+use Rattle.held_records.specs.Holdings.{Holdings}
 use Rattle.session_state.specs.declared.choices.Choice.{Choice}
 use Rattle.session_state.specs.declared.choices.Cursor.{Cursor}
-use Rattle.session_state.specs.declared.session.State.TheVariants.{Transfer}
 use Rattle.session_state.specs.Choices.{chosen_of}
-use Rattle.session_state.specs.Sessions.{Sitting, KeepsTransfer, but_for_cursors}
-use Rattle.transfer.specs.Wanting.{wants_held}
-use Rattle.transfer.specs.Cursors.{ArePassed, BeginsIn, HasPassed, IsAtBegin, IsReached, IsTold, OfAll, PassedIn, RestsAt, RestsIn, StartsIn, begin_place, is_after_end}
+use Rattle.session_state.specs.Sessions.{Sitting, but_for_cursors}
+use Rattle.transfer.specs.Cursors.{IsReached, OfAll, RestsAt, RestsIn}
 
 -- ---- one request
 

@@ -1,7 +1,7 @@
 -- How far the requests of a transfer have come in the rings of their stations. A cursor is a place before which a request wants
 -- nothing more.
 -- SeedLink 3, DATA, FETCH and TIME. Left out: how a cursor is moved.
-use Rattle.std.specs.Prelude.{◌≡◌, ℕ, ◌+◌, ◌<◌, ◌≤◌, ◌==◌, Bool, true, false, int_lt, List, length, Option, Some, None, slice_get}
+use Rattle.std.specs.Prelude.{◌≡◌, ℕ, ◌<◌, ◌≤◌, Bool, true, false, int_lt, List, Option, Some, None, slice_get}
 use Rattle.station_ring.specs.declared.held.Held.{Held}
 use Rattle.station_ring.specs.Rings.{Holding, first_place, held_at}
 use Rattle.held_records.specs.Holdings.{Holdings, IsBefore, place_from}
@@ -86,5 +86,9 @@ abbrev pub OfAll : (Choice → Type 0) → List Choice → Type 0
 OfAll P cs = (i : ℕ) (c : Choice) → slice_get cs i ≡ Some c → P c
 
 -- A session in a transfer has passed nothing that it may still want.
-pub record ArePassed (rings : Holdings) (s : Sitting) : Type 0 where
+pub record PassesUnwanted (rings : Holdings) (s : Sitting) : Type 0 where
   pub passed : (next : ℕ) → s.state ≡ Transfer next → OfAll (PassedIn rings next) (chosen_of s.mode)
+
+-- the same; contracts need not look into it
+unfoldable pub ArePassed : Holdings → Sitting → Type 0
+ArePassed rings s = PassesUnwanted rings s

@@ -1,7 +1,6 @@
 use Rattle.std.proofs.Common.{◌∙◌, ap, sym, option_map}
-use Rattle.transfer.specs.declared.wanting.Candidate.{Candidate}
 use Rattle.transfer.proofs.Nexts.{first-comes, nothing-asked, nowhere-comes, asked-some, asked-none}
-use Rattle.transfer.proofs.Resting.{rests-ring, reached-nothing, reached-nowhere, reached-ring}
+use Rattle.transfer.proofs.Resting.{reached-nothing, reached-nowhere, reached-ring}
 use Rattle.transfer.proofs.choosing.candidate.Goals as goal
 
 pub returns-then-is_none-clause-position : goal.returns-then-is_none-clause-position

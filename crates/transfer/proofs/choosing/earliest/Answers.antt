@@ -1,4 +1,4 @@
-use Rattle.std.proofs.Common.{◌∙◌, ◌+◌, ℕ, sym, Option, subst}
+use Rattle.std.proofs.Common.{◌∙◌, ◌+◌, sym, Option, subst}
 use Rattle.transfer.specs.declared.wanting.Candidate.{Candidate}
 use Rattle.transfer.proofs.Found.{LeadsSoFar, leads-all, leads-first, leads-none, leads-same, leads-second}
 use Rattle.transfer.proofs.Resting.{choice-within}

@@ -1,6 +1,5 @@
-use Rattle.std.proofs.Common.{◌≡◌, ◌<◌, ◌∙◌, ap, arith, length, slice_get, slice_index_or, subst, sym}
+use Rattle.std.proofs.Common.{◌≡◌, ◌<◌, ◌∙◌, ap, arith, length, slice_index_or, subst, sym}
 use Rattle.session_state.specs.Choices.{chosen_of}
-use Rattle.transfer.specs.Cursors.{OfAll, PassedIn, RestsIn}
 use Rattle.transfer.proofs.Resting.{choice-at, moves-all, moves-none, moves-on}
 use Rattle.transfer.proofs.choosing.pass_unwanted.Goals as goal
 
@@ -19,9 +18,9 @@ loop-i-preserved c =
     let item = subst (λ cs. c.index-choices-i.result ≡ slice_index_or cs c.loop-i.i c.index-choices-i.result) c.choices.ensures c.index-choices-i.is in
     let at = choice-at (chosen_of c.loop-i.session.mode) c.loop-i.i c.index-choices-i.result within item in (
       moves-on _ c.loop-i.i c.cursor_of-cursor.result c.loop-i.session c.pass.new.self c.args.session.now c.index-choices-i.result
-      (record { same = c.pass.ensures.same; here = c.pass.ensures.here; others = c.pass.ensures.others; count = c.pass.ensures.count }) at
-      (λ all. c.cursor_of-cursor.ensures (all c.loop-i.i c.index-choices-i.result (sym (c.loop-i.invariant.0.rest c.loop-i.i (omega arith)) ∙ at)))
-      c.loop-i.invariant.0,
+          (record { same = c.pass.ensures.same; here = c.pass.ensures.here; others = c.pass.ensures.others; count = c.pass.ensures.count }) at
+          (λ all. c.cursor_of-cursor.ensures (all c.loop-i.i c.index-choices-i.result (sym (c.loop-i.invariant.0.rest c.loop-i.i (omega arith)) ∙ at)))
+          c.loop-i.invariant.0,
       omega (arith, c.loop-i-test.true),
       c.loop-i.invariant.2,
     )

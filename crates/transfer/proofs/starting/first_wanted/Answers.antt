@@ -1,4 +1,3 @@
-use Rattle.station_ring.specs.Rings.{Holding}
 use Rattle.held_records.proofs.Beginnings.{before-next}
 use Rattle.transfer.proofs.Beginning.{behind-there}
 use Rattle.transfer.proofs.starting.first_wanted.Goals as goal

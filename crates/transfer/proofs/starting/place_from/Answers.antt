@@ -1,4 +1,4 @@
-use Rattle.std.proofs.Common.{sym, ◌≡◌, ◌<◌, arith}
+use Rattle.std.proofs.Common.{sym, arith}
 use Rattle.transfer.proofs.starting.place_from.Goals as goal
 
 pub returns-in-Some-clause-within : goal.returns-in-Some-clause-within

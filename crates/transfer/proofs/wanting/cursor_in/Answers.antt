@@ -2,7 +2,7 @@ use Rattle.std.proofs.Common.{◌≡◌, ◌≤◌, ◌+◌, ℕ, Option, arith,
 use Rattle.station_ring.specs.Rings.{first_place}
 use Rattle.held_records.proofs.Places.{oldest-first}
 use Rattle.transfer.specs.Cursors.{HasPassed}
-use Rattle.transfer.proofs.Passing.{at_place, passed-after, passed-raised, passed-unwanted, rests-empty, rests-end, rests-wanted}
+use Rattle.transfer.proofs.Passing.{at_place, passed-after, passed-raised, passed-unwanted, rests-end, rests-wanted}
 use Rattle.transfer.proofs.wanting.cursor_in.Goals.{in-AfterEnd, in-Unwanted}
 use Rattle.transfer.proofs.wanting.cursor_in.Goals as goal
 

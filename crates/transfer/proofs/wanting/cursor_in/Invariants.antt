@@ -1,4 +1,3 @@
-use Rattle.std.proofs.Common.{◌≤◌}
 use Rattle.transfer.specs.Cursors.{HasPassed}
 use Rattle.transfer.proofs.Passing.{at_place}
 use Rattle.transfer.proofs.wanting.cursor_in.Given as goal
