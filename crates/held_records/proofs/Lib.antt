@@ -3,3 +3,4 @@ pub mod Numbers
 pub mod Places
 pub mod Stations
 pub mod Walks
+pub mod Beginnings

@@ -1,12 +1,12 @@
 -- What a server holds of all that arrived: a ring for each station, of that station's arrivals.
 -- SeedLink 3, sequence numbers. Left out: which records are accepted.
-use Rattle.std.specs.Prelude.{◌≡◌, ℕ, ◌+◌, ◌<◌, ◌≤◌, if◌then◌else◌, Some, List, [], ◌∷◌, length, map, slice_get, true, All}
+use Rattle.std.specs.Prelude.{◌≡◌, ℕ, ◌+◌, ◌<◌, ◌≤◌, ◌==◌, if◌then◌else◌, unwrap_or, Some, List, [], ◌∷◌, length, map, slice_get, true, All}
 use Rattle.protocol.specs.Record.{Facts}
 use Rattle.protocol.specs.Catalog.{Config, Station}
 use Rattle.protocol.specs.History.{Arrival, is_of, number_at}
 use Rattle.station_ring.specs.declared.held.Held.{Held}
 use Rattle.station_ring.specs.declared.held.Summary.{Summary}
-use Rattle.station_ring.specs.Rings.{Holding, holding_of}
+use Rattle.station_ring.specs.Rings.{Holding, Grows, first_place, held_at, holding_of, number_at as number_in_ring, place_with}
 
 -- a ring for each station, and how many records arrived
 pub record Holdings : Type 0 where
@@ -56,3 +56,26 @@ pub record IsBehind (arrivals : ℕ) (r : Holding) : Type 0 where
 -- the same of each ring
 abbrev pub AreBehind : ℕ → List Holding → Type 0
 AreBehind arrivals rings = All (IsBehind arrivals) rings
+
+-- ---- places and positions
+
+-- the place at which a request for a number begins: the held place with the number; else the next one, if that is to have the
+-- number; else the oldest
+abbrev pub place_from : Holding → ℕ → ℕ
+place_from r number = unwrap_or (place_with r number) (if number_in_ring r r.pushes == number then r.pushes else first_place r)
+
+-- What a ring holds before a place arrived before a position.
+pub record IsBefore (r : Holding) (place position : ℕ) : Type 0 where
+  pub stamps : (earlier : ℕ) (x : Held) → earlier < place → held_at r earlier ≡ Some x → x.stamp < position
+
+-- ---- two moments
+
+-- A ring was there before, among rings at its place, and has grown.
+pub record WasThere (before : List Holding) (place : ℕ) (r : Holding) : Type 0 where
+  pub ring : Holding
+  pub is_there : slice_get before place ≡ Some ring
+  pub grows : Grows ring r
+
+-- the same of each ring
+abbrev pub AllGrow : List Holding → List Holding → Type 0
+AllGrow before after = (place : ℕ) (r : Holding) → slice_get after place ≡ Some r → WasThere before place r

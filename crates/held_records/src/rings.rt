@@ -1,12 +1,12 @@
 //! The rings of all stations.
-ghost use Rattle.std.specs.Prelude.{◌≡◌, ◌≤◌, ◌<◌, ◌^◌, ◌+◌, ◌-◌, [], ◌∷◌, ◌++◌, List, ℕ, length, map, take, slice_get, slice_set, option_map, IfOk, IfSome, Some, true, int_lt};
+ghost use Rattle.std.specs.Prelude.{◌≡◌, ◌≤◌, ◌<◌, ◌^◌, ◌+◌, ◌-◌, [], ◌∷◌, ◌++◌, List, ℕ, length, map, take, slice_get, slice_set, option_map, IfOk, IfSome, Some, None, true, int_lt};
 ghost use Rattle.protocol.specs.Catalog.{Config as ProtocolConfig, Station};
 ghost use Rattle.protocol.specs.History.{Arrival, is_of, number_at as number_in_history, oldest_held, held_with_number, from_number, holds_after};
 ghost use Rattle.std.specs.List.{list_any};
 ghost use Rattle.station_ring.specs.declared.held.Held.{Held};
 ghost use Rattle.catalog.specs.Places.{station_at, HasDistinctCodes};
-ghost use Rattle.station_ring.specs.Rings.{Holding, pushed, number_at, held_at};
-ghost use Rattle.held_records.specs.Holdings.{AreBehind, IsBehind, holdings_of, ring_of, summary_of};
+ghost use Rattle.station_ring.specs.Rings.{Holding, pushed, number_at, held_at, place_with};
+ghost use Rattle.held_records.specs.Holdings.{AllGrow, AreBehind, IsBefore, IsBehind, holdings_of, place_from, ring_of, summary_of};
 
 use catalog::Config;
 use sl_packet::Seq;
@@ -50,6 +50,7 @@ impl Rings {
     pub fn arrivals(&self) -> u64
         ensures value { result ≡ self.now.arrivals }
         ensures count { (config : ProtocolConfig) (h : List Arrival) → self.now ≡ holdings_of config h → result ≡ length h }
+        ensures behind { AreBehind result self.now.rings }
     {
         let _ = &self.rings;
         self.arrivals
@@ -76,6 +77,7 @@ impl Rings {
         ensures number { (config : ProtocolConfig) (h : List Arrival) → self.old ≡ holdings_of config h →
             result ≡ number_in_history (station_at config.entries place) h (length h) }
         ensures count { length self.new.rings ≡ length self.old.rings }
+        ensures grow { AllGrow self.old.rings self.new.rings }
     {
         let number = push_at(
             self.rings.as_mut_slice(),
@@ -102,8 +104,9 @@ impl Rings {
     /// The position of the held record with a number, of the station at a place; else that of the next arrival where the number
     /// is the station's next one; else that of the oldest held record.
     pub fn from_number(&self, place: usize, number: Seq) -> u64
-        ensures { (config : ProtocolConfig) (h : List Arrival) → self.now ≡ holdings_of config h →
+        ensures position { (config : ProtocolConfig) (h : List Arrival) → self.now ≡ holdings_of config h →
             result ≡ from_number (station_at config.entries place) h number }
+        ensures before { (r : Holding) → slice_get self.now.rings place ≡ Some r → IsBefore r (place_from r number) result }
     {
         match self.ring(place) {
             Some(ring) => from_number(ring, number, self.arrivals),
@@ -138,6 +141,7 @@ fn push_at(
         rings.new ≡ slice_set rings.old place (pushed r (record { stamp = arrivals; bytes = bytes.now; summary = summary })) }
     ensures number { (r : Holding) → slice_get rings.old place ≡ Some r → result ≡ number_at r r.pushes }
     ensures behind { AreBehind (arrivals + 1) rings.new }
+    ensures grow { AllGrow rings.old rings.new }
 {
     rings[place].push(arrivals, bytes, summary)
 }
@@ -154,8 +158,11 @@ fn oldest_of(ring: &Ring, arrivals: u64) -> u64
 
 /// The position of the held record with a number.
 fn position_with(ring: &Ring, number: Seq) -> Option<u64>
-    ensures { (s : Station) (h : List Arrival) → ring.now ≡ ring_of s h → result ≡ held_with_number s h number }
+    ensures position { (s : Station) (h : List Arrival) → ring.now ≡ ring_of s h → result ≡ held_with_number s h number }
+    ensures before { IfSome result (λ position. IsBefore ring.now (place_from ring.now number) position) }
+    ensures none { result ≡ None → place_with ring.now number ≡ None }
 {
+    ring.holds_its_last();
     let place = ring.find(number)?;
     let held = ring.get(place)?;
     Some(held.stamp)
@@ -164,7 +171,8 @@ fn position_with(ring: &Ring, number: Seq) -> Option<u64>
 /// The position of the held record with a number; else that of the next arrival where the number is to be its; else that of the
 /// oldest held record.
 fn from_number(ring: &Ring, number: Seq, arrivals: u64) -> u64
-    ensures { (s : Station) (h : List Arrival) → ring.now ≡ ring_of s h → arrivals ≡ length h → result ≡ from_number s h number }
+    ensures position { (s : Station) (h : List Arrival) → ring.now ≡ ring_of s h → arrivals ≡ length h → result ≡ from_number s h number }
+    ensures before { IsBehind arrivals ring.now → IsBefore ring.now (place_from ring.now number) result }
 {
     match position_with(ring, number) {
         Some(position) => position,

@@ -14,7 +14,8 @@ use Rattle.protocol.specs.World.Event.{Arrive}
 use Rattle.protocol.proofs.Found.{both}
 use Rattle.catalog.specs.Places.{station_at, nowhere, HasDistinctCodes}
 use Rattle.station_ring.specs.declared.held.Summary.{Summary}
-use Rattle.held_records.specs.Holdings.{Holdings, holdings_of, summary_of}
+use Rattle.held_records.specs.Holdings.{AllGrow, Holdings, holdings_of, summary_of}
+use Rattle.transfer.proofs.Going.{grown-passed}
 use Rattle.session_state.specs.declared.session.State.{State}
 use Rattle.session_state.specs.declared.session.State.TheVariants.{Negotiating, Listing, Starting, Transfer, Ending}
 use Rattle.session_state.specs.Sessions.{Sitting, client_in, sitting_view}
@@ -98,7 +99,7 @@ seated-later config h later (Some (Some s)) settled = ap (λ c. let x : Option S
 abbrev pub Arrives : Holdings → Holdings → ℕ → List ℕ → Summary → Type 0
 Arrives old new place bytes summary = (config : Config) (h : List Arrival) (a : Arrival) → old ≡ holdings_of config h → HasDistinctCodes config.entries → is_of (station_at config.entries place) a ≡ true → a.bytes ≡ bytes → summary_of a.facts ≡ summary → new ≡ holdings_of config (h ++ a ∷ [])
 
-pub arrive-stands : (old new : Serving) (r : List ℕ) (place : ℕ) (summary : Summary) → IsPlaced old.config r place summary → new.config ≡ old.config → new.sessions ≡ old.sessions → HasDistinctCodes old.config.entries → AreSettled old.config old.sessions → Arrives old.rings new.rings place r summary → (config : Config) (w : World) → StandsAt old config w → StandsAt new config (step config w (Arrive r))
+pub arrive-stands : (old new : Serving) (r : List ℕ) (place : ℕ) (summary : Summary) → IsPlaced old.config r place summary → new.config ≡ old.config → new.sessions ≡ old.sessions → HasDistinctCodes old.config.entries → AreSettled old.config old.rings old.sessions → Arrives old.rings new.rings place r summary → (config : Config) (w : World) → StandsAt old config w → StandsAt new config (step config w (Arrive r))
 arrive-stands old new r place summary is same kept distinct settled arrives config w stands = subst (λ c. StandsAt new c (step c w (Arrive r))) stands.config_is here
   where
     a : Arrival
@@ -138,8 +139,14 @@ placed-unknown config r x is none = ap (placed_by config) is ∙ ap place_or_unk
 
 -- ---- a server at its start
 
-pub none-settled : (config : Config) → AreSettled config []
-none-settled config k s e = absurd cc
+pub none-settled : (config : Config) (rings : Holdings) → AreSettled config rings []
+none-settled config rings k s e = absurd cc
+
+-- What sessions have passed stays passed while a record arrives.
+pub arrive-settled : (config : Config) (before after : Holdings) (sessions : List (Option Sitting)) → AllGrow before.rings after.rings → AreSettled config before sessions → AreSettled config after sessions
+arrive-settled config before after sessions grow settled k s at =
+    let was = settled k s at in
+    record { places = was.places; started = was.started; passed = grown-passed before after s grow was.passed }
 
 -- ---- whether a record is accepted
 

@@ -9,6 +9,7 @@ use Rattle.session_state.specs.declared.session.State.TheVariants.{Negotiating, 
 use Rattle.session_state.specs.declared.session.Settled.{Settled}
 use Rattle.session_state.specs.declared.session.Settled.TheVariants.{Rest, Start}
 use Rattle.session_state.specs.Sessions.{Sitting, client_in, sitting_view, never_starts, Comes}
+use Rattle.transfer.proofs.Going.{keeps-passed}
 use Rattle.server_core.specs.Refusals.{receipt}
 use Rattle.server_core.specs.declared.client.Refusal.TheVariants.{NoRoom}
 
@@ -32,14 +33,14 @@ fill-negotiating config h s state none = sym (offered-empty h (client_in config 
 pub fill-ending : (config : Config) (h : List Arrival) (s : Sitting) → s.state ≡ Ending → is_nothing s.waiting ≡ true → client_in config h s ≡ offered h (client_in config h s)
 fill-ending config h s state none = sym (offered-empty h (client_in config h s) none ∙ ap (λ t. filled_in h (client_in config h s) (client_in config h (record s { state = t })).state) state)
 
-pub ruleset fill_lemmas = (fill-waiting, fill-negotiating, fill-ending)
+pub ruleset fill_lemmas = (fill-waiting, fill-negotiating, fill-ending, keeps-passed)
 
 -- ---- transfers that start
 
 pub proceeds : (config : Config) (h : List Arrival) (s : Sitting) (c : Client) → Comes Rest config h s c → client_in config h s ≡ c
 proceeds config h s c comes = comes
 
-pub ruleset proceed_lemmas = (proceeds)
+pub ruleset proceed_lemmas = (proceeds, keeps-passed)
 
 pub receipt-taken : (config : Config) (h : List Arrival) (s : Sitting) (n : ℕ) → true ≡ not (nat_lt (1024 - length s.unread) n) → Ok tt ≡ receipt n (Some (client_in config h s))
 receipt-taken config h s n e = both (nat_lt (1024 - length s.unread) n) (λ y. absurd (grind arith)) (λ x. rw x refl)
@@ -47,4 +48,5 @@ receipt-taken config h s n e = both (nat_lt (1024 - length s.unread) n) (λ y. a
 pub receipt-refused : (config : Config) (h : List Arrival) (s : Sitting) (n : ℕ) → false ≡ not (nat_lt (1024 - length s.unread) n) → Err NoRoom ≡ receipt n (Some (client_in config h s))
 receipt-refused config h s n e = both (nat_lt (1024 - length s.unread) n) (λ y. rw y refl) (λ x. absurd (grind arith))
 
-pub ruleset receive_lemmas = (receipt-taken, receipt-refused)
+pub ruleset receive_lemmas = (receipt-taken, receipt-refused, keeps-passed)
+

@@ -8,7 +8,7 @@ use Rattle.protocol.specs.World.{world_after, empty_world, client_of, taken_by, 
 use Rattle.protocol.specs.World.Event.{Open, Take, Close}
 use Rattle.protocol.proofs.Found.{both}
 use Rattle.protocol.proofs.Connections.{length-at, slice_get-at_same, slice_get-at_here, slice_get-at_apart, at_past_the_end, none_past_the_end, world_from-append}
-use Rattle.held_records.specs.Holdings.{holdings_of}
+use Rattle.held_records.specs.Holdings.{Holdings, holdings_of}
 use Rattle.session_state.specs.Sessions.{Sitting, client_in, sitting_view}
 use Rattle.server_core.proofs.Offering.{offered-waiting}
 use Rattle.catalog.specs.Places.{view_in}
@@ -151,11 +151,37 @@ open-stands old new s a same kept longer view client config w stands =
     }
 
 -- a session more
-pub settled-pushed : (config : Config) (xs : List (Option Sitting)) (s : Sitting) → AreSettled config xs → IsSettled config s → AreSettled config (xs ++ Some s ∷ [])
-settled-pushed config [] s there here zero t e = subst (λ o. IsSettled config (unwrap_or (unwrap_or o None) s)) e here
-settled-pushed config [] s there here (suc k) t e = absurd cc
-settled-pushed config (x ∷ xs) s there here zero t e = there 0 t e
-settled-pushed config (x ∷ xs) s there here (suc k) t e = settled-pushed config xs s (λ j. there (suc j)) here k t e
+pub settled-pushed : (config : Config) (rings : Holdings) (xs : List (Option Sitting)) (s : Sitting) → AreSettled config rings xs → IsSettled config rings s → AreSettled config rings (xs ++ Some s ∷ [])
+settled-pushed config rings [] s there here zero t e = subst (λ o. IsSettled config rings (unwrap_or (unwrap_or o None) s)) e here
+settled-pushed config rings [] s there here (suc k) t e = absurd cc
+settled-pushed config rings (x ∷ xs) s there here zero t e = there 0 t e
+settled-pushed config rings (x ∷ xs) s there here (suc k) t e = settled-pushed config rings xs s (λ j. there (suc j)) here k t e
+
+-- a session in the place of another one
+pub settled-set : (config : Config) (rings : Holdings) (xs : List (Option Sitting)) (n : ℕ) (r : Sitting) → AreSettled config rings xs → IsSettled config rings r → AreSettled config rings (slice_set xs n (Some r))
+settled-set config rings [] n r there here k t e = absurd cc
+settled-set config rings (x ∷ xs) zero r there here zero t e = subst (λ o. IsSettled config rings (unwrap_or (unwrap_or o None) r)) e here
+settled-set config rings (x ∷ xs) zero r there here (suc k) t e = there (suc k) t e
+settled-set config rings (x ∷ xs) (suc n) r there here zero t e = there 0 t e
+settled-set config rings (x ∷ xs) (suc n) r there here (suc k) t e = settled-set config rings xs n r (λ j. there (suc j)) here k t e
+
+-- no session in the place of one
+pub settled-none : (config : Config) (rings : Holdings) (xs : List (Option Sitting)) (n : ℕ) → AreSettled config rings xs → AreSettled config rings (slice_set xs n None)
+settled-none config rings [] n there k t e = absurd cc
+settled-none config rings (x ∷ xs) zero there zero t e = absurd cc
+settled-none config rings (x ∷ xs) zero there (suc k) t e = there (suc k) t e
+settled-none config rings (x ∷ xs) (suc n) there zero t e = there 0 t e
+settled-none config rings (x ∷ xs) (suc n) there (suc k) t e = settled-none config rings xs n (λ j. there (suc j)) k t e
+
+-- the session that went on, among the others
+pub some-goes : (config : Config) (h : List Arrival) (xs : List (Option Sitting)) (k : ℕ) (a r : Sitting) (f : View → Client → Client) → slice_get xs k ≡ Some (Some a) → client_in config h r ≡ f (sitting_view config a) (client_in config h a) → r.places ≡ a.places → OnlyGoesOn config h xs (slice_set xs k (Some r)) k f
+some-goes config h xs k a r f there client places =
+    let seat : seat_of config h r ≡ record { view = sitting_view config a; client = f (sitting_view config a) (client_in config h a) } =
+    ap₂ (λ (p : List ℕ) (q : Client). let t : Seat = record { view = view_in config p; client = q } in t) places client in
+    record {
+      here = ap (seated config h) (set_here xs k (Some a) (Some r) there) ∙ ap Some seat ∙ ap (λ o. goes_on f (seated config h o)) (sym there);
+      others = λ j apart. set_apart xs k j (Some r) (λ e. apart (sym e));
+    }
 
 pub ruleset seat_lemmas = (goes_on-stands)
 

@@ -7,6 +7,7 @@ use Rattle.protocol.specs.World.{Event, World, Connection, world_after}
 use Rattle.held_records.specs.Holdings.{Holdings, holdings_of}
 use Rattle.session_state.specs.declared.session.State.TheVariants.{Starting}
 use Rattle.session_state.specs.Sessions.{Sitting, HasPlaces, client_in, sitting_view}
+use Rattle.transfer.specs.Cursors.{ArePassed}
 
 -- a server: its configuration, what it holds of all stations, and the session of the k-th client while that is open
 pub record Serving : Type 0 where
@@ -52,14 +53,16 @@ goes_on f (Some x) = Some (record x { client = f x.view x.client })
 abbrev pub seat_client : Option Seat → Option Client
 seat_client o = option_map (λ s. s.client) o
 
--- A session's stations are there, and no transfer of it is still to start.
-pub record IsSettled (config : Config) (s : Sitting) : Type 0 where
+-- A session's stations are there, no transfer of it is still to start, and its cursors have passed nothing in the rings that it may
+-- still want.
+pub record IsSettled (config : Config) (rings : Holdings) (s : Sitting) : Type 0 where
   pub places : HasPlaces config s
   pub started : s.state ≢ Starting
+  pub passed : ArePassed rings s
 
 -- the same of each session
-abbrev pub AreSettled : Config → List (Option Sitting) → Type 0
-AreSettled config sessions = (k : ℕ) (s : Sitting) → slice_get sessions k ≡ Some (Some s) → IsSettled config s
+abbrev pub AreSettled : Config → Holdings → List (Option Sitting) → Type 0
+AreSettled config rings sessions = (k : ℕ) (s : Sitting) → slice_get sessions k ≡ Some (Some s) → IsSettled config rings s
 
 -- The server has the configuration, what is held of the history, a session for each connection, and at each number the same
 -- view and client.

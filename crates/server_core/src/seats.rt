@@ -4,6 +4,7 @@ ghost use Rattle.protocol.specs.Catalog.{Config as ProtocolConfig};
 ghost use Rattle.protocol.specs.History.{Arrival};
 ghost use Rattle.protocol.specs.Client.{received, offered};
 ghost use Rattle.protocol.specs.World.{taken_by};
+ghost use Rattle.held_records.specs.Holdings.{Holdings};
 ghost use Rattle.session_state.specs.Sessions.{Sitting};
 ghost use Rattle.server_core.specs.Standing.{HoldsOf, OnlyGoesOn, AreSettled, seated, seat_client, taking};
 ghost use Rattle.server_core.specs.Handings.{taken_value};
@@ -25,9 +26,9 @@ fn receive_in(
     bytes: &[u8],
 ) -> Result<(), Refusal>
     requires number { number < length sessions.old }
-    requires settled { AreSettled config.now sessions.old }
+    requires settled { AreSettled config.now rings.now sessions.old }
     ensures changed { (h : List Arrival) → HoldsOf config.now rings.now h → OnlyGoesOn config.now h sessions.old sessions.new number (λ v c. received v h bytes.now c) }
-    ensures settled { AreSettled config.now sessions.new }
+    ensures settled { AreSettled config.now rings.now sessions.new }
     ensures answer { (h : List Arrival) → result ≡ receipt (length bytes.now) (seat_client (seated config.now h (slice_get sessions.old number))) }
 {
     match &mut sessions[number] {
@@ -45,9 +46,9 @@ pub fn receive_at(
     bytes: &[u8],
 ) -> Result<(), Refusal>
     requires number { number < length sessions.old.items }
-    requires settled { AreSettled config.now sessions.old.items }
+    requires settled { AreSettled config.now rings.now sessions.old.items }
     ensures changed { (h : List Arrival) → HoldsOf config.now rings.now h → OnlyGoesOn config.now h sessions.old.items sessions.new.items number (λ v c. received v h bytes.now c) }
-    ensures settled { AreSettled config.now sessions.new.items }
+    ensures settled { AreSettled config.now rings.now sessions.new.items }
     ensures answer { (h : List Arrival) → result ≡ receipt (length bytes.now) (seat_client (seated config.now h (slice_get sessions.old.items number))) }
     ensures count { length sessions.new.items ≡ length sessions.old.items }
 {
@@ -63,9 +64,9 @@ fn take_in(
     count: usize,
 ) -> Result<Handing, AllocError>
     requires number { number < length sessions.old }
-    requires settled { AreSettled config.now sessions.old }
+    requires settled { AreSettled config.now rings.now sessions.old }
     ensures changed { OnOk result ((h : List Arrival) → HoldsOf config.now rings.now h → OnlyGoesOn config.now h sessions.old sessions.new number (taking h count)) }
-    ensures settled { AreSettled config.now sessions.new }
+    ensures settled { AreSettled config.now rings.now sessions.new }
     ensures taken { IfOk result (λ x. (h : List Arrival) → HoldsOf config.now rings.now h → taken_value x ≡ taken_by h (seat_client (seated config.now h (slice_get sessions.old number))) count) }
 {
     match &mut sessions[number] {
@@ -90,9 +91,9 @@ pub fn take_at(
     count: usize,
 ) -> Result<Handing, AllocError>
     requires number { number < length sessions.old.items }
-    requires settled { AreSettled config.now sessions.old.items }
+    requires settled { AreSettled config.now rings.now sessions.old.items }
     ensures changed { OnOk result ((h : List Arrival) → HoldsOf config.now rings.now h → OnlyGoesOn config.now h sessions.old.items sessions.new.items number (taking h count)) }
-    ensures settled { AreSettled config.now sessions.new.items }
+    ensures settled { AreSettled config.now rings.now sessions.new.items }
     ensures taken { IfOk result (λ x. (h : List Arrival) → HoldsOf config.now rings.now h → taken_value x ≡ taken_by h (seat_client (seated config.now h (slice_get sessions.old.items number))) count) }
     ensures count { length sessions.new.items ≡ length sessions.old.items }
 {
@@ -108,10 +109,10 @@ fn took_in(
     count: usize,
 ) -> Result<(), Gone>
     requires number { number < length sessions.old }
-    requires settled { AreSettled config.now sessions.old }
+    requires settled { AreSettled config.now rings.now sessions.old }
     requires count { (s : Sitting) → slice_get sessions.old number ≡ Some (Some s) → (0 < count) × (count ≤ length s.waiting) }
     ensures changed { (h : List Arrival) → HoldsOf config.now rings.now h → OnlyGoesOn config.now h sessions.old sessions.new number (taking h count) }
-    ensures settled { AreSettled config.now sessions.new }
+    ensures settled { AreSettled config.now rings.now sessions.new }
     ensures answer { (h : List Arrival) → is_ok result ≡ is_some (seat_client (seated config.now h (slice_get sessions.old number))) }
 {
     match &mut sessions[number] {
@@ -132,10 +133,10 @@ pub fn took_at(
     count: usize,
 ) -> Result<(), Gone>
     requires number { number < length sessions.old.items }
-    requires settled { AreSettled config.now sessions.old.items }
+    requires settled { AreSettled config.now rings.now sessions.old.items }
     requires count { (s : Sitting) → slice_get sessions.old.items number ≡ Some (Some s) → (0 < count) × (count ≤ length s.waiting) }
     ensures changed { (h : List Arrival) → HoldsOf config.now rings.now h → OnlyGoesOn config.now h sessions.old.items sessions.new.items number (taking h count) }
-    ensures settled { AreSettled config.now sessions.new.items }
+    ensures settled { AreSettled config.now rings.now sessions.new.items }
     ensures answer { (h : List Arrival) → is_ok result ≡ is_some (seat_client (seated config.now h (slice_get sessions.old.items number))) }
     ensures count { length sessions.new.items ≡ length sessions.old.items }
 {
@@ -145,7 +146,7 @@ pub fn took_at(
 fn close_in(sessions: &mut [Option<Session>], number: usize) -> Result<(), Gone>
     requires { number < length sessions.old }
     ensures sessions { sessions.new ≡ slice_set sessions.old number None }
-    ensures settled { (config : ProtocolConfig) → AreSettled config sessions.old → AreSettled config sessions.new }
+    ensures settled { (config : ProtocolConfig) (rings : Holdings) → AreSettled config rings sessions.old → AreSettled config rings sessions.new }
     ensures answer { (config : ProtocolConfig) (h : List Arrival) → is_ok result ≡ is_some (seat_client (seated config h (slice_get sessions.old number))) }
 {
     let is_open = sessions[number].is_some();
@@ -157,7 +158,7 @@ fn close_in(sessions: &mut [Option<Session>], number: usize) -> Result<(), Gone>
 pub fn close_at(sessions: &mut Vec<Option<Session>>, number: usize) -> Result<(), Gone>
     requires { number < length sessions.old.items }
     ensures sessions { sessions.new.items ≡ slice_set sessions.old.items number None }
-    ensures settled { (config : ProtocolConfig) → AreSettled config sessions.old.items → AreSettled config sessions.new.items }
+    ensures settled { (config : ProtocolConfig) (rings : Holdings) → AreSettled config rings sessions.old.items → AreSettled config rings sessions.new.items }
     ensures answer { (config : ProtocolConfig) (h : List Arrival) → is_ok result ≡ is_some (seat_client (seated config h (slice_get sessions.old.items number))) }
 {
     close_in(sessions.as_mut_slice(), number)
@@ -171,9 +172,9 @@ fn offer_in(
     number: usize,
 ) -> Option<Offer>
     requires number { number < length sessions.old }
-    requires settled { AreSettled config.now sessions.old }
+    requires settled { AreSettled config.now rings.now sessions.old }
     ensures changed { (h : List Arrival) → HoldsOf config.now rings.now h → OnlyGoesOn config.now h sessions.old sessions.new number (λ v c. offered h c) }
-    ensures settled { AreSettled config.now sessions.new }
+    ensures settled { AreSettled config.now rings.now sessions.new }
     ensures answer { (h : List Arrival) → HoldsOf config.now rings.now h → result ≡ option_map (λ c. offer_of (offered h c)) (seat_client (seated config.now h (slice_get sessions.old number))) }
 {
     match &mut sessions[number] {
@@ -190,9 +191,9 @@ pub fn offer_at(
     number: usize,
 ) -> Option<Offer>
     requires number { number < length sessions.old.items }
-    requires settled { AreSettled config.now sessions.old.items }
+    requires settled { AreSettled config.now rings.now sessions.old.items }
     ensures changed { (h : List Arrival) → HoldsOf config.now rings.now h → OnlyGoesOn config.now h sessions.old.items sessions.new.items number (λ v c. offered h c) }
-    ensures settled { AreSettled config.now sessions.new.items }
+    ensures settled { AreSettled config.now rings.now sessions.new.items }
     ensures answer { (h : List Arrival) → HoldsOf config.now rings.now h → result ≡ option_map (λ c. offer_of (offered h c)) (seat_client (seated config.now h (slice_get sessions.old.items number))) }
     ensures count { length sessions.new.items ≡ length sessions.old.items }
 {

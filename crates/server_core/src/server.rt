@@ -35,7 +35,7 @@ impl Model for Server {
 
     ghost view = { λ s. record { config = s.config; rings = s.rings; sessions = s.sessions.items } };
 
-    ghost invariant = { λ s. AreSettled s.config s.sessions.items × (length s.rings.rings ≡ length s.config.entries) };
+    ghost invariant = { λ s. AreSettled s.config s.rings s.sessions.items × (length s.rings.rings ≡ length s.config.entries) };
 }
 
 impl Server {

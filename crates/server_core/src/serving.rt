@@ -6,6 +6,7 @@ ghost use Rattle.protocol.specs.Client.{Client as ProtocolClient, received, offe
 ghost use Rattle.session_state.specs.Sessions.{client_in, sitting_view, Comes, HasPlaces, HasFirsts};
 ghost use Rattle.session_state.specs.declared.session.State.TheVariants.{Starting};
 ghost use Rattle.session_state.specs.declared.session.Settled.TheVariants.{Rest, Start};
+ghost use Rattle.transfer.specs.Cursors.{ArePassed};
 ghost use Rattle.server_core.specs.Handings.{taken_value};
 ghost use Rattle.server_core.specs.Refusals.{receipt, offer_of};
 ghost use Rattle.server_core.specs.Standing.{HoldsOf, IsSettled, taking};
@@ -23,9 +24,10 @@ fn proceed(config: &Config, rings: &Rings, session: &mut Session, settled: Settl
     requires places { HasPlaces config.now session.old }
     requires starting { settled ≡ Start → session.old.state ≡ Starting }
     requires rest { settled ≡ Rest → session.old.state ≢ Starting }
+    requires passed { ArePassed rings.now session.old }
     ensures client { (h : List Arrival) → HoldsOf config.now rings.now h → (c : ProtocolClient) → Comes settled config.now h session.old c → client_in config.now h session.new ≡ c }
     ensures places { session.new.places ≡ session.old.places }
-    ensures settled { IsSettled config.now session.new }
+    ensures settled { IsSettled config.now rings.now session.new }
 {
     match settled {
         Settled::Rest => {}
@@ -44,12 +46,12 @@ pub fn receive(
     session: &mut Session,
     bytes: &[u8],
 ) -> Result<(), Refusal>
-    requires { IsSettled config.now session.old }
+    requires { IsSettled config.now rings.now session.old }
     ensures client { (h : List Arrival) → HoldsOf config.now rings.now h → client_in config.now h session.new
         ≡ received (sitting_view config.now session.old) h bytes.now (client_in config.now h session.old) }
     ensures answer { (h : List Arrival) → result ≡ receipt (length bytes.now) (Some (client_in config.now h session.old)) }
     ensures places { session.new.places ≡ session.old.places }
-    ensures settled { IsSettled config.now session.new }
+    ensures settled { IsSettled config.now rings.now session.new }
 {
     match session.receive(config, bytes) {
         Ok(settled) => {
@@ -63,10 +65,10 @@ pub fn receive(
 /// Where nothing waits, what comes next is made to wait.
 #[tactic(auto, using(crate::proofs::Offering::fill_lemmas))]
 fn fill(config: &Config, rings: &Rings, session: &mut Session)
-    requires { IsSettled config.now session.old }
+    requires { IsSettled config.now rings.now session.old }
     ensures client { (h : List Arrival) → HoldsOf config.now rings.now h → client_in config.now h session.new ≡ offered h (client_in config.now h session.old) }
     ensures places { session.new.places ≡ session.old.places }
-    ensures settled { IsSettled config.now session.new }
+    ensures settled { IsSettled config.now rings.now session.new }
 {
     if !session.is_empty() {
         return;
@@ -84,11 +86,11 @@ fn fill(config: &Config, rings: &Rings, session: &mut Session)
 
 /// Where nothing waits, what comes next is made to wait; and what is found then.
 pub fn offer(config: &Config, rings: &Rings, session: &mut Session) -> Offer
-    requires { IsSettled config.now session.old }
+    requires { IsSettled config.now rings.now session.old }
     ensures client { (h : List Arrival) → HoldsOf config.now rings.now h → client_in config.now h session.new ≡ offered h (client_in config.now h session.old) }
     ensures found { (h : List Arrival) → HoldsOf config.now rings.now h → result ≡ offer_of (offered h (client_in config.now h session.old)) }
     ensures places { session.new.places ≡ session.old.places }
-    ensures settled { IsSettled config.now session.new }
+    ensures settled { IsSettled config.now rings.now session.new }
 {
     fill(config, rings, session);
     if !session.is_empty() {
@@ -103,13 +105,13 @@ pub fn offer(config: &Config, rings: &Rings, session: &mut Session) -> Offer
 /// The first bytes that wait, 1 to all of them, were handed.
 #[tactic(auto, using(crate::proofs::Offering::proceed_lemmas))]
 pub fn took(config: &Config, rings: &Rings, session: &mut Session, count: usize)
-    requires settled { IsSettled config.now session.old }
+    requires settled { IsSettled config.now rings.now session.old }
     requires some { 0 < count }
     requires waiting { count ≤ length session.old.waiting }
     ensures client { (h : List Arrival) → HoldsOf config.now rings.now h → client_in config.now h session.new
         ≡ after_take (sitting_view config.now session.old) h (client_in config.now h session.old) count }
     ensures places { session.new.places ≡ session.old.places }
-    ensures settled { IsSettled config.now session.new }
+    ensures settled { IsSettled config.now rings.now session.new }
 {
     let settled = session.took(config, count);
     proceed(config, rings, session, settled);
@@ -151,12 +153,12 @@ pub fn take(
     session: &mut Session,
     count: usize,
 ) -> Result<Handing, AllocError>
-    requires { IsSettled config.now session.old }
+    requires { IsSettled config.now rings.now session.old }
     ensures client { OnOk result ((h : List Arrival) → HoldsOf config.now rings.now h → client_in config.now h session.new
         ≡ taking h count (sitting_view config.now session.old) (client_in config.now h session.old)) }
     ensures taken { IfOk result (λ x. (h : List Arrival) → HoldsOf config.now rings.now h → taken_value x ≡ taken_of (offered h (client_in config.now h session.old)) count) }
     ensures places { session.new.places ≡ session.old.places }
-    ensures settled { IsSettled config.now session.new }
+    ensures settled { IsSettled config.now rings.now session.new }
 {
     fill(config, rings, session);
     let ended = is_over(session);

@@ -12,8 +12,9 @@ use Rattle.protocol.specs.Session.Outcome.{Stays, Starts}
 use Rattle.catalog.specs.Places.{station_at}
 use Rattle.session_state.specs.declared.choices.Action.{Action}
 use Rattle.session_state.specs.declared.choices.Choice.{Choice}
+use Rattle.session_state.specs.declared.choices.Cursor.{Cursor}
 use Rattle.session_state.specs.Naming.{Naming}
-use Rattle.session_state.specs.Choices.{action_value, choice_in, choices_in, is_of_station, kept_at}
+use Rattle.session_state.specs.Choices.{action_value, choice_in, choices_in, is_of_station, kept_at, passed_at}
 use Rattle.protocol.proofs.Found.{both}
 use Rattle.session_state.specs.Changes.{outcome_after, selecting_in, widened, widening}
 use Rattle.session_state.specs.declared.modes.Effect.{Effect}
@@ -80,6 +81,11 @@ pub kept-there : (cs new : List Choice) (i first : ℕ) → i < length cs → ((
 kept-there cs new i first within made =
     let c = there cs i within in
     refilled cs new (ap length (made c.0 c.1) ∙ length-set cs i (record c.0 { first = first })) ∙ made c.0 c.1 ∙ sym (ap (kept_at i first cs) c.1)
+
+pub passed-there : (cs new : List Choice) (i : ℕ) (cursor : Cursor) → i < length cs → ((c : Choice) → slice_get cs i ≡ Some c → new ≡ slice_set cs i (record c { cursor = cursor })) → refill (length cs) cs new ≡ passed_at i cursor cs (slice_get cs i)
+passed-there cs new i cursor within made =
+    let c = there cs i within in
+    refilled cs new (ap length (made c.0 c.1) ∙ length-set cs i (record c.0 { cursor = cursor })) ∙ made c.0 c.1 ∙ sym (ap (passed_at i cursor cs) c.1)
 
 -- whether some station has an action
 abbrev pub has_action : Choice → Bool

@@ -22,6 +22,7 @@ use Rattle.session_state.specs.Choices.{negotiated_in, chosen_of, request_in}
 use Rattle.session_state.specs.Changes.{changed_by, outcome_after}
 use Rattle.session_state.specs.Asking.{outcome_by, outcome_of_lines, is_bye, says_bye, is_leaving}
 use Rattle.session_state.specs.Sessions.{Sitting, client_in, sitting_view, effected}
+use Rattle.session_state.proofs.Passing.{effected-elsewhere}
 
 -- a session that negotiates while nothing waits
 abbrev pub reading : List ℕ → Mode → Line → List ℕ → Sitting
@@ -66,7 +67,7 @@ effected-unread m Done = refl
 effected-unread m Refused = refl
 effected-unread m Starts = refl
 
-pub ruleset answer_lemmas = (silent, said, lists, leaves, changes, effected-places, effected-unread)
+pub ruleset answer_lemmas = (silent, said, lists, leaves, changes, effected-places, effected-unread, effected-elsewhere)
 
 -- A byte that ends a line is read as the line's command, also where the line is empty; another byte changes the open line alone.
 read_byte-lines : (v : View) (h : List Arrival) (line : Line) (n : Negotiated) (u : List ℕ) (b : ℕ) → read_byte v h b (record { state = ClientNegotiating n; open_line = line; unread = u; waiting = [] }) ≡ follow v h (record { state = ClientNegotiating n; open_line = open_after line (b ∷ []); unread = u; waiting = [] }) n (outcome_of_lines v n (cut_from line (b ∷ [])))

@@ -4,3 +4,4 @@ pub mod Following
 pub mod Settling
 pub mod Receiving
 pub mod Taking
+pub mod Passing

@@ -10,6 +10,7 @@ use Rattle.catalog.specs.Places.{station_at}
 use Rattle.session_state.specs.declared.choices.Action.{Action}
 use Rattle.session_state.specs.declared.choices.Action.TheVariants.{Data, Fetch, Time}
 use Rattle.session_state.specs.declared.choices.Choice.{Choice}
+use Rattle.session_state.specs.declared.choices.Cursor.{Cursor}
 use Rattle.session_state.specs.declared.modes.Mode.{Mode}
 use Rattle.session_state.specs.declared.modes.Mode.TheVariants.{Uni, Multi}
 
@@ -55,7 +56,26 @@ abbrev pub kept_at : ℕ → ℕ → List Choice → Option Choice → List Choi
 kept_at i first cs None = cs
 kept_at i first cs (Some c) = slice_set cs i (record c { first = first })
 
+-- the same with how far the i-th request has come
+abbrev pub passed_at : ℕ → Cursor → List Choice → Option Choice → List Choice
+passed_at i cursor cs None = cs
+passed_at i cursor cs (Some c) = slice_set cs i (record c { cursor = cursor })
+
 -- the mode with them
+abbrev pub passed_in : Mode → ℕ → Cursor → Mode
+passed_in (Uni patterns) i cursor = Uni patterns
+passed_in (Multi n) i cursor = Multi (record n { choices = passed_at i cursor n.choices (slice_get n.choices i) })
+
+-- a choice with a cursor that has not moved
+abbrev pub at_start : Choice → Choice
+at_start c = record c { cursor = record { place = 0; after_end = None } }
+
+-- the mode with such cursors: what it is but for how far its requests have come
+abbrev pub all_at_start : Mode → Mode
+all_at_start (Uni patterns) = Uni patterns
+all_at_start (Multi n) = Multi (record n { choices = map at_start n.choices })
+
+-- the mode with the first position of the i-th replaced
 abbrev pub kept_in : Mode → ℕ → ℕ → Mode
 kept_in (Uni patterns) i first = Uni patterns
 kept_in (Multi n) i first = Multi (record n { choices = kept_at i first n.choices (slice_get n.choices i) })

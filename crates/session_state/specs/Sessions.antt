@@ -16,7 +16,7 @@ use Rattle.session_state.specs.declared.session.State.{State}
 use Rattle.session_state.specs.declared.session.State.TheVariants.{Negotiating, Listing, Starting, Transfer, Ending}
 use Rattle.session_state.specs.declared.session.Settled.{Settled}
 use Rattle.session_state.specs.declared.session.Settled.TheVariants.{Rest, Start}
-use Rattle.session_state.specs.Choices.{action_value, negotiated_in, chosen_of, request_in}
+use Rattle.session_state.specs.Choices.{action_value, negotiated_in, chosen_of, request_in, all_at_start}
 
 -- a client with the places of stations in place of their settings
 pub record Sitting : Type 0 where
@@ -78,6 +78,14 @@ with_line made s (Some line) = record s { state = Listing (made + 1); waiting = 
 -- the session with the next line of the listing waiting
 abbrev pub line_made : Config → ℕ → Sitting → Sitting
 line_made config made s = with_line made s (slice_get (listing (sitting_view config s)) made)
+
+-- the session but for how far its requests have come
+abbrev pub but_for_cursors : Sitting → Sitting
+but_for_cursors s = record s { mode = all_at_start s.mode }
+
+-- A session that is in a transfer after a call was in it before, with the same requests.
+pub record KeepsTransfer (before after : Sitting) : Type 0 where
+  pub kept : (next : ℕ) → after.state ≡ Transfer next → (before.state ≡ Transfer next) × (after.mode ≡ before.mode)
 
 -- It is a listing.
 abbrev pub is_listing : State → Bool

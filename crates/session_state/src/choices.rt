@@ -5,7 +5,7 @@ ghost use Rattle.std.specs.List.{list_any};
 ghost use Rattle.protocol.specs.Session.{act_multi, choose_known, choose_station, current_choice, end_with, select_multi, wish_of};
 ghost use Rattle.protocol.specs.Session.Negotiated.{Multi as NegotiatedMulti};
 ghost use Rattle.catalog.specs.Places.{station_at};
-ghost use Rattle.session_state.specs.Choices.{action_value, choices_in, is_of_station, kept_at};
+ghost use Rattle.session_state.specs.Choices.{action_value, choices_in, is_of_station, kept_at, passed_at};
 ghost use Rattle.session_state.specs.Changes.{outcome_after, selecting_in, widened, widening};
 
 use crate::modes::Effect;
@@ -39,6 +39,15 @@ pub enum Action {
     },
 }
 
+/// How far a request of a transfer has come in its station's ring.
+#[derive(Clone, Copy, Debug, PartialEq, Eq, Default)]
+pub struct Cursor {
+    /// The place before which the request wants nothing more.
+    pub place: u64,
+    /// For TIME with an end: the last place before the cursor whose record starts after that end.
+    pub after_end: Option<u64>,
+}
+
 /// A station that a client named. It is a request of a transfer where it has an action.
 #[derive(Default, Drop)]
 pub struct Choice {
@@ -50,6 +59,8 @@ pub struct Choice {
     pub action: Option<Action>,
     /// From which arrival at the server on a transfer wants its records, as a count of the arrivals before.
     pub first: u64,
+    /// How far the transfer has come in the station's ring.
+    pub cursor: Cursor,
 }
 
 /// The network and station code at a place of the configuration; both are empty where nothing is there.
@@ -111,6 +122,13 @@ fn keep_at(choices: &mut [Choice], i: usize, first: u64)
     ensures { (c : Choice) → slice_get choices.old i ≡ Some c → choices.new ≡ slice_set choices.old i (record c { first = first }) }
 {
     choices[i].first = first;
+}
+
+fn pass_at(choices: &mut [Choice], i: usize, cursor: Cursor)
+    requires { i < length choices.old }
+    ensures { (c : Choice) → slice_get choices.old i ≡ Some c → choices.new ≡ slice_set choices.old i (record c { cursor = cursor }) }
+{
+    choices[i].cursor = cursor;
 }
 
 /// Whether some station has an action.
@@ -191,6 +209,7 @@ impl Named {
             selectors: Selectors::new(),
             action: None,
             first: 0,
+            cursor: Cursor::default(),
         });
         self.current = Some(i);
         Effect::Done
@@ -273,5 +292,14 @@ impl Named {
     {
         let _ = &self.current;
         keep_at(self.choices.as_mut_slice(), i, first);
+    }
+
+    /// Keeps how far the transfer has come in the ring of the i-th station.
+    pub fn pass(&mut self, i: usize, cursor: Cursor)
+        requires { i < length self.old.choices }
+        ensures { self.new ≡ record self.old { choices = passed_at i cursor self.old.choices (slice_get self.old.choices i) } }
+    {
+        let _ = &self.current;
+        pass_at(self.choices.as_mut_slice(), i, cursor);
     }
 }

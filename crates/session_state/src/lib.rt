@@ -12,6 +12,6 @@ mod refusals;
 mod replies;
 pub mod session;
 
-pub use choices::{Action, Choice};
+pub use choices::{Action, Choice, Cursor};
 pub use refusals::NoRoom;
 pub use session::{Session, Settled, State};

@@ -6,7 +6,7 @@ ghost use Rattle.catalog.specs.Places.{station_at, view_in};
 ghost use Rattle.session_state.specs.Choices.{action_value, negotiated_in};
 ghost use Rattle.session_state.specs.Changes.{changed_by, outcome_after, selecting};
 
-use crate::choices::{Action, Choice, Named};
+use crate::choices::{Action, Choice, Cursor, Named};
 use catalog::{Config, View};
 use selector::{Selector, Selectors};
 use std::mem;
@@ -21,7 +21,7 @@ pub enum Mode {
 }
 
 impl Mode {
-    ghost use Rattle.session_state.specs.Choices.{chosen_of, kept_in};
+    ghost use Rattle.session_state.specs.Choices.{chosen_of, kept_in, passed_in};
 
     /// The stations that were named, in that order.
     pub fn choices(&self) -> &[Choice]
@@ -41,6 +41,17 @@ impl Mode {
         match self {
             Mode::Uni(_) => {}
             Mode::Multi(named) => named.keep(i, first),
+        }
+    }
+
+    /// Keeps how far the transfer has come in the ring of the i-th of them.
+    pub fn pass(&mut self, i: usize, cursor: Cursor)
+        requires { i < length (chosen_of self.old) }
+        ensures { self.new ≡ passed_in self.old i cursor }
+    {
+        match self {
+            Mode::Uni(_) => {}
+            Mode::Multi(named) => named.pass(i, cursor),
         }
     }
 }
@@ -126,6 +137,7 @@ fn act(mode: &mut Mode, view: &View, action: Action) -> Effect
                     selectors,
                     action: Some(action),
                     first: 0,
+                    cursor: Cursor::default(),
                 }));
                 Effect::Starts
             }

@@ -1,9 +1,9 @@
 //! One client's side of the server.
-ghost use Rattle.std.specs.Prelude.{◌≡◌, ◌≢◌, ◌≤◌, ◌<◌, ◌+◌, ◌-◌, ◌&&◌, IfOk, OnErr, List, [], ◌∷◌, ◌++◌, length, drop, nat_lt, not, is_ok, true, false, codes};
+ghost use Rattle.std.specs.Prelude.{◌≡◌, ◌≢◌, ◌≤◌, ◌<◌, ◌+◌, ◌-◌, ◌&&◌, IfOk, OnErr, List, [], ◌∷◌, ◌++◌, length, drop, nat_lt, not, is_ok, true, false, codes, ℕ, Some, slice_get};
 ghost use Rattle.protocol.specs.History.{Arrival};
 ghost use Rattle.protocol.specs.Client.{read_on, received, offered, after_take, new_client, is_ending, is_nothing};
 
-use crate::choices::Choice;
+use crate::choices::{Choice, Cursor};
 use crate::modes::Mode;
 use crate::refusals::NoRoom;
 use crate::replies::{Waiting, put_bytes};
@@ -15,6 +15,13 @@ use std::marker::Model;
 
 mod reading;
 mod steps;
+
+/// How many unread bytes there may be.
+const INBOX: usize = 1024;
+
+/// How many bytes the buffer of unread bytes holds, with those that were read and are not overwritten yet. Since it is twice the
+/// inbox, bytes are moved to its front only after as many were read.
+const BUFFER: usize = 2048;
 
 /// What a session is in the middle of.
 #[derive(Clone, Copy, Debug, PartialEq, Eq)]
@@ -47,14 +54,14 @@ pub struct Session {
     mode: Mode,
     state: State,
     cutter: LineCutter,
-    unread: ArrayVec<u8, 1024>,
+    unread: ArrayVec<u8, BUFFER>,
     read: usize,
     waiting: Waiting,
     sent: usize,
 }
 
 impl Model for Session {
-    ghost use Rattle.std.specs.Prelude.{◌≤◌, drop, length};
+    ghost use Rattle.std.specs.Prelude.{◌≤◌, ◌+◌, drop, length};
     ghost use Rattle.session_state.specs.Sessions.{Sitting};
 
     ghost Value = { Sitting };
@@ -68,7 +75,8 @@ impl Model for Session {
       waiting = drop s.sent s.waiting.items;
     } };
 
-    ghost invariant = { λ s. (s.read ≤ length s.unread.items) × (s.sent ≤ length s.waiting.items) };
+    ghost invariant = { λ s. (s.read ≤ length s.unread.items) × (s.sent ≤ length s.waiting.items)
+        × (length s.unread.items ≤ s.read + 1024) };
 }
 
 /// What others see of a session.
@@ -76,13 +84,14 @@ impl Session {
     ghost use Rattle.protocol.specs.Catalog.{Config as ProtocolConfig};
     ghost use Rattle.session_state.specs.Choices.{chosen_of};
     ghost use Rattle.session_state.specs.Sessions.{client_in};
-    ghost use Rattle.session_state.specs.declared.session.State.TheVariants.{Starting};
+    ghost use Rattle.session_state.specs.declared.session.State.TheVariants.{Negotiating, Starting};
 
     /// The session of a client that has just come, with what it sees.
     pub fn new(view: View) -> Session
         ensures client { (config : ProtocolConfig) (h : List Arrival) → client_in config h result ≡ new_client }
         ensures places { result.places ≡ view }
         ensures settled { result.state ≢ Starting }
+        ensures negotiates { result.state ≡ Negotiating }
     {
         Session {
             view,
@@ -101,7 +110,7 @@ impl Session {
         ensures value { result ≡ 1024 - length self.now.unread }
         ensures whole { result + length self.now.unread ≡ 1024 }
     {
-        1024 - (self.unread.len() - self.read)
+        INBOX - (self.unread.len() - self.read)
     }
 
     /// The bytes that wait, at most 520.
@@ -150,8 +159,9 @@ impl Session {
 /// What others do with a session.
 impl Session {
     ghost use Rattle.protocol.specs.Catalog.{Config as ProtocolConfig};
+    ghost use Rattle.session_state.specs.declared.choices.Choice.{Choice as ChoiceValue};
     ghost use Rattle.session_state.specs.Choices.{chosen_of, kept_in};
-    ghost use Rattle.session_state.specs.Sessions.{client_in, sitting_view, is_listing, HasPlaces, HasFirsts, Comes, never_starts};
+    ghost use Rattle.session_state.specs.Sessions.{client_in, sitting_view, is_listing, HasPlaces, HasFirsts, Comes, KeepsTransfer, but_for_cursors, never_starts};
     ghost use Rattle.session_state.specs.declared.session.State.TheVariants.{Negotiating, Listing, Starting, Transfer, Ending};
     ghost use Rattle.session_state.specs.declared.session.Settled.TheVariants.{Rest, Start};
 
@@ -175,6 +185,7 @@ impl Session {
             (read_on (sitting_view config.now self.old) h self.old.unread (client_in config.now h self.old)) }
         ensures places { self.new.places ≡ self.old.places }
         ensures stays { never_starts self.old.state ≡ true → result ≡ Rest }
+        ensures kept { KeepsTransfer self.old self.new }
         ensures starting { result ≡ Start → self.new.state ≡ Starting }
         ensures settled { result ≡ Rest → self.new.state ≢ Starting }
     {
@@ -198,6 +209,7 @@ impl Session {
         ensures starting { IfOk result (λ settled. settled ≡ Start → self.new.state ≡ Starting) }
         ensures settled { IfOk result (λ settled. settled ≡ Rest → self.new.state ≢ Starting) }
         ensures room { is_ok result ≡ not (nat_lt (1024 - length self.old.unread) (length bytes.now)) }
+        ensures kept { KeepsTransfer self.old self.new }
         ensures places { self.new.places ≡ self.old.places }
     {
         if bytes.len() > self.room() {
@@ -232,6 +244,7 @@ impl Session {
             (after_take (sitting_view config.now self.old) h (client_in config.now h self.old) count) }
         ensures starting { result ≡ Start → self.new.state ≡ Starting }
         ensures settled { result ≡ Rest → self.old.state ≢ Starting → self.new.state ≢ Starting }
+        ensures kept { KeepsTransfer self.old self.new }
         ensures places { self.new.places ≡ self.old.places }
     {
         self.skip(count);
@@ -250,6 +263,7 @@ impl Session {
         ensures client { is_listing self.old.state ≡ true → (h : List Arrival) → client_in config.now h self.new ≡ offered h (client_in config.now h self.old) }
         ensures unchanged { is_listing self.old.state ≡ false → self.new ≡ self.old }
         ensures settled { self.old.state ≢ Starting → self.new.state ≢ Starting }
+        ensures kept { KeepsTransfer self.old self.new }
         ensures places { self.new.places ≡ self.old.places }
     {
         if let State::Listing(made) = self.state {
@@ -284,5 +298,18 @@ impl Session {
     {
         let _ = &self.state;
         self.mode.keep(i, first);
+    }
+
+    /// Keeps how far the transfer has come in the ring of the i-th named station.
+    #[tactic(auto, using(crate::proofs::Passing::pass_lemmas))]
+    pub fn pass(&mut self, i: usize, cursor: Cursor)
+        requires { i < length (chosen_of self.old.mode) }
+        ensures same { but_for_cursors self.new ≡ but_for_cursors self.old }
+        ensures here { (c : ChoiceValue) → slice_get (chosen_of self.old.mode) i ≡ Some c →
+            slice_get (chosen_of self.new.mode) i ≡ Some (record c { cursor = cursor }) }
+        ensures others { (j : ℕ) → j ≢ i → slice_get (chosen_of self.new.mode) j ≡ slice_get (chosen_of self.old.mode) j }
+        ensures count { length (chosen_of self.new.mode) ≡ length (chosen_of self.old.mode) }
+    {
+        self.pass_to(i, cursor);
     }
 }

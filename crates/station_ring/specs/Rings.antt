@@ -81,3 +81,10 @@ held_at r place = if nat_le (first_place r) place then slice_get r.held (place -
 -- the least held place that is not below that one, with its record
 abbrev pub held_from : Holding → ℕ → Option (ℕ × Held)
 held_from r place = option_map (λ h. (max place (first_place r), h)) (held_at r (max place (first_place r)))
+
+-- ---- two moments
+
+-- A ring before and after pushes: at a place that was pushed before, it holds nothing else than it did.
+pub record Grows (before after : Holding) : Type 0 where
+  pub pushes : before.pushes ≤ after.pushes
+  pub held : (place : ℕ) (x : Held) → place < before.pushes → held_at after place ≡ Some x → held_at before place ≡ Some x

@@ -1,10 +1,11 @@
 //! Rings of records.
-ghost use Rattle.std.specs.Prelude.{◌≡◌, ℕ, ◌+◌, ◌-◌, ◌%◌, ◌^◌, ◌<◌, ◌≤◌, [], ◌∷◌, ◌++◌, length, slice_get, All, IfOk, vec_capacity};
+ghost use Rattle.std.specs.Prelude.{◌≡◌, ℕ, ◌+◌, ◌-◌, ◌%◌, ◌^◌, ◌<◌, ◌≤◌, [], ◌∷◌, ◌++◌, length, slice_get, All, IfOk};
 ghost use Rattle.std.specs.Option.{option_map, option_copied};
 ghost use Rattle.protocol.specs.Packet.{numbers};
-ghost use Rattle.station_ring.specs.Rings.{last_of, place_among};
+ghost use Rattle.station_ring.specs.Rings.{place_among};
 
 use crate::held::{Held, Summary};
+use circular_buffer::HeapCircularBuffer;
 use sl_packet::Seq;
 use std::alloc::{AllocError, Global};
 use std::marker::Model;
@@ -14,28 +15,29 @@ const NUMBERS: u64 = 0x100_0000;
 
 /// The last records of a station, as many as its capacity. A place is the count of records that were pushed before a record,
 /// from 0 on; a number is its place and the first number together, modulo 2^24.
+///
+/// The records lie in a block of a fixed size that is allocated once, and a push into a full ring overwrites the oldest. No call
+/// goes through what is held: a place is reached by the count of pushes, and a number by its distance from the oldest one.
 #[derive(Drop)]
 pub struct Ring {
-    capacity: usize,
     first: Seq,
     pushes: u64,
-    held: Vec<Held>,
+    held: HeapCircularBuffer<Held>,
 }
 
 impl Model for Ring {
-    ghost use Rattle.std.specs.Prelude.{◌≤◌, vec_capacity};
     ghost use Rattle.station_ring.specs.Rings.{Holding, IsHolding};
 
     ghost Value = { Holding };
 
-    ghost view = { λ s. record { capacity = s.capacity; first = s.first; pushes = s.pushes; held = s.held.items } };
+    ghost view = { λ s. record { capacity = s.held.capacity; first = s.first; pushes = s.pushes; held = s.held.items } };
 
-    ghost invariant = { λ s. IsHolding (record { capacity = s.capacity; first = s.first; pushes = s.pushes; held = s.held.items })
-        × (s.capacity ≤ vec_capacity s.held) };
+    ghost invariant = { λ s. IsHolding
+        (record { capacity = s.held.capacity; first = s.first; pushes = s.pushes; held = s.held.items }) };
 }
 
 impl Ring {
-    ghost use Rattle.station_ring.specs.Rings.{IsHolding, empty, pushed, first_place, oldest_place, number_at, place_with, held_at, held_from};
+    ghost use Rattle.station_ring.specs.Rings.{IsHolding, empty, pushed, first_place, oldest_place, number_at, place_with, held_at, held_from, Grows};
 
     /// A ring that holds nothing yet: at most `capacity` records, 1 to 65,536, the first of which has the number `first`. It
     /// fails only where there is no memory for them.
@@ -44,10 +46,9 @@ impl Ring {
         requires most { capacity ≤ 65536 }
         ensures { IfOk result (λ r. r ≡ empty capacity first) }
     {
-        let held = Vec::with_capacity(alloc, capacity)?;
+        let held = HeapCircularBuffer::with_capacity(alloc, capacity)?;
         let _below = first.value();
         Ok(Ring {
-            capacity,
             first,
             pushes: 0,
             held,
@@ -63,6 +64,7 @@ impl Ring {
         ensures held { self.new ≡ pushed self.old (record { stamp = stamp; bytes = bytes.now; summary = summary }) }
         ensures number { result ≡ number_at self.old self.old.pushes }
         ensures latest { All (λ h. h.stamp ≤ stamp) self.new.held }
+        ensures grows { Grows self.old self.new }
     {
         let number = self.next_number();
         let item = Held {
@@ -70,7 +72,7 @@ impl Ring {
             bytes: *bytes,
             summary,
         };
-        push_last(&mut self.held, self.capacity, item);
+        let _oldest = self.held.push_back(item);
         self.pushes += 1;
         number
     }
@@ -111,7 +113,13 @@ impl Ring {
     pub fn find(&self, number: Seq) -> Option<u64>
         ensures { result ≡ place_with self.now number }
     {
-        place_among(self.first, number, self.first_place(), self.pushes)
+        let start = self.first_place();
+        let distance = distance(number_of(self.first, start), number);
+        if distance < self.pushes - start {
+            Some(start + distance)
+        } else {
+            None
+        }
     }
 
     /// The held record at that place: None where it was let go or is still to come.
@@ -122,7 +130,7 @@ impl Ring {
         if place < first {
             return None;
         }
-        item_at(self.held.as_slice(), place - first)
+        self.held.get((place - first) as usize)
     }
 
     /// The least held place that is not below that one, with its record: None where no such place is held.
@@ -151,27 +159,6 @@ impl Ring {
     }
 }
 
-/// Appends an item to the held ones, and lets the first go where there would be more than `capacity`.
-fn push_last(held: &mut Vec<Held>, capacity: usize, item: Held)
-    requires some { 1 ≤ capacity }
-    requires within { length held.old.items ≤ capacity }
-    requires room { capacity ≤ vec_capacity held.old }
-    ensures items { held.new.items ≡ last_of capacity (held.old.items ++ item ∷ []) }
-    ensures room { vec_capacity held.new ≡ vec_capacity held.old }
-{
-    if held.len() == capacity {
-        let _ = held.remove(0);
-    }
-    held.push_reserved(item);
-}
-
-/// The item at an index, where there is one.
-fn item_at(items: &[Held], index: u64) -> Option<&Held>
-    ensures { option_copied result ≡ slice_get items.now index }
-{
-    items.get(index as usize)
-}
-
 /// The number of the record at a place, where the first record has the number `first`.
 fn number_of(first: Seq, place: u64) -> Seq
     ensures { result ≡ (first + place) % numbers }
@@ -180,16 +167,11 @@ fn number_of(first: Seq, place: u64) -> Seq
     Seq::of(number as u32).unwrap()
 }
 
-/// The first place from `start` to before `end` whose record has the number, where the first record has the number `first`.
-#[tactic(auto, using(crate::proofs::Numbers::walking))]
-fn place_among(first: Seq, number: Seq, start: u64, end: u64) -> Option<u64>
-    requires { start ≤ end }
-    ensures { result ≡ place_among first number start (end - start) }
+/// How many places after a record with the number `from` the next place with the number `to` is. Numbers go on with 0 after
+/// the last.
+fn distance(from: Seq, to: Seq) -> u64
+    ensures reached { (from + result) % numbers ≡ to }
+    ensures next { result < numbers }
 {
-    for place in start..end {
-        if number_of(first, place) == number {
-            return Some(place);
-        }
-    }
-    None
+    (NUMBERS + u64::from(to.value()) - u64::from(from.value())) % NUMBERS
 }

@@ -13,6 +13,8 @@ use Rattle.session_state.specs.declared.modes.Mode.TheVariants.{Uni, Multi}
 use Rattle.session_state.specs.declared.session.State.TheVariants.{Starting}
 use Rattle.session_state.specs.Choices.{choices_in, chosen_of, kept_at, kept_in}
 use Rattle.session_state.specs.Sessions.{Sitting, client_in, HasFirst, HasFirsts}
+use Rattle.transfer.specs.Cursors.{BeginsIn, OfAll}
+use Rattle.transfer.proofs.Resting.{choice-within}
 
 -- What is kept changes nothing of what was negotiated.
 kept-same : (config : Config) (cs : List Choice) (i first : ℕ) → choices_in config (kept_at i first cs (slice_get cs i)) ≡ choices_in config cs
@@ -61,6 +63,7 @@ pub record Keeps (rings : Holdings) (i : ℕ) (now start : Sitting) : Type 0 whe
   pub waiting : now.waiting ≡ start.waiting
   pub count : length (chosen_of now.mode) ≡ length (chosen_of start.mode)
   pub firsts : (config : Config) (h : List Arrival) → rings ≡ holdings_of config h → (j : ℕ) (x : Choice) → j < i → slice_get (chosen_of now.mode) j ≡ Some x → HasFirst config h x
+  pub begins : (j : ℕ) (x : Choice) → j < i → slice_get (chosen_of now.mode) j ≡ Some x → BeginsIn rings x
 
 client-kept : (config : Config) (h : List Arrival) (a : Sitting) (i first : ℕ) (mode : Mode) → client_in config h (record a { mode = kept_in mode i first; state = Starting }) ≡ client_in config h (record a { mode = mode; state = Starting })
 client-kept config h a i first (Uni ps) = refl
@@ -74,8 +77,8 @@ mode-true : (P : Choice → Type 0) (mode : Mode) (i first j : ℕ) (x : Choice)
 mode-true P (Uni ps) i first j x before here low e = absurd cc
 mode-true P (Multi n) i first j x before here low e = kept-true P n.choices i first j x before here low e
 
-pub keeps-on : (rings : Holdings) (a n start : Sitting) (i first : ℕ) → start.state ≡ Starting → n ≡ record a { mode = kept_in a.mode i first } → ((config : Config) (h : List Arrival) → rings ≡ holdings_of config h → (y : Choice) → slice_get (chosen_of a.mode) i ≡ Some y → HasFirst config h (record y { first = first })) → Keeps rings i a start → Keeps rings (i + 1) n start
-keeps-on rings a n start i first starts made is_first so_far =
+pub keeps-on : (rings : Holdings) (a n start : Sitting) (i first : ℕ) → start.state ≡ Starting → n ≡ record a { mode = kept_in a.mode i first } → ((config : Config) (h : List Arrival) → rings ≡ holdings_of config h → (y : Choice) → slice_get (chosen_of a.mode) i ≡ Some y → HasFirst config h (record y { first = first })) → ((y : Choice) → slice_get (chosen_of a.mode) i ≡ Some y → BeginsIn rings (record y { first = first })) → Keeps rings i a start → Keeps rings (i + 1) n start
+keeps-on rings a n start i first starts made is_first is_begin so_far =
     let state : a.state ≡ Starting = so_far.state ∙ starts in
     record {
       same = λ config h.
@@ -90,10 +93,11 @@ keeps-on rings a n start i first starts made is_first so_far =
       waiting = ap (λ (s : Sitting). s.waiting) made ∙ so_far.waiting;
       count = ap (λ (s : Sitting). length (chosen_of s.mode)) made ∙ mode-length a.mode i first ∙ so_far.count;
       firsts = λ config h holds j x low e. mode-true (HasFirst config h) a.mode i first j x (λ y lt q. so_far.firsts config h holds j y lt q) (is_first config h holds) low (ap (λ (s : Sitting). slice_get (chosen_of s.mode) j) (sym made) ∙ e);
+      begins = λ j x low e. mode-true (BeginsIn rings) a.mode i first j x (λ y lt q. so_far.begins j y lt q) is_begin low (ap (λ (s : Sitting). slice_get (chosen_of s.mode) j) (sym made) ∙ e);
     }
 
 pub keeps-none : (rings : Holdings) (start : Sitting) → Keeps rings 0 start start
-keeps-none rings start = record { same = λ config h. refl; state = refl; places = refl; unread = refl; waiting = refl; count = refl; firsts = λ config h holds j x low e. absurd (omega arith) }
+keeps-none rings start = record { same = λ config h. refl; state = refl; places = refl; unread = refl; waiting = refl; count = refl; firsts = λ config h holds j x low e. absurd (omega arith); begins = λ j x low e. absurd (omega arith) }
 
 -- All requests have their first arrival.
 pub has-firsts : (rings : Holdings) (s start : Sitting) (i : ℕ) → length (chosen_of start.mode) ≤ i → Keeps rings i s start → (config : Config) (h : List Arrival) → rings ≡ holdings_of config h → HasFirsts config h s
@@ -110,3 +114,12 @@ pub one-first : (rings : Holdings) (cs : List Choice) (i first : ℕ) (c : Choic
 one-first rings cs i first c low is is_first config h holds y there =
     let same : c ≡ y = is ∙ ap (λ o. unwrap_or o y) (sym (slice_get-get_or cs i c low) ∙ there) in
     subst (λ (z : Choice). HasFirst config h (record z { first = first })) same (is_first config h holds)
+
+-- the same of where it begins
+pub one-begin : (rings : Holdings) (cs : List Choice) (i first : ℕ) (c : Choice) → i < length cs → c ≡ slice_index_or cs i c → BeginsIn rings (record c { first = first }) → (y : Choice) → slice_get cs i ≡ Some y → BeginsIn rings (record y { first = first })
+one-begin rings cs i first c low is begins y there =
+    let same : c ≡ y = is ∙ ap (λ o. unwrap_or o y) (sym (slice_get-get_or cs i c low) ∙ there) in
+    subst (λ (z : Choice). BeginsIn rings (record z { first = first })) same begins
+
+pub all-begin : (rings : Holdings) (s start : Sitting) (i : ℕ) → length (chosen_of start.mode) ≤ i → Keeps rings i s start → OfAll (BeginsIn rings) (chosen_of s.mode)
+all-begin rings s start i all keeps = λ j c at. keeps.begins j c (choice-within (chosen_of s.mode) j c i (omega (arith, keeps.count)) at) at

@@ -5,3 +5,8 @@ pub mod Packets
 pub mod Keeping
 pub mod Leading
 pub mod Scanning
+pub mod Passing
+pub mod Resting
+pub mod Found
+pub mod Beginning
+pub mod Going

@@ -45,11 +45,11 @@ abbrev pub HeldInTheRing : Type 0
 HeldInTheRing = (s : Station) (h : List Arrival) (test : ℕ → Arrival → Bool) (on_held : Held → Bool) → ((p : ℕ) (a : Arrival) → test p a ≡ on_held (held_of p a)) → first_position (λ p later a. is_held s later a && test p a) 0 h ≡ option_map (λ x. x.stamp) (find on_held (ring_of s h).held)
 
 -- an action that is there
-asked-some : (o : Option Action) → is_some o ≡ true → (action : Action) × (o ≡ Some action)
+pub asked-some : (o : Option Action) → is_some o ≡ true → (action : Action) × (o ≡ Some action)
 asked-some None e = absurd cc
 asked-some (Some a) e = (a, refl)
 
-asked-none : (o : Option Action) → is_some o ≡ false → o ≡ None
+pub asked-none : (o : Option Action) → is_some o ≡ false → o ≡ None
 asked-none None e = refl
 asked-none (Some a) e = absurd cc
 

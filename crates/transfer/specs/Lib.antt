@@ -1,2 +1,4 @@
 pub mod Wanting
 pub mod Choosing
+pub mod Cursors
+pub mod Founds

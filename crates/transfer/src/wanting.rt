@@ -1,11 +1,14 @@
 //! Which held records a request wants.
-ghost use Rattle.std.specs.Prelude.{◌≡◌, find, option_map, IfSome, Some, None, if◌then◌else◌};
+ghost use Rattle.std.specs.Prelude.{◌≡◌, ◌≤◌, ℕ, find, option_map, IfSome, Some, None, is_some};
+ghost use Rattle.std.specs.List.{list_any};
 ghost use Rattle.protocol.specs.History.{ends_from, starts_by};
 ghost use Rattle.station_ring.specs.declared.held.Held.{Held as HeldValue};
 ghost use Rattle.station_ring.specs.Rings.{held_at};
 ghost use Rattle.transfer.specs.Wanting.{facts_of, is_in_window_of, wants_held, HoldsRecord};
+ghost use Rattle.transfer.specs.Cursors.{is_after_end, HasPassed, RestsAt};
+ghost use Rattle.transfer.specs.Founds.{found_of};
 
-use session_state::{Action, Choice};
+use session_state::{Action, Choice, Cursor};
 use sl_time::Tick;
 use station_ring::{Held, Ring, Summary};
 
@@ -74,36 +77,125 @@ pub struct Candidate {
     pub position: u64,
 }
 
-/// The position of the record at a place of a ring, where it is held and wanted.
-fn position_wanted(ring: &Ring, place: u64, choice: &Choice, next: u64) -> Option<u64>
-    ensures wanted { (x : HeldValue) → held_at ring.now place ≡ Some x →
-        result ≡ (if wants_held choice.now next x then Some x.stamp else None) }
-    ensures held { IfSome result (λ position. HoldsRecord ring.now place position) }
+/// Whether a record starts after the end of TIME, where one is asked.
+fn is_after_end(choice: &Choice, summary: &Summary) -> bool
+    ensures { (x : HeldValue) → x.summary ≡ summary.now → result ≡ is_after_end choice.now.action x }
 {
-    let held = ring.get(place)?;
-    if wants(choice, next, held) {
-        Some(held.stamp)
-    } else {
-        None
+    match choice.action {
+        None => false,
+        Some(
+            Action::Data {
+                number: _number,
+                begin: _begin,
+            },
+        ) => false,
+        Some(
+            Action::Fetch {
+                number: _number,
+                begin: _begin,
+            },
+        ) => false,
+        Some(
+            Action::Time {
+                begin: _begin,
+                last: None,
+            },
+        ) => false,
+        Some(
+            Action::Time {
+                begin: _begin,
+                last: Some(last),
+            },
+        ) => last.value() < summary.start.value(),
     }
 }
 
-/// The first held record of a named station's ring that the request for the station wants.
-pub fn first_wanted_in(ring: &Ring, choice: &Choice, next: u64) -> Option<Candidate>
-    ensures position { option_map (λ c. c.position) result ≡ option_map (λ x. x.stamp) (find (wants_held choice.now next) ring.now.held) }
+/// What a request finds at a place of its ring.
+#[derive(Clone, Copy, Debug, PartialEq, Eq)]
+enum Found {
+    /// A record that it wants.
+    Wanted,
+    /// A record that it doesn't want, and that starts after the end of TIME.
+    AfterEnd,
+    /// Another record that it doesn't want.
+    Unwanted,
+}
+
+fn found_at(ring: &Ring, place: u64, choice: &Choice, next: u64) -> Found
+    ensures { (x : HeldValue) → held_at ring.now place ≡ Some x → result ≡ found_of choice.now next x }
+{
+    let Some(held) = ring.get(place) else {
+        return Found::Unwanted;
+    };
+    if wants(choice, next, held) {
+        Found::Wanted
+    } else if is_after_end(choice, &held.summary) {
+        Found::AfterEnd
+    } else {
+        Found::Unwanted
+    }
+}
+
+/// How far a request comes that passes what it doesn't want: to the first record from its cursor on that it wants, else to the
+/// end. A cursor that was overrun goes on at the oldest record.
+pub fn cursor_in(ring: &Ring, choice: &Choice, next: u64) -> Cursor
+    ensures { HasPassed ring.now next choice.now choice.now.cursor → RestsAt ring.now next choice.now result }
+{
+    ring.holds_its_last();
+    let Some(oldest) = ring.oldest() else {
+        return choice.cursor;
+    };
+    let mut after_end = choice.cursor.after_end;
+    let start = choice.cursor.place.max(oldest);
+    for place in start..ring.pushes() {
+        match found_at(ring, place, choice, next) {
+            Found::Wanted => return Cursor { place, after_end },
+            Found::AfterEnd => after_end = Some(place),
+            Found::Unwanted => {}
+        }
+    }
+    Cursor {
+        place: ring.pushes(),
+        after_end,
+    }
+}
+
+/// The record at a request's cursor, where one is there.
+pub fn at_cursor(ring: &Ring, choice: &Choice) -> Option<Candidate>
+    ensures position { (next : ℕ) → RestsAt ring.now next choice.now choice.now.cursor →
+        option_map (λ c. c.position) result ≡ option_map (λ x. x.stamp) (find (wants_held choice.now next) ring.now.held) }
+    ensures late { (next : ℕ) → RestsAt ring.now next choice.now choice.now.cursor → IfSome result (λ c. next ≤ c.position) }
+    ensures none { (next : ℕ) → RestsAt ring.now next choice.now choice.now.cursor → result ≡ None →
+        choice.now.cursor.place ≡ ring.now.pushes }
     ensures held { IfSome result (λ c. HoldsRecord ring.now c.place c.position) }
     ensures station { IfSome result (λ c. c.station ≡ choice.now.place) }
 {
     ring.holds_its_last();
-    let oldest = ring.oldest()?;
-    for place in oldest..ring.pushes() {
-        if let Some(position) = position_wanted(ring, place, choice, next) {
-            return Some(Candidate {
-                station: choice.place,
-                place,
-                position,
-            });
-        }
+    let held = ring.get(choice.cursor.place)?;
+    Some(Candidate {
+        station: choice.place,
+        place: choice.cursor.place,
+        position: held.stamp,
+    })
+}
+
+/// Whether a record is held that starts after the end of TIME, of a request that has passed all.
+pub fn has_passed_its_end(ring: &Ring, choice: &Choice) -> bool
+    ensures { (next : ℕ) → HasPassed ring.now next choice.now choice.now.cursor → choice.now.cursor.place ≡ ring.now.pushes →
+        result ≡ list_any (is_after_end choice.now.action) ring.now.held }
+{
+    ring.holds_its_last();
+    match choice.cursor.after_end {
+        Some(place) => is_held(ring, place),
+        None => false,
     }
-    None
+}
+
+fn is_held(ring: &Ring, place: u64) -> bool
+    ensures { result ≡ is_some (held_at ring.now place) }
+{
+    match ring.get(place) {
+        Some(_held) => true,
+        None => false,
+    }
 }

@@ -1,5 +1,5 @@
 //! How a session reads what came, byte by byte.
-ghost use Rattle.std.specs.Prelude.{◌≡◌, ◌≢◌, List, [], ◌∷◌, true, false};
+ghost use Rattle.std.specs.Prelude.{◌≡◌, ◌≢◌, ℕ, List, [], ◌∷◌, true, false};
 ghost use Rattle.protocol.specs.Catalog.{Config as ProtocolConfig};
 ghost use Rattle.protocol.specs.Lines.{open_after, cut_from};
 ghost use Rattle.protocol.specs.History.{Arrival};
@@ -13,7 +13,7 @@ use catalog::Config;
 impl Session {
     ghost use Rattle.session_state.specs.Choices.{negotiated_in};
     ghost use Rattle.session_state.specs.Asking.{outcome_by, outcome_of_lines, says_bye, is_leaving};
-    ghost use Rattle.session_state.specs.Sessions.{client_in, sitting_view, HasPlaces, never_starts};
+    ghost use Rattle.session_state.specs.Sessions.{client_in, sitting_view, HasPlaces, KeepsTransfer, never_starts};
     ghost use Rattle.session_state.specs.declared.session.State.TheVariants.{Negotiating, Starting, Transfer};
 
     /// What the line asks that a byte ends, where it ends one.
@@ -40,6 +40,7 @@ impl Session {
             ≡ follow (sitting_view config.now self.old) h (client_in config.now h self.old) (negotiated_in config.now self.old.mode) (outcome_by config.now (sitting_view config.now self.old) (negotiated_in config.now self.old.mode) asked) }
         ensures places { self.new.places ≡ self.old.places }
         ensures unread { self.new.unread ≡ self.old.unread }
+        ensures elsewhere { (next : ℕ) → self.new.state ≢ Transfer next }
     {
         match asked {
             Asked::Nothing => {}
@@ -64,6 +65,7 @@ impl Session {
             ≡ read_byte (sitting_view config.now self.old) h byte (client_in config.now h self.old) }
         ensures places { self.new.places ≡ self.old.places }
         ensures unread { self.new.unread ≡ self.old.unread }
+        ensures elsewhere { (next : ℕ) → self.new.state ≢ Transfer next }
     {
         let _ = &self.view;
         let asked = self.ask(config, byte);
@@ -80,6 +82,7 @@ impl Session {
         ensures places { self.new.places ≡ self.old.places }
         ensures unread { self.new.unread ≡ self.old.unread }
         ensures stays { never_starts self.new.state ≡ true }
+        ensures kept { KeepsTransfer self.old self.new }
     {
         let _ = &self.view;
         let asked = self.ask(config, byte);
@@ -115,6 +118,7 @@ impl Session {
         ensures places { self.new.places ≡ self.old.places }
         ensures unread { self.new.unread ≡ self.old.unread }
         ensures stays { never_starts self.old.state ≡ true → never_starts self.new.state ≡ true }
+        ensures kept { KeepsTransfer self.old self.new }
     {
         match self.state {
             State::Negotiating => self.read_command(config, byte),

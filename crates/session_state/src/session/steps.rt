@@ -3,13 +3,14 @@ ghost use Rattle.std.specs.Prelude.{◌≡◌, ◌≤◌, ◌<◌, ◌+◌, ◌�
 ghost use Rattle.protocol.specs.Session.{greeting, ok_line, error_line};
 
 use super::{Session, State};
+use crate::choices::Cursor;
 use crate::modes::{Change, Effect, make_change};
 use crate::replies::{put_end_line, put_error, put_greeting, put_ok, put_station_line};
 use arrayvec::ArrayVec;
 use catalog::Config;
 
 impl Session {
-    ghost use Rattle.session_state.specs.Choices.{negotiated_in};
+    ghost use Rattle.session_state.specs.Choices.{chosen_of, negotiated_in, passed_in};
     ghost use Rattle.session_state.specs.Changes.{changed_by, outcome_after};
     ghost use Rattle.session_state.specs.Sessions.{sitting_view, effected, kept_unread, listed_in, line_made, HasPlaces};
 
@@ -84,16 +85,27 @@ impl Session {
         }
     }
 
-    /// Bytes behind those that are unread, which move to the front.
+    /// Bytes after those that are unread. Only where the buffer's end is reached do the unread ones move to its front.
     pub(super) fn append(&mut self, bytes: &[u8])
         requires { length self.old.unread + length bytes.now ≤ 1024 }
         ensures { self.new ≡ record self.old { unread = self.old.unread ++ bytes.now } }
     {
+        if self.unread.try_extend_from_slice(bytes).is_ok() {
+            return;
+        }
         let mut rest = ArrayVec::new();
         let _ = rest.try_extend_from_slice(&self.unread.as_slice()[self.read..]);
         let _ = rest.try_extend_from_slice(bytes);
         self.unread = rest;
         self.read = 0;
+    }
+
+    pub(super) fn pass_to(&mut self, i: usize, cursor: Cursor)
+        requires { i < length (chosen_of self.old.mode) }
+        ensures { self.new ≡ record self.old { mode = passed_in self.old.mode i cursor } }
+    {
+        let _ = &self.state;
+        self.mode.pass(i, cursor);
     }
 
     pub(super) fn skip(&mut self, count: usize)

@@ -7,3 +7,10 @@ pub returns-clause-changed : goal.returns-clause-changed
 returns-clause-changed c = λ h holds.
     rw (whole-written c.args.sessions.now.len c.receive_in.new.sessions c.args.sessions.now.items (grind (arith, common_steps)) (grind (arith, common_steps)))
     (rw c.as_mut_slice.ensures.value at (c.receive_in.ensures.changed h holds))
+
+pub receive_in-requires-clause-settled : goal.receive_in-requires-clause-settled
+receive_in-requires-clause-settled c = rw c.as_mut_slice.ensures.value c.requires.settled
+
+pub returns-clause-settled : goal.returns-clause-settled
+returns-clause-settled c =
+    rw (whole-written c.args.sessions.now.len c.receive_in.new.sessions c.args.sessions.now.items (grind (arith, common_steps)) (grind (arith, common_steps))) c.receive_in.ensures.settled

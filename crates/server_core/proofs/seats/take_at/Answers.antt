@@ -7,3 +7,14 @@ pub returns-clause-changed : goal.returns-clause-changed
 returns-clause-changed c = λ h holds.
     rw (whole-written c.args.sessions.now.len c.take_in.new.sessions c.args.sessions.now.items (grind (arith, common_steps)) (grind (arith, common_steps)))
     (rw c.as_mut_slice.ensures.value at (c.in_ok-handing.ensures.changed h holds))
+
+pub take_in-requires-clause-settled : goal.take_in-requires-clause-settled
+take_in-requires-clause-settled c = rw c.as_mut_slice.ensures.value c.requires.settled
+
+pub returns-clause-settled : goal.returns-clause-settled
+returns-clause-settled c =
+    rw (whole-written c.args.sessions.now.len c.take_in.new.sessions c.args.sessions.now.items (grind (arith, common_steps)) (grind (arith, common_steps))) c.in_ok-handing.ensures.settled
+
+pub returns-in_err-handing-clause-settled : goal.returns-in_err-handing-clause-settled
+returns-in_err-handing-clause-settled c =
+    rw (whole-written c.args.sessions.now.len c.take_in.new.sessions c.args.sessions.now.items (grind (arith, common_steps)) (grind (arith, common_steps))) c.in_err-handing.ensures.settled

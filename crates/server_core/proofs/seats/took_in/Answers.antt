@@ -3,7 +3,7 @@ use Rattle.std.specs.Prelude.{is_some}
 use Rattle.std.proofs.lemmas.Option.{gets}
 use Rattle.std.proofs.lemmas.Grind.{common_steps}
 use Rattle.server_core.specs.Standing.{seated, seat_client}
-use Rattle.server_core.proofs.Standings.{none-goes, some-took}
+use Rattle.server_core.proofs.Standings.{none-goes, settled-set, some-took}
 use Rattle.server_core.proofs.seats.took_in.Goals as goal
 
 pub took-requires-clause-some : goal.took-requires-clause-some
@@ -37,3 +37,16 @@ pub returns-in-None-clause-answer : goal.returns-in-None-clause-answer
 returns-in-None-clause-answer c = λ h.
     let none : slice_get c.args.sessions.now c.args.number ≡ Some None = grind (arith, gets) in
     ap (λ o. is_some (seat_client (seated c.args.config.now h o))) (sym none)
+
+pub took-requires-clause-settled : goal.took-requires-clause-settled
+took-requires-clause-settled c =
+    let there : slice_get c.args.sessions.now c.args.number ≡ Some (Some c.in-Some.session) = grind (arith, gets) in
+    c.requires.settled c.args.number c.in-Some.session there
+
+pub returns-in-Some-clause-settled : goal.returns-in-Some-clause-settled
+returns-in-Some-clause-settled c = settled-set c.args.config.now c.args.rings.now c.args.sessions.now c.args.number c.took.new.session c.requires.settled c.took.ensures.settled
+
+pub returns-in-None-clause-settled : goal.returns-in-None-clause-settled
+returns-in-None-clause-settled c =
+    let same : slice_set c.args.sessions.now c.args.number (slice_index_or c.args.sessions.now c.args.number c.index-sessions-number.result) ≡ c.args.sessions.now = grind (arith, common_steps) in
+    rw same c.requires.settled

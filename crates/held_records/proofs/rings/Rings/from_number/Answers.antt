@@ -6,14 +6,14 @@ use Rattle.held_records.proofs.Stations.{arrivals_are, ring_is, station_is_nowhe
 use Rattle.held_records.proofs.Walks.{from_number-nowhere}
 use Rattle.held_records.proofs.rings.Rings.from_number.Goals as goal
 
-pub returns-in-Some : goal.returns-in-Some
-returns-in-Some c = λ config h is.
-    c.from_number.ensures (station_at config.entries c.args.place) h
+pub returns-in-Some-clause-position : goal.returns-in-Some-clause-position
+returns-in-Some-clause-position c = λ config h is.
+    c.from_number.ensures.position (station_at config.entries c.args.place) h
     (ring_is config h c.args.place c.args.self.now c.in-Some.ring.now is c.in-Some.ensures.ring)
     (ap (λ (x : Holdings). x.arrivals) c.self.view_is ∙ arrivals_are config h c.args.self.now is)
 
-pub returns-in-None : goal.returns-in-None
-returns-in-None c = λ config h is.
+pub returns-in-None-clause-position : goal.returns-in-None-clause-position
+returns-in-None-clause-position c = λ config h is.
     ap (λ (x : Holdings). x.arrivals) c.self.view_is
     ∙ arrivals_are config h c.args.self.now is
     ∙ from_number-nowhere h c.args.number

@@ -22,3 +22,6 @@ pub returns-else-number-len-clause-answer : goal.returns-else-number-len-clause-
 returns-else-number-len-clause-answer c = λ config w stands.
     let past : length c.args.self.now.sessions ≤ c.args.client = let same : length c.self.inside.sessions.items ≡ length c.args.self.now.sessions = ap (λ (s : Serving). length s.sessions) c.self.view_is in omega arith in
     ap is_some (sym (nobody_seen c.args.self.now c.args.client past config w stands))
+
+pub invariant_of-self : goal.invariant_of-self
+invariant_of-self c = (c.close_at.ensures.settled c.self.inside.config c.self.inside.rings c.self.invariant.0, c.self.invariant.1)

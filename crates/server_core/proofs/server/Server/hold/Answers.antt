@@ -1,9 +1,9 @@
-use Rattle.std.proofs.Common.{◌∙◌, ap, refl, sym, subst, is_some}
+use Rattle.std.proofs.Common.{◌∙◌, ap, arith, refl, sym, subst, is_some}
 use Rattle.held_records.specs.Holdings.{holdings_of}
 use Rattle.protocol.specs.Catalog.{Config}
 use Rattle.server_core.specs.Arrivals.{IsPlaced}
 use Rattle.server_core.specs.Standing.{Serving, StandsAt}
-use Rattle.server_core.proofs.Arriving.{accepted-there, answers-number, arrive-stands}
+use Rattle.server_core.proofs.Arriving.{accepted-there, answers-number, arrive-settled, arrive-stands}
 use Rattle.server_core.proofs.server.Server.hold.Goals as goal
 
 pub returns-clause-stands : goal.returns-clause-stands
@@ -29,3 +29,7 @@ returns-then-arrivals-clause-exhausted c = λ fails config w stands.
       would_be_taken = ap is_some (accepted-there config c.args.bytes.now c.args.placing.place c.args.placing.summary (subst (λ (g : Config). IsPlaced g c.args.bytes.now c.args.placing.place c.args.placing.summary) here.config_is placed));
       full = sym count ∙ c.if-arrivals.true;
     }
+
+pub invariant_of-self : goal.invariant_of-self
+invariant_of-self c =
+    (arrive-settled c.self.inside.config c.self.inside.rings c.arrive.new.self c.self.inside.sessions.items c.arrive.ensures.grow c.self.invariant.0, omega (arith, c.arrive.ensures.count, c.self.invariant.1))

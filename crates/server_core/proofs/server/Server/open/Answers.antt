@@ -3,6 +3,8 @@ use Rattle.std.specs.Net.Addr.{ipv4_bits}
 use Rattle.catalog.specs.Places.{view_in, IsPlace}
 use Rattle.server_core.specs.Standing.{StandsAt, Serving, IsSettled, AreSettled}
 use Rattle.server_core.proofs.Standings.{open-stands, settled-pushed}
+use Rattle.session_state.specs.declared.session.State.TheVariants.{Negotiating, Transfer}
+use Rattle.transfer.proofs.Going.{none-passed}
 use Rattle.server_core.proofs.server.Server.open.Goals as goal
 
 pub returns : goal.returns
@@ -17,7 +19,10 @@ returns c = record {
   err = tt;
 }
 
+pub invariant_of-self : goal.invariant_of-self
+invariant_of-self c = (subst (AreSettled c.self.inside.config c.self.inside.rings) (sym c.in_err-push.ensures.items) c.self.invariant.0, c.self.invariant.1)
+
 pub invariant_of-self-2 : goal.invariant_of-self-2
 invariant_of-self-2 c =
-    let settled : IsSettled c.self.inside.config c.new.result = record { places = subst (λ (p : List ℕ). All (IsPlace c.self.inside.config) p) (sym c.new.ensures.places) c.in_ok-view.ensures.places; started = c.new.ensures.settled } in
-    (subst (AreSettled c.self.inside.config) (sym c.in_ok-push.ensures.items) (settled-pushed c.self.inside.config c.self.inside.sessions.items c.new.result c.self.invariant.0 settled), c.self.invariant.1)
+    let settled : IsSettled c.self.inside.config c.self.inside.rings c.new.result = record { places = subst (λ (p : List ℕ). All (IsPlace c.self.inside.config) p) (sym c.new.ensures.places) c.in_ok-view.ensures.places; started = c.new.ensures.settled; passed = none-passed c.self.inside.rings c.new.result (λ next e. absurd (let t : Negotiating ≡ Transfer next = sym c.new.ensures.negotiates ∙ e in cc)) } in
+    (subst (AreSettled c.self.inside.config c.self.inside.rings) (sym c.in_ok-push.ensures.items) (settled-pushed c.self.inside.config c.self.inside.rings c.self.inside.sessions.items c.new.result c.self.invariant.0 settled), c.self.invariant.1)
