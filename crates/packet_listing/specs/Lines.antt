@@ -6,7 +6,7 @@ use Rattle.std.specs.Char.{to_ascii_uppercase}
 use Rattle.protocol.specs.Record.{Facts}
 use Rattle.record_listing.specs.Listing.{header_text}
 use Rattle.slreader.specs.Tallies.{packet_facts}
-use Rattle.slreader.specs.Wants.{WantValue}
+use Rattle.slreader.specs.Wants.{WantValue, PlanValue, wants_of}
 use Rattle.slreader.specs.Dialogue.{Given}
 use Rattle.slreader.specs.Dialogue.Given.{Hello, Refused, Packet, End}
 
@@ -52,3 +52,12 @@ with_given o End = o
 abbrev pub with_all : OutputValue → List Given → OutputValue
 with_all o [] = o
 with_all o (g ∷ gs) = with_all (with_given o g) gs
+
+-- what a call gave
+abbrev pub told : OutputValue → Option Given → OutputValue
+told o None = o
+told o (Some g) = with_given o g
+
+-- before anything is given
+abbrev pub nothing_told : PlanValue → OutputValue
+nothing_told plan = record { refusals = map refusal_line (wants_of plan); lines = []; records = [] }

@@ -3,10 +3,10 @@
 
 mod fault;
 mod nowhere;
-//mod output;
-//mod reading;
+mod output;
+mod reading;
 mod texts;
 
 pub use fault::ListingFault;
 pub use nowhere::Nowhere;
-//pub use reading::read_over;
+pub use reading::read_over;
