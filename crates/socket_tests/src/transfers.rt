@@ -16,9 +16,9 @@ fn a_record_goes_from_a_feed_to_a_client(rt: HostRuntime) -> Result<(), Fail> {
     let mut client = connect(&rt, clients)?;
     let mut answer = [0u8; 523];
     is_answered(&mut server, &mut client, b"FETCH\r", &mut answer)?;
-    assert!(rt; &answer[..8] == b"SL000000");
-    assert!(rt; answer[8..520] == first);
-    assert!(rt; &answer[520..] == b"END");
+    assert!(rt; answer.starts_with(b"SL000000"));
+    assert!(rt; &answer[8..520] == first.as_slice());
+    assert!(rt; answer.ends_with(b"END"));
     let mut more = [0u8; 1];
     turns(&mut server, 2);
     assert_eq!(rt; client.read(&mut more)?, 0);
@@ -57,8 +57,10 @@ fn packets_wait_for_a_client_that_does_not_read(rt: HostRuntime) -> Result<(), F
     let mut packet = [0u8; 520];
     for samples in 0..600u16 {
         client.read_exact(&mut packet)?;
-        turns(&mut server, 1);
-        assert!(rt; packet[38..40] == samples.to_be_bytes(), "packet {samples}");
+        if samples % 60 == 0 {
+            turns(&mut server, 1);
+        }
+        assert!(rt; &packet[38..40] == samples.to_be_bytes().as_slice(), "packet {samples}");
     }
     client.shutdown(Shutdown::Write)?;
     turns(&mut server, 4);
