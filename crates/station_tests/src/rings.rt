@@ -214,3 +214,23 @@ fn the_largest_ring_keeps_all_but_the_first(rt: HostRuntime) -> Result<(), Fail>
     assert!(rt; stamp_at(&ring, 65_536) == Some(65_536));
     Ok(())
 }
+
+/// Numbers, and the places that are found by them of the largest ring that was filled three times.
+static WRAPPED: [(u32, Option<u64>); 4] = [
+    (0x01FF04, None),
+    (0x01FF05, Some(131_077)),
+    (0x02FF04, Some(196_612)),
+    (0x02FF05, None),
+];
+
+#[test]
+fn the_largest_ring_wraps_three_times(rt: HostRuntime) -> Result<(), Fail> {
+    let ring = filled(rt.alloc(), 65_536, 0xFFFF00, 3 * 65_536 + 5)?;
+    assert!(rt; ring.pushes() == 196_613 && ring.oldest() == Some(131_077));
+    assert!(rt; ring.next_number().value() == 0x02FF05);
+    assert!(rt; stamp_at(&ring, 131_076).is_none() && stamp_at(&ring, 196_612) == Some(196_612));
+    for &(value, place) in &WRAPPED {
+        assert!(rt; found(&ring, value) == place, "{value}");
+    }
+    Ok(())
+}

@@ -10,3 +10,4 @@ pub mod Resting
 pub mod Found
 pub mod Beginning
 pub mod Going
+pub mod Asked

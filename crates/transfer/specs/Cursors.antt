@@ -1,7 +1,7 @@
 -- How far the requests of a transfer have come in the rings of their stations. A cursor is a place before which a request wants
 -- nothing more.
 -- SeedLink 3, DATA, FETCH and TIME. Left out: how a cursor is moved.
-use Rattle.std.specs.Prelude.{◌≡◌, ℕ, ◌<◌, ◌≤◌, Bool, true, false, int_lt, List, Option, Some, None, slice_get}
+use Rattle.std.specs.Prelude.{◌≡◌, ℕ, ◌<◌, ◌≤◌, Bool, true, false, int_lt, if◌then◌else◌, is_some, List, [], ◌∷◌, Option, Some, None, slice_get}
 use Rattle.station_ring.specs.declared.held.Held.{Held}
 use Rattle.station_ring.specs.Rings.{Holding, first_place, held_at}
 use Rattle.held_records.specs.Holdings.{Holdings, IsBefore, place_from}
@@ -9,6 +9,7 @@ use Rattle.session_state.specs.declared.choices.Action.{Action}
 use Rattle.session_state.specs.declared.choices.Action.TheVariants.{Data, Fetch, Time}
 use Rattle.session_state.specs.declared.choices.Choice.{Choice}
 use Rattle.session_state.specs.declared.choices.Cursor.{Cursor}
+use Rattle.session_state.specs.declared.modes.Mode.{Mode}
 use Rattle.session_state.specs.declared.session.State.TheVariants.{Transfer}
 use Rattle.session_state.specs.Choices.{chosen_of}
 use Rattle.session_state.specs.Sessions.{Sitting}
@@ -92,3 +93,12 @@ pub record PassesUnwanted (rings : Holdings) (s : Sitting) : Type 0 where
 -- the same; contracts need not look into it
 unfoldable pub ArePassed : Holdings → Sitting → Type 0
 ArePassed rings s = PassesUnwanted rings s
+
+-- the cursors of the requests, those of the named stations that are asked for something
+abbrev pub request_cursors : List Choice → List ℕ
+request_cursors [] = []
+request_cursors (c ∷ cs) = if is_some c.action then c.cursor.place ∷ request_cursors cs else request_cursors cs
+
+-- the same of a session's mode
+abbrev pub cursors_of : Mode → List ℕ
+cursors_of mode = request_cursors (chosen_of mode)

@@ -3,8 +3,10 @@
 #![tactic(auto)]
 
 mod choosing;
+mod cursors;
 mod starting;
 mod wanting;
 
 pub use choosing::{Chosen, choose};
+pub use cursors::cursor;
 pub use starting::start;
