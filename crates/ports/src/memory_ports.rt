@@ -1,14 +1,19 @@
 //! Ports in memory, that follow a script and tell every call.
-ghost use Rattle.std.specs.Prelude.{◌≡◌, Some, []};
-ghost use Rattle.ports.specs.Made.{told};
+ghost use Rattle.std.specs.Prelude.{◌≡◌, List, Some, [], IfOk, map};
+ghost use Rattle.ports.specs.Calls.{Call};
+ghost use Rattle.ports.specs.Made.{told, made_value};
+ghost use Rattle.ports.specs.Records.{port_record, record_value};
 
 use crate::{Got, Happening, PortFault, Ports, Put};
-use std::alloc::Global;
+use port_record::record_of;
+use std::alloc::{AllocError, Global};
 
 mod log;
+mod port_record;
 mod script;
 
 pub use log::{Gave, Log, Made};
+pub use port_record::PortRecord;
 pub use script::{PortScript, ReadAnswer, Script, WriteAnswer};
 
 /// Ports in memory. They answer by a script, and keep each call with its answer. Once there was no memory to keep one, which
@@ -30,9 +35,18 @@ impl MemoryPorts {
         }
     }
 
-    /// The calls that were made.
-    pub fn log(&self) -> &Log {
-        &self.log
+    /// All calls, in order, with their answers.
+    pub fn calls(&self) -> &[Made]
+        ensures { (calls : List Call) → told self.now.log ≡ Some calls → map made_value result.now ≡ calls }
+    {
+        self.log.made()
+    }
+
+    /// The bytes that a port gave, the bytes that it took, and whether it was shut. It fails only for want of memory.
+    pub fn record(&self, alloc: Global, port: u64) -> Result<PortRecord, AllocError>
+        ensures { IfOk result (λ r. (calls : List Call) → told self.now.log ≡ Some calls → record_value r ≡ port_record port calls) }
+    {
+        record_of(alloc, self.log.made(), port)
     }
 }
 

@@ -67,7 +67,9 @@ impl Log {
     }
 
     /// The calls that were kept.
-    pub fn made(&self) -> &[Made] {
+    pub fn made(&self) -> &[Made]
+        ensures { result.now ≡ self.now.made.items }
+    {
         self.made.as_slice()
     }
 

@@ -1,5 +1,6 @@
-//! What ports in memory are to answer. At the end of a list nothing more happens, a read finds nothing for now, and a write takes all.
-ghost use Rattle.std.specs.Prelude.{length, ◌<◌, ◌≤◌};
+//! What ports in memory are to answer. At the end of a list nothing more happens, a read finds nothing for now, and a write
+//! takes all.
+ghost use Rattle.std.specs.Prelude.{◌≡◌, length, ◌<◌, ◌≤◌};
 ghost use Rattle.ports.specs.Calls.{IsGiven, IsTaken};
 
 use crate::{Got, Happening, PortFault, Put};
@@ -73,7 +74,11 @@ fn joined_before(earlier: &[Happening], happening: Happening) -> bool {
 
 impl PortScript {
     /// The answers of a port.
-    pub fn new(port: u64, reads: Vec<ReadAnswer>, writes: Vec<WriteAnswer>) -> PortScript {
+    pub fn new(port: u64, reads: Vec<ReadAnswer>, writes: Vec<WriteAnswer>) -> PortScript
+        ensures port { result.port ≡ port }
+        ensures reads { result.reads ≡ reads }
+        ensures writes { result.writes ≡ writes }
+    {
         PortScript {
             port,
             reads,
@@ -140,7 +145,10 @@ impl PortScript {
 
 impl Script {
     /// The happenings, and the answers of each port.
-    pub fn new(happenings: Vec<Happening>, ports: Vec<PortScript>) -> Script {
+    pub fn new(happenings: Vec<Happening>, ports: Vec<PortScript>) -> Script
+        ensures happenings { result.happenings ≡ happenings }
+        ensures ports { result.ports ≡ ports }
+    {
         Script {
             happenings,
             ports,
