@@ -98,6 +98,19 @@ fn read_block<R: Source>(reader: &mut R, block: &mut [u8]) -> Option<usize>
     }
 }
 
+/// Sends what was asked last: an answer may come before its command was sent.
+fn finish<W: Sink>(core: &mut ReaderCore, writer: &mut W) -> Result<(), ListingFault>
+    ensures written { OnOk result (Appends (W.written writer.old) (W.written writer.new) (drop core.old.sent core.old.asked)) }
+    ensures quiet { OnOk result (IsQuiet (W.failures writer.old) (W.failures writer.new) (W.empty_writes writer.old) (W.empty_writes writer.new)) }
+    ensures fault { IfErr result (λ fault. fault ≡ ListingFault.Write) }
+    ensures stopped { OnErr result (StopsWriting (W.failures writer.old) (W.failures writer.new) (W.empty_writes writer.old) (W.empty_writes writer.new)) }
+{
+    match send(core, writer) {
+        Ok(()) => Ok(()),
+        Err(_) => Err(ListingFault::Write),
+    }
+}
+
 /// Sends, writes and reads until the transfer is over.
 fn read_blocks<R: Source, W: Sink, O: Sink, P: Sink>(
     core: &mut ReaderCore,
@@ -139,7 +152,7 @@ fn read_blocks<R: Source, W: Sink, O: Sink, P: Sink>(
             Err(_) => return Err(ListingFault::Write),
         }
         match taken {
-            Ok(true) => return Ok(()),
+            Ok(true) => return finish(core, writer),
             Ok(false) => {}
             Err(fault) => return Err(ListingFault::Reader(fault)),
         }

@@ -1,0 +1,11 @@
+//! Tests of the reader: words of wants, dialogues, listings of packets, and the reader beside a server. Nothing but tests.
+#![tactic(auto)]
+
+#[cfg(test)]
+mod beside_a_server;
+#[cfg(test)]
+mod dialogues;
+#[cfg(test)]
+mod packets;
+#[cfg(test)]
+mod words;

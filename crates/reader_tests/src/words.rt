@@ -1,0 +1,67 @@
+//! Words of wants.
+use slreader::{ReaderFault, Want};
+use std::alloc::Global;
+use std::test::Fail;
+
+/// Words that spell no want that can be asked for.
+static MALFORMED: [&[u8]; 20] = [
+    b"",
+    b"GE",
+    b"GEWLF",
+    b"_WLF",
+    b"GE_",
+    b"GEO_WLF",
+    b"GE_WLFABC",
+    b"ge_WLF",
+    b"GE_wlf",
+    b"GE_WLF_",
+    b"GE_WLF:",
+    b"GE_WLF:BH",
+    b"GE_WLF:BHZ,",
+    b"GE_WLF:BHZ,,EHZ",
+    b"GE_WLF:BHZ.Q",
+    b"GE_WLF@",
+    b"GE_WLF@0000000",
+    b"GE_WLF@G",
+    b"GE_WLF@1@2",
+    b"GE_WLF:A00,A01,A02,A03,A04,A05,A06,A07,A08,A09,A10,A11,A12,A13,A14,A15,A16",
+];
+
+/// Words that spell a want, with the number of its patterns.
+static RIGHT: [(&[u8], usize); 9] = [
+    (b"GE_WLF", 0),
+    (b"G_W", 0),
+    (b"GE_WLF12", 0),
+    (b"GE_WLF:BH?", 1),
+    (b"GE_WLF:BH?,!E", 2),
+    (b"GE_WLF:BH?,!E@0000A3", 2),
+    (b"GE_WLF@a3", 0),
+    (b"GE_WLF:00BHZ.D,--LCQ,.T,L", 4),
+    (
+        b"GE_WLF:A00,A01,A02,A03,A04,A05,A06,A07,A08,A09,A10,A11,A12,A13,A14,A15",
+        16,
+    ),
+];
+
+/// How many patterns the want of a word has, or why it is none.
+fn patterns(alloc: Global, word: &[u8]) -> Result<usize, ReaderFault> {
+    let want = Want::parse(alloc, word, true)?;
+    Ok(want.patterns.len())
+}
+
+#[test]
+fn malformed_words_are_refused(rt: HostRuntime) -> Result<(), Fail> {
+    for word in &MALFORMED {
+        assert!(rt; patterns(rt.alloc(), word) == Err(ReaderFault::Limit));
+    }
+    assert_eq!(rt; ReaderFault::Limit.report().number, 22);
+    Ok(())
+}
+
+#[test]
+fn right_words_are_taken(rt: HostRuntime) -> Result<(), Fail> {
+    for (word, count) in &RIGHT {
+        assert!(rt; patterns(rt.alloc(), word) == Ok(*count));
+    }
+    Ok(())
+}
