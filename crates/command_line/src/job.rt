@@ -2,7 +2,7 @@
 use thiserror::Error;
 
 /// What the program is asked to do, with the texts of the command line as they stand there.
-#[derive(Debug, Drop)]
+#[derive(Debug, PartialEq, Drop)]
 pub enum Job<'a> {
     /// `check FILE`: a line for each record of a file.
     Check { file: &'a str },

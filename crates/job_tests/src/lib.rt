@@ -2,6 +2,8 @@
 #![tactic(auto)]
 
 #[cfg(test)]
+mod endpoints;
+#[cfg(test)]
 mod replays;
 #[cfg(test)]
 mod scripts;

@@ -51,6 +51,52 @@ fn check_has_one_text(rt: HostRuntime) -> Result<(), Fail> {
 }
 
 #[test]
+fn serve_has_two_addresses_and_may_have_turns(rt: HostRuntime) -> Result<(), Fail> {
+    let words = strings(
+        rt.alloc(),
+        &["seedlinkd", "serve", "c.toml", "--listen", "a:1", "--feed=b:2", "--turns", "20"],
+    )?;
+    let job = read_words(rt.alloc(), words.as_slice())?;
+    let wanted = Job::Serve {
+        config: "c.toml",
+        listen: "a:1",
+        feed: "b:2",
+        turns: Some(20),
+    };
+    assert!(rt; job == wanted);
+    Ok(())
+}
+
+#[test]
+fn feed_has_a_server_and_a_file(rt: HostRuntime) -> Result<(), Fail> {
+    let words = strings(rt.alloc(), &["seedlinkd", "feed", "a:1", "records.mseed"])?;
+    let job = read_words(rt.alloc(), words.as_slice())?;
+    let wanted = Job::Feed {
+        server: "a:1",
+        file: "records.mseed",
+    };
+    assert!(rt; job == wanted);
+    Ok(())
+}
+
+#[test]
+fn read_has_wants_and_options(rt: HostRuntime) -> Result<(), Fail> {
+    let words = strings(
+        rt.alloc(),
+        &["seedlinkd", "read", "a:1", "GE_WLF", "XX_APE", "--fetch", "--output", "-"],
+    )?;
+    let job = read_words(rt.alloc(), words.as_slice())?;
+    let wanted = Job::Read {
+        server: "a:1",
+        wants: vec![in rt.alloc(); "GE_WLF", "XX_APE"]?,
+        fetch: true,
+        output: Some("-"),
+    };
+    assert!(rt; job == wanted);
+    Ok(())
+}
+
+#[test]
 fn a_double_dash_ends_the_flags(rt: HostRuntime) -> Result<(), Fail> {
     let words = strings(rt.alloc(), &["seedlinkd", "replay", "--", "-a", "--help"])?;
     let job = read_words(rt.alloc(), words.as_slice())?;
@@ -64,7 +110,8 @@ fn a_double_dash_ends_the_flags(rt: HostRuntime) -> Result<(), Fail> {
 
 #[test]
 fn help_is_told(rt: HostRuntime) -> Result<(), Fail> {
-    let all: [&[&str]; 4] = [
+    let all: [&[&str]; 5] = [
+        &["seedlinkd", "--version"],
         &["seedlinkd", "--help"],
         &["seedlinkd", "-h"],
         &["seedlinkd", "help"],
@@ -78,8 +125,11 @@ fn help_is_told(rt: HostRuntime) -> Result<(), Fail> {
 
 #[test]
 fn other_words_are_refused(rt: HostRuntime) -> Result<(), Fail> {
-    let all: [&[&str]; 9] = [
+    let all: [&[&str]; 12] = [
         &[],
+        &["seedlinkd", "serve", "c.toml", "--listen", "a:1"],
+        &["seedlinkd", "serve", "c.toml", "--listen=a", "--feed=b", "--turns", "0"],
+        &["seedlinkd", "read", "a:1"],
         &["seedlinkd", "check"],
         &["seedlinkd", "check", "a", "b"],
         &["seedlinkd"],
