@@ -18,8 +18,8 @@ abbrev pub EndsReads : (failures failures' calls calls' : ℕ) → (left' : Opti
 EndsReads failures failures' calls calls' left' =
     EndsReading failures failures' left' ⊎ ((failures' ≡ failures) × IsMore calls calls' (2 ^ 64 - 1))
 
--- Why a listing stops, by whether the reading ended or no read failed, and whether no write failed or one did: the reader's fault,
--- and nothing failed; or the reading ended; or a write failed or was empty.
+-- Why a listing stops, by whether the reading ended or no read failed, and whether no write failed or one did: the
+-- reader's fault, and nothing failed; or the reading ended; or a write failed or was empty.
 abbrev pub StopsListing : ListingFault → (ended no_read_failed : Type 0) → (quiet stopped : Type 0) → Type 0
 StopsListing (Reader fault) ended no_read_failed quiet stopped = no_read_failed × quiet
 StopsListing Read ended no_read_failed quiet stopped = ended × quiet

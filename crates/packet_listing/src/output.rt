@@ -101,8 +101,8 @@ impl Output {
     /// The line of a packet, and its record.
     fn put_packet(&mut self, packet: &[u8; 520]) -> Result<(), AllocError>
         ensures { OnOk result (self.new ≡ record self.old {
-            lines = self.old.lines ++ packet_line packet.now;
-            records = self.old.records ++ record_of packet.now;
+          lines = self.old.lines ++ packet_line packet.now;
+          records = self.old.records ++ record_of packet.now;
         }) }
     {
         put_packet(&mut self.lines, packet)?;
@@ -114,7 +114,8 @@ impl Output {
     fn put_refused(&mut self, want: usize) -> Result<(), AllocError>
         ensures { OnOk result (self.new ≡ record self.old { lines = self.old.lines ++ refusal_at self.old.refusals want }) }
     {
-        self.lines.extend_from_slice(refusal_at(&self.refusals, want))
+        self.lines
+            .extend_from_slice(refusal_at(&self.refusals, want))
     }
 
     /// Tells what was given.

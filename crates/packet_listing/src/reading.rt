@@ -3,10 +3,11 @@ ghost use Rattle.std.specs.Prelude.{◌≡◌, ◌⊎◌, ◌+◌, ◌<◌, ◌�
 ghost use Rattle.std.specs.Io.KnownBytes.{Appends};
 ghost use Rattle.sl_io.specs.Counts.{IsMore, StopsWriting};
 ghost use Rattle.packet_listing.specs.Stops.{EndsReading, EndsReads, IsQuiet, StopsListing};
+
 use crate::fault::ListingFault;
 use crate::output::Output;
-use slreader::{Plan, ReaderCore, ReaderFault, What};
 use sl_io::{Sink, Source, WriteFault, write_all};
+use slreader::{Plan, ReaderCore, ReaderFault, What};
 use std::alloc::{AllocError, Global};
 
 /// How many bytes are read at most by one call.
@@ -16,8 +17,10 @@ const BLOCK: usize = 65_536;
 fn send<W: Sink>(core: &mut ReaderCore, writer: &mut W) -> Result<(), WriteFault>
     ensures written { OnOk result (Appends (W.written writer.old) (W.written writer.new) (drop core.old.sent core.old.asked)) }
     ensures sent { OnOk result (core.new ≡ record core.old { sent = core.old.sent + length (drop core.old.sent core.old.asked) }) }
-    ensures quiet { OnOk result (IsQuiet (W.failures writer.old) (W.failures writer.new) (W.empty_writes writer.old) (W.empty_writes writer.new)) }
-    ensures stopped { OnErr result (StopsWriting (W.failures writer.old) (W.failures writer.new) (W.empty_writes writer.old) (W.empty_writes writer.new)) }
+    ensures quiet { OnOk result (IsQuiet (W.failures writer.old) (W.failures writer.new)
+        (W.empty_writes writer.old) (W.empty_writes writer.new)) }
+    ensures stopped { OnErr result (StopsWriting (W.failures writer.old) (W.failures writer.new)
+        (W.empty_writes writer.old) (W.empty_writes writer.new)) }
 {
     let outgoing = core.outgoing();
     match write_all(writer, outgoing) {
@@ -39,12 +42,17 @@ fn write_output<O: Sink, P: Sink>(
     ensures lines { OnOk result (Appends (O.written out.old) (O.written out.new) output.old.lines) }
     ensures records { OnOk result (Appends (P.written records.old) (P.written records.new) output.old.records) }
     ensures cleared { OnOk result (output.new ≡ record output.old { lines = []; records = [] }) }
-    ensures quiet { OnOk result (IsQuiet (O.failures out.old) (O.failures out.new) (O.empty_writes out.old) (O.empty_writes out.new)
-        × IsQuiet (P.failures records.old) (P.failures records.new) (P.empty_writes records.old) (P.empty_writes records.new)) }
-    ensures stopped { OnErr result ((StopsWriting (O.failures out.old) (O.failures out.new) (O.empty_writes out.old) (O.empty_writes out.new)
-            × IsQuiet (P.failures records.old) (P.failures records.new) (P.empty_writes records.old) (P.empty_writes records.new))
+    ensures quiet { OnOk result (IsQuiet (O.failures out.old) (O.failures out.new)
+        (O.empty_writes out.old) (O.empty_writes out.new)
+        × IsQuiet (P.failures records.old) (P.failures records.new)
+            (P.empty_writes records.old) (P.empty_writes records.new)) }
+    ensures stopped { OnErr result ((StopsWriting (O.failures out.old) (O.failures out.new)
+        (O.empty_writes out.old) (O.empty_writes out.new)
+        × IsQuiet (P.failures records.old) (P.failures records.new)
+            (P.empty_writes records.old) (P.empty_writes records.new))
         ⊎ (IsQuiet (O.failures out.old) (O.failures out.new) (O.empty_writes out.old) (O.empty_writes out.new)
-            × StopsWriting (P.failures records.old) (P.failures records.new) (P.empty_writes records.old) (P.empty_writes records.new))) }
+        × StopsWriting (P.failures records.old) (P.failures records.new)
+            (P.empty_writes records.old) (P.empty_writes records.new))) }
 {
     match write_all(out, output.lines()) {
         Ok(()) => {}
@@ -63,8 +71,7 @@ fn take_piece(
     core: &mut ReaderCore,
     output: &mut Output,
     piece: &[u8],
-) -> Result<bool, ReaderFault>
-{
+) -> Result<bool, ReaderFault> {
     let mut left = piece;
     'given: loop {
         let came = match core.incoming(left) {
@@ -101,9 +108,11 @@ fn read_block<R: Source>(reader: &mut R, block: &mut [u8]) -> Option<usize>
 /// Sends what was asked last: an answer may come before its command was sent.
 fn finish<W: Sink>(core: &mut ReaderCore, writer: &mut W) -> Result<(), ListingFault>
     ensures written { OnOk result (Appends (W.written writer.old) (W.written writer.new) (drop core.old.sent core.old.asked)) }
-    ensures quiet { OnOk result (IsQuiet (W.failures writer.old) (W.failures writer.new) (W.empty_writes writer.old) (W.empty_writes writer.new)) }
+    ensures quiet { OnOk result (IsQuiet (W.failures writer.old) (W.failures writer.new)
+        (W.empty_writes writer.old) (W.empty_writes writer.new)) }
     ensures fault { IfErr result (λ fault. fault ≡ ListingFault.Write) }
-    ensures stopped { OnErr result (StopsWriting (W.failures writer.old) (W.failures writer.new) (W.empty_writes writer.old) (W.empty_writes writer.new)) }
+    ensures stopped { OnErr result (StopsWriting (W.failures writer.old) (W.failures writer.new)
+        (W.empty_writes writer.old) (W.empty_writes writer.new)) }
 {
     match send(core, writer) {
         Ok(()) => Ok(()),
@@ -123,19 +132,26 @@ fn read_blocks<R: Source, W: Sink, O: Sink, P: Sink>(
 ) -> Result<(), ListingFault>
     requires { length block.old ≡ 65536 }
     ensures stopped { IfErr result (λ fault. StopsListing fault
-        (EndsReads (R.failures reader.old) (R.failures reader.new) (R.calls reader.old) (R.calls reader.new) (R.left reader.new))
+        (EndsReads (R.failures reader.old) (R.failures reader.new)
+            (R.calls reader.old) (R.calls reader.new) (R.left reader.new))
         (R.failures reader.new ≡ R.failures reader.old)
         (IsQuiet (W.failures writer.old) (W.failures writer.new) (W.empty_writes writer.old) (W.empty_writes writer.new)
-            × IsQuiet (O.failures out.old) (O.failures out.new) (O.empty_writes out.old) (O.empty_writes out.new)
-            × IsQuiet (P.failures records.old) (P.failures records.new) (P.empty_writes records.old) (P.empty_writes records.new))
-        ((StopsWriting (W.failures writer.old) (W.failures writer.new) (W.empty_writes writer.old) (W.empty_writes writer.new)
-                × IsQuiet (O.failures out.old) (O.failures out.new) (O.empty_writes out.old) (O.empty_writes out.new)
-                × IsQuiet (P.failures records.old) (P.failures records.new) (P.empty_writes records.old) (P.empty_writes records.new))
-            ⊎ (IsQuiet (W.failures writer.old) (W.failures writer.new) (W.empty_writes writer.old) (W.empty_writes writer.new)
-                × ((StopsWriting (O.failures out.old) (O.failures out.new) (O.empty_writes out.old) (O.empty_writes out.new)
-                        × IsQuiet (P.failures records.old) (P.failures records.new) (P.empty_writes records.old) (P.empty_writes records.new))
-                    ⊎ (IsQuiet (O.failures out.old) (O.failures out.new) (O.empty_writes out.old) (O.empty_writes out.new)
-                        × StopsWriting (P.failures records.old) (P.failures records.new) (P.empty_writes records.old) (P.empty_writes records.new)))))) }
+        × IsQuiet (O.failures out.old) (O.failures out.new) (O.empty_writes out.old) (O.empty_writes out.new)
+        × IsQuiet (P.failures records.old) (P.failures records.new)
+            (P.empty_writes records.old) (P.empty_writes records.new))
+        ((StopsWriting (W.failures writer.old) (W.failures writer.new)
+            (W.empty_writes writer.old) (W.empty_writes writer.new)
+        × IsQuiet (O.failures out.old) (O.failures out.new) (O.empty_writes out.old) (O.empty_writes out.new)
+        × IsQuiet (P.failures records.old) (P.failures records.new)
+            (P.empty_writes records.old) (P.empty_writes records.new))
+        ⊎ (IsQuiet (W.failures writer.old) (W.failures writer.new)
+            (W.empty_writes writer.old) (W.empty_writes writer.new)
+        × ((StopsWriting (O.failures out.old) (O.failures out.new) (O.empty_writes out.old) (O.empty_writes out.new)
+        × IsQuiet (P.failures records.old) (P.failures records.new)
+            (P.empty_writes records.old) (P.empty_writes records.new))
+        ⊎ (IsQuiet (O.failures out.old) (O.failures out.new) (O.empty_writes out.old) (O.empty_writes out.new)
+        × StopsWriting (P.failures records.old) (P.failures records.new)
+            (P.empty_writes records.old) (P.empty_writes records.new)))))) }
 {
     'reads: for _ in 0..u64::MAX {
         match send(core, writer) {
@@ -160,16 +176,18 @@ fn read_blocks<R: Source, W: Sink, O: Sink, P: Sink>(
     Err(ListingFault::Read)
 }
 
-/// Asks a server for what a plan wants, and lists what it sends (SeedLink 3), a line a packet: `SEQ NET STA LOC CHA TYPE START END
-/// SAMPLES`, with the six digits of its number in upper case and the rest as in the listing of a file of records, or `SEQ unreadable`
-/// where its record can't be read; and `refused NET STA` for a want that the server refuses. The record of each packet, 512 bytes, is
-/// written to `records` as it came. It ends with the end of the transfer.
+/// Asks a server for what a plan wants, and lists what it sends (SeedLink 3), a line a packet: `SEQ NET STA LOC CHA
+/// TYPE START END SAMPLES`, with the six digits of its number in upper case and the rest as in the listing of a file
+/// of records, or `SEQ unreadable` where its record can't be read; and `refused NET STA` for a want that the server
+/// refuses. The record of each packet, 512 bytes, is written to `records` as it came. It ends with the end of the
+/// transfer.
 ///
-/// All that is asked is sent before each read, and all that is told is written before each read, so that nothing is held back while
-/// it waits. A read takes up to 64 KiB. After a fault all that was told before it is written, where the writers take it.
+/// All that is asked is sent before each read, and all that is told is written before each read, so that nothing is
+/// held back while it waits. A read takes up to 64 KiB. After a fault all that was told before it is written, where
+/// the writers take it.
 ///
-/// It fails with the reader's faults; with Read where a read failed, where the input ends before the end of the transfer, or where
-/// 2^64 - 1 reads were made; and with Write where something could not be written.
+/// It fails with the reader's faults; with Read where a read failed, where the input ends before the end of the
+/// transfer, or where 2^64 - 1 reads were made; and with Write where something could not be written.
 pub fn read_over<R: Source, W: Sink, O: Sink, P: Sink>(
     alloc: Global,
     plan: Plan<'_>,
@@ -179,19 +197,26 @@ pub fn read_over<R: Source, W: Sink, O: Sink, P: Sink>(
     records: &mut P,
 ) -> Result<(), ListingFault>
     ensures stopped { IfErr result (λ fault. StopsListing fault
-        (EndsReads (R.failures reader.old) (R.failures reader.new) (R.calls reader.old) (R.calls reader.new) (R.left reader.new))
+        (EndsReads (R.failures reader.old) (R.failures reader.new)
+            (R.calls reader.old) (R.calls reader.new) (R.left reader.new))
         (R.failures reader.new ≡ R.failures reader.old)
         (IsQuiet (W.failures writer.old) (W.failures writer.new) (W.empty_writes writer.old) (W.empty_writes writer.new)
-            × IsQuiet (O.failures out.old) (O.failures out.new) (O.empty_writes out.old) (O.empty_writes out.new)
-            × IsQuiet (P.failures records.old) (P.failures records.new) (P.empty_writes records.old) (P.empty_writes records.new))
-        ((StopsWriting (W.failures writer.old) (W.failures writer.new) (W.empty_writes writer.old) (W.empty_writes writer.new)
-                × IsQuiet (O.failures out.old) (O.failures out.new) (O.empty_writes out.old) (O.empty_writes out.new)
-                × IsQuiet (P.failures records.old) (P.failures records.new) (P.empty_writes records.old) (P.empty_writes records.new))
-            ⊎ (IsQuiet (W.failures writer.old) (W.failures writer.new) (W.empty_writes writer.old) (W.empty_writes writer.new)
-                × ((StopsWriting (O.failures out.old) (O.failures out.new) (O.empty_writes out.old) (O.empty_writes out.new)
-                        × IsQuiet (P.failures records.old) (P.failures records.new) (P.empty_writes records.old) (P.empty_writes records.new))
-                    ⊎ (IsQuiet (O.failures out.old) (O.failures out.new) (O.empty_writes out.old) (O.empty_writes out.new)
-                        × StopsWriting (P.failures records.old) (P.failures records.new) (P.empty_writes records.old) (P.empty_writes records.new)))))) }
+        × IsQuiet (O.failures out.old) (O.failures out.new) (O.empty_writes out.old) (O.empty_writes out.new)
+        × IsQuiet (P.failures records.old) (P.failures records.new)
+            (P.empty_writes records.old) (P.empty_writes records.new))
+        ((StopsWriting (W.failures writer.old) (W.failures writer.new)
+            (W.empty_writes writer.old) (W.empty_writes writer.new)
+        × IsQuiet (O.failures out.old) (O.failures out.new) (O.empty_writes out.old) (O.empty_writes out.new)
+        × IsQuiet (P.failures records.old) (P.failures records.new)
+            (P.empty_writes records.old) (P.empty_writes records.new))
+        ⊎ (IsQuiet (W.failures writer.old) (W.failures writer.new)
+            (W.empty_writes writer.old) (W.empty_writes writer.new)
+        × ((StopsWriting (O.failures out.old) (O.failures out.new) (O.empty_writes out.old) (O.empty_writes out.new)
+        × IsQuiet (P.failures records.old) (P.failures records.new)
+            (P.empty_writes records.old) (P.empty_writes records.new))
+        ⊎ (IsQuiet (O.failures out.old) (O.failures out.new) (O.empty_writes out.old) (O.empty_writes out.new)
+        × StopsWriting (P.failures records.old) (P.failures records.new)
+            (P.empty_writes records.old) (P.empty_writes records.new)))))) }
 {
     let Ok(mut output) = Output::new(alloc, &plan) else {
         return Err(ListingFault::Reader(ReaderFault::OutOfMemory));

@@ -53,11 +53,7 @@ fn record(second: u8) -> Result<[u8; 512], Fail> {
 }
 
 /// A want of GE and a station, by FETCH.
-fn want<'a>(
-    alloc: Global,
-    station: &'a [u8],
-    patterns: &[&'a [u8]],
-) -> Result<Want<'a>, Fail> {
+fn want<'a>(alloc: Global, station: &'a [u8], patterns: &[&'a [u8]]) -> Result<Want<'a>, Fail> {
     Ok(Want {
         network: b"GE",
         station,

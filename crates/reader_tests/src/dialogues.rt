@@ -120,7 +120,8 @@ fn plan<'a>(alloc: Global, words: &[&'a [u8]]) -> Result<Plan<'a>, Fail> {
     Ok(Plan::Multi(wants))
 }
 
-/// Whether a row's bytes, so many a read, give what the row says. Behind a fault some of what is asked may not have been sent.
+/// Whether a row's bytes, so many a read, give what the row says. Behind a fault some of what is asked may not have
+/// been sent.
 fn is_right(alloc: Global, row: &Row, most: usize) -> Result<bool, Fail>
     requires { 0 < most }
 {

@@ -1,4 +1,5 @@
-//! Tests of the reader: words of wants, dialogues, listings of packets, and the reader beside a server. Nothing but tests.
+//! Tests of the reader: words of wants, dialogues, listings of packets, and the reader beside a server. Nothing but
+//! tests.
 #![tactic(auto)]
 
 #[cfg(test)]

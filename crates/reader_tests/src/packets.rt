@@ -54,7 +54,8 @@ fn one_want(alloc: Global) -> Result<Plan<'static>, Fail> {
     Ok(Plan::Multi(wants))
 }
 
-const LISTING: &[u8] = b"FFFFFF GE WLF -- BHZ D 17091648000000 17091648010000 100\n00ABCD unreadable\n";
+const LISTING: &[u8] =
+    b"FFFFFF GE WLF -- BHZ D 17091648000000 17091648010000 100\n00ABCD unreadable\n";
 
 /// Whether the packets, so many bytes a read, are listed and their records are handed on as they came.
 fn is_listed(alloc: Global, most: usize) -> Result<bool, Fail>

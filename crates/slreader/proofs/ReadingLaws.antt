@@ -2,8 +2,15 @@
 use Rattle.std.proofs.Common.{◌≡◌, ℕ, ◌+◌, ◌<◌, ◌≤◌, List, [], ◌∷◌, ◌++◌, length, take, drop, Some, None, refl, sym, ap, ◌∙◌, arith, append_assoc, append-nil, suc, add-one, subst}
 use Rattle.std.specs.Prelude.{Option}
 use Rattle.std.specs.Option.{option_to_list}
-use Rattle.slreader.specs.Wants.{Command}
-use Rattle.slreader.specs.Dialogue.{ReaderValue, Stage, Given, FirstGiven, Outcome, after_byte, given_by, given_from, read_on, read_first, behind, goes_on, outcome_of, outcome_in, outcome_at}
+use Rattle.std.proofs.Common.{true, false}
+use Rattle.protocol.specs.Streams.{Piece, piece_of}
+use Rattle.protocol.specs.Streams.Piece.{WholePacket, TheEnd, Beginning, NoPiece}
+use Rattle.slreader.specs.declared.pieces.LinePiece.{LinePiece}
+use Rattle.slreader.specs.declared.pieces.LinePiece.TheVariants as line
+use Rattle.slreader.specs.declared.pieces.ReplyPiece.{ReplyPiece}
+use Rattle.slreader.specs.declared.pieces.ReplyPiece.TheVariants as reply
+use Rattle.slreader.specs.Pieces.{line_piece, reply_piece}
+use Rattle.slreader.specs.Dialogue.{ReaderValue, Stage, Given, FirstGiven, Outcome, after_byte, given_by, given_at, hello_given, refusal_given, packet_given, given_from, read_on, read_first, behind, goes_on, outcome_of, outcome_in, outcome_at}
 use Rattle.slreader.specs.Dialogue.Stage.{FirstLine, SecondLine, Answer, Transfer, Over, Failed}
 use Rattle.slreader.specs.Dialogue.Outcome.{Gave, Stopped}
 
@@ -65,3 +72,54 @@ gave_in u n g (Some h) s e = (cc, cc)
 
 pub gave_is : (u : ℕ) (g : Option Given) (f : FirstGiven) → Gave u g ≡ outcome_of f → (u ≡ f.used) × (g ≡ f.given)
 gave_is u g f e = gave_in u f.used g f.given f.reader.stage e
+
+-- ---- that is: the bytes up to there are read one by one, and give that alone
+
+few_line : (p : LinePiece) → IsFew (hello_given p)
+few_line line.Whole = tt
+few_line line.Open = tt
+few_line line.Other = tt
+
+few_reply : (want : ℕ) (p : ReplyPiece) → IsFew (refusal_given want p)
+few_reply want (reply.Whole true) = tt
+few_reply want (reply.Whole false) = tt
+few_reply want (reply.Open is_error) = tt
+few_reply want reply.Other = tt
+
+few_packet : (bytes : List ℕ) (p : Piece) → IsFew (packet_given bytes p)
+few_packet bytes WholePacket = tt
+few_packet bytes TheEnd = tt
+few_packet bytes Beginning = tt
+few_packet bytes NoPiece = tt
+
+few_at : (s : Stage) (b : ℕ) → IsFew (given_at s b)
+few_at (FirstLine count after_cr) b = tt
+few_at (SecondLine count after_cr) b = few_line (line_piece [] count after_cr b)
+few_at (Answer want count is_error) b = few_reply want (reply_piece count is_error b)
+few_at (Transfer rest) b = few_packet (rest ++ b ∷ []) (piece_of (rest ++ b ∷ []))
+few_at Over b = tt
+few_at (Failed fault) b = tt
+
+few_given : (r : ReaderValue) (b : ℕ) → IsFew (given_by r b)
+unfolding given_by
+few_given r b = few_at r.stage b
+
+one_more : (n : ℕ) → 1 + n ≡ suc n
+one_more n = omega arith
+
+reader_step : (gs : List Given) (r : ReaderValue) (b : ℕ) (bytes : List ℕ) (f : FirstGiven) → f.reader ≡ read_on (after_byte r b) (take f.used bytes) → (goes_on gs (after_byte r b) f).reader ≡ read_on r (take (goes_on gs (after_byte r b) f).used (b ∷ bytes))
+reader_step [] r b bytes f h = rw (one_more f.used) h
+reader_step (g ∷ gs) r b bytes f h = refl
+
+pub first_reader : (r : ReaderValue) (bytes : List ℕ) → (read_first r bytes).reader ≡ read_on r (take (read_first r bytes).used bytes)
+first_reader r [] = refl
+first_reader r (b ∷ bytes) = reader_step (given_by r b) r b bytes (read_first (after_byte r b) bytes) (first_reader (after_byte r b) bytes)
+
+given_step : (gs : List Given) (r : ReaderValue) (b : ℕ) (bytes : List ℕ) (f : FirstGiven) → given_by r b ≡ gs → IsFew gs → given_from (after_byte r b) (take f.used bytes) ≡ option_to_list f.given → given_from r (take (goes_on gs (after_byte r b) f).used (b ∷ bytes)) ≡ option_to_list (goes_on gs (after_byte r b) f).given
+given_step [] r b bytes f is few h = rw (one_more f.used) (ap (λ l. l ++ given_from (after_byte r b) (take f.used bytes)) is ∙ h)
+given_step (g ∷ []) r b bytes f is few h = ap (λ l. l ++ []) is
+given_step (g ∷ i ∷ gs) r b bytes f is few h = absurd few
+
+pub first_given : (r : ReaderValue) (bytes : List ℕ) → given_from r (take (read_first r bytes).used bytes) ≡ option_to_list (read_first r bytes).given
+first_given r [] = refl
+first_given r (b ∷ bytes) = given_step (given_by r b) r b bytes (read_first (after_byte r b) bytes) refl (few_given r b) (first_given (after_byte r b) bytes)

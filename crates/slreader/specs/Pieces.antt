@@ -13,8 +13,8 @@ use Rattle.slreader.specs.declared.pieces.ReplyPiece.TheVariants as reply
 abbrev pub greeting : List ℕ
 greeting = codes "SeedLink v"
 
--- One more byte behind `count` bytes of a line, the last of which is CR or is not. The line begins with the bytes of `mark`, has
--- at most 256 bytes, and is ended by CR LF.
+-- One more byte behind `count` bytes of a line, the last of which is CR or is not. The line begins with the bytes of
+-- `mark`, has at most 256 bytes, and is ended by CR LF.
 abbrev pub line_piece : (mark : List ℕ) (count : ℕ) (after_cr : Bool) (b : ℕ) → LinePiece
 line_piece mark count after_cr b =
     if nat_lt count (length mark) && not (slice_index mark count == b) then line.Other

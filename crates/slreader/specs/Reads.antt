@@ -11,7 +11,8 @@ use Rattle.slreader.specs.Tallies.{TallyValue, counted}
 use Rattle.slreader.specs.Dialogue.{ReaderValue, Given, FirstGiven, behind, fails, read_first}
 use Rattle.slreader.specs.ReaderViews.{given_value, given_option, transfer_stage, is_talk}
 
--- Either an answer gave something at its last byte, or nothing was given: then all bytes were read, or packets come next.
+-- Either an answer gave something at its last byte, or nothing was given: then all bytes were read, or packets come
+-- next.
 abbrev pub TalkedOf : ReaderValue → List ℕ → (used : ℕ) → Option Event → ReaderValue → Type 0
 TalkedOf r piece used (Some e) r' =
     (packet : List ℕ) → read_first r piece ≡ record { used = used; given = Some (given_value e packet); reader = r' }

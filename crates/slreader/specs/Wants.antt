@@ -22,8 +22,8 @@ pub record WantValue : Type 0 where
   pub patterns : List (List ℕ)
   pub action : Action
 
--- A want that is asked for without STATION, at whatever station the server takes for the first; or wants that each begin with
--- STATION.
+-- A want that is asked for without STATION, at whatever station the server takes for the first; or wants that each
+-- begin with STATION.
 pub data PlanValue : Type 0 where
   Uni : WantValue → PlanValue
   Multi : List WantValue → PlanValue
@@ -64,8 +64,8 @@ is_action (Data number begin) = is_led (is_some number) (is_some begin) && is_mo
 is_action (Fetch number begin) = is_led (is_some number) (is_some begin) && is_moment begin
 is_action (Time begin last) = is_led (is_some begin) (is_some last) && is_moment begin && is_moment last
 
--- The want can be spelled: a network of 1 or 2 bytes, a station of 1 to 5, at most 16 patterns, and an action of which each
--- argument has the one before it.
+-- The want can be spelled: a network of 1 or 2 bytes, a station of 1 to 5, at most 16 patterns, and an action of
+-- which each argument has the one before it.
 unfoldable pub is_want : WantValue → Bool
 is_want w = is_code 2 w.network && is_code 5 w.station && has_patterns w.patterns && is_action w.action
 

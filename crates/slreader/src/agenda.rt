@@ -5,7 +5,8 @@ ghost use Rattle.slreader.specs.Lines.{size_of};
 use crate::commands::CommandLine;
 use std::marker::Model;
 
-/// How many bytes the commands take, with their ends and behind `before` others; None where they are too many to be counted.
+/// How many bytes the commands take, with their ends and behind `before` others; None where they are too many to be
+/// counted.
 pub(crate) fn size_behind(before: usize, lines: &[CommandLine]) -> Option<usize>
     ensures { IfSome result (λ size. size ≡ before + size_of lines.now) }
 {

@@ -23,7 +23,8 @@ pub enum What<'a> {
 /// What a piece gives.
 #[derive(Clone, Copy, Debug, PartialEq, Eq)]
 pub struct Came<'a> {
-    /// How many bytes of the piece were read: up to the last byte of the first thing that became whole, else all of them.
+    /// How many bytes of the piece were read: up to the last byte of the first thing that became whole, else all of
+    /// them.
     pub used: usize,
     /// What became whole.
     pub what: What<'a>,

@@ -125,11 +125,7 @@ fn select_line(alloc: Global, pattern: &[u8]) -> Result<Vec<u8>, AllocError>
 }
 
 /// One command more, which is part of a want.
-fn put_command(
-    lines: &mut Vec<CommandLine>,
-    want: usize,
-    line: Vec<u8>,
-) -> Result<(), AllocError>
+fn put_command(lines: &mut Vec<CommandLine>, want: usize, line: Vec<u8>) -> Result<(), AllocError>
     ensures { OnOk result (lines.new.items ≡ lines.old.items ++ command_of want line.items ∷ []) }
 {
     lines.push(CommandLine {
@@ -192,10 +188,7 @@ fn put_wants(
 }
 
 /// All commands of a plan after HELLO.
-pub(crate) fn commands_of(
-    alloc: Global,
-    plan: &Plan<'_>,
-) -> Result<Vec<CommandLine>, AllocError>
+pub(crate) fn commands_of(alloc: Global, plan: &Plan<'_>) -> Result<Vec<CommandLine>, AllocError>
     ensures { IfOk result (λ lines. lines.items ≡ spec_commands_of (plan_value plan.now)) }
 {
     let mut lines = Vec::new(alloc);

@@ -237,11 +237,7 @@ impl Dialogue {
     {
         match self.stage {
             Stage::FirstLine { count, after_cr } => {
-                self.first_line(
-                    count,
-                    byte,
-                    line_piece(GREETING, count, after_cr, byte),
-                );
+                self.first_line(count, byte, line_piece(GREETING, count, after_cr, byte));
                 None
             }
             Stage::SecondLine { count, after_cr } => {
@@ -343,12 +339,9 @@ impl Dialogue {
         }
     }
 
-    /// Reads the piece up to the first thing that it gives, else to its end. A packet that is given is copied to `packet`.
-    pub(crate) fn read(
-        &mut self,
-        piece: &[u8],
-        packet: &mut [u8; 520],
-    ) -> Result<Step, ReaderFault>
+    /// Reads the piece up to the first thing that it gives, else to its end. A packet that is given is copied to
+    /// `packet`.
+    pub(crate) fn read(&mut self, piece: &[u8], packet: &mut [u8; 520]) -> Result<Step, ReaderFault>
         ensures outcome { step_outcome result packet.new ≡ outcome_of (read_first self.old piece.now) }
         ensures read { self.new ≡ (read_first self.old piece.now).reader }
     {

@@ -1,5 +1,5 @@
-//! The reader's side of SeedLink 3: what a reader asks for, what it is sent, and what it makes of that, over bytes alone. No call
-//! allocates, but for those that take an allocator.
+//! The reader's side of SeedLink 3: what a reader asks for, what it is sent, and what it makes of that, over bytes
+//! alone. No call allocates, but for those that take an allocator.
 #![tactic(auto)]
 
 mod agenda;
@@ -7,6 +7,7 @@ mod came;
 mod commands;
 mod dialogue;
 mod fault;
+mod laws;
 mod outbox;
 mod packets;
 mod pieces;
@@ -19,5 +20,6 @@ mod words;
 
 pub use came::{Came, What};
 pub use fault::ReaderFault;
+pub use laws::{dialogue_in_pieces, first_of_a_piece};
 pub use reader::ReaderCore;
 pub use want::{Action, Plan, Want};

@@ -27,8 +27,8 @@ pub(crate) enum ReplyPiece {
     Other,
 }
 
-/// One more byte behind `count` bytes of a line, the last of which is CR or is not. The line begins with the bytes of `mark`, has
-/// at most 256 bytes, and is ended by CR LF.
+/// One more byte behind `count` bytes of a line, the last of which is CR or is not. The line begins with the bytes of
+/// `mark`, has at most 256 bytes, and is ended by CR LF.
 pub(crate) fn line_piece(mark: &[u8], count: usize, after_cr: bool, byte: u8) -> LinePiece
     ensures piece { result ≡ spec_line_piece mark.now count after_cr byte }
     ensures bound { result ≡ LinePiece.Open → count ≤ 256 }

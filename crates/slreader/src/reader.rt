@@ -10,10 +10,10 @@ use std::marker::Model;
 /// The length of a packet, in bytes.
 const PACKET: usize = 520;
 
-/// A reader by its bytes: it lends what it asks, is given what the server sends in whatever pieces it comes, and gives what that
-/// is (SeedLink 3). It asks HELLO; then for each want STATION (in a plan of several), a SELECT for each pattern and the action; and
-/// last END (in a plan of several). Each line ends with CR, and waits for the answer to the one before. No buffer grows once it is
-/// made. In a contract a reader is how far its dialogue is.
+/// A reader by its bytes: it lends what it asks, is given what the server sends in whatever pieces it comes, and
+/// gives what that is (SeedLink 3). It asks HELLO; then for each want STATION (in a plan of several), a SELECT for
+/// each pattern and the action; and last END (in a plan of several). Each line ends with CR, and waits for the answer
+/// to the one before. No buffer grows once it is made. In a contract a reader is how far its dialogue is.
 #[derive(Drop)]
 pub struct ReaderCore {
     dialogue: Dialogue,
@@ -39,8 +39,8 @@ impl ReaderCore {
     ghost use Rattle.slreader.specs.Comings.{came_outcome, IsNotBegun, Leaves};
     ghost use Rattle.slreader.specs.Whats.{Reads};
 
-    /// A reader that was sent nothing. It fails with Limit exactly where the plan has no want or more than 32, or has a want that
-    /// can't be asked for, and with OutOfMemory only where there is no memory for its commands.
+    /// A reader that was sent nothing. It fails with Limit exactly where the plan has no want or more than 32, or has
+    /// a want that can't be asked for, and with OutOfMemory only where there is no memory for its commands.
     pub fn new(alloc: Global, plan: Plan<'_>) -> Result<ReaderCore, ReaderFault>
         ensures begun { IfOk result (λ r. r ≡ begun (plan_value plan.entry)) }
         ensures plan { OnOk result (is_plan (plan_value plan.entry) ≡ true) }
@@ -73,11 +73,12 @@ impl ReaderCore {
         self.dialogue.sent(count);
     }
 
-    /// Reads the piece up to the first thing that becomes whole, else all of it. What is given is lent up to the next call.
+    /// Reads the piece up to the first thing that becomes whole, else all of it. What is given is lent up to the next
+    /// call.
     ///
-    /// It fails with BadReply where a line that answers HELLO or an answer is none, with NotAPacket where a byte of the transfer fits
-    /// no stream of packets, and with AllRefused once the refusal of the last want was given and no want is left. After a fault each
-    /// call is answered so.
+    /// It fails with BadReply where a line that answers HELLO or an answer is none, with NotAPacket where a byte of
+    /// the transfer fits no stream of packets, and with AllRefused once the refusal of the last want was given and no
+    /// want is left. After a fault each call is answered so.
     pub fn incoming(&mut self, piece: &[u8]) -> Result<Came<'_>, ReaderFault>
         ensures outcome { came_outcome result ≡ outcome_of (read_first self.old piece.now) }
         ensures reads { IfOk result (λ came. Reads came.used came.what (length piece.now)) }
@@ -99,8 +100,8 @@ impl ReaderCore {
         self.dialogue.records()
     }
 
-    /// The number after that of the last packet of the want's station, by the packets whose records can be read; in a plan of one
-    /// want the number after the last packet. None before the first, and for a want that is not there.
+    /// The number after that of the last packet of the want's station, by the packets whose records can be read; in a
+    /// plan of one want the number after the last packet. None before the first, and for a want that is not there.
     pub fn next_wanted(&self, want: usize) -> Option<Seq>
         ensures { result ≡ next_of self.now.tally want }
     {

@@ -104,8 +104,8 @@ fn is_action(action: &Action<'_>) -> bool
 }
 
 impl<'a> Want<'a> {
-    /// Whether it can be asked for: its codes have the right bytes, there are at most 16 patterns, each is one, and each argument of
-    /// its action is a moment and has the argument before it.
+    /// Whether it can be asked for: its codes have the right bytes, there are at most 16 patterns, each is one, and
+    /// each argument of its action is a moment and has the argument before it.
     #[tactic(auto, unfolding(crate::specs::Wants::is_want))]
     pub fn is_spellable(&self) -> bool
         ensures { result ≡ is_want self.now }

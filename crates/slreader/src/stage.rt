@@ -5,9 +5,15 @@ use crate::fault::ReaderFault;
 #[derive(Clone, Copy)]
 pub(crate) enum Stage {
     /// The first line that answers HELLO, of which so many bytes came, the last of them CR or not.
-    FirstLine { count: usize, after_cr: bool },
+    FirstLine {
+        count: usize,
+        after_cr: bool,
+    },
     /// The second.
-    SecondLine { count: usize, after_cr: bool },
+    SecondLine {
+        count: usize,
+        after_cr: bool,
+    },
     /// The answer to a command of a want, of which so many bytes came, those of ERROR or not.
     Answer {
         want: usize,

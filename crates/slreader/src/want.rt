@@ -3,8 +3,8 @@
 use sl_packet::Seq;
 use std::marker::Model;
 
-/// Which records of a station are wanted (SeedLink 3: DATA, FETCH and TIME). Moments are texts that `sl_time::parse` accepts; they
-/// are sent as they stand.
+/// Which records of a station are wanted (SeedLink 3: DATA, FETCH and TIME). Moments are texts that `sl_time::parse`
+/// accepts; they are sent as they stand.
 #[derive(Clone, Copy, Debug)]
 pub enum Action<'a> {
     /// Records as they come, from that number on, and none that ended before that moment.

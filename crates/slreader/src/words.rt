@@ -66,10 +66,7 @@ fn pieces_of<'a>(alloc: Global, text: &'a [u8]) -> Result<Vec<&'a [u8]>, AllocEr
 }
 
 /// The texts of patterns, where there are some.
-fn patterns_of<'a>(
-    alloc: Global,
-    list: Option<&'a [u8]>,
-) -> Result<Vec<&'a [u8]>, AllocError>
+fn patterns_of<'a>(alloc: Global, list: Option<&'a [u8]>) -> Result<Vec<&'a [u8]>, AllocError>
     ensures { IfOk result (λ pieces. texts pieces.items ≡ patterns_of (option_copied list.entry)) }
 {
     match list {
@@ -106,12 +103,12 @@ fn action_of(is_fetch: bool, number: Option<Seq>) -> Action<'static>
 }
 
 impl<'a> Want<'a> {
-    /// The want that a word spells: the network and the station, joined by `_`; then possibly `:` and patterns, joined by commas;
-    /// then possibly `@` and a number of 1 to 6 hexadecimal digits, from which on its records are wanted. So `GE_WLF:BH?,!E@0000A3`.
-    /// The action is FETCH, or DATA.
+    /// The want that a word spells: the network and the station, joined by `_`; then possibly `:` and patterns,
+    /// joined by commas; then possibly `@` and a number of 1 to 6 hexadecimal digits, from which on its records are
+    /// wanted. So `GE_WLF:BH?,!E@0000A3`. The action is FETCH, or DATA.
     ///
-    /// It fails with Limit where the word spells no want that can be asked for, and with OutOfMemory only where there is no memory
-    /// for the patterns.
+    /// It fails with Limit where the word spells no want that can be asked for, and with OutOfMemory only where there
+    /// is no memory for the patterns.
     #[tactic(auto, unfolding(crate::specs::Words::want_of))]
     pub fn parse(alloc: Global, word: &'a [u8], is_fetch: bool) -> Result<Want<'a>, ReaderFault>
         ensures want { IfOk result (λ want. want_of is_fetch word.now ≡ Some want) }
