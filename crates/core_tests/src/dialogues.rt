@@ -4,6 +4,7 @@ use server_core::{Event, Handed, Offer, Refusal, Server, run};
 use std::alloc::Global;
 use std::net::Ipv4Addr;
 use std::test::Fail;
+use test_centre::CENTRE;
 
 mod arrivals;
 mod commands;
@@ -22,32 +23,6 @@ fn inside() -> Ipv4Addr {
 fn outside() -> Ipv4Addr {
     Ipv4Addr::new(172, 16, 0, 9)
 }
-
-/// A station for addresses that begin with 10, and two for everybody.
-pub const CENTRE: &[u8] = br#"title = "Test Centre"
-max_connections = 8
-
-[[station]]
-network = "GE"
-code = "APE"
-description = "Island"
-capacity = 4
-first = "000000"
-access = "10.0.0.0/8"
-
-[[station]]
-network = "GE"
-code = "WLF"
-description = "Forest"
-capacity = 2
-first = "FFFFFE"
-
-[[station]]
-network = "XX"
-code = "APE"
-description = "Vault"
-capacity = 1
-"#;
 
 fn config(alloc: Global) -> Result<Config, Fail> {
     Ok(Config::read(alloc, CENTRE)?)

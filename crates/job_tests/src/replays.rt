@@ -4,6 +4,7 @@ use jobs::{ReplayFault, replay};
 use sl_io::{MemorySink, MemorySource};
 use std::alloc::{AllocError, Global};
 use std::test::Fail;
+use test_centre::CENTRE;
 
 mod devices;
 mod refused;
@@ -11,32 +12,6 @@ mod refused;
 /// The hexadecimal digits of the 45 bytes that HELLO is answered.
 const GREETING: &str =
     "536565644c696e6b2076332e30202873746174696f6e20616363657373290d0a546573742043656e7472650d0a";
-
-/// A station for addresses that begin with 10, and two for everybody.
-const CENTRE: &[u8] = br#"title = "Test Centre"
-max_connections = 8
-
-[[station]]
-network = "GE"
-code = "APE"
-description = "Island"
-capacity = 4
-first = "000000"
-access = "10.0.0.0/8"
-
-[[station]]
-network = "GE"
-code = "WLF"
-description = "Forest"
-capacity = 2
-first = "FFFFFE"
-
-[[station]]
-network = "XX"
-code = "APE"
-description = "Vault"
-capacity = 1
-"#;
 
 pub(crate) fn config(alloc: Global) -> Result<Config, Fail> {
     Ok(Config::read(alloc, CENTRE)?)

@@ -1,37 +1,17 @@
 //! Configurations as they are written.
 use catalog::{Config, ConfigFault};
 use std::alloc::{AllocError, Global};
+use test_centre::CENTRE;
 
 mod kinds;
 mod limits;
 mod views;
 mod whole;
 
-/// Three stations: one for addresses that begin with 10, and two for everybody.
-const CENTRE: &str = r#"title = "Test Centre"
-max_connections = 8
-
-[[station]]
-network = "GE"
-code = "APE"
-description = "Island"
-capacity = 4
-first = "000000"
-access = "10.0.0.0/8"
-
-[[station]]
-network = "GE"
-code = "WLF"
-description = "Forest"
-capacity = 2
-first = "FFFFFE"
-
-[[station]]
-network = "XX"
-code = "APE"
-description = "Vault"
-capacity = 1
-"#;
+/// The text of the three stations.
+fn centre() -> &'static str {
+    str::from_utf8(CENTRE).unwrap_or("")
+}
 
 /// The lines of a configuration with one station, each under a word of its own.
 static LINES: [(&str, &str); 10] = [

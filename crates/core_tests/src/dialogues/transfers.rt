@@ -4,11 +4,12 @@ use super::steps::Wanted::{Ended, Packet, Rest, Text};
 use super::steps::{
     END, ERROR, NOTHING, OK, Record, Step, differing_take, events_of, made, packets,
 };
-use super::{CENTRE, inside, joined, outside};
+use super::{inside, joined, outside};
 use catalog::Config;
 use server_core::{Event, Handed, run};
 use std::alloc::Global;
 use std::test::Fail;
+use test_centre::CENTRE;
 
 /// Transfers in uni-station mode.
 static UNI: [&[Step]; 5] = [

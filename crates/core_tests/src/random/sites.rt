@@ -1,6 +1,6 @@
 //! The configurations: each as the text that the server reads, and as the table that the plain server goes by.
-use crate::dialogues::CENTRE;
 use std::net::Ipv4Addr;
+use test_centre::CENTRE;
 
 /// A station.
 #[derive(Drop)]

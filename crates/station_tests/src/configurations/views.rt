@@ -1,9 +1,10 @@
 //! What addresses see.
-use super::{CENTRE, with_line};
+use super::{centre, with_line};
 use catalog::Config;
 use std::alloc::Global;
 use std::net::Ipv4Addr;
 use std::test::Fail;
+use test_centre::CENTRE;
 
 /// An address that begins with 10.
 fn inside() -> Ipv4Addr {
@@ -40,7 +41,7 @@ fn found(
     code: &str,
     network: Option<&str>,
 ) -> Result<Option<usize>, Fail> {
-    let config = Config::read(alloc, CENTRE.as_bytes())?;
+    let config = Config::read(alloc, CENTRE)?;
     let seen = config.view(alloc, address)?;
     Ok(seen.find(
         &config,
@@ -51,7 +52,7 @@ fn found(
 
 #[test]
 fn a_station_is_open_to_addresses(rt: HostRuntime) -> Result<(), Fail> {
-    let config = Config::read(rt.alloc(), CENTRE.as_bytes())?;
+    let config = Config::read(rt.alloc(), CENTRE)?;
     for (place, address, is_open) in [
         (0, inside(), true),
         (0, outside(), false),
@@ -69,11 +70,11 @@ fn a_station_is_open_to_addresses(rt: HostRuntime) -> Result<(), Fail> {
 fn stations_with_their_own_list(rt: HostRuntime) -> Result<(), Fail> {
     let alloc = rt.alloc();
     assert_eq!(rt;
-        places(alloc, CENTRE, inside())?.as_slice(),
+        places(alloc, centre(), inside())?.as_slice(),
         [0, 1, 2].as_slice()
     );
     assert_eq!(rt;
-        places(alloc, CENTRE, outside())?.as_slice(),
+        places(alloc, centre(), outside())?.as_slice(),
         [1, 2].as_slice()
     );
     Ok(())
@@ -115,7 +116,7 @@ fn a_station_is_found_among_the_visible_ones(rt: HostRuntime) -> Result<(), Fail
 
 #[test]
 fn codes_have_a_place(rt: HostRuntime) -> Result<(), Fail> {
-    let config = Config::read(rt.alloc(), CENTRE.as_bytes())?;
+    let config = Config::read(rt.alloc(), CENTRE)?;
     for (network, code, place) in [
         ("GE", "APE", Some(0)),
         ("GE", "WLF", Some(1)),

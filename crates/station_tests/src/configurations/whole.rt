@@ -1,13 +1,14 @@
 //! Whole configurations.
-use super::{CENTRE, config_with, judged, read};
+use super::{centre, config_with, judged, read};
 use access_list::AccessFault;
 use catalog::{Config, ConfigFault, Station};
 use std::alloc::Global;
 use std::test::Fail;
+use test_centre::CENTRE;
 
 /// Why the text of the three stations is no configuration, with a part of it changed.
 fn judged_with(alloc: Global, old: &str, new: &str) -> Result<(), ConfigFault> {
-    match CENTRE.replace(alloc, old, new) {
+    match centre().replace(alloc, old, new) {
         Ok(text) => read(alloc, text.as_bytes()),
         Err(_) => Err(ConfigFault::OutOfMemory),
     }
@@ -34,7 +35,7 @@ fn is_wanted(station: &Station, wanted: Wanted) -> bool {
 
 /// Whether the station at a place of the three says that of itself.
 fn is_at(alloc: Global, place: usize, wanted: Wanted) -> Result<bool, ConfigFault> {
-    let config = Config::read(alloc, CENTRE.as_bytes())?;
+    let config = Config::read(alloc, CENTRE)?;
     match config.stations().get(place) {
         Some(station) => Ok(is_wanted(station, wanted)),
         None => Ok(false),
@@ -43,7 +44,7 @@ fn is_at(alloc: Global, place: usize, wanted: Wanted) -> Result<bool, ConfigFaul
 
 #[test]
 fn the_server_is_read(rt: HostRuntime) -> Result<(), Fail> {
-    let config = Config::read(rt.alloc(), CENTRE.as_bytes())?;
+    let config = Config::read(rt.alloc(), CENTRE)?;
     assert!(rt; config.title() == b"Test Centre".as_slice());
     assert!(rt; config.max_connections() == 8 && config.stations().len() == 3);
     Ok(())
