@@ -81,6 +81,7 @@ token_masked text = by (position is_slash text)
   where
     all_bits : Has32Bits (ones 32)
     all_bits = pow-sub-lt 32 (pow_pos (32 - 32))
+
     by : (o : Option ℕ) → IfOk (token_at text o) HasMask
     by None = masked (address_of text) (Some (ones 32)) all_bits
     by (Some slash) =

@@ -20,7 +20,13 @@ fn wanted<'a>(alloc: Global, name: &'a str, help: &'a str) -> Arg<'a>
 }
 
 /// An option `--name VALUE`.
-fn option<'a>(alloc: Global, name: &'a str, value: &'a str, required: bool, help: &'a str) -> Arg<'a>
+fn option<'a>(
+    alloc: Global,
+    name: &'a str,
+    value: &'a str,
+    required: bool,
+    help: &'a str,
+) -> Arg<'a>
     ensures rule { rule_of result ≡ option required name.entry.now }
     ensures own { result.global ≡ false }
 {
@@ -69,8 +75,14 @@ fn turns<'a>(alloc: Global) -> Arg<'a>
     ensures rule { rule_of result ≡ turns_rule }
     ensures own { result.global ≡ false }
 {
-    option(alloc, "turns", "N", false, "Ends after N turns, 1 to 1000000000")
-        .value_parser(ValueParser::Unsigned(1, 1_000_000_000))
+    option(
+        alloc,
+        "turns",
+        "N",
+        false,
+        "Ends after N turns, 1 to 1000000000",
+    )
+    .value_parser(ValueParser::Unsigned(1, 1_000_000_000))
 }
 
 /// `serve CONFIG --listen A:P --feed A:P [--turns N]`.
@@ -81,7 +93,13 @@ fn serve_command<'a>(alloc: Global) -> Result<Command<'a>, AllocError>
     let command = Command::new(alloc, "serve").about("Serves records to clients over sockets");
     let config = wanted(alloc, "CONFIG", "The configuration, in TOML");
     let listen = option(alloc, "listen", "A:P", true, "Address and port for clients");
-    let feed = option(alloc, "feed", "A:P", true, "Address and port for feeds of records");
+    let feed = option(
+        alloc,
+        "feed",
+        "A:P",
+        true,
+        "Address and port for feeds of records",
+    );
     let turns = turns(alloc);
     let with_config = with_argument(command, config)?;
     let with_listen = with_argument(with_config, listen)?;
@@ -95,7 +113,11 @@ fn feed_command<'a>(alloc: Global) -> Result<Command<'a>, AllocError>
     ensures own { IfOk result (λ c. (fields_of c).has_globals ≡ false) }
 {
     let command = Command::new(alloc, "feed").about("Sends the records of a file to a server");
-    let server = wanted(alloc, "SERVER", "Address and port for feeds, as 127.0.0.1:18001");
+    let server = wanted(
+        alloc,
+        "SERVER",
+        "Address and port for feeds, as 127.0.0.1:18001",
+    );
     let file = wanted(alloc, "FILE", "The file, of records of 512 bytes");
     let with_server = with_argument(command, server)?;
     with_argument(with_server, file)
@@ -106,7 +128,12 @@ fn wants<'a>(alloc: Global) -> Arg<'a>
     ensures rule { rule_of result ≡ wants_rule }
     ensures own { result.global ≡ false }
 {
-    wanted(alloc, "WANT", "NET_STA, NET_STA:PATTERN,.. or NET_STA:PATTERN,..@NUMBER").num_args(1..)
+    wanted(
+        alloc,
+        "WANT",
+        "NET_STA, NET_STA:PATTERN,.. or NET_STA:PATTERN,..@NUMBER",
+    )
+    .num_args(1..)
 }
 
 /// The flag `--fetch`.
@@ -126,10 +153,20 @@ fn read_command<'a>(alloc: Global) -> Result<Command<'a>, AllocError>
     ensures own { IfOk result (λ c. (fields_of c).has_globals ≡ false) }
 {
     let command = Command::new(alloc, "read").about("Reads records from a server, a line each");
-    let server = wanted(alloc, "SERVER", "Address and port for clients, as 127.0.0.1:18000");
+    let server = wanted(
+        alloc,
+        "SERVER",
+        "Address and port for clients, as 127.0.0.1:18000",
+    );
     let wants = wants(alloc);
     let fetch = fetch(alloc);
-    let output = option(alloc, "output", "FILE", false, "Adds each record to FILE; - is standard output");
+    let output = option(
+        alloc,
+        "output",
+        "FILE",
+        false,
+        "Adds each record to FILE; - is standard output",
+    );
     let with_server = with_argument(command, server)?;
     let with_wants = with_argument(with_server, wants)?;
     let with_fetch = with_argument(with_wants, fetch)?;

@@ -5,9 +5,14 @@ use thiserror::Error;
 #[derive(Debug, PartialEq, Drop)]
 pub enum Job<'a> {
     /// `check FILE`: a line for each record of a file.
-    Check { file: &'a str },
+    Check {
+        file: &'a str,
+    },
     /// `replay CONFIG SCRIPT`: the events of a script at a server with that configuration.
-    Replay { config: &'a str, script: &'a str },
+    Replay {
+        config: &'a str,
+        script: &'a str,
+    },
     /// `serve CONFIG --listen A:P --feed A:P [--turns N]`: a server over sockets. `turns` is 1 to 1,000,000,000. Without
     /// it the server runs until it is ended from outside.
     Serve {
@@ -17,7 +22,10 @@ pub enum Job<'a> {
         turns: Option<usize>,
     },
     /// `feed A:P FILE`: sends the records of a file to a server.
-    Feed { server: &'a str, file: &'a str },
+    Feed {
+        server: &'a str,
+        file: &'a str,
+    },
     /// `read A:P WANT.. [--fetch] [--output FILE]`: asks a server for records.
     Read {
         server: &'a str,

@@ -35,7 +35,7 @@ counts bytes k r size short =
     let is = feed_is bytes in
     let all : length (concat (feed_of bytes).records ++ (feed_of bytes).rest) ≡ length bytes = ap length is.whole in
     let sum : length (concat (feed_of bytes).records ++ (feed_of bytes).rest)
-        ≡ length (concat (feed_of bytes).records) + length (feed_of bytes).rest = length-append _ _ in
+    ≡ length (concat (feed_of bytes).records) + length (feed_of bytes).rest = length-append _ _ in
     let whole : length (concat (feed_of bytes).records) ≡ 512 * length (feed_of bytes).records = concat-512 _ is.each in
     let rest : length (feed_of bytes).rest < 512 = is.short in
     let same : length (feed_of bytes).records ≡ k = omega (arith, all, sum, whole, rest, size, short) in
@@ -71,7 +71,7 @@ whole_begins done more k size =
     let short : length (feed_of bytes).rest < 512 = is.short in
     let fits : n ≤ length w = omega (arith, sum, all, parts, whole, short, size) in
     let first : take n w ≡ done =
-        sym (take-append-le n w (feed_of bytes).rest fits) ∙ ap (take n) is.whole ∙ take-append_seam done more in
+    sym (take-append-le n w (feed_of bytes).rest fits) ∙ ap (take n) is.whole ∙ take-append_seam done more in
     (drop n w, sym (take-append-drop n w) ∙ ap (λ l. l ++ drop n w) first)
 
 -- ---- one read after the other
@@ -161,9 +161,9 @@ breaks (Some bytes) (Some more) (Some last) written written' written'' held coun
     let parts : front all ++ back all ≡ all = take-append-drop (length all - length all % 512) all in
     let t = whole_begins done (back all ++ last) (count + length all / 512) size in
     let bytes_are : bytes ≡ done ++ (back all ++ last) =
-        s.consumes ∙ ap (λ l. (s.done ++ held) ++ l) b.consumes ∙ append_assoc s.done held (b.piece ++ last)
-        ∙ ap (λ l. s.done ++ l) (sym (append_assoc held b.piece last) ∙ ap (λ l. l ++ last) (sym parts) ∙ append_assoc (front all) (back all) last)
-        ∙ sym (append_assoc s.done (front all) (back all ++ last)) in
+    s.consumes ∙ ap (λ l. (s.done ++ held) ++ l) b.consumes ∙ append_assoc s.done held (b.piece ++ last)
+    ∙ ap (λ l. s.done ++ l) (sym (append_assoc held b.piece last) ∙ ap (λ l. l ++ last) (sym parts) ∙ append_assoc (front all) (back all) last)
+    ∙ sym (append_assoc s.done (front all) (back all ++ last)) in
     let begun = b.begun in (
       s.done ++ begun.0,
       begun.1 ++ t.0,
@@ -213,9 +213,9 @@ passes left left' written written' block held out over rest h n size start bound
     let size' : (h + n) ≡ length held + n = omega (arith, size) in
     let dropped : length (drop (length held) block) ≡ length block - length held = length-drop (length held) block in
     let over' : over ≡ back (held ++ piece) =
-        over_is ∙ ap (λ t. take (t % 512) (drop (t - t % 512) block)) size' ∙ back_in block held n start bound in
+    over_is ∙ ap (λ t. take (t % 512) (drop (t - t % 512) block)) size' ∙ back_in block held n start bound in
     let back_length : length (back (held ++ piece)) ≡ length (held ++ piece) - (length (held ++ piece) - length (held ++ piece) % 512) =
-        length-drop (length (held ++ piece) - length (held ++ piece) % 512) (held ++ piece) in
+    length-drop (length (held ++ piece) - length (held ++ piece) % 512) (held ++ piece) in
     let whole : length (held ++ piece) ≡ length held + n = total block held n start bound in
     let over_length : (h + n) % 512 ≡ length over = omega (arith, ap length over', back_length, whole, size') in
     record {

@@ -141,7 +141,11 @@ pub fn send<R: Source, W: Sink>(reader: &mut R, writer: &mut W) -> Result<u64, S
             Err(fault) => return Err(fault),
         };
         if count == 0 {
-            return if held == 0 { Ok(sent) } else { Err(SendFault::Partial) };
+            return if held == 0 {
+                Ok(sent)
+            } else {
+                Err(SendFault::Partial)
+            };
         }
         sent = sent.saturating_add(((held + count) / RECORD) as u64);
         held = (held + count) % RECORD;

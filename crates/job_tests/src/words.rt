@@ -54,7 +54,16 @@ fn check_has_one_text(rt: HostRuntime) -> Result<(), Fail> {
 fn serve_has_two_addresses_and_may_have_turns(rt: HostRuntime) -> Result<(), Fail> {
     let words = strings(
         rt.alloc(),
-        &["seedlinkd", "serve", "c.toml", "--listen", "a:1", "--feed=b:2", "--turns", "20"],
+        &[
+            "seedlinkd",
+            "serve",
+            "c.toml",
+            "--listen",
+            "a:1",
+            "--feed=b:2",
+            "--turns",
+            "20",
+        ],
     )?;
     let job = read_words(rt.alloc(), words.as_slice())?;
     let wanted = Job::Serve {
@@ -83,7 +92,16 @@ fn feed_has_a_server_and_a_file(rt: HostRuntime) -> Result<(), Fail> {
 fn read_has_wants_and_options(rt: HostRuntime) -> Result<(), Fail> {
     let words = strings(
         rt.alloc(),
-        &["seedlinkd", "read", "a:1", "GE_WLF", "XX_APE", "--fetch", "--output", "-"],
+        &[
+            "seedlinkd",
+            "read",
+            "a:1",
+            "GE_WLF",
+            "XX_APE",
+            "--fetch",
+            "--output",
+            "-",
+        ],
     )?;
     let job = read_words(rt.alloc(), words.as_slice())?;
     let wanted = Job::Read {
@@ -128,7 +146,15 @@ fn other_words_are_refused(rt: HostRuntime) -> Result<(), Fail> {
     let all: [&[&str]; 12] = [
         &[],
         &["seedlinkd", "serve", "c.toml", "--listen", "a:1"],
-        &["seedlinkd", "serve", "c.toml", "--listen=a", "--feed=b", "--turns", "0"],
+        &[
+            "seedlinkd",
+            "serve",
+            "c.toml",
+            "--listen=a",
+            "--feed=b",
+            "--turns",
+            "0",
+        ],
         &["seedlinkd", "read", "a:1"],
         &["seedlinkd", "check"],
         &["seedlinkd", "check", "a", "b"],

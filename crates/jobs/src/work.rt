@@ -7,7 +7,10 @@ use std::net::Net;
 use std::rt::Files;
 
 /// Does what a job asks.
-pub fn run_job<R: Files + Print + Eprint + Net + AllocGlobal>(rt: &R, job: Job<'_>) -> Result<(), Failure> {
+pub fn run_job<R: Files + Print + Eprint + Net + AllocGlobal>(
+    rt: &R,
+    job: Job<'_>,
+) -> Result<(), Failure> {
     match job {
         Job::Check { file } => check_file(rt, file),
         Job::Replay { config, script } => replay_files(rt, config, script),

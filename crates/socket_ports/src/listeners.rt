@@ -47,7 +47,12 @@ pub fn token_of(kind: Kind) -> usize {
     }
 }
 
-fn listen_on(rt: &impl Net, poll: &Poll, address: SocketAddrV4, kind: Kind) -> io::Result<Listener> {
+fn listen_on(
+    rt: &impl Net,
+    poll: &Poll,
+    address: SocketAddrV4,
+    kind: Kind,
+) -> io::Result<Listener> {
     let mut socket = TcpListener::bind(rt, SocketAddr::V4(address))?;
     poll.registry()
         .register(&mut socket, Token(token_of(kind)), Interest::READABLE)?;

@@ -286,7 +286,12 @@ impl Sockets {
         }
         let both = Interest::READABLE | Interest::WRITABLE;
         let token = Token(number as usize);
-        if self.poll.registry().register(&mut stream, token, both).is_err() {
+        if self
+            .poll
+            .registry()
+            .register(&mut stream, token, both)
+            .is_err()
+        {
             return None;
         }
         let connection = Connection::new(number, stream, ahead);

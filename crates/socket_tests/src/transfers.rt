@@ -60,7 +60,10 @@ fn packets_wait_for_a_client_that_does_not_read(rt: HostRuntime) -> Result<(), F
         if samples % 60 == 0 {
             turns(&mut server, 1);
         }
-        assert!(rt; &packet[38..40] == samples.to_be_bytes().as_slice(), "packet {samples}");
+        assert!(rt;
+            &packet[38..40] == samples.to_be_bytes().as_slice(),
+            "packet {samples}"
+        );
     }
     client.shutdown(Shutdown::Write)?;
     turns(&mut server, 4);
