@@ -1,7 +1,7 @@
 -- Why a listing of packets stops, by what its reader and its writers count.
 use Rattle.std.specs.Prelude.{◌≡◌, ℕ, ◌⊎◌, ◌-◌, ◌^◌, List, Option}
 use Rattle.std.specs.Io.KnownBytes.{IsAtEnd}
-use Rattle.sl_io.specs.Counts.{IsMore, StopsWriting}
+use Rattle.sl_io.specs.Counts.{IsMore}
 use Rattle.packet_listing.specs.declared.fault.ListingFault.{ListingFault}
 use Rattle.packet_listing.specs.declared.fault.ListingFault.TheVariants.{Reader, Read, Write}
 

@@ -45,14 +45,14 @@ fn write_output<O: Sink, P: Sink>(
     ensures quiet { OnOk result (IsQuiet (O.failures out.old) (O.failures out.new)
         (O.empty_writes out.old) (O.empty_writes out.new)
         × IsQuiet (P.failures records.old) (P.failures records.new)
-            (P.empty_writes records.old) (P.empty_writes records.new)) }
+        (P.empty_writes records.old) (P.empty_writes records.new)) }
     ensures stopped { OnErr result ((StopsWriting (O.failures out.old) (O.failures out.new)
         (O.empty_writes out.old) (O.empty_writes out.new)
         × IsQuiet (P.failures records.old) (P.failures records.new)
-            (P.empty_writes records.old) (P.empty_writes records.new))
+        (P.empty_writes records.old) (P.empty_writes records.new))
         ⊎ (IsQuiet (O.failures out.old) (O.failures out.new) (O.empty_writes out.old) (O.empty_writes out.new)
         × StopsWriting (P.failures records.old) (P.failures records.new)
-            (P.empty_writes records.old) (P.empty_writes records.new))) }
+        (P.empty_writes records.old) (P.empty_writes records.new))) }
 {
     match write_all(out, output.lines()) {
         Ok(()) => {}
@@ -133,25 +133,25 @@ fn read_blocks<R: Source, W: Sink, O: Sink, P: Sink>(
     requires { length block.old ≡ 65536 }
     ensures stopped { IfErr result (λ fault. StopsListing fault
         (EndsReads (R.failures reader.old) (R.failures reader.new)
-            (R.calls reader.old) (R.calls reader.new) (R.left reader.new))
+        (R.calls reader.old) (R.calls reader.new) (R.left reader.new))
         (R.failures reader.new ≡ R.failures reader.old)
         (IsQuiet (W.failures writer.old) (W.failures writer.new) (W.empty_writes writer.old) (W.empty_writes writer.new)
         × IsQuiet (O.failures out.old) (O.failures out.new) (O.empty_writes out.old) (O.empty_writes out.new)
         × IsQuiet (P.failures records.old) (P.failures records.new)
-            (P.empty_writes records.old) (P.empty_writes records.new))
+        (P.empty_writes records.old) (P.empty_writes records.new))
         ((StopsWriting (W.failures writer.old) (W.failures writer.new)
-            (W.empty_writes writer.old) (W.empty_writes writer.new)
+        (W.empty_writes writer.old) (W.empty_writes writer.new)
         × IsQuiet (O.failures out.old) (O.failures out.new) (O.empty_writes out.old) (O.empty_writes out.new)
         × IsQuiet (P.failures records.old) (P.failures records.new)
-            (P.empty_writes records.old) (P.empty_writes records.new))
+        (P.empty_writes records.old) (P.empty_writes records.new))
         ⊎ (IsQuiet (W.failures writer.old) (W.failures writer.new)
-            (W.empty_writes writer.old) (W.empty_writes writer.new)
+        (W.empty_writes writer.old) (W.empty_writes writer.new)
         × ((StopsWriting (O.failures out.old) (O.failures out.new) (O.empty_writes out.old) (O.empty_writes out.new)
         × IsQuiet (P.failures records.old) (P.failures records.new)
-            (P.empty_writes records.old) (P.empty_writes records.new))
+        (P.empty_writes records.old) (P.empty_writes records.new))
         ⊎ (IsQuiet (O.failures out.old) (O.failures out.new) (O.empty_writes out.old) (O.empty_writes out.new)
         × StopsWriting (P.failures records.old) (P.failures records.new)
-            (P.empty_writes records.old) (P.empty_writes records.new)))))) }
+        (P.empty_writes records.old) (P.empty_writes records.new)))))) }
 {
     'reads: for _ in 0..u64::MAX {
         match send(core, writer) {
@@ -198,25 +198,25 @@ pub fn read_over<R: Source, W: Sink, O: Sink, P: Sink>(
 ) -> Result<(), ListingFault>
     ensures stopped { IfErr result (λ fault. StopsListing fault
         (EndsReads (R.failures reader.old) (R.failures reader.new)
-            (R.calls reader.old) (R.calls reader.new) (R.left reader.new))
+        (R.calls reader.old) (R.calls reader.new) (R.left reader.new))
         (R.failures reader.new ≡ R.failures reader.old)
         (IsQuiet (W.failures writer.old) (W.failures writer.new) (W.empty_writes writer.old) (W.empty_writes writer.new)
         × IsQuiet (O.failures out.old) (O.failures out.new) (O.empty_writes out.old) (O.empty_writes out.new)
         × IsQuiet (P.failures records.old) (P.failures records.new)
-            (P.empty_writes records.old) (P.empty_writes records.new))
+        (P.empty_writes records.old) (P.empty_writes records.new))
         ((StopsWriting (W.failures writer.old) (W.failures writer.new)
-            (W.empty_writes writer.old) (W.empty_writes writer.new)
+        (W.empty_writes writer.old) (W.empty_writes writer.new)
         × IsQuiet (O.failures out.old) (O.failures out.new) (O.empty_writes out.old) (O.empty_writes out.new)
         × IsQuiet (P.failures records.old) (P.failures records.new)
-            (P.empty_writes records.old) (P.empty_writes records.new))
+        (P.empty_writes records.old) (P.empty_writes records.new))
         ⊎ (IsQuiet (W.failures writer.old) (W.failures writer.new)
-            (W.empty_writes writer.old) (W.empty_writes writer.new)
+        (W.empty_writes writer.old) (W.empty_writes writer.new)
         × ((StopsWriting (O.failures out.old) (O.failures out.new) (O.empty_writes out.old) (O.empty_writes out.new)
         × IsQuiet (P.failures records.old) (P.failures records.new)
-            (P.empty_writes records.old) (P.empty_writes records.new))
+        (P.empty_writes records.old) (P.empty_writes records.new))
         ⊎ (IsQuiet (O.failures out.old) (O.failures out.new) (O.empty_writes out.old) (O.empty_writes out.new)
         × StopsWriting (P.failures records.old) (P.failures records.new)
-            (P.empty_writes records.old) (P.empty_writes records.new)))))) }
+        (P.empty_writes records.old) (P.empty_writes records.new)))))) }
 {
     let Ok(mut output) = Output::new(alloc, &plan) else {
         return Err(ListingFault::Reader(ReaderFault::OutOfMemory));

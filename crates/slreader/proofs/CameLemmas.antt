@@ -1,9 +1,8 @@
 -- What a call that answered says of the bytes that it read.
-use Rattle.std.proofs.Common.{◌≡◌, ℕ, ◌<◌, ◌≤◌, true, false, List, length, Some, None, refl, sym, ap, ◌∙◌, arith}
-use Rattle.std.specs.Prelude.{◌≢◌, Option, Result, Ok, Err, IfOk}
+use Rattle.std.proofs.Common.{◌≡◌, ℕ, List, length, sym, ◌∙◌, arith}
 use Rattle.slreader.specs.declared.came.What.{What}
 use Rattle.slreader.specs.declared.came.What.TheVariants as what
-use Rattle.slreader.specs.Dialogue.{ReaderValue, Given, FirstGiven, Outcome, outcome_of, read_first}
+use Rattle.slreader.specs.Dialogue.{ReaderValue, outcome_of, read_first}
 use Rattle.slreader.specs.Dialogue.Outcome.{Gave}
 use Rattle.slreader.specs.Whats.{what_value, Reads}
 use Rattle.slreader.proofs.ReadingLaws.{first_within, first_some, first_all, gave_is}

@@ -1,12 +1,12 @@
 -- What a cutter gives of a piece is what the reader byte by byte gives.
-use Rattle.std.proofs.Common.{◌≡◌, ℕ, ◌≤◌, true, subst, List, [], ◌∷◌, ◌++◌, length, take, drop, Some, None, refl, sym, ap, ◌∙◌, arith, append-nil, take-append-drop}
+use Rattle.std.proofs.Common.{◌≡◌, ℕ, true, subst, List, [], ◌∷◌, ◌++◌, length, take, drop, Some, None, refl, sym, ap, ◌∙◌, arith, append-nil, take-append-drop}
 use Rattle.std.proofs.Math.Seq.{take-length}
 use Rattle.std.proofs.lemmas.List.{length-take-le}
 use Rattle.std.specs.Prelude.{◌≢◌, Result, Ok, is_err}
 use Rattle.std.specs.Borrow.{Bor}
-use Rattle.protocol.specs.Streams.{StreamRead, stream_from}
-use Rattle.protocol.specs.Streams.StreamRead.{Going, Ended, NoStream}
-use Rattle.sl_packet.specs.Progress.{Progress, read_so_far, gone_on, HasBadByte}
+use Rattle.protocol.specs.Streams.{stream_from}
+use Rattle.protocol.specs.Streams.StreamRead.{Going, Ended}
+use Rattle.sl_packet.specs.Progress.{Progress, gone_on, HasBadByte}
 use Rattle.sl_packet.specs.Progress.Progress.{Amid, Finished, Faulty}
 use Rattle.sl_packet.specs.Cuts.{IsFed, left_after, left_of}
 use Rattle.sl_packet.specs.declared.cutter.Cut.{Cut}
@@ -15,11 +15,10 @@ use Rattle.sl_packet.specs.declared.cutter.NotAPacket.{NotAPacket as BadPacket}
 use Rattle.sl_packet.specs.declared.cutter.Cut.TheVariants as cut
 use Rattle.slreader.specs.declared.fault.ReaderFault.TheVariants.{NotAPacket}
 use Rattle.slreader.specs.Tallies.{counted}
-use Rattle.slreader.specs.Dialogue.{ReaderValue, Stage, FirstGiven, at_stage, read_first}
+use Rattle.slreader.specs.Dialogue.{ReaderValue, FirstGiven, at_stage, read_first}
 use Rattle.slreader.specs.Dialogue.Stage.{Transfer, Over, Failed}
 use Rattle.slreader.specs.Dialogue.Given.{Packet, End}
 use Rattle.slreader.specs.ReaderViews.{transfer_stage}
-use Rattle.slreader.proofs.TalkLemmas.{behind_none}
 use Rattle.slreader.proofs.TransferLemmas.{no_stream_stays, only_end, good_bytes, packet_bytes, end_bytes, bad_bytes, bad_over, failed_reads}
 
 -- the packet of a stream that has it alone

@@ -1,5 +1,5 @@
 -- Laws over the dialogue: what is read of bytes in pieces, and up to the first thing that is given.
-use Rattle.std.proofs.Common.{◌≡◌, ℕ, ◌+◌, ◌<◌, ◌≤◌, List, [], ◌∷◌, ◌++◌, length, take, drop, Some, None, refl, sym, ap, ◌∙◌, arith, append_assoc, append-nil, suc, add-one, subst}
+use Rattle.std.proofs.Common.{◌≡◌, ℕ, ◌+◌, ◌<◌, ◌≤◌, List, [], ◌∷◌, ◌++◌, length, take, Some, None, refl, sym, ap, ◌∙◌, arith, append_assoc, suc}
 use Rattle.std.specs.Prelude.{Option}
 use Rattle.std.specs.Option.{option_to_list}
 use Rattle.std.proofs.Common.{true, false}
@@ -10,9 +10,9 @@ use Rattle.slreader.specs.declared.pieces.LinePiece.TheVariants as line
 use Rattle.slreader.specs.declared.pieces.ReplyPiece.{ReplyPiece}
 use Rattle.slreader.specs.declared.pieces.ReplyPiece.TheVariants as reply
 use Rattle.slreader.specs.Pieces.{line_piece, reply_piece}
-use Rattle.slreader.specs.Dialogue.{ReaderValue, Stage, Given, FirstGiven, Outcome, after_byte, given_by, given_at, hello_given, refusal_given, packet_given, given_from, read_on, read_first, behind, goes_on, outcome_of, outcome_in, outcome_at}
+use Rattle.slreader.specs.Dialogue.{ReaderValue, Stage, Given, FirstGiven, after_byte, given_by, given_at, hello_given, refusal_given, packet_given, given_from, read_on, read_first, goes_on, outcome_of, outcome_in, outcome_at}
 use Rattle.slreader.specs.Dialogue.Stage.{FirstLine, SecondLine, Answer, Transfer, Over, Failed}
-use Rattle.slreader.specs.Dialogue.Outcome.{Gave, Stopped}
+use Rattle.slreader.specs.Dialogue.Outcome.{Gave}
 
 -- ---- bytes in two parts
 

@@ -8,7 +8,7 @@ use Rattle.slreader.specs.declared.fault.ReaderFault.{ReaderFault}
 use Rattle.slreader.specs.declared.fault.ReaderFault.TheVariants.{NotAPacket}
 use Rattle.slreader.specs.declared.stage.Event.{Event}
 use Rattle.slreader.specs.declared.stage.Step.{Step}
-use Rattle.slreader.specs.Dialogue.{ReaderValue, Stage, Given, FirstGiven, Outcome, at_stage, behind, fails, outcome_in, outcome_of, read_first}
+use Rattle.slreader.specs.Dialogue.{ReaderValue, Given, FirstGiven, at_stage, behind, fails, outcome_in, outcome_of, read_first}
 use Rattle.slreader.specs.Dialogue.Stage.{Failed}
 use Rattle.slreader.specs.Dialogue.Outcome.{Gave, Stopped}
 use Rattle.slreader.specs.declared.stage.Stage.{Stage as CodeStage}

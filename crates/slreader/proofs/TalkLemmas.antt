@@ -1,8 +1,8 @@
 -- Bytes that are read one by one.
-use Rattle.std.proofs.Common.{◌≡◌, ℕ, ◌+◌, ◌<◌, List, [], ◌∷◌, ◌++◌, length, take, drop, get_or, Some, None, refl, sym, ap, ◌∙◌, arith, suc, zero, drop-cons, add-one, add_assoc}
+use Rattle.std.proofs.Common.{◌≡◌, ℕ, ◌+◌, ◌<◌, List, [], length, drop, get_or, Some, None, refl, sym, ap, ◌∙◌, arith, drop-cons, add-one, add_assoc}
 use Rattle.std.specs.Prelude.{Option, is_some, true, false}
 use Rattle.slreader.specs.declared.stage.Event.{Event}
-use Rattle.slreader.specs.Dialogue.{ReaderValue, Given, FirstGiven, behind, goes_on, read_first, after_byte, given_by}
+use Rattle.slreader.specs.Dialogue.{ReaderValue, FirstGiven, behind, goes_on, read_first, after_byte, given_by}
 use Rattle.slreader.specs.ReaderViews.{given_list, given_value}
 use Rattle.slreader.specs.Reads.{TalkedOf}
 

@@ -1,5 +1,5 @@
 -- Wants that go on, one by one.
-use Rattle.std.proofs.Common.{◌≡◌, ℕ, ◌+◌, ◌<◌, zero, suc, List, [], ◌∷◌, ◌++◌, length, map, take, drop, get_or, slice_set, refl, sym, ap, ◌∙◌, arith, add-one}
+use Rattle.std.proofs.Common.{◌≡◌, ℕ, ◌+◌, ◌<◌, zero, suc, List, [], ◌∷◌, ◌++◌, length, map, take, drop, get_or, slice_set, ap, ◌∙◌, arith, add-one}
 
 -- One item more is changed.
 set_one : {A : Type 0} (f : A → A) (ys : List A) (k : ℕ) (x : A) → k < length ys → x ≡ get_or (map f (take k ys) ++ drop k ys) k x → slice_set (map f (take k ys) ++ drop k ys) k (f x) ≡ map f (take (suc k) ys) ++ drop (suc k) ys

@@ -1,12 +1,12 @@
 -- Packets that are read by a cutter: the reader byte by byte comes to the same.
-use Rattle.std.proofs.Common.{◌≡◌, ℕ, ◌+◌, ◌≤◌, true, List, [], ◌∷◌, ◌++◌, length, take, drop, Some, None, refl, sym, ap, ◌∙◌, arith, length-append}
+use Rattle.std.proofs.Common.{◌≡◌, ℕ, ◌+◌, List, [], ◌∷◌, ◌++◌, length, Some, None, refl, sym, ap, ◌∙◌, arith, length-append}
 use Rattle.protocol.specs.Streams.{Piece, piece_of, joined_piece, StreamRead, stream_byte, stream_from}
 use Rattle.protocol.specs.Streams.Piece.{WholePacket, TheEnd, Beginning, NoPiece}
 use Rattle.protocol.specs.Streams.StreamRead.{Going, Ended, NoStream}
 use Rattle.slreader.specs.declared.fault.ReaderFault.{ReaderFault}
 use Rattle.slreader.specs.declared.fault.ReaderFault.TheVariants.{NotAPacket}
 use Rattle.slreader.specs.Tallies.{counted}
-use Rattle.slreader.specs.Dialogue.{ReaderValue, Stage, FirstGiven, at_stage, behind, fails, goes_on, read_first, after_byte, given_by, transferred, packet_given}
+use Rattle.slreader.specs.Dialogue.{ReaderValue, FirstGiven, at_stage, behind, goes_on, read_first, after_byte, given_by, transferred, packet_given}
 use Rattle.slreader.specs.Dialogue.Stage.{Transfer, Over, Failed}
 use Rattle.slreader.specs.Dialogue.Given.{Packet, End}
 use Rattle.slreader.proofs.TalkLemmas.{behind_more, behind_none}

@@ -1,5 +1,5 @@
 -- The lines of a reader: how each ends, and how many bytes they take.
-use Rattle.std.specs.Prelude.{ℕ, ◌+◌, Bool, false, true, ◌==◌, if◌then◌else◌, List, [], ◌∷◌, ◌++◌, length, Option, Some, None}
+use Rattle.std.specs.Prelude.{ℕ, ◌+◌, Bool, false, ◌==◌, if◌then◌else◌, List, [], ◌∷◌, ◌++◌, length, Option, Some, None}
 use Rattle.slreader.specs.Wants.{Command}
 
 -- a line with its end, CR

@@ -1,7 +1,6 @@
 -- What a reader of the code is in the definitions, and what a call gives.
 -- SeedLink 3: the dialogue of a reader.
-use Rattle.std.specs.Prelude.{◌≡◌, ℕ, Bool, true, false, List, [], ◌∷◌, Option, Some, None, Result, Ok, Err, ⊤}
-use Rattle.std.specs.Borrow.{MutBor, Fml}
+use Rattle.std.specs.Prelude.{ℕ, Bool, true, false, List, [], ◌∷◌, Option, Some, None, Result, Ok, Err}
 use Rattle.sl_packet.specs.Progress.{Progress}
 use Rattle.sl_packet.specs.Progress.Progress.{Amid, Finished, Faulty}
 use Rattle.slreader.specs.declared.fault.ReaderFault.{ReaderFault}

@@ -1,6 +1,6 @@
 -- What parts of a call read: its lines and answers, and then its packets.
 -- SeedLink 3: the dialogue of a reader.
-use Rattle.std.specs.Prelude.{◌≡◌, ℕ, ◌+◌, ◌≤◌, Bool, true, false, List, [], ◌∷◌, length, drop, Option, Some, None, Result, Ok, Err}
+use Rattle.std.specs.Prelude.{◌≡◌, ℕ, true, List, length, drop, Option, Some, None, Result, Ok, Err}
 use Rattle.sl_packet.specs.Progress.{Progress}
 use Rattle.sl_packet.specs.declared.cutter.NotAPacket.{NotAPacket}
 use Rattle.slreader.specs.declared.fault.ReaderFault.TheVariants as fault
@@ -8,7 +8,7 @@ use Rattle.slreader.specs.declared.stage.Event.{Event}
 use Rattle.slreader.specs.declared.stage.Event.TheVariants as event
 use Rattle.slreader.specs.declared.stage.Step.{Step}
 use Rattle.slreader.specs.Tallies.{TallyValue, counted}
-use Rattle.slreader.specs.Dialogue.{ReaderValue, Given, FirstGiven, behind, fails, read_first}
+use Rattle.slreader.specs.Dialogue.{ReaderValue, FirstGiven, behind, fails, read_first}
 use Rattle.slreader.specs.ReaderViews.{given_value, given_option, transfer_stage, is_talk}
 
 -- Either an answer gave something at its last byte, or nothing was given: then all bytes were read, or packets come

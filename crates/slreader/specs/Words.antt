@@ -1,6 +1,6 @@
 -- The word that spells a want: NET_STA, then possibly `:` and patterns joined by commas, then possibly `@` and a
 -- number. This project's own.
-use Rattle.std.specs.Prelude.{◌≡◌, ℕ, ◌+◌, Bool, true, false, ◌==◌, if◌then◌else◌, List, [], ◌∷◌, take, drop, position, Option, Some, None, option_map, option_and_then}
+use Rattle.std.specs.Prelude.{◌≡◌, ℕ, ◌+◌, Bool, true, false, ◌==◌, if◌then◌else◌, List, [], take, drop, position, Option, Some, None, option_map, option_and_then}
 use Rattle.protocol.specs.Packet.{number_of}
 use Rattle.protocol.specs.Pieces.{split}
 use Rattle.slreader.specs.declared.fault.ReaderFault.{ReaderFault}

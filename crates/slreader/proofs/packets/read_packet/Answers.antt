@@ -1,5 +1,4 @@
 -- What the cutter gives is what the reader gives byte by byte.
-use Rattle.std.proofs.Common.{sym}
 use Rattle.slreader.proofs.CutLemmas.{cut_nothing, cut_packet, cut_end, fed_bad}
 use Rattle.slreader.proofs.packets.read_packet.Goals as goal
 

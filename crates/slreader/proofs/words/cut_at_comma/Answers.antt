@@ -1,5 +1,5 @@
 -- The text is cut where its first comma stands.
-use Rattle.std.proofs.Common.{ℕ, ◌+◌, arith, length-drop}
+use Rattle.std.proofs.Common.{◌+◌, arith, length-drop}
 use Rattle.std.specs.Prelude.{◌==◌}
 use Rattle.protocol.proofs.Splitting.{first_cut, rest_whole}
 use Rattle.slreader.proofs.words.cut_at_comma.Goals as goal

@@ -1,5 +1,4 @@
 -- One text more is cut off, or the last one is left.
-use Rattle.std.proofs.Common.{refl}
 use Rattle.slreader.proofs.TextLemmas.{cut_off, cut_last}
 use Rattle.slreader.proofs.words.pieces_of.Goals as goal
 

@@ -1,7 +1,6 @@
 -- What the stage says is what is read.
 use Rattle.std.proofs.Common.{◌≡◌, sym, ap, ◌∙◌}
 use Rattle.slreader.specs.Dialogue.{ReaderValue}
-use Rattle.slreader.specs.Dialogue.Stage.{Failed}
 use Rattle.slreader.specs.ReaderViews.{stage_value, transfer_stage}
 use Rattle.slreader.proofs.ReceiveLemmas.{received_outcome, received_reader, refused_outcome, counted_reader, failed_outcome, failed_reader}
 use Rattle.slreader.proofs.dialogue.Dialogue.receive.Goals as goal

@@ -1,6 +1,6 @@
 -- What the dialogue gave is what is lent.
 use Rattle.std.proofs.Common.{◌≡◌, refl, ap, ◌∙◌}
-use Rattle.slreader.specs.Dialogue.{ReaderValue, FirstGiven, outcome_of, read_first}
+use Rattle.slreader.specs.Dialogue.{ReaderValue, outcome_of, read_first}
 use Rattle.slreader.specs.Dialogue.Outcome.{Gave}
 use Rattle.slreader.specs.Whats.{what_value}
 use Rattle.slreader.proofs.CameLemmas.{reads_gave}
