@@ -1,0 +1,9 @@
+//! Tests of the loop over ports in memory. Nothing but tests.
+#![tactic(auto)]
+
+#[cfg(test)]
+mod joining;
+#[cfg(test)]
+mod runs;
+#[cfg(test)]
+mod transfers;
