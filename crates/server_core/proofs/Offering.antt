@@ -49,4 +49,3 @@ pub receipt-refused : (config : Config) (h : List Arrival) (s : Sitting) (n : �
 receipt-refused config h s n e = both (nat_lt (1024 - length s.unread) n) (λ y. rw y refl) (λ x. absurd (grind arith))
 
 pub ruleset receive_lemmas = (receipt-taken, receipt-refused, keeps-passed)
-
