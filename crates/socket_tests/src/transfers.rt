@@ -1,18 +1,31 @@
 //! Records from feeds to clients over sockets.
 use crate::ends::{connect, is_answered, record, server, turns};
+use event_loop::Loop;
+use socket_ports::MioPorts;
+use std::io;
 use std::io::{Read, Write};
 use std::net::{OpenStream, Shutdown};
 use std::test::Fail;
+
+/// Sends a record in two pieces, and the server has its turns after each.
+fn send_in_two<S: Write>(
+    server: &mut Loop<MioPorts>,
+    feed: &mut S,
+    record: &[u8; 512],
+) -> io::Result<()> {
+    feed.write_all(&record[..200])?;
+    turns(server, 3);
+    feed.write_all(&record[200..])?;
+    turns(server, 3);
+    Ok(())
+}
 
 #[test]
 fn a_record_goes_from_a_feed_to_a_client(rt: HostRuntime) -> Result<(), Fail> {
     let (mut server, (clients, feeds)) = server(&rt)?;
     let first = record(b"APE", 100).ok_or("no record")?;
     let mut feed = connect(&rt, feeds)?;
-    feed.write_all(&first[..200])?;
-    turns(&mut server, 3);
-    feed.write_all(&first[200..])?;
-    turns(&mut server, 3);
+    send_in_two(&mut server, &mut feed, &first)?;
     let mut client = connect(&rt, clients)?;
     let mut answer = [0u8; 523];
     is_answered(&mut server, &mut client, b"FETCH\r", &mut answer)?;
@@ -27,7 +40,7 @@ fn a_record_goes_from_a_feed_to_a_client(rt: HostRuntime) -> Result<(), Fail> {
 
 /// Sends so many records of GE WLF, each with its own count of samples, while the server has its turns.
 fn send_records<S: Write>(
-    server: &mut event_loop::Loop<socket_ports::MioPorts>,
+    server: &mut Loop<MioPorts>,
     feed: &mut S,
     count: u16,
 ) -> Result<(), Fail> {
