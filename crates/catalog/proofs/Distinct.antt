@@ -13,7 +13,7 @@ use Rattle.catalog.specs.Places.{station_at, nowhere, HasDistinctCodes, SameCode
 use Rattle.catalog.specs.Reading.{is_repeated}
 
 -- the station at a place that is there
-at_place : (es : List Entry) (i : ℕ) (d : Entry) → i < length es → station_at es i ≡ (get_or es i d).station
+pub at_place : (es : List Entry) (i : ℕ) (d : Entry) → i < length es → station_at es i ≡ (get_or es i d).station
 at_place es i d h = rw (slice_get-get_or es i d h) refl
 
 length_more : (es : List Entry) (e : Entry) → length (es ++ e ∷ []) ≡ length es + 1

@@ -1,5 +1,6 @@
 pub mod Faults
 pub mod Finding
+pub mod Indexing
 pub mod Keys
 pub mod Places
 pub mod Reading

@@ -10,6 +10,7 @@ ghost use Rattle.catalog.specs.Places.{view_in, HasDistinctCodes, IsPlace};
 ghost use Rattle.catalog.specs.Reading.{config_of, config_read};
 
 use crate::fault::ConfigFault;
+use crate::index::Index;
 use crate::listing::stations_of;
 use crate::settings::{access_of, connections_of, title_of};
 use crate::station::Station;
@@ -27,12 +28,14 @@ pub struct Config {
     max_connections: usize,
     access: Option<AccessList>,
     stations: Vec<Station>,
+    index: Index,
 }
 
 impl Model for Config {
-    ghost use Rattle.std.specs.Prelude.{◌≤◌, length};
+    ghost use Rattle.std.specs.Prelude.{◌≤◌, length, All};
     ghost use Rattle.protocol.specs.Catalog.{Config as ProtocolConfig};
     ghost use Rattle.catalog.specs.Places.{HasDistinctCodes};
+    ghost use Rattle.catalog.specs.Indexing.{Finds, HasShortCodes};
 
     ghost Value = { ProtocolConfig };
 
@@ -45,7 +48,8 @@ impl Model for Config {
 
     ghost invariant = { λ c.
         (length c.title.items ≤ 100) × (1 ≤ c.max_connections) × (c.max_connections ≤ 10000) ×
-        HasDistinctCodes c.stations.items };
+        HasDistinctCodes c.stations.items × All HasShortCodes c.stations.items ×
+        Finds c.index.places c.stations.items };
 }
 
 /// The table of a configuration's text.
@@ -105,11 +109,13 @@ impl Config {
         let access = access_of(alloc, table)?;
         let max_connections = connections_of(table)?;
         let stations = stations_of(alloc, table)?;
+        let index = Index::of(alloc, stations.as_slice()).map_err(|_| ConfigFault::OutOfMemory)?;
         Ok(Config {
             title,
             max_connections,
             access,
             stations,
+            index,
         })
     }
 
@@ -137,13 +143,11 @@ impl Config {
         self.stations.as_slice()
     }
 
-    /// The place of the first station with these codes, byte for byte.
+    /// The place of the first station with these codes, byte for byte, found by halving.
     pub fn place_of(&self, network: &[u8], code: &[u8]) -> Option<usize>
         ensures { result ≡ position (λ e. has_codes network.now code.now e.station) self.now.entries }
     {
-        self.stations
-            .iter()
-            .position(|station| station.has_codes(network, code))
+        self.index.place_of(network, code)
     }
 
     /// No two of its stations have the same network and code, and none has empty ones: a call that does nothing, for its contract.

@@ -3,6 +3,7 @@
 
 pub mod config;
 pub mod fault;
+mod index;
 mod keys;
 mod listing;
 mod settings;

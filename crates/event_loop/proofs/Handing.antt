@@ -1,11 +1,12 @@
 -- What clients' ports take is what the definitions hand, and so what a client alone is handed.
 use Rattle.std.proofs.Common.{◌≡◌, ℕ, zero, suc, ◌==◌, true, false, Bool, if◌then◌else◌, List, [], ◌∷◌, ◌++◌, take, map, flat_map, refl, sym, ap, ap₂, ◌∙◌, append_assoc, append-nil, Option, Some, None, option_map, unwrap_or}
+use Rattle.std.proofs.lemmas.Grind.{flat_map-append}
 use Rattle.protocol.specs.Catalog.{Config}
 use Rattle.protocol.specs.Client.{Client, Taken, offered}
-use Rattle.protocol.specs.World.{World, Handed, step, world_after, empty_world, handed, handed_from, told, taken_by}
+use Rattle.protocol.specs.World.{World, Handed, step, world_after, handed_from, told, taken_by}
 use Rattle.protocol.specs.World.Event.{Arrive}
-use Rattle.protocol.specs.Alone.{handed_to}
-use Rattle.protocol.proofs.Alone.{isolated}
+use Rattle.protocol.specs.Alone.{alone, own_view, seen, handed_to}
+use Rattle.protocol.proofs.Alone.{goes-on}
 use Rattle.protocol.proofs.Connections.{handed_from-append}
 use Rattle.ports.specs.Calls.{taken}
 use Rattle.ports.specs.Calls.Given.{Piece, Nothing, TheEnd, Failure}
@@ -13,7 +14,7 @@ use Rattle.event_loop.specs.Deeds.{Deed, events_of, events_in, taken_at, taken_i
 use Rattle.event_loop.specs.Deeds.Deed.{Hears, Opens, Feeds, TurnsAway, Reads, ReadsFeed, Writes, Offers, Closes, ShutsFeed}
 use Rattle.event_loop.specs.Passes.{lent_to, client_at, beyond}
 use Rattle.event_loop.specs.Faithful.{IsFaithful, AreFaithful}
-use Rattle.event_loop.specs.Turns.{HandsAsAlone}
+use Rattle.event_loop.specs.Turns.{HandsAsAlone, bytes_alone}
 
 abbrev nothing : List ℕ
 nothing = []
@@ -94,8 +95,6 @@ deeds-hand config w k (d ∷ ds) h =
 pub hands-as-alone : (config : Config) (w : World) (ds : List Deed) → AreFaithful config w ds → HandsAsAlone config w ds
 hands-as-alone config w ds faithful h there k =
     let es = events_in ds in
-    sym (ap bytes_of (isolated config (h ++ es) k))
-    ∙ ap (bytes_to k) (handed_from-append config empty_world h es)
-    ∙ bytes_to-append k (handed config h) (handed_from config (world_after config h) es)
-    ∙ ap (λ l. bytes_to k (handed config h) ++ l) (ap (λ v. bytes_to k (handed_from config v es)) there ∙ deeds-hand config w k ds faithful)
-    ∙ ap (λ l. l ++ taken_in k ds) (ap bytes_of (isolated config h k))
+    ap bytes_of (goes-on config h es k)
+    ∙ flat_map-append (λ t. t.bytes) (alone (own_view config h k) (seen config h k)) (handed_to k (handed_from config (world_after config h) es))
+    ∙ ap (λ l. bytes_alone config h k ++ l) (ap (λ v. bytes_to k (handed_from config v es)) there ∙ deeds-hand config w k ds faithful)
