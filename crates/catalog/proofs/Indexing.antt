@@ -155,8 +155,8 @@ place_found m es network code r short finds found none =
     let gone : Not (AreShort network code) → r ≡ first_place es network code = λ long. none long ∙ sym (nobody_with_long_codes es network code short long) in
     elim (leb_tells (length network) 2) [
       | inl few ↦ elim (leb_tells (length code) 5) [
-          | inl letters ↦ found (few.1, letters.1) ∙ finds network code
-          | inr more ↦ gone (λ both. let over = more.1 in let under = both.1 in absurd (omega (arith, over, under)))
-        ]
+        | inl letters ↦ found (few.1, letters.1) ∙ finds network code
+        | inr more ↦ gone (λ both. let over = more.1 in let under = both.1 in absurd (omega (arith, over, under)))
+      ]
       | inr more ↦ gone (λ both. let over = more.1 in let under = both.0 in absurd (omega (arith, over, under)))
     ]

@@ -10,7 +10,7 @@ use std::test::Fail;
 /// The answer to HELLO.
 pub const GREETING: &[u8] = b"SeedLink v3.0 (station access)\r\nTest Centre\r\n";
 
-/// A station for addresses that begin with 10, two for everybody, and one for nobody.
+/// A station for addresses that begin with 10, and two for everybody.
 pub const CENTRE: &[u8] = br#"title = "Test Centre"
 max_connections = 8
 
@@ -34,7 +34,10 @@ network = "XX"
 code = "APE"
 description = "Vault"
 capacity = 1
+"#;
 
+/// A station for nobody.
+const SHUT: &[u8] = br#"
 [[station]]
 network = "ZZ"
 code = "SHUT"
@@ -75,13 +78,25 @@ fn happenings(alloc: Global, rows: &[Row]) -> Result<Vec<Happening>, Fail> {
     Ok(all)
 }
 
-/// A loop at whose ports these rows happen.
+/// A loop over the stations, with the one for nobody, at whose ports these rows happen.
 pub fn looped(
     alloc: Global,
     rows: &[Row],
     scripts: Vec<PortScript>,
 ) -> Result<Loop<MemoryPorts>, Fail> {
-    let config = Config::read(alloc, CENTRE)?;
+    let mut text = CENTRE.to_vec(alloc)?;
+    text.extend_from_slice(SHUT)?;
+    looped_over(alloc, text.as_slice(), rows, scripts)
+}
+
+/// A loop over a configuration, at whose ports these rows happen.
+pub fn looped_over(
+    alloc: Global,
+    text: &[u8],
+    rows: &[Row],
+    scripts: Vec<PortScript>,
+) -> Result<Loop<MemoryPorts>, Fail> {
+    let config = Config::read(alloc, text)?;
     let ports = MemoryPorts::new(alloc, Script::new(happenings(alloc, rows)?, scripts));
     Ok(Loop::new(alloc, config, ports)?)
 }

@@ -1,6 +1,8 @@
 //! Commands and records that come in pieces, and packets that are taken in parts.
 use super::runs::Row::{Feed, Inside, Outside, Quiet, Reads};
-use super::runs::{GREETING, Row, both, feed, looped, pieces, port, record, taken, turns};
+use super::runs::{
+    CENTRE, GREETING, Row, both, feed, looped, looped_over, pieces, port, record, taken, turns,
+};
 use event_loop::Loop;
 use ports::memory_ports::Made;
 use ports::{MemoryPorts, PortScript, ReadAnswer, WriteAnswer};
@@ -138,10 +140,21 @@ fn among_others(alloc: Global) -> Result<Vec<u8>, Fail> {
     taken(alloc, &all, 3)
 }
 
+/// The same where there is no hidden station, so that its records are refused.
+fn among_others_alone(alloc: Global) -> Result<Vec<u8>, Fail> {
+    let mut scripts = client_and_feed(alloc, (3, 6), 7, 10, 520)?;
+    others(alloc, &mut scripts)?;
+    let mut all = looped_over(alloc, CENTRE, &AMONG, scripts)?;
+    let _turned = turns(&mut all, 6, 3000)?;
+    taken(alloc, &all, 3)
+}
+
 #[test]
 fn others_and_hidden_arrivals_change_nothing(rt: HostRuntime) -> Result<(), Fail> {
     let given = among_others(rt.alloc())?;
     assert!(rt; given.as_slice() == wanted(rt.alloc())?.as_slice());
+    let without = among_others_alone(rt.alloc())?;
+    assert!(rt; without.as_slice() == given.as_slice());
     Ok(())
 }
 

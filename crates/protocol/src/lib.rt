@@ -226,7 +226,7 @@ pub fn isolation_goes_on()
     ensures { (config : Config) (events more : List Event) (k : ℕ) →
         alone (own_view config (events ++ more) k) (seen config (events ++ more) k)
         ≡ alone (own_view config events k) (seen config events k)
-          ++ handed_to k (handed_from config (world_after config events) more) }
+        ++ handed_to k (handed_from config (world_after config events) more) }
 {}
 
 /// Two clients with the same view, the same events of their own and the same arrivals at stations that they see are

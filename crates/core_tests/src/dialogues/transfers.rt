@@ -8,6 +8,7 @@ use super::{inside, joined, outside};
 use catalog::Config;
 use server_core::{Event, Handed, run};
 use std::alloc::Global;
+use std::net::Ipv4Addr;
 use std::test::Fail;
 use test_centre::CENTRE;
 
@@ -307,6 +308,37 @@ fn others_and_hidden_arrivals_change_nothing(rt: HostRuntime) -> Result<(), Fail
     assert_eq!(rt; events.len(), 14 + 2081 + 10 + 40);
     let handed = handed_by(rt.alloc(), text.as_slice(), events)?;
     assert!(rt; hand_both(rt.alloc(), handed.as_slice(), 0)?);
+    Ok(())
+}
+
+/// The events of a client, and behind each of them an arrival at the station that nobody may use, and a stranger that comes and
+/// goes.
+fn among_strangers(alloc: Global, own: Vec<Event>) -> Result<Vec<Event>, Fail> {
+    let mut events = Vec::new(alloc);
+    let mut count: u16 = 0;
+    for (place, event) in own.into_iter().enumerate() {
+        events.push(event)?;
+        events.push(Event::Arrive(made(Record::Shut(count))?))?;
+        events.push(Event::Open(Ipv4Addr::new(192, 0, 2, 1)))?;
+        events.push(Event::Close(place.saturating_add(1)))?;
+        count = count.wrapping_add(1);
+    }
+    Ok(events)
+}
+
+/// Whether a configuration hands both stations to a client among strangers.
+fn hands_among_strangers(alloc: Global, text: &[u8]) -> Result<bool, Fail> {
+    let events = among_strangers(alloc, both_by_bytes(alloc)?)?;
+    let handed = handed_by(alloc, text, events)?;
+    hand_both(alloc, handed.as_slice(), 0)
+}
+
+#[test]
+fn a_hidden_station_and_strangers_change_nothing(rt: HostRuntime) -> Result<(), Fail> {
+    let text = with_shut(rt.alloc())?;
+    assert!(rt; hands_among_strangers(rt.alloc(), text.as_slice())?);
+    // the same without the station
+    assert!(rt; hands_among_strangers(rt.alloc(), CENTRE)?);
     Ok(())
 }
 
