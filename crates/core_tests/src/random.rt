@@ -1,10 +1,13 @@
 //! Random lists of events: the server and the plain server hand the same.
 use self::draws::Draws;
+use self::lists::Length;
 use self::plain::Given;
+use self::sites::Centre;
 use self::steps::Step;
 use catalog::Config;
 use server_core::Handed;
 use std::alloc::Global;
+use std::ops::Range;
 use std::test::Fail;
 
 mod draws;
@@ -22,7 +25,30 @@ mod words;
 
 const SEED: u64 = 20_240_229;
 
-const LISTS: u64 = 50_000;
+/// How many short lists there are.
+const SHORT: u64 = 50_000;
+
+/// How many long lists there are, and how many steps each has.
+const LONG: u64 = 40;
+
+const STEPS: usize = 2000;
+
+/// A list of steps by its number: first the short ones, then the long ones, whose stations hold up to 50 records.
+#[derive(Drop)]
+struct Scene {
+    centre: Centre,
+    steps: Vec<Step>,
+}
+
+fn scene_of(alloc: Global, list: u64) -> Result<Scene, Fail> {
+    let (centre, length) = if list < SHORT {
+        (sites::centre_of(list), Length::Short)
+    } else {
+        (sites::HILLS, Length::Steps(STEPS))
+    };
+    let steps = lists::list(alloc, Draws::new(SEED, list), centre.sites, length)?;
+    Ok(Scene { centre, steps })
+}
 
 fn is_same(handed: &Handed, given: &Given) -> bool {
     handed.client == given.client
@@ -34,29 +60,28 @@ fn are_same(handed: &[Handed], given: &[Given]) -> bool {
     handed.len() == given.len() && handed.iter().zip(given).all(|(a, b)| is_same(a, b))
 }
 
-/// Whether both servers hand the same over some steps of a list.
-fn agree(alloc: Global, list: u64, steps: &[Step]) -> Result<bool, Fail> {
-    let centre = sites::centre_of(list);
+/// Whether both servers hand the same over some steps.
+fn agree(alloc: Global, centre: &Centre, steps: &[Step]) -> Result<bool, Fail> {
     let mut events = Vec::new(alloc);
     for step in steps {
         events.push(steps::event(alloc, step)?)?;
     }
     let config = Config::read(alloc, centre.text)?;
     let handed = server_core::run(alloc, config, events.as_slice())?;
-    let given = plain::run(alloc, &centre, steps)?;
+    let given = plain::run(alloc, centre, steps)?;
     Ok(are_same(handed.as_slice(), given.as_slice()))
 }
 
 /// How many of the first steps of a list are handed otherwise, where some are.
 fn differs_after(alloc: Global, list: u64) -> Result<Option<usize>, Fail> {
-    let centre = sites::centre_of(list);
-    let steps = lists::list(alloc, Draws::new(SEED, list), centre.sites)?;
-    if agree(alloc, list, steps.as_slice())? {
+    let scene = scene_of(alloc, list)?;
+    let steps = scene.steps.as_slice();
+    if agree(alloc, &scene.centre, steps)? {
         return Ok(None);
     }
     for length in 1..steps.len() {
-        let first = steps.as_slice().get(..length).unwrap_or(&[]);
-        if !agree(alloc, list, first)? {
+        let first = steps.get(..length).unwrap_or(&[]);
+        if !agree(alloc, &scene.centre, first)? {
             return Ok(Some(length));
         }
     }
@@ -65,25 +90,35 @@ fn differs_after(alloc: Global, list: u64) -> Result<Option<usize>, Fail> {
 
 /// Prints the first steps of a list as a script of `seedlinkd replay`.
 fn show(rt: &HostRuntime, list: u64, length: usize) -> Result<(), Fail> {
-    let centre = sites::centre_of(list);
-    let steps = lists::list(rt.alloc(), Draws::new(SEED, list), centre.sites)?;
-    for step in steps.as_slice().get(..length).unwrap_or(&[]) {
+    let scene = scene_of(rt.alloc(), list)?;
+    for step in scene.steps.as_slice().get(..length).unwrap_or(&[]) {
         steps::show(rt, step)?;
     }
     Ok(())
 }
 
-#[test]
-fn both_servers_hand_the_same(rt: HostRuntime) -> Result<(), Fail> {
-    let alloc = rt.alloc();
-    for list in 0..LISTS {
-        if let Some(length) = differs_after(alloc, list)? {
-            show(&rt, list, length)?;
-            assert!(rt;
-                false,
-                "list {list} of seed {SEED} differs after {length} steps"
-            );
+/// The first of some lists over which the servers hand something else, and after how many steps. These steps are printed.
+fn first_difference(rt: &HostRuntime, lists: Range<u64>) -> Result<Option<(u64, usize)>, Fail> {
+    for list in lists {
+        if let Some(length) = differs_after(rt.alloc(), list)? {
+            show(rt, list, length)?;
+            return Ok(Some((list, length)));
         }
     }
+    Ok(None)
+}
+
+#[test]
+fn both_servers_hand_the_same(rt: HostRuntime) -> Result<(), Fail> {
+    assert_eq!(rt; first_difference(&rt, 0..SHORT)?, None);
+    Ok(())
+}
+
+#[test]
+fn both_servers_hand_the_same_over_long_lists(rt: HostRuntime) -> Result<(), Fail> {
+    assert_eq!(rt;
+        first_difference(&rt, SHORT..SHORT.saturating_add(LONG))?,
+        None
+    );
     Ok(())
 }

@@ -11,7 +11,7 @@ use station_ring::Summary;
 use std::alloc::{AllocError, Global};
 use std::net::Ipv4Addr;
 use std::test::Fail;
-use transfer::{Chosen, choose, start};
+use transfer::{Chosen, choose, cursor, start};
 
 const CENTRE: &[u8] = br#"title = "Test Centre"
 
@@ -332,6 +332,80 @@ fn a_choice_tells_what_waits(rt: HostRuntime) -> Result<(), Fail> {
     ] {
         let given = chosen_after(rt.alloc(), &config, &rings, line)?;
         assert_eq!(rt; given, (Some(choice), count));
+    }
+    Ok(())
+}
+
+/// The cursor of the first named station, where it is asked for something.
+fn first_cursor(session: &Session) -> Option<u64> {
+    match session.choices().first() {
+        Some(choice) if choice.action.is_some() => Some(cursor(session, 0)),
+        _ => None,
+    }
+}
+
+/// The cursor of the first request after its transfer has started, after the first choice, and when twelve were taken.
+#[derive(Debug, Drop, PartialEq)]
+struct Cursors {
+    started: Option<u64>,
+    chosen: Option<u64>,
+    last: Option<u64>,
+}
+
+fn cursors_of(
+    alloc: Global,
+    config: &Config,
+    rings: &mut Rings,
+    (lines, before, after): (&[&[u8]], &[usize], &[usize]),
+) -> Result<Cursors, AllocError> {
+    arrive(rings, before);
+    let mut session = opened(alloc, config)?;
+    say_all(config, &mut session, lines);
+    start_it(&mut session, rings);
+    let started = first_cursor(&session);
+    arrive(rings, after);
+    if session.waiting().is_empty() {
+        let _ = choose(&mut session, config, rings);
+    }
+    let reached = first_cursor(&session);
+    take(config, &mut session);
+    let _ = chosen(alloc, config, rings, &mut session)?;
+    Ok(Cursors {
+        started,
+        chosen: reached,
+        last: first_cursor(&session),
+    })
+}
+
+/// The lines of a client, the stations of the first arrivals and of those that come once its transfer has started, and the three
+/// cursors.
+type CursorRow = (
+    &'static [&'static [u8]],
+    &'static [usize],
+    &'static [usize],
+    [u64; 3],
+);
+
+/// A request for what is to come; one for all that is held, of which one is gone; one that is overrun; and one that passes a record.
+static CURSORS: [CursorRow; 4] = [
+    (&[b"DATA\r"], &[0, 0], &[], [2, 2, 2]),
+    (&[b"FETCH\r"], &[0, 0, 0], &[], [1, 1, 3]),
+    (&[b"DATA 0\r"], &[0, 0], &[0, 0], [1, 2, 4]),
+    (&[b"SELECT BHN\r", b"FETCH\r"], &[0, 0], &[], [0, 1, 2]),
+];
+
+#[test]
+fn a_cursor_tells_how_far_a_request_has_come(rt: HostRuntime) -> Result<(), Fail> {
+    let config = Config::read(rt.alloc(), CENTRE)?;
+    for (lines, before, after, [started, chosen, last]) in CURSORS {
+        let mut rings = Rings::new(rt.alloc(), &config)?;
+        let given = cursors_of(rt.alloc(), &config, &mut rings, (lines, before, after))?;
+        let wanted = Cursors {
+            started: Some(started),
+            chosen: Some(chosen),
+            last: Some(last),
+        };
+        assert_eq!(rt; given, wanted);
     }
     Ok(())
 }

@@ -8,6 +8,8 @@ use std::alloc::{AllocError, Global};
 #[derive(Drop)]
 pub struct Came {
     site: usize,
+    /// How many records of its station came before.
+    before: usize,
     facts: Facts,
     bytes: [u8; 512],
 }
@@ -44,8 +46,10 @@ impl History {
         let found = self.sites.iter().position(|site| *site.network == *facts.network
             && *site.code == *facts.code);
         if let Some(site) = found {
+            let before = self.count(site);
             self.came.push(Came {
                 site,
+                before,
                 facts,
                 bytes: arrival.bytes,
             })?;
@@ -62,34 +66,40 @@ impl History {
         self.sites.get(site).map_or(0, |site| site.capacity)
     }
 
-    /// How many records of a station came before a position.
-    fn before(&self, site: usize, position: usize) -> usize {
-        let mut count: usize = 0;
-        for (place, came) in self.came.as_slice().iter().enumerate() {
-            if place < position && came.site == site {
-                count = count.saturating_add(1);
-            }
-        }
-        count
+    /// How many records of a station came.
+    fn count(&self, site: usize) -> usize {
+        let last = self
+            .came
+            .as_slice()
+            .iter()
+            .rev()
+            .find(|came| came.site == site);
+        last.map_or(0, |came| came.before.saturating_add(1))
     }
 
-    /// The number that a record of a station at a position has, or would have.
-    fn number(&self, site: usize, position: usize) -> usize {
+    /// The number of a station's record that has so many before it.
+    fn number(&self, site: usize, before: usize) -> usize {
         let first = self.sites.get(site).map_or(0, |site| site.first);
-        first.saturating_add(self.before(site, position)) % 0x1000000
+        first.saturating_add(before) % 0x1000000
     }
 
-    /// Whether fewer later records of its station came than are held.
-    fn is_held(&self, site: usize, position: usize) -> bool {
-        let later = self
-            .before(site, self.end())
-            .saturating_sub(self.before(site, position));
-        later <= self.capacity(site)
-    }
-
+    /// Whether the record at a position is one of a station, and fewer later ones came than are held.
     fn is_held_of(&self, site: usize, position: usize) -> bool {
         match self.came.get(position) {
-            Some(came) => came.site == site && self.is_held(site, position),
+            Some(came) => {
+                came.site == site
+                    && self.count(site).saturating_sub(came.before) <= self.capacity(site)
+            }
+            None => false,
+        }
+    }
+
+    /// Whether the record at a position is one of a station, is held and has a number.
+    fn is_held_as(&self, site: usize, position: usize, number: usize) -> bool {
+        match self.came.get(position) {
+            Some(came) => {
+                self.is_held_of(site, position) && self.number(site, came.before) == number
+            }
             None => false,
         }
     }
@@ -107,12 +117,12 @@ impl History {
 
     /// Where a DATA or FETCH with a number begins.
     fn numbered(&self, site: usize, number: usize) -> usize {
-        if number == self.number(site, self.end()) {
+        if number == self.number(site, self.count(site)) {
             return self.end();
         }
         let mut found = None;
         for position in 0..self.end() {
-            if self.is_held_of(site, position) && self.number(site, position) == number {
+            if self.is_held_as(site, position, number) {
                 found = Some(position);
             }
         }
@@ -179,7 +189,7 @@ impl History {
         let Some(came) = self.came.get(position) else {
             return Ok(packet);
         };
-        let number = self.number(came.site, position);
+        let number = self.number(came.site, came.before);
         packet.extend_from_slice(b"SL")?;
         for unit in [0x100000, 0x10000, 0x1000, 0x100, 0x10, 1] {
             let digit = number.checked_div(unit).unwrap_or(0) % 16;

@@ -16,12 +16,14 @@ struct Maker {
 }
 
 impl Maker {
-    /// The number of a client; now and then one of nobody.
+    /// The number of one of the last eight clients; now and then of an earlier one, or of nobody.
     fn client(&mut self) -> usize {
         if self.draws.is_one_of(40) {
-            self.draws.number(&[self.clients, 7, 0xFFFF_FFFF_FFFF_FFFF])
+            self.draws
+                .number(&[0, self.clients, 7, 0xFFFF_FFFF_FFFF_FFFF])
         } else {
-            self.draws.below(self.clients)
+            let back = self.draws.below(self.clients.min(8));
+            self.clients.saturating_sub(1).saturating_sub(back)
         }
     }
 
@@ -120,8 +122,20 @@ impl Maker {
     }
 }
 
-/// A list of 20 to 60 steps and a few more.
-pub fn list(alloc: Global, draws: Draws, sites: &'static [Site]) -> Result<Vec<Step>, AllocError> {
+/// How many steps a list has, but for a few more: 20 to 60 of short ones.
+#[derive(Clone, Copy, Drop)]
+pub enum Length {
+    Short,
+    Steps(usize),
+}
+
+/// A list of steps, which begins with a client or two.
+pub fn list(
+    alloc: Global,
+    draws: Draws,
+    sites: &'static [Site],
+    length: Length,
+) -> Result<Vec<Step>, AllocError> {
     let mut maker = Maker {
         alloc,
         draws,
@@ -133,8 +147,11 @@ pub fn list(alloc: Global, draws: Draws, sites: &'static [Site]) -> Result<Vec<S
     if maker.draws.is_one_of(2) {
         maker.open()?;
     }
-    let count = maker.draws.below(41);
-    for _ in 0..count.saturating_add(20) {
+    let count = match length {
+        Length::Short => maker.draws.below(41).saturating_add(20),
+        Length::Steps(count) => count,
+    };
+    for _ in 0..count {
         maker.step()?;
     }
     Ok(maker.steps)

@@ -177,7 +177,62 @@ access = "172.16.0.9/255.255.255.255, 192.168.0.0/16"
     ],
 };
 
-/// The configuration of a list.
+/// Three stations that hold many records.
+pub const HILLS: Centre = Centre {
+    text: br#"title = "Hills"
+
+[[station]]
+network = "GE"
+code = "S"
+description = "Fifty"
+capacity = 50
+first = "FFFFF0"
+
+[[station]]
+network = "A"
+code = "APE"
+description = "Thirty-one"
+capacity = 31
+first = "FFFFFE"
+access = "10.0.0.0/8 172.16.0.0/12"
+
+[[station]]
+network = "A"
+code = "S"
+description = "Seven"
+capacity = 7
+access = "192.168.1.1"
+"#,
+    title: b"Hills",
+    sites: &[
+        Site {
+            network: b"GE",
+            code: b"S",
+            description: b"Fifty",
+            capacity: 50,
+            first: 0xFFFFF0,
+            seen: [true, true, true],
+        },
+        Site {
+            network: b"A",
+            code: b"APE",
+            description: b"Thirty-one",
+            capacity: 31,
+            first: 0xFFFFFE,
+            seen: [true, true, false],
+        },
+        Site {
+            network: b"A",
+            code: b"S",
+            description: b"Seven",
+            capacity: 7,
+            first: 0,
+            seen: [false, false, true],
+        },
+    ],
+};
+
+/// The configuration of a short list.
 pub fn centre_of(list: u64) -> Centre {
     match list % 3 {
         0 => ISLAND,
