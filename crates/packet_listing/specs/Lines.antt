@@ -58,6 +58,10 @@ abbrev pub told : OutputValue → Option Given → OutputValue
 told o None = o
 told o (Some g) = with_given o g
 
+-- the lines of a plan's wants, if they are refused
+abbrev pub refusals_of : PlanValue → List (List ℕ)
+refusals_of plan = map refusal_line (wants_of plan)
+
 -- before anything is given
 abbrev pub nothing_told : PlanValue → OutputValue
-nothing_told plan = record { refusals = map refusal_line (wants_of plan); lines = []; records = [] }
+nothing_told plan = record { refusals = refusals_of plan; lines = []; records = [] }

@@ -1,7 +1,16 @@
 //! A reader over a connection.
-ghost use Rattle.std.specs.Prelude.{◌≡◌, ◌⊎◌, ◌+◌, ◌<◌, ◌≤◌, [], drop, length, OnOk, OnErr, IfErr, IfSome, MatchOption};
-ghost use Rattle.std.specs.Io.KnownBytes.{Appends};
+ghost use Rattle.std.specs.Prelude.{◌≡◌, ◌≢◌, ◌⊎◌, ◌+◌, ◌<◌, ◌≤◌, [], drop, length, IfOk, OnOk, OnErr, IfErr, IfSome, IfNone, MatchOption, take, true, false};
+ghost use Rattle.std.specs.Io.KnownBytes.{Appends, Consumes, Keeps};
 ghost use Rattle.sl_io.specs.Counts.{IsMore, StopsWriting};
+ghost use Rattle.slreader.specs.declared.fault.ReaderFault.TheVariants.{Limit, OutOfMemory};
+ghost use Rattle.slreader.specs.Dialogue.{begun};
+ghost use Rattle.slreader.specs.Dialogue.Stage.{Failed};
+ghost use Rattle.slreader.specs.Views.{plan_value};
+ghost use Rattle.slreader.specs.Wants.{is_plan};
+ghost use Rattle.packet_listing.specs.declared.fault.ListingFault.TheVariants.{Reader};
+ghost use Rattle.packet_listing.specs.Lines.{refusals_of};
+ghost use Rattle.packet_listing.specs.Pieces.{FailsIn, Takes};
+ghost use Rattle.packet_listing.specs.Whole.{Ends, StopsAt, is_told_before};
 ghost use Rattle.packet_listing.specs.Stops.{EndsReading, EndsReads, IsQuiet, StopsListing};
 
 use crate::fault::ListingFault;
@@ -67,11 +76,12 @@ fn write_output<O: Sink, P: Sink>(
 }
 
 /// Reads a piece, and tells what it gives. Answers whether the transfer is over.
-fn take_piece(
-    core: &mut ReaderCore,
-    output: &mut Output,
-    piece: &[u8],
-) -> Result<bool, ReaderFault> {
+fn take_piece(core: &mut ReaderCore, output: &mut Output, piece: &[u8]) -> Result<bool, ReaderFault>
+    requires plan { core.old.stage ≢ Failed Limit }
+    ensures taken { IfOk result (λ is_over. Takes core.old core.new output.old output.new piece.now is_over) }
+    ensures failed { IfErr result (λ fault. fault ≢ OutOfMemory → FailsIn core.old core.new output.old output.new piece.now fault) }
+    ensures plan { IfErr result (λ fault. fault ≢ Limit) }
+{
     let mut left = piece;
     'given: loop {
         let came = match core.incoming(left) {
@@ -94,6 +104,8 @@ fn take_piece(
 fn read_block<R: Source>(reader: &mut R, block: &mut [u8]) -> Option<usize>
     requires { 0 < length block.old }
     ensures bound { IfSome result (λ count. count ≤ length block.new) }
+    ensures consumed { IfSome result (λ count. Consumes (R.left reader.old) (R.left reader.new) (take count block.new)) }
+    ensures kept { IfNone result (Keeps (R.left reader.old) (R.left reader.new)) }
     ensures call { IsMore (R.calls reader.old) (R.calls reader.new) 1 }
     ensures ended { MatchOption result (EndsReading (R.failures reader.old) (R.failures reader.new) (R.left reader.new))
         (λ _. R.failures reader.new ≡ R.failures reader.old) }
@@ -130,7 +142,17 @@ fn read_blocks<R: Source, W: Sink, O: Sink, P: Sink>(
     out: &mut O,
     records: &mut P,
 ) -> Result<(), ListingFault>
-    requires { length block.old ≡ 65536 }
+    requires block { length block.old ≡ 65536 }
+    requires plan { core.old.stage ≢ Failed Limit }
+    requires sent { core.old.sent ≤ length core.old.asked }
+    requires output { (output.old.lines ≡ []) × (output.old.records ≡ []) }
+    ensures ends { OnOk result (Ends core.old output.old.refusals
+        (R.left reader.old) (R.left reader.new) (W.written writer.old) (W.written writer.new)
+        (O.written out.old) (O.written out.new) (P.written records.old) (P.written records.new)) }
+    ensures told { IfErr result (λ fault. is_told_before fault ≡ true → StopsAt fault core.old output.old.refusals
+        (R.left reader.old) (R.left reader.new) (W.written writer.old) (W.written writer.new)
+        (O.written out.old) (O.written out.new) (P.written records.old) (P.written records.new)) }
+    ensures plan { IfErr result (λ fault. fault ≢ Reader Limit) }
     ensures stopped { IfErr result (λ fault. StopsListing fault
         (EndsReads (R.failures reader.old) (R.failures reader.new)
         (R.calls reader.old) (R.calls reader.new) (R.left reader.new))
@@ -196,6 +218,14 @@ pub fn read_over<R: Source, W: Sink, O: Sink, P: Sink>(
     out: &mut O,
     records: &mut P,
 ) -> Result<(), ListingFault>
+    ensures ends { OnOk result (Ends (begun (plan_value plan.entry)) (refusals_of (plan_value plan.entry))
+        (R.left reader.old) (R.left reader.new) (W.written writer.old) (W.written writer.new)
+        (O.written out.old) (O.written out.new) (P.written records.old) (P.written records.new)) }
+    ensures told { IfErr result (λ fault. is_told_before fault ≡ true →
+        StopsAt fault (begun (plan_value plan.entry)) (refusals_of (plan_value plan.entry))
+        (R.left reader.old) (R.left reader.new) (W.written writer.old) (W.written writer.new)
+        (O.written out.old) (O.written out.new) (P.written records.old) (P.written records.new)) }
+    ensures limit { IfErr result (λ fault. fault ≡ Reader Limit → is_plan (plan_value plan.entry) ≡ false) }
     ensures stopped { IfErr result (λ fault. StopsListing fault
         (EndsReads (R.failures reader.old) (R.failures reader.new)
         (R.calls reader.old) (R.calls reader.new) (R.left reader.new))

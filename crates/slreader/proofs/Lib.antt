@@ -6,4 +6,6 @@ pub mod TransferLemmas
 pub mod CutLemmas
 pub mod ReceiveLemmas
 pub mod ReadingLaws
+pub mod SentLaws
+pub mod FaultLaws
 pub mod CameLemmas

@@ -10,8 +10,9 @@ use Rattle.slreader.specs.declared.pieces.LinePiece.TheVariants as line
 use Rattle.slreader.specs.declared.pieces.ReplyPiece.{ReplyPiece}
 use Rattle.slreader.specs.declared.pieces.ReplyPiece.TheVariants as reply
 use Rattle.slreader.specs.Pieces.{line_piece, reply_piece}
-use Rattle.slreader.specs.Dialogue.{ReaderValue, Stage, Given, FirstGiven, after_byte, given_by, given_at, hello_given, refusal_given, packet_given, given_from, read_on, read_first, goes_on, outcome_of, outcome_in, outcome_at}
+use Rattle.slreader.specs.Dialogue.{ReaderValue, Stage, Given, FirstGiven, after_byte, given_by, given_at, byte_at, transferred, hello_given, refusal_given, packet_given, given_from, read_on, read_first, goes_on, outcome_of, outcome_in, outcome_at}
 use Rattle.slreader.specs.Dialogue.Stage.{FirstLine, SecondLine, Answer, Transfer, Over, Failed}
+use Rattle.slreader.specs.Dialogue.Given.{End}
 use Rattle.slreader.specs.Dialogue.Outcome.{Gave}
 
 -- ---- bytes in two parts
@@ -123,3 +124,43 @@ given_step (g ∷ i ∷ gs) r b bytes f is few h = absurd few
 pub first_given : (r : ReaderValue) (bytes : List ℕ) → given_from r (take (read_first r bytes).used bytes) ≡ option_to_list (read_first r bytes).given
 first_given r [] = refl
 first_given r (b ∷ bytes) = given_step (given_by r b) r b bytes (read_first (after_byte r b) bytes) refl (few_given r b) (first_given (after_byte r b) bytes)
+
+-- ---- the end is given: nothing more is read
+
+hello_end : (p : LinePiece) (hs : List Given) → hello_given p ≡ End ∷ hs → ⊥
+hello_end line.Whole hs e = absurd cc
+hello_end line.Open hs e = absurd cc
+hello_end line.Other hs e = absurd cc
+
+refusal_end : (want : ℕ) (p : ReplyPiece) (hs : List Given) → refusal_given want p ≡ End ∷ hs → ⊥
+refusal_end want (reply.Whole true) hs e = absurd cc
+refusal_end want (reply.Whole false) hs e = absurd cc
+refusal_end want (reply.Open is_error) hs e = absurd cc
+refusal_end want reply.Other hs e = absurd cc
+
+packet_end : (r : ReaderValue) (bytes : List ℕ) (p : Piece) (hs : List Given) → packet_given bytes p ≡ End ∷ hs → (transferred r bytes p).stage ≡ Over
+packet_end r bytes WholePacket hs e = absurd cc
+packet_end r bytes TheEnd hs e = refl
+packet_end r bytes Beginning hs e = absurd cc
+packet_end r bytes NoPiece hs e = absurd cc
+
+end_at : (r : ReaderValue) (s : Stage) (b : ℕ) (hs : List Given) → given_at s b ≡ End ∷ hs → (byte_at r s b).stage ≡ Over
+end_at r (FirstLine count after_cr) b hs e = absurd cc
+end_at r (SecondLine count after_cr) b hs e = absurd (hello_end (line_piece [] count after_cr b) hs e)
+end_at r (Answer want count is_error) b hs e = absurd (refusal_end want (reply_piece count is_error b) hs e)
+end_at r (Transfer rest) b hs e = packet_end r (rest ++ b ∷ []) (piece_of (rest ++ b ∷ [])) hs e
+end_at r Over b hs e = absurd cc
+end_at r (Failed fault) b hs e = absurd cc
+
+end_by : (r : ReaderValue) (b : ℕ) (hs : List Given) → given_by r b ≡ End ∷ hs → (after_byte r b).stage ≡ Over
+unfolding given_by after_byte
+end_by r b hs e = end_at r r.stage b hs e
+
+end_step : (gs : List Given) (r : ReaderValue) (f : FirstGiven) → ((hs : List Given) → gs ≡ End ∷ hs → r.stage ≡ Over) →
+    (f.given ≡ Some End → f.reader.stage ≡ Over) → (goes_on gs r f).given ≡ Some End → (goes_on gs r f).reader.stage ≡ Over
+end_step [] r f one more is = more is
+end_step (g ∷ gs) r f one more is = one gs cc
+
+pub end_first : (r : ReaderValue) (bytes : List ℕ) → (read_first r bytes).given ≡ Some End → (read_first r bytes).reader.stage ≡ Over
+end_first r [] is = absurd cc
+end_first r (b ∷ bytes) is = end_step (given_by r b) (after_byte r b) (read_first (after_byte r b) bytes) (end_by r b) (end_first (after_byte r b) bytes) is
