@@ -26,6 +26,33 @@ small() {
     row "$(((many - few) / 1000))" "$1" "$4" "$5"
 }
 
+# server WORK NUMBER.. : instructions of so many rounds of a work of the program `server_bench`.
+server() {
+    counted "$top/crates/server_bench/out/server_bench" "$@"
+}
+
+# round ROUNDS WORK NUMBER.. : what one of the last so many rounds takes of 1,000 rounds and those.
+round() {
+    rounds=$1
+    shift
+    echo "$((($(server "$@" $((1000 + rounds))) - $(server "$@" 1000)) / rounds))"
+}
+
+# Calls of a server whose rings are full.
+calls() {
+    small_ring=$(round 1000 arrive 4096)
+    row "$small_ring" 3500 'arrive at one of 1,024 stations, a full ring of 4,096' ''
+    row "$(round 1000 arrive 65536)" "$((small_ring * 105 / 100))" 'the same, a full ring of 65,536' 'at most 1.05 times that'
+    row "$(round 1000 packets 1 65536)" 1200 'an offer and the taking of it, FETCH of a full ring of 65,536' ''
+    row "$(round 1000 packets 32 65536)" 8000 'the same with 32 requests, records coming round' ''
+    row "$(round 1000 idle 32 65536)" 2700 'an offer that is Idle, 32 requests, full rings of 65,536' ''
+    none=$(server passed 0 10)
+    one=$(server passed 1 10)
+    two=$(server passed 2 10)
+    row "$(((one - none) / 10))" 120000 'an offer after 1,000 records that its selector does not let pass' ''
+    row "$(((two - one) / 10))" 300 'the offer after that' ''
+}
+
 # Of `seedlinkd check`, the records of the examples 15 and 30 times.
 check() {
     records="$top/examples/records/records.mseed"
@@ -74,10 +101,12 @@ replay() {
 }
 
 "$top/seedlinkd" --help >/dev/null
-if ! (cd "$top/crates/bench" && rt run -- header 1) >"$folder/said" 2>&1; then
-    tail -n 20 "$folder/said" >&2
-    exit 3
-fi
+for program in bench server_bench; do
+    if ! (cd "$top/crates/$program" && rt run) >"$folder/said" 2>&1; then
+        tail -n 20 "$folder/said" >&2
+        exit 3
+    fi
+done
 times='TIME 2024,2,29,0,0,0 2024,2,29,0,0,10'
 printf '%10s %10s  %-72s %s\n' each 'at most' work 'compared with'
 small 300 command HELLO 'command of HELLO' ''
@@ -87,6 +116,7 @@ small 6000 lines "$times" 'the same of TIME, cut out of bytes first' ''
 small 700 header '' 'mseed_header::read, of a record with one blockette' 'libmseed, with a line printed: about 5,800'
 small 200 number '' 'a sequence number read, counted on and written' ''
 small 1500 selectors '' 'sixteen selectors over a record' ''
+calls
 check
 replay
 exit "$failed"

@@ -1,8 +1,10 @@
 //! Does one piece of work many times, so that its instructions can be counted: `bench command ROUNDS LINE` reads a line as a
 //! command, `bench lines ROUNDS LINE` cuts it out of bytes first, `bench header ROUNDS` reads the header of a record,
-//! `bench selectors ROUNDS` asks sixteen selectors whether a record passes, and `bench number ROUNDS` reads a sequence number
-//! and writes the one that follows. It prints a sum of what was read, so that no work can be left out.
+//! `bench selectors ROUNDS` asks sixteen selectors whether a record passes, `bench number ROUNDS` reads a sequence number and
+//! writes the one that follows, and `bench packets ROUNDS` reads packets and lists them. It prints a sum of what was read, so that no work can be left out.
 #![tactic(auto)]
+
+mod reading;
 
 use mseed_header::{Header, Kind, RecordFault};
 use selector::{Selector, Selectors};
@@ -146,7 +148,7 @@ fn main(rt: HostRuntime) -> anyhow::Result<()> {
         words.push(word)?;
     }
     if words.len() < 3 {
-        println!(rt; "bench command|lines|header|selectors|number ROUNDS [LINE]")?;
+        println!(rt; "bench command|lines|header|selectors|number|packets ROUNDS [LINE]")?;
         return Ok(());
     }
     let rounds: u64 = words[2].as_str().parse()?;
@@ -159,6 +161,7 @@ fn main(rt: HostRuntime) -> anyhow::Result<()> {
         "lines" => cut_lines(line, rounds),
         "selectors" => ask_selectors(rounds),
         "number" => count_on(rounds),
+        "packets" => reading::list_packets(rt.alloc(), &sample(), rounds)?,
         _ => read_headers(rounds),
     };
     println!(rt; "{sum}")?;

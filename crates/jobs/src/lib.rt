@@ -5,6 +5,7 @@
 mod endpoint;
 mod failure;
 mod faults;
+mod feeding;
 mod files;
 mod network;
 mod replaying;
@@ -16,6 +17,7 @@ mod work;
 pub use endpoint::Endpoint;
 pub use failure::Failure;
 pub use faults::ReplayFault;
+pub use feeding::{feed, feed_records};
 pub use replaying::replay;
 pub use serving::{ServeFault, serve};
 pub use statuses::{failed, obey, told};

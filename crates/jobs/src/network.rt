@@ -1,10 +1,10 @@
 //! Jobs over sockets.
 use crate::endpoint::Endpoint;
 use crate::failure::Failure;
+use crate::feeding::feed;
 use crate::files::{config_at, open};
 use crate::serving::serve;
 use crate::standard_error::StandardError;
-use feeder::send;
 use packet_listing::{Nowhere, read_over};
 use sl_io::{Outer, Sink};
 use slreader::{Plan, Want};
@@ -12,7 +12,7 @@ use socket_ports::MioPorts;
 use std::alloc::Global;
 use std::fs::OpenOptions;
 use std::io;
-use std::net::{Net, OpenStream, Shutdown, SocketAddr, TcpStream};
+use std::net::{Net, OpenStream, SocketAddr, TcpStream};
 use std::rt::Files;
 
 /// The endpoint that a word spells.
@@ -21,7 +21,7 @@ fn endpoint(text: &str) -> Result<Endpoint, Failure> {
 }
 
 /// A connection to a server.
-fn connect<R: Net>(rt: &R, server: Endpoint) -> Result<R::Stream, Failure> {
+pub fn connect<R: Net>(rt: &R, server: Endpoint) -> Result<R::Stream, Failure> {
     TcpStream::connect(rt, SocketAddr::V4(server.socket_address())).map_err(|_| Failure::Connect)
 }
 
@@ -52,10 +52,7 @@ pub fn serve_sockets<R: Files + Net + AllocGlobal>(
 pub fn feed_file<R: Files + Net>(rt: &R, server: &str, path: &str) -> Result<(), Failure> {
     let server = endpoint(server)?;
     let mut file = Outer::new(open(rt, path)?);
-    let mut stream = Outer::new(connect(rt, server)?);
-    send(&mut file, &mut stream)?;
-    // The peer sees the end all the same once the connection is dropped.
-    let _ = stream.into_inner().shutdown(Shutdown::Write);
+    feed(rt, server, &mut file)?;
     Ok(())
 }
 

@@ -1,0 +1,107 @@
+//! Many clients at once.
+use loopback::{CENTRE, Centre, record};
+use sl_packet::{Seq, frame};
+use std::alloc::Global;
+use std::io;
+use std::io::{Read, Write};
+use std::net::Net;
+use std::test::Fail;
+
+/// How many clients there are, how many records come at a time, and how often.
+const CLIENTS: u8 = 200;
+
+const BLOCK: u16 = 20;
+
+const BLOCKS: u16 = 100;
+
+/// So many clients.
+fn crowd<R: Net + AllocGlobal>(rt: &R, centre: &mut Centre) -> Result<Vec<R::Stream>, Fail> {
+    let mut clients = Vec::new(rt.alloc());
+    for _ in 0..CLIENTS {
+        clients.push(centre.client(rt)?)?;
+        centre.turns(1);
+    }
+    Ok(clients)
+}
+
+/// Whether all clients are answered so.
+fn are_answered<S: Read + Write>(
+    centre: &mut Centre,
+    clients: &mut [S],
+    said: &[u8],
+    answer: &[u8],
+) -> io::Result<bool> {
+    for client in clients {
+        if !centre.answers(client, said, answer)? {
+            return Ok(false);
+        }
+    }
+    Ok(true)
+}
+
+/// Whether all clients read these bytes next.
+fn are_given<S: Read>(centre: &mut Centre, clients: &mut [S], wanted: &[u8]) -> io::Result<bool> {
+    for client in clients {
+        if !centre.gives(client, wanted)? {
+            return Ok(false);
+        }
+    }
+    Ok(true)
+}
+
+/// Some records of GE WLF, told apart by their samples, and the packets that they come in.
+#[derive(Drop)]
+struct Block {
+    records: Vec<u8>,
+    packets: Vec<u8>,
+}
+
+/// The records with so many samples and more, from a number on.
+fn block(alloc: Global, samples: u16, first: Seq) -> Result<Block, Fail> {
+    let mut made = Block {
+        records: Vec::new(alloc),
+        packets: Vec::new(alloc),
+    };
+    let mut number = first;
+    for more in 0..BLOCK {
+        let record = record(b"WLF", b"BHZ", samples.saturating_add(more))?;
+        made.records.extend_from_slice(&record)?;
+        made.packets.extend_from_slice(&frame(number, &record))?;
+        number = number.next();
+    }
+    Ok(made)
+}
+
+/// The number that is so many after the first one of GE WLF.
+fn number_after(count: u16) -> Option<Seq> {
+    Seq::of((0xFF_FFFE + u32::from(count)) % 0x100_0000)
+}
+
+#[test]
+fn each_of_200_clients_gets_each_of_2000_records(rt: HostRuntime) -> Result<(), Fail> {
+    let mut centre = Centre::open(&rt, CENTRE)?;
+    let mut clients = crowd(&rt, &mut centre)?;
+    let all = clients.as_mut_slice();
+    assert!(rt;
+        are_answered(
+            &mut centre,
+            all,
+            b"STATION WLF GE\rDATA\rEND\r",
+            b"OK\r\nOK\r\n"
+        )?
+    );
+    let mut feed = centre.feed(&rt)?;
+    for place in 0..BLOCKS {
+        let samples = place.saturating_mul(BLOCK);
+        let first = number_after(samples).ok_or("no number")?;
+        let block = block(rt.alloc(), samples, first)?;
+        feed.write_all(&block.records)?;
+        centre.turns(1);
+        assert!(rt;
+            are_given(&mut centre, all, &block.packets)?,
+            "block {place}"
+        );
+    }
+    assert_eq!(rt; centre.clients(), usize::from(CLIENTS));
+    Ok(())
+}

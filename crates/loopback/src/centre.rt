@@ -1,0 +1,209 @@
+//! A server with its ports, and the dialogue with it.
+use catalog::Config;
+use event_loop::Loop;
+use socket_ports::MioPorts;
+use std::io;
+use std::io::{ErrorKind, Read, Write};
+use std::net::{Ipv4Addr, Net, OpenStream, SocketAddr, SocketAddrV4, TcpStream};
+use std::test::Fail;
+
+/// Three stations, of which one is closed to everybody. They hold 100, 200 and 4 records.
+pub static CENTRE: &[u8] = br#"title = "Test Centre"
+max_connections = 300
+
+[[station]]
+network = "GE"
+code = "APE"
+description = "Island"
+capacity = 100
+access = "0.0.0.0/0"
+
+[[station]]
+network = "GE"
+code = "WLF"
+description = "Forest"
+capacity = 200
+first = "FFFFFE"
+
+[[station]]
+network = "ZZ"
+code = "SHUT"
+description = "Vault"
+capacity = 4
+access = ""
+"#;
+
+/// The answer to HELLO.
+pub static GREETING: &[u8] = b"SeedLink v3.0 (station access)\r\nTest Centre\r\n";
+
+/// How many turns a client waits at most for its next bytes.
+const PATIENCE: u8 = 20;
+
+/// How many bytes are compared at once.
+const BLOCK: usize = 4_096;
+
+/// Any port of this machine that the system chooses.
+pub fn any_port() -> SocketAddrV4 {
+    SocketAddrV4::new(Ipv4Addr::LOCALHOST, 0)
+}
+
+/// A connection to a port of this machine, whose calls never wait.
+pub fn connect<R: Net>(rt: &R, port: u16) -> io::Result<R::Stream> {
+    let stream = TcpStream::connect(rt, SocketAddr::from((Ipv4Addr::LOCALHOST, port)))?;
+    stream.set_nodelay(true)?;
+    stream.set_nonblocking(true)?;
+    Ok(stream)
+}
+
+/// What a read gave.
+#[derive(Clone, Copy, PartialEq, Eq, Drop)]
+enum Piece {
+    Bytes(usize),
+    Nothing,
+    End,
+}
+
+/// Reads once.
+fn read_piece<S: Read>(client: &mut S, buffer: &mut [u8]) -> io::Result<Piece> {
+    match client.read(buffer) {
+        Ok(0) => Ok(Piece::End),
+        Ok(count) => Ok(Piece::Bytes(count)),
+        Err(error) => {
+            if error.kind() == ErrorKind::WouldBlock {
+                Ok(Piece::Nothing)
+            } else {
+                Err(error)
+            }
+        }
+    }
+}
+
+/// A server over sockets.
+#[derive(Drop)]
+pub struct Centre {
+    server: Loop<MioPorts>,
+    clients: u16,
+    feeds: u16,
+}
+
+impl Centre {
+    /// A server with that configuration.
+    pub fn open<R: Net + AllocGlobal>(rt: &R, config: &[u8]) -> Result<Centre, Fail> {
+        let ports = MioPorts::listen(rt, rt.alloc(), any_port(), any_port())?;
+        let (clients, feeds) = ports.bound();
+        let config = Config::read(rt.alloc(), config)?;
+        let server = Loop::new(rt.alloc(), config, ports)?;
+        Ok(Centre {
+            server,
+            clients,
+            feeds,
+        })
+    }
+
+    /// The ports that it listens on, for clients and for feeds.
+    pub fn ports(&self) -> (u16, u16) {
+        (self.clients, self.feeds)
+    }
+
+    /// How many clients are connected.
+    pub fn clients(&self) -> usize {
+        self.server.clients()
+    }
+
+    /// A client that connects.
+    pub fn client<R: Net>(&self, rt: &R) -> io::Result<R::Stream> {
+        connect(rt, self.clients)
+    }
+
+    /// A feed that connects.
+    pub fn feed<R: Net>(&self, rt: &R) -> io::Result<R::Stream> {
+        connect(rt, self.feeds)
+    }
+
+    /// So many turns. One in which nothing happens takes a tenth of a second.
+    pub fn turns(&mut self, count: u8) {
+        for _ in 0..count {
+            let _ = self.server.turn(64);
+        }
+    }
+
+    /// The server's ports, once it is over.
+    pub fn into_ports(self) -> MioPorts {
+        self.server.into_ports()
+    }
+
+    /// What a client reads next, after so many turns as it takes.
+    fn next_piece<S: Read>(&mut self, client: &mut S, buffer: &mut [u8]) -> io::Result<Piece> {
+        for _ in 0..PATIENCE {
+            let piece = read_piece(client, buffer)?;
+            if piece != Piece::Nothing {
+                return Ok(piece);
+            }
+            self.turns(1);
+        }
+        Ok(Piece::Nothing)
+    }
+
+    /// Whether all that a client reads next, as much as the buffer takes, comes.
+    pub fn fills<S: Read>(&mut self, client: &mut S, buffer: &mut [u8]) -> io::Result<bool> {
+        let mut at = 0;
+        while at < buffer.len() {
+            match self.next_piece(client, &mut buffer[at..])? {
+                Piece::Bytes(count) => at += count.min(buffer.len() - at).max(1),
+                Piece::Nothing => return Ok(false),
+                Piece::End => return Ok(false),
+            }
+        }
+        Ok(true)
+    }
+
+    /// Whether these bytes are what a client reads next.
+    pub fn gives<S: Read>(&mut self, client: &mut S, wanted: &[u8]) -> io::Result<bool> {
+        let mut block = [0u8; BLOCK];
+        for piece in wanted.chunks(BLOCK) {
+            let came = &mut block[..piece.len().min(BLOCK)];
+            if !self.fills(client, came)? || *came != *piece {
+                return Ok(false);
+            }
+        }
+        Ok(true)
+    }
+
+    /// Whether the connection is over for a client, and nothing is left to be read.
+    pub fn ends<S: Read>(&mut self, client: &mut S) -> io::Result<bool> {
+        let mut byte = [0u8; 1];
+        Ok(self.next_piece(client, &mut byte)? == Piece::End)
+    }
+
+    /// Whether a client is told nothing in three turns.
+    pub fn is_silent<S: Read>(&mut self, client: &mut S) -> io::Result<bool> {
+        let mut byte = [0u8; 1];
+        self.turns(3);
+        Ok(read_piece(client, &mut byte)? == Piece::Nothing)
+    }
+
+    /// A client says something. Whether the answer is what it reads next.
+    pub fn answers<S: Read + Write>(
+        &mut self,
+        client: &mut S,
+        said: &[u8],
+        answer: &[u8],
+    ) -> io::Result<bool> {
+        client.write_all(said)?;
+        self.gives(client, answer)
+    }
+
+    /// What a client says, one after the other, with the answers. The number of the first that is answered otherwise.
+    pub fn first_other_answer<S: Read + Write>(
+        &mut self,
+        client: &mut S,
+        lines: &[(&[u8], &[u8])],
+    ) -> io::Result<Option<usize>> {
+        for (at, &(said, answer)) in lines.iter().enumerate() {
+            if !self.answers(client, said, answer)? {
+                return Ok(Some(at));
+            }
+        }
+        Ok(None)
+    }
+}

@@ -1,0 +1,9 @@
+//! What tests over sockets share: a server at ports of this machine that the system chose, clients and feeds that connect to it, and
+//! records. Both ends are in one process, and the server has a turn whenever a client finds nothing to read.
+#![tactic(auto)]
+
+mod centre;
+mod records;
+
+pub use centre::{CENTRE, Centre, GREETING, any_port, connect};
+pub use records::{packet, record};

@@ -1,0 +1,126 @@
+//! A server whose rings are full, and a client of it.
+use catalog::Config;
+use mseed_header::{ByteOrder, Fields, make};
+use server_core::{Client, Server};
+use std::alloc::Global;
+use std::net::Ipv4Addr;
+
+/// A record of the station at a place: GE 00000, GE 00001 and so on.
+pub fn record_of(alloc: Global, place: u32, channel: &[u8]) -> anyhow::Result<[u8; 512]> {
+    let station = format!(in alloc; "{place:05}")?;
+    let record = make(&Fields {
+        sequence: 1,
+        quality: b'D',
+        station: station.as_bytes(),
+        location: b"",
+        channel,
+        network: b"GE",
+        year: 2024,
+        day: 60,
+        hour: 0,
+        minute: 0,
+        second: 0,
+        fraction: 0,
+        samples: 100,
+        factor: 100,
+        multiplier: 1,
+        encoding: 11,
+        order: ByteOrder::Big,
+        extra: None,
+        contents: b"",
+    })?;
+    Ok(record)
+}
+
+/// Records of the stations at places.
+pub fn records_of(alloc: Global, places: u32) -> anyhow::Result<Vec<[u8; 512]>> {
+    let mut records = Vec::new(alloc);
+    for place in 0..places {
+        records.push(record_of(alloc, place, b"BHZ")?)?;
+    }
+    Ok(records)
+}
+
+/// A configuration of stations that hold one record each, but for the last ones, which hold so many.
+fn config_of(alloc: Global, small: u32, large: u32, capacity: u32) -> anyhow::Result<Config> {
+    let mut text = format!(in alloc; "title = \"Bench\"\nmax_connections = 1\n")?;
+    for place in 0..small.saturating_add(large) {
+        let held = if place < small { 1 } else { capacity };
+        let station = format!(in alloc;
+            "[[station]]\nnetwork = \"GE\"\ncode = \"{place:05}\"\ndescription = \"Bench\"\ncapacity = {held}\n"
+        )?;
+        text.push_str(station.as_str())?;
+    }
+    Ok(Config::read(alloc, text.as_bytes())?)
+}
+
+/// Each of some records arrives once, one after the other. Answers a sum of their numbers.
+pub fn arrive_all(server: &mut Server, records: &[[u8; 512]]) -> u64 {
+    let mut sum: u64 = 0;
+    for record in records {
+        if let Ok(number) = server.arrive(record) {
+            sum = sum.wrapping_add(u64::from(number.digits()[5]));
+        }
+    }
+    sum
+}
+
+/// Some records arrive by turns, so many times each.
+pub fn arrive_by_turns(server: &mut Server, records: &[[u8; 512]], rounds: u32) -> u64 {
+    let mut sum: u64 = 0;
+    for _ in 0..rounds {
+        sum = sum.wrapping_add(arrive_all(server, records));
+    }
+    sum
+}
+
+/// A server of stations that hold one record each, and of `large` that hold `capacity`. All rings are full, and those of the large
+/// stations were filled by turns.
+pub fn full_server(alloc: Global, small: u32, large: u32, capacity: u32) -> anyhow::Result<Server> {
+    let mut server = Server::new(alloc, config_of(alloc, small, large, capacity)?)?;
+    let records = records_of(alloc, small.saturating_add(large))?;
+    arrive_all(&mut server, records.as_slice());
+    let of_large = records.as_slice().get(small as usize..).unwrap_or(&[]);
+    arrive_by_turns(&mut server, of_large, capacity);
+    Ok(server)
+}
+
+/// What waits for a client is taken. Answers how many bytes it was.
+pub fn take_one(server: &mut Server, client: Client) -> u64 {
+    let _ = server.offer(client);
+    match server.waiting(client) {
+        Ok(bytes) => {
+            let count = bytes.len();
+            if count == 0 {
+                return 0;
+            }
+            let _ = server.took(client, count);
+            count as u64
+        }
+        Err(_) => 0,
+    }
+}
+
+/// A client sends a line, and takes its answer.
+fn say(server: &mut Server, client: Client, line: &[u8]) {
+    let _ = server.receive(client, line);
+    take_one(server, client);
+}
+
+/// A client that asks for the first stations by an action, and has a selector for each.
+pub fn asking(
+    alloc: Global,
+    server: &mut Server,
+    requests: u32,
+    action: &[u8],
+) -> anyhow::Result<Client> {
+    let client = server.open(alloc, Ipv4Addr::new(127, 0, 0, 1))?;
+    for place in 0..requests {
+        let station = format!(in alloc; "STATION {place:05} GE\r")?;
+        say(server, client, station.as_bytes());
+        say(server, client, b"SELECT BHZ\r");
+        say(server, client, action);
+    }
+    let _ = server.receive(client, b"END\r");
+    Ok(client)
+}

@@ -1,0 +1,44 @@
+//! Makes calls of a server many times, so that their instructions can be counted.
+//!
+//! `server_bench arrive CAPACITY ROUNDS`: a record arrives at one of 1,024 stations, whose ring holds so many and is full.
+//! `server_bench packets REQUESTS CAPACITY ROUNDS`: a client that asks by FETCH for so many stations, whose rings are full, is
+//! offered a packet and takes it. `server_bench idle REQUESTS CAPACITY ROUNDS`: a client that asks for them by DATA is offered
+//! something, and nothing arrived. `server_bench passed OFFERS ROUNDS`: 1,000 records arrive that no pattern of a client lets
+//! pass, and the client is offered something so many times.
+//!
+//! It prints a sum of what was answered, so that no work can be left out.
+#![tactic(auto)]
+
+mod centre;
+mod works;
+
+use std::env;
+
+fn main(rt: HostRuntime) -> anyhow::Result<()> {
+    let alloc = rt.alloc();
+    let mut numbers: Vec<u32> = Vec::new(alloc);
+    let mut work = String::new(alloc);
+    for (place, word) in env::args(&rt)?.enumerate() {
+        match place {
+            0 => {}
+            1 => work = word,
+            _ => numbers.push(word.as_str().parse()?)?,
+        }
+    }
+    let sum = match (work.as_str(), numbers.as_slice()) {
+        ("arrive", [capacity, rounds]) => works::arrive(alloc, *capacity, *rounds)?,
+        ("packets", [requests, capacity, rounds]) => works::packets(
+            alloc, *requests, *capacity, *rounds,
+        )?,
+        ("idle", [requests, capacity, rounds]) => works::idle(
+            alloc, *requests, *capacity, *rounds,
+        )?,
+        ("passed", [offers, rounds]) => works::passed(alloc, *offers, *rounds)?,
+        _ => {
+            println!(rt; "server_bench arrive|packets|idle|passed NUMBER.. ROUNDS")?;
+            return Ok(());
+        }
+    };
+    println!(rt; "{sum}")?;
+    Ok(())
+}

@@ -1,0 +1,53 @@
+//! The works whose instructions are counted. Each answers a sum of what it was answered.
+use crate::centre::{arrive_all, arrive_by_turns, asking, full_server, record_of, take_one};
+use server_core::{Client, Offer, Server};
+use std::alloc::Global;
+
+/// Records arrive at the last of 1,024 stations, whose ring is full.
+pub fn arrive(alloc: Global, capacity: u32, rounds: u32) -> anyhow::Result<u64> {
+    let mut server = full_server(alloc, 1023, 1, capacity)?;
+    let record = record_of(alloc, 1023, b"BHZ")?;
+    Ok(arrive_by_turns(&mut server, &[record], rounds))
+}
+
+/// Packets are offered and taken, one after the other.
+pub fn packets(alloc: Global, requests: u32, capacity: u32, rounds: u32) -> anyhow::Result<u64> {
+    let mut server = full_server(alloc, 0, requests, capacity)?;
+    let client = asking(alloc, &mut server, requests, b"FETCH\r")?;
+    let mut sum: u64 = 0;
+    for _ in 0..rounds {
+        sum = sum.wrapping_add(take_one(&mut server, client));
+    }
+    Ok(sum)
+}
+
+/// Offers of which none has anything.
+fn offers(server: &mut Server, client: Client, rounds: u32) -> u64 {
+    let mut idle: u64 = 0;
+    for _ in 0..rounds {
+        if matches!(server.offer(client), Ok(Offer::Idle)) {
+            idle = idle.wrapping_add(1);
+        }
+    }
+    idle
+}
+
+/// Offers to a client of whose stations nothing arrived since the last one.
+pub fn idle(alloc: Global, requests: u32, capacity: u32, rounds: u32) -> anyhow::Result<u64> {
+    let mut server = full_server(alloc, 0, requests, capacity)?;
+    let client = asking(alloc, &mut server, requests, b"DATA\r")?;
+    Ok(offers(&mut server, client, rounds))
+}
+
+/// Again and again 1,000 records arrive that the client's selector does not let pass, and then it is offered something.
+pub fn passed(alloc: Global, each: u32, rounds: u32) -> anyhow::Result<u64> {
+    let mut server = full_server(alloc, 0, 1, 4096)?;
+    let client = asking(alloc, &mut server, 1, b"DATA\r")?;
+    let record = record_of(alloc, 0, b"BHN")?;
+    let mut sum: u64 = 0;
+    for _ in 0..rounds {
+        arrive_by_turns(&mut server, &[record], 1000);
+        sum = sum.wrapping_add(offers(&mut server, client, each));
+    }
+    Ok(sum)
+}

@@ -1,0 +1,80 @@
+//! What `feed` does over sockets.
+use jobs::{Endpoint, Failure, feed};
+use loopback::{CENTRE, Centre, any_port, packet, record};
+use sl_io::MemorySource;
+use socket_ports::MioPorts;
+use std::alloc::Global;
+use std::net::Ipv4Addr;
+use std::test::Fail;
+
+/// A port of this machine.
+fn here(port: u16) -> Endpoint {
+    Endpoint {
+        address: Ipv4Addr::LOCALHOST,
+        port,
+    }
+}
+
+/// Two records of GE APE.
+fn two_records(alloc: Global) -> Result<Vec<u8>, Fail> {
+    let mut bytes = record(b"APE", b"BHZ", 1)?.to_vec(alloc)?;
+    bytes.extend_from_slice(&record(b"APE", b"BHZ", 2)?)?;
+    Ok(bytes)
+}
+
+/// Whether GE APE holds two records, those of `two_records`.
+fn holds_two<R: std::net::Net>(rt: &R, centre: &mut Centre) -> Result<bool, Fail> {
+    let mut client = centre.client(rt)?;
+    let first = packet(b"SL000000", &record(b"APE", b"BHZ", 1)?);
+    let second = packet(b"SL000001", &record(b"APE", b"BHZ", 2)?);
+    Ok(
+        centre.answers(&mut client, b"FETCH\r", &first)?
+            && centre.gives(&mut client, &second)?
+            && centre.gives(&mut client, b"END")?,
+    )
+}
+
+#[test]
+fn records_of_a_feed_arrive(rt: HostRuntime) -> Result<(), Fail> {
+    let mut centre = Centre::open(&rt, CENTRE)?;
+    let bytes = two_records(rt.alloc())?;
+    let sent = feed(
+        &rt,
+        here(centre.ports().1),
+        &mut MemorySource::new(bytes.as_slice()),
+    );
+    assert!(rt; matches!(sent, Ok(2)));
+    centre.turns(3);
+    assert!(rt; holds_two(&rt, &mut centre)?);
+    Ok(())
+}
+
+#[test]
+fn a_feed_that_ends_inside_a_record_is_fault_41_and_its_whole_records_arrive(
+    rt: HostRuntime,
+) -> Result<(), Fail> {
+    let mut centre = Centre::open(&rt, CENTRE)?;
+    let mut bytes = two_records(rt.alloc())?;
+    bytes.extend_from_slice(&[b'0'; 511])?;
+    let sent = feed(
+        &rt,
+        here(centre.ports().1),
+        &mut MemorySource::new(bytes.as_slice()),
+    );
+    assert!(rt; matches!(sent, Err(failure) if failure.report().number == 41));
+    centre.turns(3);
+    assert!(rt; holds_two(&rt, &mut centre)?);
+    Ok(())
+}
+
+#[test]
+fn a_feed_to_a_closed_port_is_fault_47(rt: HostRuntime) -> Result<(), Fail> {
+    let ports = MioPorts::listen(&rt, rt.alloc(), any_port(), any_port())?;
+    let (_, feeds) = ports.bound();
+    drop(ports);
+    let bytes = two_records(rt.alloc())?;
+    let sent = feed(&rt, here(feeds), &mut MemorySource::new(bytes.as_slice()));
+    assert!(rt; matches!(sent, Err(Failure::Connect)));
+    assert_eq!(rt; Failure::Connect.report().number, 47);
+    Ok(())
+}
