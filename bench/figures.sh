@@ -116,6 +116,7 @@ small 6000 lines "$times" 'the same of TIME, cut out of bytes first' ''
 small 700 header '' 'mseed_header::read, of a record with one blockette' 'libmseed, with a line printed: about 5,800'
 small 200 number '' 'a sequence number read, counted on and written' ''
 small 1500 selectors '' 'sixteen selectors over a record' ''
+small 2500 packets '' 'a packet read, cut out and listed by the reader' ''
 calls
 check
 replay

@@ -1,7 +1,8 @@
 //! Does one piece of work many times, so that its instructions can be counted: `bench command ROUNDS LINE` reads a line as a
 //! command, `bench lines ROUNDS LINE` cuts it out of bytes first, `bench header ROUNDS` reads the header of a record,
 //! `bench selectors ROUNDS` asks sixteen selectors whether a record passes, `bench number ROUNDS` reads a sequence number and
-//! writes the one that follows, and `bench packets ROUNDS` reads packets and lists them. It prints a sum of what was read, so that no work can be left out.
+//! writes the one that follows, and `bench packets ROUNDS` reads packets and lists them. It prints a sum of what was read, so that no
+//! work can be left out.
 #![tactic(auto)]
 
 mod reading;

@@ -132,6 +132,15 @@ impl Centre {
         self.server.into_ports()
     }
 
+    /// Reads once as a client whose connection waits: the server has turns until something comes.
+    pub fn read<S: Read>(&mut self, client: &mut S, buffer: &mut [u8]) -> io::Result<usize> {
+        match self.next_piece(client, buffer)? {
+            Piece::Bytes(count) => Ok(count),
+            Piece::End => Ok(0),
+            Piece::Nothing => Err(io::Error::from(ErrorKind::TimedOut)),
+        }
+    }
+
     /// What a client reads next, after so many turns as it takes.
     fn next_piece<S: Read>(&mut self, client: &mut S, buffer: &mut [u8]) -> io::Result<Piece> {
         for _ in 0..PATIENCE {

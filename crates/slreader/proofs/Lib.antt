@@ -9,3 +9,4 @@ pub mod ReadingLaws
 pub mod SentLaws
 pub mod FaultLaws
 pub mod CameLemmas
+mod WorkedDialogues

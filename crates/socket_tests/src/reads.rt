@@ -1,0 +1,119 @@
+//! What `read` does over sockets.
+use loopback::{CENTRE, Centre, record};
+use packet_listing::{ListingFault, read_over};
+use sl_io::{MemorySink, Outer};
+use slreader::{Plan, Want};
+use std::alloc::Global;
+use std::io;
+use std::io::{Read, Write};
+use std::net::{Net, OpenStream};
+use std::test::Fail;
+
+/// A client's connection that seems to wait: the server has its turns whenever nothing is there to be read.
+#[derive(Drop)]
+struct Waiting<'a, S> {
+    centre: &'a mut Centre,
+    client: S,
+}
+
+impl<'a, S: Read> Read for Waiting<'a, S> {
+    fn read(&mut self, buffer: &mut [u8]) -> io::Result<usize> {
+        self.centre.read(&mut self.client, buffer)
+    }
+}
+
+/// Two records of GE APE, and one of GE WLF.
+fn feed<R: Net>(rt: &R, centre: &mut Centre) -> Result<(), Fail> {
+    let mut feed = centre.feed(rt)?;
+    feed.write_all(&record(b"APE", b"BHZ", 1)?)?;
+    feed.write_all(&record(b"WLF", b"BHN", 2)?)?;
+    feed.write_all(&record(b"APE", b"BHE", 3)?)?;
+    centre.turns(3);
+    Ok(())
+}
+
+/// A plan of words.
+fn plan<'a>(alloc: Global, words: &[&'a [u8]]) -> Result<Plan<'a>, Fail> {
+    let mut wants = Vec::new(alloc);
+    for word in words {
+        wants.push(Want::parse(alloc, word, true)?)?;
+    }
+    Ok(Plan::Multi(wants))
+}
+
+/// What a reader wrote, and why it stopped if it did.
+#[derive(Drop)]
+struct Listed {
+    lines: MemorySink,
+    records: MemorySink,
+    fault: Option<ListingFault>,
+}
+
+/// Reads what a server sends for a plan of words.
+fn read<R: Net + AllocGlobal>(
+    rt: &R,
+    centre: &mut Centre,
+    words: &[&[u8]],
+) -> Result<Listed, Fail> {
+    let plan = plan(rt.alloc(), words)?;
+    let client = centre.client(rt)?;
+    let mut writer = Outer::new(client.try_clone()?);
+    let mut reader = Outer::new(Waiting { centre, client });
+    let mut lines = MemorySink::new(rt.alloc());
+    let mut records = MemorySink::new(rt.alloc());
+    let ended = read_over(
+        rt.alloc(),
+        plan,
+        &mut reader,
+        &mut writer,
+        &mut lines,
+        &mut records,
+    );
+    Ok(Listed {
+        lines,
+        records,
+        fault: ended.err(),
+    })
+}
+
+const LINES: &[u8] = b"refused ZZ SHUT
+000000 GE APE -- BHZ D 17091648000000 17091648000100 1
+FFFFFE GE WLF -- BHN D 17091648000000 17091648000200 2
+000001 GE APE -- BHE D 17091648000000 17091648000300 3
+";
+
+#[test]
+fn a_reader_lists_what_a_server_holds(rt: HostRuntime) -> Result<(), Fail> {
+    let mut centre = Centre::open(&rt, CENTRE)?;
+    feed(&rt, &mut centre)?;
+    let listed = read(&rt, &mut centre, &[b"GE_APE", b"ZZ_SHUT", b"GE_WLF:BH?"])?;
+    assert!(rt; listed.fault.is_none());
+    assert!(rt; listed.lines.bytes() == LINES);
+    assert_eq!(rt; listed.records.bytes().len(), 3 * 512);
+    assert!(rt; listed.records.bytes()[..512] == record(b"APE", b"BHZ", 1)?);
+    Ok(())
+}
+
+/// A reader goes on with the number behind the last one that it has.
+#[test]
+fn a_reader_goes_on_after_a_break(rt: HostRuntime) -> Result<(), Fail> {
+    let mut centre = Centre::open(&rt, CENTRE)?;
+    feed(&rt, &mut centre)?;
+    let listed = read(&rt, &mut centre, &[b"GE_APE@000001"])?;
+    assert!(rt; listed.fault.is_none());
+    assert!(rt;
+        listed.lines.bytes()
+            == b"000001 GE APE -- BHE D 17091648000000 17091648000300 3\n".as_slice()
+    );
+    Ok(())
+}
+
+#[test]
+fn a_reader_that_is_refused_everything_is_fault_51(rt: HostRuntime) -> Result<(), Fail> {
+    let mut centre = Centre::open(&rt, CENTRE)?;
+    let listed = read(&rt, &mut centre, &[b"ZZ_SHUT", b"GE_NONE"])?;
+    let fault = listed.fault.ok_or("no fault")?;
+    assert_eq!(rt; fault.report().number, 51);
+    assert!(rt; listed.lines.bytes() == b"refused ZZ SHUT\nrefused GE NONE\n".as_slice());
+    Ok(())
+}
