@@ -51,20 +51,26 @@ def chains(needs):
     return heaviest
 
 
-def link_crate(name, room, is_built):
-    """Makes hard links to a crate's files in a room, and to what was built of it."""
-    crate, to = f"{TOP}/crates/{name}", f"{room}/crates/{name}"
-    for part in ("src", "specs", "proofs", *["out/rlib"] * is_built):
-        if os.path.isdir(f"{crate}/{part}"):
-            shutil.copytree(f"{crate}/{part}", f"{to}/{part}", copy_function=os.link)
+def link_crate(name, room):
+    """Makes hard links to a crate's files in a room, and to what other crates need of what was built of it."""
+    for part in ("src", "specs", "proofs", "out/rlib"):
+        if os.path.isdir(f"{TOP}/crates/{name}/{part}"):
+            shutil.copytree(f"{TOP}/crates/{name}/{part}", f"{room}/crates/{name}/{part}", copy_function=os.link)
+
+
+def copy_work(name, room):
+    """Copies what was done for a crate before, so that only what changed since is proved anew."""
+    if os.path.isdir(f"{TOP}/crates/{name}/out"):
+        shutil.rmtree(f"{room}/crates/{name}/out", ignore_errors=True)
+        shutil.copytree(f"{TOP}/crates/{name}/out", f"{room}/crates/{name}/out")
 
 
 def build(name, needs, lines, jobs):
     """Builds one crate over the libraries below it, which are built, and returns what `rt` said if that failed."""
     with tempfile.TemporaryDirectory(prefix=".build-", dir=TOP) as room:
-        for it in needs:
-            link_crate(it, room, is_built=True)
-        link_crate(name, room, is_built=False)
+        for it in [*needs, name]:
+            link_crate(it, room)
+        copy_work(name, room)
         with open(f"{room}/crates.txt", "w", encoding="utf-8") as listed:
             listed.writelines(f"{lines[it]}\n" for it in [*needs, name])
         done = subprocess.run(["rt", "lib", "--jobs", str(jobs)], cwd=f"{room}/crates/{name}", capture_output=True, text=True, check=False)

@@ -156,14 +156,16 @@ impl Centre {
     /// Whether all that a client reads next, as much as the buffer takes, comes.
     pub fn fills<S: Read>(&mut self, client: &mut S, buffer: &mut [u8]) -> io::Result<bool> {
         let mut at = 0;
-        while at < buffer.len() {
+        for _ in 0..buffer.len() {
+            if at >= buffer.len() {
+                return Ok(true);
+            }
             match self.next_piece(client, &mut buffer[at..])? {
-                Piece::Bytes(count) => at += count.min(buffer.len() - at).max(1),
-                Piece::Nothing => return Ok(false),
-                Piece::End => return Ok(false),
+                Piece::Bytes(count) => at = at.saturating_add(count),
+                Piece::Nothing | Piece::End => return Ok(false),
             }
         }
-        Ok(true)
+        Ok(at >= buffer.len())
     }
 
     /// Whether these bytes are what a client reads next.
