@@ -51,14 +51,14 @@ fn are_given<S: Read>(centre: &mut Centre, clients: &mut [S], wanted: &[u8]) -> 
 
 /// Some records of GE WLF, told apart by their samples, and the packets that they come in.
 #[derive(Drop)]
-struct Block {
+struct Records {
     records: Vec<u8>,
     packets: Vec<u8>,
 }
 
 /// The records with so many samples and more, from a number on.
-fn block(alloc: Global, samples: u16, first: Seq) -> Result<Block, Fail> {
-    let mut made = Block {
+fn made_records(alloc: Global, samples: u16, first: Seq) -> Result<Records, Fail> {
+    let mut made = Records {
         records: Vec::new(alloc),
         packets: Vec::new(alloc),
     };
@@ -94,7 +94,7 @@ fn each_of_200_clients_gets_each_of_2000_records(rt: HostRuntime) -> Result<(), 
     for place in 0..BLOCKS {
         let samples = place.saturating_mul(BLOCK);
         let first = number_after(samples).ok_or("no number")?;
-        let block = block(rt.alloc(), samples, first)?;
+        let block = made_records(rt.alloc(), samples, first)?;
         feed.write_all(&block.records)?;
         centre.turns(1);
         assert!(rt;

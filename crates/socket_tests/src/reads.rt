@@ -90,7 +90,8 @@ fn a_reader_lists_what_a_server_holds(rt: HostRuntime) -> Result<(), Fail> {
     assert!(rt; listed.fault.is_none());
     assert!(rt; listed.lines.bytes() == LINES);
     assert_eq!(rt; listed.records.bytes().len(), 3 * 512);
-    assert!(rt; listed.records.bytes()[..512] == record(b"APE", b"BHZ", 1)?);
+    let first = record(b"APE", b"BHZ", 1)?;
+    assert!(rt; listed.records.bytes().starts_with(&first));
     Ok(())
 }
 
