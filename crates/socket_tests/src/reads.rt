@@ -18,7 +18,8 @@ struct Waiting<'a, S> {
 
 impl<'a, S: Read> Read for Waiting<'a, S> {
     fn read(&mut self, buffer: &mut [u8]) -> io::Result<usize> {
-        self.centre.read(&mut self.client, buffer)
+        let most = buffer.len();
+        Ok(self.centre.read(&mut self.client, buffer)?.min(most))
     }
 }
 
