@@ -10,148 +10,177 @@ const OK: &[u8] = b"OK\r\n";
 
 const ERROR: &[u8] = b"ERROR\r\n";
 
-/// A client that was greeted.
-fn greeted<R: Net>(rt: &R, centre: &mut Centre) -> io::Result<Option<R::Stream>> {
-    let mut client = centre.client(rt)?;
-    if centre.answers(&mut client, b"HELLO\r", GREETING)? {
-        Ok(Some(client))
-    } else {
-        Ok(None)
-    }
+/// A record of network GE: its station, its channel, and how many samples it has.
+type Arrival = (&'static [u8], &'static [u8], u16);
+
+/// A step of a dialogue.
+enum Step {
+    /// The client says something, and is answered so.
+    Say(&'static [u8], &'static [u8]),
+    /// Records come from a feed.
+    Feed(&'static [Arrival]),
+    /// What the client reads next is the packet with that number and that record.
+    Packet(&'static [u8; 8], Arrival),
+    /// The client is told nothing in three turns.
+    Silence,
+    /// The client reads the end, and the connection is over.
+    End,
 }
 
-/// Records come from a feed, one after the other: of a station and a channel, with so many samples.
-fn feed<R: Net>(rt: &R, centre: &mut Centre, records: &[(&[u8], &[u8], u16)]) -> Result<(), Fail> {
+/// Records come from a feed, one after the other.
+fn feed<R: Net>(rt: &R, centre: &mut Centre, arrivals: &[Arrival]) -> Result<(), Fail> {
     let mut feed = centre.feed(rt)?;
-    for &(station, channel, samples) in records {
+    for &(station, channel, samples) in arrivals {
         feed.write_all(&record(station, channel, samples)?)?;
     }
     centre.turns(3);
     Ok(())
 }
 
-/// Whether the next packet of a client has that number and that record.
-fn brings<S: Read>(
-    centre: &mut Centre,
-    client: &mut S,
-    number: &[u8; 8],
-    (station, channel, samples): (&[u8], &[u8], u16),
-) -> Result<bool, Fail> {
-    let packet = packet(number, &record(station, channel, samples)?);
-    Ok(centre.gives(client, &packet)?)
+/// Whether the end comes, and the connection is over.
+fn ends<S: Read>(centre: &mut Centre, client: &mut S) -> io::Result<bool> {
+    Ok(centre.gives(client, b"END")? && centre.ends(client)?)
 }
 
-/// One station, with selectors.
-static UNI: [(&[u8], &[u8]); 2] = [(b"SELECT BHZ\r", OK), (b"DATA\r", b"")];
+/// Whether a step goes as it says.
+fn goes<R: Net, S: Read + Write>(
+    rt: &R,
+    centre: &mut Centre,
+    client: &mut S,
+    step: &Step,
+) -> Result<bool, Fail> {
+    match step {
+        Step::Say(said, answer) => Ok(centre.answers(client, said, answer)?),
+        Step::Feed(arrivals) => feed(rt, centre, arrivals).map(|_| true),
+        Step::Packet(number, (station, channel, samples)) => {
+            let packet = packet(number, &record(station, channel, *samples)?);
+            Ok(centre.gives(client, &packet)?)
+        }
+        Step::Silence => Ok(centre.is_silent(client)?),
+        Step::End => Ok(ends(centre, client)?),
+    }
+}
+
+/// The place of the first step that goes otherwise.
+fn first_other<R: Net, S: Read + Write>(
+    rt: &R,
+    centre: &mut Centre,
+    client: &mut S,
+    steps: &[Step],
+) -> Result<Option<usize>, Fail> {
+    for (place, step) in steps.iter().enumerate() {
+        if !goes(rt, centre, client, step)? {
+            return Ok(Some(place));
+        }
+    }
+    Ok(None)
+}
+
+/// The place of the first step that goes otherwise, at a new server with a new client.
+fn first_other_of<R: Net + AllocGlobal>(rt: &R, steps: &[Step]) -> Result<Option<usize>, Fail> {
+    let mut centre = Centre::open(rt, CENTRE)?;
+    let mut client = centre.client(rt)?;
+    first_other(rt, &mut centre, &mut client, steps)
+}
+
+/// One station, with a selector.
+static UNI: [Step; 7] = [
+    Step::Say(b"HELLO\r", GREETING),
+    Step::Say(b"SELECT BHZ\r", OK),
+    Step::Say(b"DATA\r", b""),
+    Step::Silence,
+    Step::Feed(&[
+        (b"APE", b"BHN", 1),
+        (b"WLF", b"BHZ", 2),
+        (b"APE", b"BHZ", 3),
+    ]),
+    Step::Packet(b"SL000001", (b"APE", b"BHZ", 3)),
+    Step::Silence,
+];
 
 #[test]
 fn a_uni_station_client_gets_the_first_station_that_it_sees(rt: HostRuntime) -> Result<(), Fail> {
-    let mut centre = Centre::open(&rt, CENTRE)?;
-    let mut client = greeted(&rt, &mut centre)?.ok_or("no greeting")?;
-    assert_eq!(rt; centre.first_other_answer(&mut client, &UNI)?, None);
-    centre.turns(2);
-    feed(
-        &rt,
-        &mut centre,
-        &[
-            (b"APE", b"BHN", 1),
-            (b"WLF", b"BHZ", 2),
-            (b"APE", b"BHZ", 3),
-        ],
-    )?;
-    assert!(rt; brings(&mut centre, &mut client, b"SL000001", (b"APE", b"BHZ", 3))?);
-    assert!(rt; centre.is_silent(&mut client)?);
+    assert_eq!(rt; first_other_of(&rt, &UNI)?, None);
     Ok(())
 }
 
 /// Two stations with selectors, and one that is closed.
-static MULTI: [(&[u8], &[u8]); 9] = [
-    (b"STATION WLF GE\r", OK),
-    (b"SELECT BHZ\r", OK),
-    (b"SELECT BHN\r", OK),
-    (b"DATA\r", OK),
-    (b"STATION SHUT ZZ\r", ERROR),
-    (b"STATION APE GE\r", OK),
-    (b"SELECT BH?.D\r", OK),
-    (b"DATA\r", OK),
-    (b"END\r", b""),
+static MULTI: [Step; 15] = [
+    Step::Say(b"HELLO\r", GREETING),
+    Step::Say(b"STATION WLF GE\r", OK),
+    Step::Say(b"SELECT BHZ\r", OK),
+    Step::Say(b"SELECT BHN\r", OK),
+    Step::Say(b"DATA\r", OK),
+    Step::Say(b"STATION SHUT ZZ\r", ERROR),
+    Step::Say(b"STATION APE GE\r", OK),
+    Step::Say(b"SELECT BH?.D\r", OK),
+    Step::Say(b"DATA\r", OK),
+    Step::Say(b"END\r", b""),
+    Step::Silence,
+    Step::Feed(&[
+        (b"WLF", b"BHZ", 1),
+        (b"WLF", b"BHE", 2),
+        (b"APE", b"BHE", 3),
+    ]),
+    Step::Packet(b"SLFFFFFE", (b"WLF", b"BHZ", 1)),
+    Step::Packet(b"SL000000", (b"APE", b"BHE", 3)),
+    Step::Silence,
 ];
 
 #[test]
 fn a_multi_station_client_gets_what_its_selectors_let_pass(rt: HostRuntime) -> Result<(), Fail> {
-    let mut centre = Centre::open(&rt, CENTRE)?;
-    let mut client = greeted(&rt, &mut centre)?.ok_or("no greeting")?;
-    assert_eq!(rt; centre.first_other_answer(&mut client, &MULTI)?, None);
-    centre.turns(2);
-    feed(
-        &rt,
-        &mut centre,
-        &[
-            (b"WLF", b"BHZ", 1),
-            (b"WLF", b"BHE", 2),
-            (b"APE", b"BHE", 3),
-        ],
-    )?;
-    assert!(rt; brings(&mut centre, &mut client, b"SLFFFFFE", (b"WLF", b"BHZ", 1))?);
-    assert!(rt; brings(&mut centre, &mut client, b"SL000000", (b"APE", b"BHE", 3))?);
-    assert!(rt; centre.is_silent(&mut client)?);
+    assert_eq!(rt; first_other_of(&rt, &MULTI)?, None);
     Ok(())
 }
 
 /// A client that has records up to a number goes on behind it, with the time of the last one.
-static GOING_ON: [(&[u8], &[u8]); 3] = [
-    (b"STATION WLF GE\r", OK),
-    (b"DATA FFFFFF 2024,02,29,00,00,00\r", OK),
-    (b"END\r", b""),
+static GOING_ON: [Step; 8] = [
+    Step::Feed(&[(b"WLF", b"BHZ", 1), (b"WLF", b"BHZ", 2)]),
+    Step::Say(b"HELLO\r", GREETING),
+    Step::Say(b"STATION WLF GE\r", OK),
+    Step::Say(b"DATA FFFFFF 2024,02,29,00,00,00\r", OK),
+    Step::Say(b"END\r", b""),
+    Step::Packet(b"SLFFFFFF", (b"WLF", b"BHZ", 2)),
+    Step::Feed(&[(b"WLF", b"BHZ", 3)]),
+    Step::Packet(b"SL000000", (b"WLF", b"BHZ", 3)),
 ];
 
 #[test]
 fn a_client_goes_on_by_a_number_and_a_time(rt: HostRuntime) -> Result<(), Fail> {
-    let mut centre = Centre::open(&rt, CENTRE)?;
-    feed(
-        &rt,
-        &mut centre,
-        &[(b"WLF", b"BHZ", 1), (b"WLF", b"BHZ", 2)],
-    )?;
-    let mut client = greeted(&rt, &mut centre)?.ok_or("no greeting")?;
-    assert_eq!(rt; centre.first_other_answer(&mut client, &GOING_ON)?, None);
-    assert!(rt; brings(&mut centre, &mut client, b"SLFFFFFF", (b"WLF", b"BHZ", 2))?);
-    feed(&rt, &mut centre, &[(b"WLF", b"BHZ", 3)])?;
-    assert!(rt; brings(&mut centre, &mut client, b"SL000000", (b"WLF", b"BHZ", 3))?);
+    assert_eq!(rt; first_other_of(&rt, &GOING_ON)?, None);
     Ok(())
 }
 
 /// The same as dial-up: what is held, and then the end.
-static FETCHING: [(&[u8], &[u8]); 3] = [
-    (b"STATION WLF GE\r", OK),
-    (b"FETCH FFFFFF 2024,02,29,00,00,00\r", OK),
-    (b"END\r", b""),
+static FETCHING: [Step; 7] = [
+    Step::Feed(&[(b"WLF", b"BHZ", 1), (b"WLF", b"BHZ", 2)]),
+    Step::Say(b"HELLO\r", GREETING),
+    Step::Say(b"STATION WLF GE\r", OK),
+    Step::Say(b"FETCH FFFFFF 2024,02,29,00,00,00\r", OK),
+    Step::Say(b"END\r", b""),
+    Step::Packet(b"SLFFFFFF", (b"WLF", b"BHZ", 2)),
+    Step::End,
 ];
 
 #[test]
 fn a_dial_up_client_gets_what_is_held_and_the_end(rt: HostRuntime) -> Result<(), Fail> {
-    let mut centre = Centre::open(&rt, CENTRE)?;
-    feed(
-        &rt,
-        &mut centre,
-        &[(b"WLF", b"BHZ", 1), (b"WLF", b"BHZ", 2)],
-    )?;
-    let mut client = greeted(&rt, &mut centre)?.ok_or("no greeting")?;
-    assert_eq!(rt; centre.first_other_answer(&mut client, &FETCHING)?, None);
-    assert!(rt; brings(&mut centre, &mut client, b"SLFFFFFF", (b"WLF", b"BHZ", 2))?);
-    assert!(rt; centre.gives(&mut client, b"END")?);
-    assert!(rt; centre.ends(&mut client)?);
+    assert_eq!(rt; first_other_of(&rt, &FETCHING)?, None);
     Ok(())
 }
 
+/// INFO within a transfer.
+static INFO: [Step; 7] = [
+    Step::Say(b"HELLO\r", GREETING),
+    Step::Say(b"SELECT BHZ\r", OK),
+    Step::Say(b"DATA\r", b""),
+    Step::Say(b"INFO ID\r", b""),
+    Step::Silence,
+    Step::Feed(&[(b"APE", b"BHZ", 5)]),
+    Step::Packet(b"SL000000", (b"APE", b"BHZ", 5)),
+];
+
 #[test]
 fn info_within_a_transfer_is_passed_over(rt: HostRuntime) -> Result<(), Fail> {
-    let mut centre = Centre::open(&rt, CENTRE)?;
-    let mut client = greeted(&rt, &mut centre)?.ok_or("no greeting")?;
-    assert_eq!(rt; centre.first_other_answer(&mut client, &UNI)?, None);
-    client.write_all(b"INFO ID\r")?;
-    assert!(rt; centre.is_silent(&mut client)?);
-    feed(&rt, &mut centre, &[(b"APE", b"BHZ", 5)])?;
-    assert!(rt; brings(&mut centre, &mut client, b"SL000000", (b"APE", b"BHZ", 5))?);
+    assert_eq!(rt; first_other_of(&rt, &INFO)?, None);
     Ok(())
 }

@@ -34,7 +34,7 @@ access = ""
 "#;
 
 /// The answer to HELLO.
-pub static GREETING: &[u8] = b"SeedLink v3.0 (station access)\r\nTest Centre\r\n";
+pub const GREETING: &[u8] = b"SeedLink v3.0 (station access)\r\nTest Centre\r\n";
 
 /// How many turns a client waits at most for its next bytes.
 const PATIENCE: u8 = 20;
