@@ -1,39 +1,58 @@
 //! Clients that come and go.
 use loopback::{CENTRE, Centre, GREETING};
 use std::io::Write;
+use std::net::Net;
 use std::test::Fail;
+
+/// Whether a line that comes in pieces is answered once.
+fn is_one_line<R: Net>(rt: &R, centre: &mut Centre) -> Result<bool, Fail> {
+    let mut client = centre.client(rt)?;
+    client.write_all(b"HEL")?;
+    centre.turns(2);
+    Ok(centre.answers(&mut client, b"LO\r\n", GREETING)? && centre.clients() == 1)
+}
 
 #[test]
 fn a_line_in_pieces_is_one_line(rt: HostRuntime) -> Result<(), Fail> {
     let mut centre = Centre::open(&rt, CENTRE)?;
-    let mut client = centre.client(&rt)?;
-    client.write_all(b"HEL")?;
-    centre.turns(2);
-    assert!(rt; centre.answers(&mut client, b"LO\r\n", GREETING)?);
-    assert_eq!(rt; centre.clients(), 1);
+    assert!(rt; is_one_line(&rt, &mut centre)?);
     Ok(())
+}
+
+/// Whether the last answer comes, and then the end.
+fn ends_after_the_answer<R: Net>(rt: &R, centre: &mut Centre) -> Result<bool, Fail> {
+    let mut client = centre.client(rt)?;
+    let is_answered = centre.answers(&mut client, b"HELLO\rBYE\r", GREETING)?;
+    Ok(is_answered && centre.ends(&mut client)? && centre.clients() == 0)
 }
 
 #[test]
 fn bye_ends_a_connection_after_the_last_answer(rt: HostRuntime) -> Result<(), Fail> {
     let mut centre = Centre::open(&rt, CENTRE)?;
-    let mut client = centre.client(&rt)?;
-    assert!(rt; centre.answers(&mut client, b"HELLO\rBYE\r", GREETING)?);
-    assert!(rt; centre.ends(&mut client)?);
-    assert_eq!(rt; centre.clients(), 0);
+    assert!(rt; ends_after_the_answer(&rt, &mut centre)?);
     Ok(())
+}
+
+/// How many clients there are once the first of two was answered, and how many once it has ended and the second was answered.
+fn counts_before_and_after<R: Net>(
+    rt: &R,
+    centre: &mut Centre,
+    said: &[u8],
+) -> Result<(usize, usize), Fail> {
+    let mut first = centre.client(rt)?;
+    let mut second = centre.client(rt)?;
+    first.write_all(said)?;
+    centre.turns(4);
+    let before = centre.clients();
+    drop(first);
+    let is_answered = centre.answers(&mut second, b"HELLO\r", GREETING)?;
+    Ok((before, if is_answered { centre.clients() } else { 0 }))
 }
 
 #[test]
 fn a_client_that_ends_is_closed_and_others_go_on(rt: HostRuntime) -> Result<(), Fail> {
     let mut centre = Centre::open(&rt, CENTRE)?;
-    let mut first = centre.client(&rt)?;
-    let mut second = centre.client(&rt)?;
-    assert!(rt; centre.answers(&mut first, b"HELLO\r", GREETING)?);
-    assert_eq!(rt; centre.clients(), 2);
-    drop(first);
-    assert!(rt; centre.answers(&mut second, b"HELLO\r", GREETING)?);
-    assert_eq!(rt; centre.clients(), 1);
+    assert_eq!(rt; counts_before_and_after(&rt, &mut centre, b"")?, (2, 1));
     Ok(())
 }
 
@@ -41,13 +60,7 @@ fn a_client_that_ends_is_closed_and_others_go_on(rt: HostRuntime) -> Result<(), 
 #[test]
 fn a_client_that_resets_is_closed_and_others_go_on(rt: HostRuntime) -> Result<(), Fail> {
     let mut centre = Centre::open(&rt, CENTRE)?;
-    let mut first = centre.client(&rt)?;
-    let mut second = centre.client(&rt)?;
-    first.write_all(b"HELLO\rCAT\rSTATION WLF GE\rDATA\rEND\r")?;
-    centre.turns(4);
-    assert_eq!(rt; centre.clients(), 2);
-    drop(first);
-    assert!(rt; centre.answers(&mut second, b"HELLO\r", GREETING)?);
-    assert_eq!(rt; centre.clients(), 1);
+    let said = b"HELLO\rCAT\rSTATION WLF GE\rDATA\rEND\r";
+    assert_eq!(rt; counts_before_and_after(&rt, &mut centre, said)?, (2, 1));
     Ok(())
 }

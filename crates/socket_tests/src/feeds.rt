@@ -4,7 +4,7 @@ use loopback::{CENTRE, Centre, any_port, packet, record};
 use sl_io::MemorySource;
 use socket_ports::MioPorts;
 use std::alloc::Global;
-use std::net::Ipv4Addr;
+use std::net::{Ipv4Addr, Net};
 use std::test::Fail;
 
 /// A port of this machine.
@@ -23,7 +23,7 @@ fn two_records(alloc: Global) -> Result<Vec<u8>, Fail> {
 }
 
 /// Whether GE APE holds two records, those of `two_records`.
-fn holds_two<R: std::net::Net>(rt: &R, centre: &mut Centre) -> Result<bool, Fail> {
+fn holds_two<R: Net>(rt: &R, centre: &mut Centre) -> Result<bool, Fail> {
     let mut client = centre.client(rt)?;
     let first = packet(b"SL000000", &record(b"APE", b"BHZ", 1)?);
     let second = packet(b"SL000001", &record(b"APE", b"BHZ", 2)?);
@@ -34,18 +34,24 @@ fn holds_two<R: std::net::Net>(rt: &R, centre: &mut Centre) -> Result<bool, Fail
     )
 }
 
+/// What a feed of these bytes answers, and whether two records have arrived then.
+fn fed<R: Net>(rt: &R, centre: &mut Centre, bytes: &[u8]) -> Result<(Option<u64>, bool), Fail> {
+    let mut source = MemorySource::new(bytes);
+    let sent = feed(rt, here(centre.ports().1), &mut source);
+    centre.turns(3);
+    let number = match sent {
+        Ok(count) => Some(count),
+        Err(failure) if failure.report().number == 41 => None,
+        Err(_) => return Err(Fail::from("another fault")),
+    };
+    Ok((number, holds_two(rt, centre)?))
+}
+
 #[test]
 fn records_of_a_feed_arrive(rt: HostRuntime) -> Result<(), Fail> {
     let mut centre = Centre::open(&rt, CENTRE)?;
     let bytes = two_records(rt.alloc())?;
-    let sent = feed(
-        &rt,
-        here(centre.ports().1),
-        &mut MemorySource::new(bytes.as_slice()),
-    );
-    assert!(rt; matches!(sent, Ok(2)));
-    centre.turns(3);
-    assert!(rt; holds_two(&rt, &mut centre)?);
+    assert_eq!(rt; fed(&rt, &mut centre, &bytes)?, (Some(2), true));
     Ok(())
 }
 
@@ -56,14 +62,7 @@ fn a_feed_that_ends_inside_a_record_is_fault_41_and_its_whole_records_arrive(
     let mut centre = Centre::open(&rt, CENTRE)?;
     let mut bytes = two_records(rt.alloc())?;
     bytes.extend_from_slice(&[b'0'; 511])?;
-    let sent = feed(
-        &rt,
-        here(centre.ports().1),
-        &mut MemorySource::new(bytes.as_slice()),
-    );
-    assert!(rt; matches!(sent, Err(failure) if failure.report().number == 41));
-    centre.turns(3);
-    assert!(rt; holds_two(&rt, &mut centre)?);
+    assert_eq!(rt; fed(&rt, &mut centre, &bytes)?, (None, true));
     Ok(())
 }
 
