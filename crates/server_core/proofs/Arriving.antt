@@ -22,7 +22,8 @@ use Rattle.session_state.specs.Sessions.{Sitting, client_in, sitting_view}
 use Rattle.server_core.specs.declared.arrivals.ArriveFault.{ArriveFault}
 use Rattle.server_core.specs.declared.arrivals.ArriveFault.TheVariants.{UnknownStation}
 use Rattle.server_core.specs.Arrivals.{answer_to, numbered, place_of, place_or_unknown, placed_by, IsPlaced}
-use Rattle.server_core.specs.Standing.{Serving, StandsAt, seated, Seat, AreSettled}
+use Rattle.slab.specs.Slab.{Slab}
+use Rattle.server_core.specs.Standing.{IsSettled, Serving, StandsAt, seated, Seat, AreSettled}
 
 -- ---- who a record is of
 
@@ -99,7 +100,7 @@ seated-later config h later (Some (Some s)) settled = ap (λ c. let x : Option S
 abbrev pub Arrives : Holdings → Holdings → ℕ → List ℕ → Summary → Type 0
 Arrives old new place bytes summary = (config : Config) (h : List Arrival) (a : Arrival) → old ≡ holdings_of config h → HasDistinctCodes config.entries → is_of (station_at config.entries place) a ≡ true → a.bytes ≡ bytes → summary_of a.facts ≡ summary → new ≡ holdings_of config (h ++ a ∷ [])
 
-pub arrive-stands : (old new : Serving) (r : List ℕ) (place : ℕ) (summary : Summary) → IsPlaced old.config r place summary → new.config ≡ old.config → new.sessions ≡ old.sessions → HasDistinctCodes old.config.entries → AreSettled old.config old.rings old.sessions → Arrives old.rings new.rings place r summary → (config : Config) (w : World) → StandsAt old config w → StandsAt new config (step config w (Arrive r))
+pub arrive-stands : (old new : Serving) (r : List ℕ) (place : ℕ) (summary : Summary) → IsPlaced old.config r place summary → new.config ≡ old.config → new.sessions ≡ old.sessions → HasDistinctCodes old.config.entries → ((k : ℕ) (s : Sitting) → slice_get old.sessions k ≡ Some (Some s) → IsSettled old.config old.rings s) → Arrives old.rings new.rings place r summary → (config : Config) (w : World) → StandsAt old config w → StandsAt new config (step config w (Arrive r))
 arrive-stands old new r place summary is same kept distinct settled arrives config w stands = subst (λ c. StandsAt new c (step c w (Arrive r))) stands.config_is here
   where
     a : Arrival
@@ -137,14 +138,9 @@ answers-number config h r place number summary is e =
 pub placed-unknown : (config : Config) (r : List ℕ) (x : Facts) → header_of r ≡ Ok x → place_of config x ≡ None → placed_by config (header_of r) ≡ Err UnknownStation
 placed-unknown config r x is none = ap (placed_by config) is ∙ ap place_or_unknown none
 
--- ---- a server at its start
-
-pub none-settled : (config : Config) (rings : Holdings) → AreSettled config rings []
-none-settled config rings k s e = absurd cc
-
 -- What sessions have passed stays passed while a record arrives.
-pub arrive-settled : (config : Config) (before after : Holdings) (sessions : List (Option Sitting)) → AllGrow before.rings after.rings → AreSettled config before sessions → AreSettled config after sessions
-arrive-settled config before after sessions grow settled k s at =
+pub arrive-settled : (config : Config) (before after : Holdings) (slots : Slab Sitting) → AllGrow before.rings after.rings → AreSettled config before slots → AreSettled config after slots
+arrive-settled config before after slots grow settled k s at =
     let was = settled k s at in
     record { places = was.places; started = was.started; passed = grown-passed before after s grow was.passed }
 

@@ -1,5 +1,5 @@
 pub mod Standing
-pub mod Handings
 pub mod Runs
 pub mod Refusals
 pub mod Arrivals
+pub mod Clients

@@ -1,5 +1,5 @@
 -- Events and what is handed, as the definitions have them.
-use Rattle.std.specs.Prelude.{ℕ, List, [], ◌∷◌, slice_get}
+use Rattle.std.specs.Prelude.{ℕ, Bool, true, false, List, [], ◌∷◌, take, slice_get, Option, Some, None}
 use Rattle.std.specs.Net.Addr.{ipv4_bits}
 use Rattle.protocol.specs.World.{Event as ProtocolEvent, Handed as ProtocolHanded, World, told, taken_by, client_of}
 use Rattle.protocol.specs.World.Event.{Open as ProtocolOpen, Bytes as ProtocolBytes, Take as ProtocolTake, Close as ProtocolClose, Arrive as ProtocolArrive}
@@ -7,6 +7,9 @@ use Rattle.protocol.specs.Catalog.{Config}
 use Rattle.protocol.specs.Alone.{own_view, seen, handed_to}
 use Rattle.protocol.specs.Offers.{arrivals, client_after, offers, bytes_since}
 use Rattle.protocol.specs.Transfers.{KeepsUp, MissesAreOverruns, HandsItsChoices, MissesNothing}
+use Rattle.protocol.specs.Client.{Client}
+use Rattle.server_core.specs.declared.client.Offer.{Offer}
+use Rattle.server_core.specs.declared.client.Offer.TheVariants.{Bytes as OfferBytes, Ended, Idle}
 use Rattle.server_core.specs.declared.events.Event.{Event}
 use Rattle.server_core.specs.declared.events.Event.TheVariants.{Open, Bytes, Take, Close, Arrive}
 use Rattle.server_core.specs.declared.events.Handed.{Handed}
@@ -20,6 +23,18 @@ event_value (Arrive bytes) = ProtocolArrive bytes
 
 abbrev pub handed_value : Handed → ProtocolHanded
 handed_value x = record { client = x.client; bytes = x.bytes.items; ended = x.ended }
+
+-- the first bytes that wait for a client, at most so many
+abbrev pub first_waiting : ℕ → Option Client → List ℕ
+first_waiting n None = []
+first_waiting n (Some c) = take n c.waiting
+
+-- whether a client's connection is over, by what an offer to it is answered, and where none is answered
+abbrev pub is_over_by : Option Offer → Bool
+is_over_by None = true
+is_over_by (Some OfferBytes) = false
+is_over_by (Some Ended) = true
+is_over_by (Some Idle) = false
 
 -- what an event hands in a world
 abbrev pub handed_by : World → ProtocolEvent → List ProtocolHanded

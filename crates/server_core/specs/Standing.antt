@@ -1,5 +1,6 @@
 -- What a server stands for: a world of clients over one history.
-use Rattle.std.specs.Prelude.{◌≡◌, ◌≢◌, ℕ, List, length, slice_get, Option, Some, None, option_map}
+use Rattle.std.specs.Prelude.{◌≡◌, ◌≢◌, ℕ, List, length, slice_get, Option, Some, None, IsSome, option_map}
+use Rattle.slab.specs.Slab.{Slab, get}
 use Rattle.protocol.specs.Catalog.{Config, View}
 use Rattle.protocol.specs.Client.{Client, after_take, offered}
 use Rattle.protocol.specs.History.{Arrival}
@@ -60,9 +61,9 @@ pub record IsSettled (config : Config) (rings : Holdings) (s : Sitting) : Type 0
   pub started : s.state ≢ Starting
   pub passed : ArePassed rings s
 
--- the same of each session
-abbrev pub AreSettled : Config → Holdings → List (Option Sitting) → Type 0
-AreSettled config rings sessions = (k : ℕ) (s : Sitting) → slice_get sessions k ≡ Some (Some s) → IsSettled config rings s
+-- the same of the session in each slot
+abbrev pub AreSettled : Config → Holdings → Slab Sitting → Type 0
+AreSettled config rings slots = (slot : ℕ) (s : Sitting) → get slots slot ≡ Some s → IsSettled config rings s
 
 -- The server has the configuration, what is held of the history, a session for each connection, and at each number the same
 -- view and client.
@@ -80,6 +81,15 @@ Stands server config events = StandsAt server config (world_after config events)
 pub record OnlyGoesOn (config : Config) (h : List Arrival) (old new : List (Option Sitting)) (k : ℕ) (f : View → Client → Client) : Type 0 where
   pub here : seated config h (slice_get new k) ≡ goes_on f (seated config h (slice_get old k))
   pub others : (j : ℕ) → j ≢ k → slice_get new j ≡ slice_get old j
+
+-- Each slot that has a session keeps one.
+abbrev pub StayOpen : Slab Sitting → Slab Sitting → Type 0
+StayOpen old new = (slot : ℕ) → IsSome (get old slot) → IsSome (get new slot)
+
+-- Only the session in a slot goes on.
+pub record SlotGoesOn (config : Config) (h : List Arrival) (old new : Slab Sitting) (slot : ℕ) (f : View → Client → Client) : Type 0 where
+  pub here : seated config h (Some (get new slot)) ≡ goes_on f (seated config h (Some (get old slot)))
+  pub others : (other : ℕ) → other ≢ slot → get new other ≡ get old other
 
 -- the client after a Take; contracts need not look into it
 unfoldable pub taking : List Arrival → ℕ → View → Client → Client

@@ -1,12 +1,15 @@
 //! A whole list of events.
-ghost use Rattle.std.specs.Prelude.{◌≡◌, ℕ, ◌<◌, ◌-◌, ◌^◌, length, List, [], ◌∷◌, ◌++◌, map, Bool, true, Some, IfOk, OnOk};
+ghost use Rattle.std.specs.Prelude.{◌≡◌, ℕ, ◌<◌, ◌-◌, ◌^◌, length, List, [], ◌∷◌, ◌++◌, map, slice_get, take as first, Bool, true, Some, IfOk, OnOk};
+ghost use Rattle.std.specs.Result.{result_ok};
 ghost use Rattle.protocol.specs.Catalog.{Config as ProtocolConfig, Entry, sees};
-ghost use Rattle.protocol.specs.World.{Event as ProtocolEvent, World, step, handed};
+ghost use Rattle.protocol.specs.World.{Event as ProtocolEvent, World, step, handed, told, taken_by, client_of};
+ghost use Rattle.protocol.specs.World.Event.{Take};
+ghost use Rattle.session_state.specs.Sessions.{Sitting};
 ghost use Rattle.protocol.specs.Alone.{address_of, alone, own_view, seen, handed_to, restricted};
 ghost use Rattle.server_core.specs.Standing.{StandsAt};
-ghost use Rattle.server_core.specs.Runs.{event_value, handed_value, handed_by, MissesOnlyOverruns, MissesNothingThatIsHeld};
+ghost use Rattle.server_core.specs.Runs.{event_value, handed_value, handed_by, first_waiting, is_over_by, MissesOnlyOverruns, MissesNothingThatIsHeld};
 
-use crate::client::Client;
+use crate::client::{Client, Gone, Offer};
 use crate::server::Server;
 use catalog::Config;
 use std::alloc::{AllocError, Global};
@@ -37,6 +40,62 @@ pub struct Handed {
     pub ended: bool,
 }
 
+/// The first bytes that wait for a client, at most so many.
+fn front(
+    alloc: Global,
+    server: &Server,
+    client: Client,
+    count: usize,
+) -> Result<Vec<u8>, AllocError>
+    ensures sitting { IfOk result (λ bytes. (s : Sitting) → slice_get server.now.sessions client ≡ Some (Some s) →
+        bytes.items ≡ first count s.waiting) }
+    ensures answer { IfOk result (λ bytes. (config : ProtocolConfig) (w : World) → StandsAt server.now config w →
+        bytes.items ≡ first_waiting count (client_of (slice_get w.connections client))) }
+{
+    let Ok(waiting) = server.waiting(client) else {
+        return Ok(Vec::new(alloc));
+    };
+    let some = count.min(waiting.len());
+    let bytes = waiting[..some].to_vec(alloc)?;
+    Ok(bytes)
+}
+
+/// Whether an offer found that a client's connection is over.
+fn is_over(found: Result<Offer, Gone>) -> bool
+    ensures { result ≡ is_over_by (result_ok found) }
+{
+    match found {
+        Ok(Offer::Bytes) => false,
+        Ok(Offer::Ended) => true,
+        Ok(Offer::Idle) => false,
+        Err(Gone) => true,
+    }
+}
+
+/// What waits next for a client is handed, at most so many bytes of it: an offer, and what is taken of it.
+fn take(
+    alloc: Global,
+    server: &mut Server,
+    client: Client,
+    count: usize,
+) -> Result<Handed, AllocError>
+    ensures stands { OnOk result ((config : ProtocolConfig) (w : World) → StandsAt server.old config w →
+        StandsAt server.new config (step config w (Take client count))) }
+    ensures handed { IfOk result (λ x. (config : ProtocolConfig) (w : World) → StandsAt server.old config w →
+        handed_value x ≡ told client (taken_by w.history (client_of (slice_get w.connections client)) count)) }
+{
+    let found = server.offer(client);
+    let bytes = front(alloc, server, client, count)?;
+    if !bytes.is_empty() {
+        let _ = server.took(client, bytes.len());
+    }
+    Ok(Handed {
+        client: client.number(),
+        bytes,
+        ended: is_over(found),
+    })
+}
+
 fn act(
     alloc: Global,
     server: &mut Server,
@@ -58,12 +117,8 @@ fn act(
             Ok(())
         }
         Event::Take(client, count) => {
-            let handing = server.take(alloc, *client, *count)?;
-            out.push(Handed {
-                client: *client,
-                bytes: handing.bytes,
-                ended: handing.ended,
-            })?;
+            let handed = take(alloc, server, Client::new(*client), *count)?;
+            out.push(handed)?;
             Ok(())
         }
         Event::Close(client) => {

@@ -3,6 +3,7 @@
 
 mod arrivals;
 pub mod client;
+mod clients;
 pub mod events;
 mod seats;
 pub mod server;

@@ -1,16 +1,16 @@
 //! All clients of a server.
-ghost use Rattle.std.specs.Prelude.{OnErr, option_map, ◌≡◌, ◌≢◌, ◌-◌, ◌^◌, Err, ◌<◌, ◌≤◌, [], ◌∷◌, ◌++◌, length, slice_get, IfOk, OnOk, Some, is_some, is_ok};
+ghost use Rattle.std.specs.Prelude.{OnErr, option_map, ◌≡◌, ◌≢◌, ◌-◌, ◌^◌, Err, ◌<◌, ◌≤◌, [], ◌∷◌, ◌++◌, length, slice_get, slice_index_or, IfOk, OnOk, Some, None, is_some, is_ok};
 ghost use Rattle.std.specs.Result.{result_ok};
 ghost use Rattle.std.specs.Net.Addr.{ipv4_bits};
 ghost use Rattle.protocol.specs.Catalog.{Config as ProtocolConfig};
 ghost use Rattle.protocol.specs.Client.{offered};
-ghost use Rattle.protocol.specs.World.{World, step, empty_world, taken_by, client_of};
+ghost use Rattle.protocol.specs.World.{World, step, empty_world, client_of};
 ghost use Rattle.protocol.specs.World.Event.{Open, Bytes, Take, Close, Arrive};
 
 use crate::arrivals::{ArriveFault, Placing, placed};
 use crate::client::{Client, Gone, Offer, Refusal};
 use crate::seats;
-use crate::serving::Handing;
+use crate::clients::Clients;
 use catalog::Config;
 use held_records::Rings;
 use session_state::Session;
@@ -24,24 +24,24 @@ use std::net::Ipv4Addr;
 pub struct Server {
     config: Config,
     rings: Rings,
-    sessions: Vec<Option<Session>>,
+    clients: Clients,
 }
 
 impl Model for Server {
     ghost use Rattle.std.specs.Prelude.{◌≡◌, length};
+    ghost use Rattle.server_core.specs.Clients.{IsTable, sessions_of};
     ghost use Rattle.server_core.specs.Standing.{Serving, AreSettled};
 
     ghost Value = { Serving };
 
-    ghost view = { λ s. record { config = s.config; rings = s.rings; sessions = s.sessions.items } };
+    ghost view = { λ s. record { config = s.config; rings = s.rings; sessions = sessions_of s.clients } };
 
-    ghost invariant = { λ s. AreSettled s.config s.rings s.sessions.items × (length s.rings.rings ≡ length s.config.entries) };
+    ghost invariant = { λ s. IsTable s.clients × AreSettled s.config s.rings s.clients.slots × (length s.rings.rings ≡ length s.config.entries) };
 }
 
 impl Server {
     ghost use Rattle.session_state.specs.Sessions.{Sitting};
     ghost use Rattle.server_core.specs.Standing.{StandsAt};
-    ghost use Rattle.server_core.specs.Handings.{taken_value};
     ghost use Rattle.server_core.specs.Refusals.{room_of, receipt, offer_of};
     ghost use Rattle.server_core.specs.Arrivals.{answer_to, IsExhausted, IsPlaced};
     ghost use Rattle.server_core.specs.declared.arrivals.ArriveFault.TheVariants.{Exhausted};
@@ -54,19 +54,19 @@ impl Server {
         Ok(Server {
             config,
             rings,
-            sessions: Vec::new(alloc),
+            clients: Clients::new(alloc),
         })
     }
 
-    /// A client comes from an address, and has the next number. Only memory can lack, and then nothing changes.
+    /// A client comes from an address, and has the next number. Only memory can lack, or numbers once 2^64 - 1 clients came, and
+    /// then nothing changes.
     pub fn open(&mut self, alloc: Global, address: Ipv4Addr) -> Result<Client, AllocError>
         ensures ok { OnOk result ((config : ProtocolConfig) (w : World) → StandsAt self.old config w → StandsAt self.new config (step config w (Open (ipv4_bits address)))) }
         ensures number { IfOk result (λ c. c ≡ length self.old.sessions) }
         ensures err { OnErr result (self.new ≡ self.old) }
     {
         let view = self.config.view(alloc, address)?;
-        let number = self.sessions.len();
-        self.sessions.push(Some(Session::new(view)))?;
+        let number = self.clients.open(Session::new(view))?;
         Ok(Client::new(number))
     }
 
@@ -74,7 +74,10 @@ impl Server {
     pub fn room(&self, client: Client) -> Result<usize, Gone>
         ensures { (config : ProtocolConfig) (w : World) → StandsAt self.now config w → result_ok result ≡ option_map room_of (client_of (slice_get w.connections client)) }
     {
-        seats::room_at(self.sessions.as_slice(), client.number()).ok_or(Gone)
+        match self.session(client) {
+            Some(session) => Ok(session.room()),
+            None => Err(Gone),
+        }
     }
 
     /// Bytes come from a client, and its lines are obeyed as far as they may be. Bytes that do not fit are refused as a whole,
@@ -83,11 +86,15 @@ impl Server {
         ensures stands { (config : ProtocolConfig) (w : World) → StandsAt self.old config w → StandsAt self.new config (step config w (Bytes client bytes.now)) }
         ensures answer { (config : ProtocolConfig) (w : World) → StandsAt self.old config w → result ≡ receipt (length bytes.now) (client_of (slice_get w.connections client)) }
     {
-        let number = client.number();
-        if number < self.sessions.len() {
-            seats::receive_at(&self.config, &self.rings, &mut self.sessions, number, bytes)
-        } else {
-            Err(Refusal::Gone)
+        match self.clients.seek(client.number()) {
+            Some(slot) => seats::receive_in(
+                &self.config,
+                &self.rings,
+                &mut self.clients.slots,
+                slot,
+                bytes,
+            ),
+            None => Err(Refusal::Gone),
         }
     }
 
@@ -97,11 +104,9 @@ impl Server {
         ensures stands { (config : ProtocolConfig) (w : World) → StandsAt self.old config w → StandsAt self.new config (step config w (Take client 0)) }
         ensures answer { (config : ProtocolConfig) (w : World) → StandsAt self.old config w → result_ok result ≡ option_map (λ c. offer_of (offered w.history c)) (client_of (slice_get w.connections client)) }
     {
-        let number = client.number();
-        if number < self.sessions.len() {
-            seats::offer_at(&self.config, &self.rings, &mut self.sessions, number).ok_or(Gone)
-        } else {
-            Err(Gone)
+        match self.clients.seek(client.number()) {
+            Some(slot) => seats::offer_in(&self.config, &self.rings, &mut self.clients.slots, slot),
+            None => Err(Gone),
         }
     }
 
@@ -110,34 +115,9 @@ impl Server {
         ensures sitting { (s : Sitting) → slice_get self.now.sessions client ≡ Some (Some s) → option_map (λ bytes. bytes.now) (result_ok result) ≡ Some s.waiting }
         ensures answer { (config : ProtocolConfig) (w : World) → StandsAt self.now config w → option_map (λ bytes. bytes.now) (result_ok result) ≡ option_map (λ c. c.waiting) (client_of (slice_get w.connections client)) }
     {
-        seats::waiting_at(self.sessions.as_slice(), client.number()).ok_or(Gone)
-    }
-
-    /// What waits next for a client is handed, at most so many bytes of it: an offer, and what is taken of it.
-    pub(crate) fn take(
-        &mut self,
-        alloc: Global,
-        number: usize,
-        count: usize,
-    ) -> Result<Handing, AllocError>
-        ensures ok { OnOk result ((config : ProtocolConfig) (w : World) → StandsAt self.old config w → StandsAt self.new config (step config w (Take number count))) }
-        ensures taken { IfOk result (λ x. (config : ProtocolConfig) (w : World) → StandsAt self.old config w → taken_value x ≡ taken_by w.history (client_of (slice_get w.connections number)) count) }
-    {
-        if number < self.sessions.len() {
-            let handing = seats::take_at(
-                alloc,
-                &self.config,
-                &self.rings,
-                &mut self.sessions,
-                number,
-                count,
-            )?;
-            Ok(handing)
-        } else {
-            Ok(Handing {
-                bytes: Vec::new(alloc),
-                ended: true,
-            })
+        match self.session(client) {
+            Some(session) => Ok(session.waiting()),
+            None => Err(Gone),
         }
     }
 
@@ -147,11 +127,15 @@ impl Server {
         ensures stands { (config : ProtocolConfig) (w : World) → StandsAt self.old config w → StandsAt self.new config (step config w (Take client count)) }
         ensures answer { (config : ProtocolConfig) (w : World) → StandsAt self.old config w → is_ok result ≡ is_some (client_of (slice_get w.connections client)) }
     {
-        let number = client.number();
-        if number < self.sessions.len() {
-            seats::took_at(&self.config, &self.rings, &mut self.sessions, number, count)
-        } else {
-            Err(Gone)
+        match self.clients.seek(client.number()) {
+            Some(slot) => seats::took_in(
+                &self.config,
+                &self.rings,
+                &mut self.clients.slots,
+                slot,
+                count,
+            ),
+            None => Err(Gone),
         }
     }
 
@@ -196,11 +180,17 @@ impl Server {
         ensures stands { (config : ProtocolConfig) (w : World) → StandsAt self.old config w → StandsAt self.new config (step config w (Close client)) }
         ensures answer { (config : ProtocolConfig) (w : World) → StandsAt self.old config w → is_ok result ≡ is_some (client_of (slice_get w.connections client)) }
     {
-        let number = client.number();
-        if number < self.sessions.len() {
-            seats::close_at(&mut self.sessions, number)
+        if self.clients.close(client.number()) {
+            Ok(())
         } else {
             Err(Gone)
         }
+    }
+    /// The session of a client, while it is open.
+    fn session(&self, client: Client) -> Option<&Session>
+        ensures { option_map (λ session. session.now) result ≡ slice_index_or self.now.sessions client None }
+    {
+        let slot = self.clients.slot_of(client.number())?;
+        self.clients.slots.get(slot)
     }
 }

@@ -7,7 +7,6 @@ ghost use Rattle.session_state.specs.Sessions.{client_in, sitting_view, Comes, H
 ghost use Rattle.session_state.specs.declared.session.State.TheVariants.{Starting};
 ghost use Rattle.session_state.specs.declared.session.Settled.TheVariants.{Rest, Start};
 ghost use Rattle.transfer.specs.Cursors.{ArePassed};
-ghost use Rattle.server_core.specs.Handings.{taken_value};
 ghost use Rattle.server_core.specs.Refusals.{receipt, offer_of};
 ghost use Rattle.server_core.specs.Standing.{HoldsOf, IsSettled, taking};
 
@@ -15,7 +14,6 @@ use crate::client::{Offer, Refusal};
 use catalog::Config;
 use held_records::Rings;
 use session_state::{Session, Settled, State};
-use std::alloc::{AllocError, Global};
 use transfer::{choose, start};
 
 /// A session that settled goes on with its transfer, where one is to start.
@@ -115,58 +113,4 @@ pub fn took(config: &Config, rings: &Rings, session: &mut Session, count: usize)
 {
     let settled = session.took(config, count);
     proceed(config, rings, session, settled);
-}
-
-/// What a take hands, and whether the client is told that its connection is over.
-#[derive(Drop)]
-pub struct Handing {
-    pub bytes: Vec<u8>,
-    pub ended: bool,
-}
-
-/// Whether nothing waits and the session is in its end.
-fn is_over(session: &Session) -> bool
-    ensures { (config : ProtocolConfig) (h : List Arrival) → result ≡ (is_nothing session.now.waiting && is_ending (client_in config h session.now).state) }
-{
-    if session.is_empty() {
-        session.is_ending()
-    } else {
-        false
-    }
-}
-
-fn front(alloc: Global, session: &Session, count: usize) -> Result<Vec<u8>, AllocError>
-    ensures { IfOk result (λ bytes. bytes.items ≡ take count session.now.waiting) }
-{
-    let waiting = session.waiting();
-    let some = count.min(waiting.len());
-    let bytes = waiting[..some].to_vec(alloc)?;
-    Ok(bytes)
-}
-
-/// What waits next is handed, at most so many bytes of it.
-#[tactic(auto, unfolding(crate::specs::Standing::taking))]
-pub fn take(
-    alloc: Global,
-    config: &Config,
-    rings: &Rings,
-    session: &mut Session,
-    count: usize,
-) -> Result<Handing, AllocError>
-    requires { IsSettled config.now rings.now session.old }
-    ensures client { OnOk result ((h : List Arrival) → HoldsOf config.now rings.now h → client_in config.now h session.new
-        ≡ taking h count (sitting_view config.now session.old) (client_in config.now h session.old)) }
-    ensures taken { IfOk result (λ x. (h : List Arrival) → HoldsOf config.now rings.now h → taken_value x ≡ taken_of (offered h (client_in config.now h session.old)) count) }
-    ensures places { session.new.places ≡ session.old.places }
-    ensures settled { IsSettled config.now rings.now session.new }
-{
-    fill(config, rings, session);
-    let ended = is_over(session);
-    let all = session.waiting().len();
-    let some = count.min(all);
-    let bytes = front(alloc, session, count)?;
-    if 0 < some {
-        took(config, rings, session, some);
-    }
-    Ok(Handing { bytes, ended })
 }

@@ -1,27 +1,29 @@
-use Rattle.std.proofs.Common.{◌≡◌, ◌≤◌, ◌∙◌, arith, refl, sym, subst, length, ap}
-use Rattle.std.specs.Prelude.{is_some}
-use Rattle.server_core.specs.Standing.{StandsAt, Serving}
-use Rattle.server_core.proofs.Standings.{close-stands, close-passes, seat_seen, nobody_seen}
+use Rattle.std.proofs.Common.{◌≡◌, ◌∙◌, ap, sym, refl, is_some, is_ok, slice_set, slice_index_or, List, Option, None}
+use Rattle.protocol.specs.World.{client_of}
+use Rattle.session_state.specs.Sessions.{Sitting}
+use Rattle.server_core.specs.Clients.{sessions_of}
+use Rattle.server_core.proofs.GoingOn.{found, seen-session, serving}
+use Rattle.server_core.proofs.Standings.{close-stands}
 use Rattle.server_core.proofs.server.Server.close.Goals as goal
-
-pub returns-then-number-len-clause-stands : goal.returns-then-number-len-clause-stands
-returns-then-number-len-clause-stands c = λ config w stands.
-    rw (← c.number-number.ensures) (close-stands (record { config = c.self.inside.config; rings = c.self.inside.rings; sessions = c.self.inside.sessions.items }) (record { config = c.self.inside.config; rings = c.self.inside.rings; sessions = c.close_at.new.sessions.items }) c.number-number.result refl refl c.close_at.ensures.sessions (omega arith) config w (subst (λ s. StandsAt s config w) (sym c.self.view_is) stands))
-
-pub returns-then-number-len-clause-answer : goal.returns-then-number-len-clause-answer
-returns-then-number-len-clause-answer c = λ config w stands.
-    rw (← c.number-number.ensures)
-    (c.close_at.ensures.answer c.self.inside.config w.history ∙ ap is_some (seat_seen (record { config = c.self.inside.config; rings = c.self.inside.rings; sessions = c.self.inside.sessions.items }) c.number-number.result config w (subst (λ s. StandsAt s config w) (sym c.self.view_is) stands)))
-
-pub returns-else-number-len-clause-stands : goal.returns-else-number-len-clause-stands
-returns-else-number-len-clause-stands c = λ config w stands.
-    let past : length c.args.self.now.sessions ≤ c.args.client = let same : length c.self.inside.sessions.items ≡ length c.args.self.now.sessions = ap (λ (s : Serving). length s.sessions) c.self.view_is in omega arith in
-    close-passes c.args.self.now c.args.client past config w stands
-
-pub returns-else-number-len-clause-answer : goal.returns-else-number-len-clause-answer
-returns-else-number-len-clause-answer c = λ config w stands.
-    let past : length c.args.self.now.sessions ≤ c.args.client = let same : length c.self.inside.sessions.items ≡ length c.args.self.now.sessions = ap (λ (s : Serving). length s.sessions) c.self.view_is in omega arith in
-    ap is_some (sym (nobody_seen c.args.self.now c.args.client past config w stands))
+use Rattle.server_core.proofs.server.Server.close.Goals.{then-close, else-close}
 
 pub invariant_of-self : goal.invariant_of-self
-invariant_of-self c = (c.close_at.ensures.settled c.self.inside.config c.self.inside.rings c.self.invariant.0, c.self.invariant.1)
+invariant_of-self c = (c.close.ensures.table, c.close.ensures.settled c.self.inside.config c.self.inside.rings c.self.invariant.1, c.self.invariant.2)
+
+pub returns-clause-stands : goal.returns-clause-stands
+returns-clause-stands c = λ config w stands.
+    let here = found c.self.inside.config c.self.inside.rings c.self.inside.clients c.self.inside.clients c.args.self.now config w c.self.view_is refl stands in
+    rw (← c.number.ensures)
+    (close-stands (serving c.self.inside.config c.self.inside.rings c.self.inside.clients) (serving c.self.inside.config c.self.inside.rings c.close.new.self) c.number.result refl refl c.close.ensures.closed config w here)
+
+pub returns-clause-answer : goal.returns-clause-answer
+returns-clause-answer c = λ config w stands.
+    let here = found c.self.inside.config c.self.inside.rings c.self.inside.clients c.self.inside.clients c.args.self.now config w c.self.view_is refl stands in
+    rw (← c.number.ensures)
+    (answered ∙ c.close.ensures.answer ∙ seen-session c.self.inside.config c.self.inside.rings c.self.inside.clients c.number.result config w c.self.invariant.0 here)
+  where
+    answered : is_ok c.if-close.result ≡ c.close.result
+    answered = elim c.if-close.branch [
+      | then-close x ↦ ap is_ok x.result-is ∙ sym x.if-close.true
+      | else-close x ↦ ap is_ok x.result-is ∙ sym x.if-close.false
+    ]

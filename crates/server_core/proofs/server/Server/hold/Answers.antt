@@ -3,14 +3,16 @@ use Rattle.held_records.specs.Holdings.{holdings_of}
 use Rattle.protocol.specs.Catalog.{Config}
 use Rattle.server_core.specs.Arrivals.{IsPlaced}
 use Rattle.server_core.specs.Standing.{Serving, StandsAt}
+use Rattle.server_core.proofs.GoingOn.{serving}
+use Rattle.server_core.proofs.Slots.{sessions-settled}
 use Rattle.server_core.proofs.Arriving.{accepted-there, answers-number, arrive-settled, arrive-stands}
 use Rattle.server_core.proofs.server.Server.hold.Goals as goal
 
 pub returns-clause-stands : goal.returns-clause-stands
 returns-clause-stands c = λ differs config w stands.
-    arrive-stands (record { config = c.self.inside.config; rings = c.self.inside.rings; sessions = c.self.inside.sessions.items }) (record { config = c.self.inside.config; rings = c.arrive.new.self; sessions = c.self.inside.sessions.items }) c.args.bytes.now c.args.placing.place c.args.placing.summary
+    arrive-stands (serving c.self.inside.config c.self.inside.rings c.self.inside.clients) (serving c.self.inside.config c.arrive.new.self c.self.inside.clients) c.args.bytes.now c.args.placing.place c.args.placing.summary
     (subst (λ (s : Serving). IsPlaced s.config c.args.bytes.now c.args.placing.place c.args.placing.summary) (sym c.self.view_is) c.requires)
-    refl refl c.codes_are_distinct.ensures c.self.invariant.0 c.arrive.ensures.holds config w (subst (λ s. StandsAt s config w) (sym c.self.view_is) stands)
+    refl refl c.codes_are_distinct.ensures (sessions-settled c.self.inside.config c.self.inside.rings c.self.inside.clients c.self.invariant.1) c.arrive.ensures.holds config w (subst (λ s. StandsAt s config w) (sym c.self.view_is) stands)
 
 pub returns-clause-answer : goal.returns-clause-answer
 returns-clause-answer c = λ differs config w stands.
@@ -32,4 +34,4 @@ returns-then-arrivals-clause-exhausted c = λ fails config w stands.
 
 pub invariant_of-self : goal.invariant_of-self
 invariant_of-self c =
-    (arrive-settled c.self.inside.config c.self.inside.rings c.arrive.new.self c.self.inside.sessions.items c.arrive.ensures.grow c.self.invariant.0, omega (arith, c.arrive.ensures.count, c.self.invariant.1))
+    (c.self.invariant.0, arrive-settled c.self.inside.config c.self.inside.rings c.arrive.new.self c.self.inside.clients.slots c.arrive.ensures.grow c.self.invariant.1, omega (arith, c.arrive.ensures.count, c.self.invariant.2))

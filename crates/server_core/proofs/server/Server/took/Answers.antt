@@ -1,28 +1,50 @@
-use Rattle.std.proofs.Common.{◌≡◌, ◌≤◌, ◌∙◌, arith, refl, sym, subst, length, ap, slice_get}
-use Rattle.std.specs.Prelude.{is_some}
-use Rattle.server_core.specs.Standing.{StandsAt, Serving}
-use Rattle.server_core.proofs.Standings.{take-stands, nobody-take, seat_seen, nobody_seen}
+use Rattle.std.proofs.Common.{◌≡◌, ◌∙◌, ap, sym, subst, List, Option, Some, is_some, slice_get}
+use Rattle.protocol.specs.Catalog.{Config}
+use Rattle.protocol.specs.World.{World}
+use Rattle.session_state.specs.Sessions.{Sitting}
+use Rattle.slab.specs.Slab.{Slab}
+use Rattle.server_core.specs.Standing.{AreSettled, StandsAt}
+use Rattle.server_core.specs.Standing.{Serving}
+use Rattle.server_core.specs.Clients.{sessions_of}
+use Rattle.server_core.proofs.GoingOn.{found, seen-nowhere, seen-there, took-nowhere, took-there}
+use Rattle.server_core.proofs.Slots.{session-there, written-table}
 use Rattle.server_core.proofs.server.Server.took.Goals as goal
 
-pub returns-then-number-len-clause-stands : goal.returns-then-number-len-clause-stands
-returns-then-number-len-clause-stands c = λ config w stands.
-    rw (← c.number-number.ensures) (take-stands (record { config = c.self.inside.config; rings = c.self.inside.rings; sessions = c.self.inside.sessions.items }) (record { config = c.self.inside.config; rings = c.self.inside.rings; sessions = c.took_at.new.sessions.items }) c.number-number.result c.args.count refl refl c.took_at.ensures.count config w (c.took_at.ensures.changed w.history (subst (λ s. StandsAt s config w) (sym c.self.view_is) stands).holds) (subst (λ s. StandsAt s config w) (sym c.self.view_is) stands))
+pub took_in-requires-clause-settled : goal.took_in-requires-clause-settled
+took_in-requires-clause-settled c = subst (λ (slots : Slab Sitting). AreSettled c.self.inside.config c.self.inside.rings slots) (sym c.seek.ensures.slots) c.self.invariant.1
 
-pub returns-then-number-len-clause-answer : goal.returns-then-number-len-clause-answer
-returns-then-number-len-clause-answer c = λ config w stands.
-    rw (← c.number-number.ensures)
-    (c.took_at.ensures.answer w.history ∙ ap is_some (seat_seen (record { config = c.self.inside.config; rings = c.self.inside.rings; sessions = c.self.inside.sessions.items }) c.number-number.result config w (subst (λ s. StandsAt s config w) (sym c.self.view_is) stands)))
+pub took_in-requires-clause-count : goal.took_in-requires-clause-count
+took_in-requires-clause-count c = λ s there.
+    c.requires s
+    (ap (λ (x : Serving). slice_get x.sessions c.args.client) (sym c.self.view_is)
+    ∙ ap (λ (xs : List (Option Sitting)). slice_get xs c.args.client) (sym c.seek.ensures.sessions)
+    ∙ ap (slice_get (sessions_of c.seek.new.self)) (sym c.number.ensures)
+    ∙ session-there c.seek.new.self c.number.result c.in-Some.slot c.seek.ensures.table (sym c.in-Some.ensures.slot)
+    ∙ ap Some there)
 
-pub returns-else-number-len-clause-stands : goal.returns-else-number-len-clause-stands
-returns-else-number-len-clause-stands c = λ config w stands.
-    let past : length c.args.self.now.sessions ≤ c.args.client = let same : length c.self.inside.sessions.items ≡ length c.args.self.now.sessions = ap (λ (s : Serving). length s.sessions) c.self.view_is in omega arith in
-    nobody-take c.args.self.now c.args.client c.args.count past config w stands
+pub invariant_of-self : goal.invariant_of-self
+invariant_of-self c = (written-table c.seek.new.self c.took_in.new.slots c.seek.ensures.table c.took_in.ensures.kept, c.took_in.ensures.settled, c.self.invariant.2)
 
-pub returns-else-number-len-clause-answer : goal.returns-else-number-len-clause-answer
-returns-else-number-len-clause-answer c = λ config w stands.
-    let past : length c.args.self.now.sessions ≤ c.args.client = let same : length c.self.inside.sessions.items ≡ length c.args.self.now.sessions = ap (λ (s : Serving). length s.sessions) c.self.view_is in omega arith in
-    ap is_some (sym (nobody_seen c.args.self.now c.args.client past config w stands))
+pub invariant_of-self-in-None : goal.invariant_of-self-in-None
+invariant_of-self-in-None c =
+    (c.seek.ensures.table, subst (λ (slots : Slab Sitting). AreSettled c.self.inside.config c.self.inside.rings slots) (sym c.seek.ensures.slots) c.self.invariant.1, c.self.invariant.2)
 
-pub took_at-requires-clause-count : goal.took_at-requires-clause-count
-took_at-requires-clause-count c = λ s there. c.requires s
-    (ap (λ (x : Serving). slice_get x.sessions c.args.client) (sym c.self.view_is) ∙ ap (λ n. slice_get c.self.inside.sessions.items n) (sym c.number-number.ensures) ∙ there)
+pub returns-in-Some-clause-stands : goal.returns-in-Some-clause-stands
+returns-in-Some-clause-stands c = λ config w stands.
+    let here = found c.self.inside.config c.self.inside.rings c.self.inside.clients c.seek.new.self c.args.self.now config w c.self.view_is c.seek.ensures.sessions stands in
+    rw (← c.number.ensures) (took-there c.self.inside.config c.self.inside.rings c.seek.new.self c.number.result config w c.args.count c.took_in.new.slots c.in-Some.slot c.seek.ensures.table (sym c.in-Some.ensures.slot) (c.took_in.ensures.changed w.history here.holds) here)
+
+pub returns-in-Some-clause-answer : goal.returns-in-Some-clause-answer
+returns-in-Some-clause-answer c = λ config w stands.
+    let here = found c.self.inside.config c.self.inside.rings c.self.inside.clients c.seek.new.self c.args.self.now config w c.self.view_is c.seek.ensures.sessions stands in
+    rw (← c.number.ensures) (c.took_in.ensures.answer w.history ∙ ap is_some (seen-there c.self.inside.config c.self.inside.rings c.seek.new.self c.number.result config w c.in-Some.slot c.seek.ensures.table (sym c.in-Some.ensures.slot) here))
+
+pub returns-in-None-clause-stands : goal.returns-in-None-clause-stands
+returns-in-None-clause-stands c = λ config w stands.
+    let here = found c.self.inside.config c.self.inside.rings c.self.inside.clients c.seek.new.self c.args.self.now config w c.self.view_is c.seek.ensures.sessions stands in
+    rw (← c.number.ensures) (took-nowhere c.self.inside.config c.self.inside.rings c.seek.new.self c.number.result config w c.args.count (sym c.in-None.ensures.slot) here)
+
+pub returns-in-None-clause-answer : goal.returns-in-None-clause-answer
+returns-in-None-clause-answer c = λ config w stands.
+    let here = found c.self.inside.config c.self.inside.rings c.self.inside.clients c.seek.new.self c.args.self.now config w c.self.view_is c.seek.ensures.sessions stands in
+    rw (← c.number.ensures) (ap is_some (seen-nowhere c.self.inside.config c.self.inside.rings c.seek.new.self c.number.result config w (sym c.in-None.ensures.slot) here))
