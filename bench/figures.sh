@@ -1,5 +1,5 @@
 #!/bin/sh
-# Counts instructions by callgrind and prints a table, a line a figure: the instructions of one round, the most that is allowed,
+# Counts instructions by callgrind, and memory, and prints a table, a line a figure: the instructions of one round, the most that is allowed,
 # what was done, and what it is compared with. It fails where a figure is above its limit. A figure is the difference of two runs
 # of which one does twice as much, so that starting and ending the program does not count.
 set -eu
@@ -51,6 +51,19 @@ calls() {
     two=$(server passed 2 10)
     row "$(((one - none) / 10))" 120000 'an offer after 1,000 records that its selector does not let pass' ''
     row "$(((two - one) / 10))" 300 'the offer after that' ''
+}
+
+# peak WORK NUMBER : the most memory, in KiB, that a work of the program `server_bench` had at once.
+peak() {
+    python3 -c 'import resource, subprocess, sys
+subprocess.run(sys.argv[1:], check=True, stdout=subprocess.DEVNULL)
+print(resource.getrusage(resource.RUSAGE_CHILDREN).ru_maxrss)' "$top/crates/server_bench/out/server_bench" "$@"
+}
+
+# What clients keep. A client that is kept by mistake would show in the second figure as 10 KiB.
+memory() {
+    row "$((($(peak crowd 10001) - $(peak crowd 1)) * 1024 / 10000))" 12288 'bytes of a client that is open, by the peak of 10,000' ''
+    row "$(($(peak visits 1000000) - $(peak visits 1000)))" 256 'KiB more after a million clients, one after the other' 'after a thousand of them'
 }
 
 # Of `seedlinkd check`, the records of the examples 15 and 30 times.
@@ -118,6 +131,7 @@ small 200 number '' 'a sequence number read, counted on and written' ''
 small 1500 selectors '' 'sixteen selectors over a record' ''
 small 2500 packets '' 'a packet read, cut out and listed by the reader' ''
 calls
+memory
 check
 replay
 exit "$failed"

@@ -6,3 +6,5 @@
 mod dialogues;
 #[cfg(test)]
 mod random;
+#[cfg(test)]
+mod slots;

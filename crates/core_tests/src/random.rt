@@ -10,7 +10,7 @@ use std::alloc::Global;
 use std::ops::Range;
 use std::test::Fail;
 
-mod draws;
+pub mod draws;
 mod history;
 mod lines;
 mod lists;
@@ -18,7 +18,7 @@ mod moments;
 mod patterns;
 mod plain;
 mod records;
-mod sites;
+pub mod sites;
 mod steps;
 mod visitor;
 mod words;
@@ -33,7 +33,13 @@ const LONG: u64 = 40;
 
 const STEPS: usize = 2000;
 
-/// A list of steps by its number: first the short ones, then the long ones, whose stations hold up to 50 records.
+/// How many lists with very many clients there are, and how many clients.
+const CROWDED: u64 = 4;
+
+const CROWD: usize = 200;
+
+/// A list of steps by its number: first the short ones, then the long ones, whose stations hold up to 50 records, and then those
+/// with very many clients.
 #[derive(Drop)]
 struct Scene {
     centre: Centre,
@@ -43,8 +49,10 @@ struct Scene {
 fn scene_of(alloc: Global, list: u64) -> Result<Scene, Fail> {
     let (centre, length) = if list < SHORT {
         (sites::centre_of(list), Length::Short)
-    } else {
+    } else if list < SHORT.saturating_add(LONG) {
         (sites::HILLS, Length::Steps(STEPS))
+    } else {
+        (sites::centre_of(list), Length::Crowd(STEPS, CROWD))
     };
     let steps = lists::list(alloc, Draws::new(SEED, list), centre.sites, length)?;
     Ok(Scene { centre, steps })
@@ -118,6 +126,16 @@ fn both_servers_hand_the_same(rt: HostRuntime) -> Result<(), Fail> {
 fn both_servers_hand_the_same_over_long_lists(rt: HostRuntime) -> Result<(), Fail> {
     assert_eq!(rt;
         first_difference(&rt, SHORT..SHORT.saturating_add(LONG))?,
+        None
+    );
+    Ok(())
+}
+
+#[test]
+fn both_servers_hand_the_same_to_a_crowd(rt: HostRuntime) -> Result<(), Fail> {
+    let first = SHORT.saturating_add(LONG);
+    assert_eq!(rt;
+        first_difference(&rt, first..first.saturating_add(CROWDED))?,
         None
     );
     Ok(())

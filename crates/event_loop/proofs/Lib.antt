@@ -1,7 +1,6 @@
 mod Reading
 mod Going
 mod Steps
-mod Offering
 mod Writing
 mod TurnMade
 mod Handing

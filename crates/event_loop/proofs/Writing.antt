@@ -20,7 +20,7 @@ use Rattle.event_loop.specs.Passes.{ClientWrites, MayWrite, client_at, lent_to, 
 use Rattle.event_loop.specs.Passes.ClientWrites.{not_writable, idle, ended, took, took_none, later, failed}
 use Rattle.event_loop.specs.Going.{Once}
 use Rattle.event_loop.proofs.Going.{Tells-nil, Tells-trans}
-use Rattle.event_loop.proofs.Offering.{offered-there, offer-then-take}
+use Rattle.server_core.proofs.Taking.{offered-there, offer-then-take}
 
 -- what an offer found
 abbrev Found : World → ℕ → Option Offer → Type 0

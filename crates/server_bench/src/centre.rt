@@ -114,7 +114,7 @@ pub fn asking(
     requests: u32,
     action: &[u8],
 ) -> anyhow::Result<Client> {
-    let client = server.open(alloc, Ipv4Addr::new(127, 0, 0, 1))?;
+    let client = server.open(alloc, Ipv4Addr::LOCALHOST)?;
     for place in 0..requests {
         let station = format!(in alloc; "STATION {place:05} GE\r")?;
         say(server, client, station.as_bytes());

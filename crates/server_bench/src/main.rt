@@ -4,7 +4,8 @@
 //! `server_bench packets REQUESTS CAPACITY ROUNDS`: a client that asks by FETCH for so many stations, whose rings are full, is
 //! offered a packet and takes it. `server_bench idle REQUESTS CAPACITY ROUNDS`: a client that asks for them by DATA is offered
 //! something, and nothing arrived. `server_bench passed OFFERS ROUNDS`: 1,000 records arrive that no pattern of a client lets
-//! pass, and the client is offered something so many times.
+//! pass, and the client is offered something so many times. `server_bench visits ROUNDS`: clients come and go, one after the
+//! other. `server_bench crowd CLIENTS`: so many are open at the end.
 //!
 //! It prints a sum of what was answered, so that no work can be left out.
 #![tactic(auto)]
@@ -34,8 +35,10 @@ fn main(rt: HostRuntime) -> anyhow::Result<()> {
             alloc, *requests, *capacity, *rounds,
         )?,
         ("passed", [offers, rounds]) => works::passed(alloc, *offers, *rounds)?,
+        ("visits", [rounds]) => works::visits(alloc, *rounds)?,
+        ("crowd", [clients]) => works::crowd(alloc, *clients)?,
         _ => {
-            println!(rt; "server_bench arrive|packets|idle|passed NUMBER.. ROUNDS")?;
+            println!(rt; "server_bench arrive|packets|idle|passed|visits|crowd NUMBER.. ROUNDS")?;
             return Ok(());
         }
     };

@@ -2,6 +2,7 @@
 use crate::centre::{arrive_all, arrive_by_turns, asking, full_server, record_of, take_one};
 use server_core::{Client, Offer, Server};
 use std::alloc::Global;
+use std::net::Ipv4Addr;
 
 /// Records arrive at the last of 1,024 stations, whose ring is full.
 pub fn arrive(alloc: Global, capacity: u32, rounds: u32) -> anyhow::Result<u64> {
@@ -50,4 +51,26 @@ pub fn passed(alloc: Global, each: u32, rounds: u32) -> anyhow::Result<u64> {
         sum = sum.wrapping_add(offers(&mut server, client, each));
     }
     Ok(sum)
+}
+
+/// Clients come and go, one after the other. Answers the number of the last one.
+pub fn visits(alloc: Global, rounds: u32) -> anyhow::Result<u64> {
+    let mut server = full_server(alloc, 1, 0, 1)?;
+    let mut last = 0;
+    for _ in 0..rounds {
+        let client = server.open(alloc, Ipv4Addr::LOCALHOST)?;
+        last = client.number();
+        let _ = server.close(client);
+    }
+    Ok(last as u64)
+}
+
+/// So many clients are open.
+pub fn crowd(alloc: Global, clients: u32) -> anyhow::Result<u64> {
+    let mut server = full_server(alloc, 1, 0, 1)?;
+    let mut last = 0;
+    for _ in 0..clients {
+        last = server.open(alloc, Ipv4Addr::LOCALHOST)?.number();
+    }
+    Ok(last as u64)
 }

@@ -208,11 +208,11 @@ module _ (c new : Clients) (slot : ℕ) (s : Sitting) where
       apart j k s' ej ek =
           both (c.opens == j)
           (λ yes. both (c.opens == k)
-              (λ yes'. sym (eqb-true c.opens j yes) ∙ eqb-true c.opens k yes')
-              (λ no'. absurd (vacant-apart c.slots s' slot (table.there k s' (old-slot k s' (eqb-false c.opens k no') ek)) vacant (new-slot j s' (eqb-true c.opens j yes) ej))))
+          (λ yes'. sym (eqb-true c.opens j yes) ∙ eqb-true c.opens k yes')
+          (λ no'. absurd (vacant-apart c.slots s' slot (table.there k s' (old-slot k s' (eqb-false c.opens k no') ek)) vacant (new-slot j s' (eqb-true c.opens j yes) ej))))
           (λ no. both (c.opens == k)
-              (λ yes'. absurd (vacant-apart c.slots s' slot (table.there j s' (old-slot j s' (eqb-false c.opens j no) ej)) vacant (new-slot k s' (eqb-true c.opens k yes') ek)))
-              (λ no'. table.apart j k s' (old-slot j s' (eqb-false c.opens j no) ej) (old-slot k s' (eqb-false c.opens k no') ek)))
+          (λ yes'. absurd (vacant-apart c.slots s' slot (table.there j s' (old-slot j s' (eqb-false c.opens j no) ej)) vacant (new-slot k s' (eqb-true c.opens k yes') ek)))
+          (λ no'. table.apart j k s' (old-slot j s' (eqb-false c.opens j no) ej) (old-slot k s' (eqb-false c.opens k no') ek)))
 
       there : (k s' : ℕ) → slot_in os k ≡ Some s' → IsSome (get new.slots s')
       there k s' e =
@@ -262,8 +262,8 @@ module _ (c new : Clients) (number at slot : ℕ) where
       ∙ ap (λ os. map (session_of os new.slots) (range_with_len 0 c.opens)) opened
       ∙ values-set (session_of c.opened.items c.slots) (session_of (remove c.opened.items at) new.slots) 0 c.opens number number None (omega arith)
       (λ j other.
-          ap (in_slot new.slots) (slot_in-less c.opened.items number at j other is)
-          ∙ in_slot-kept c.slots new.slots (slot_in c.opened.items j) (λ s' e. updates.others s' (λ same. other (table.apart j number slot (e ∙ ap Some same) here))))
+      ap (in_slot new.slots) (slot_in-less c.opened.items number at j other is)
+      ∙ in_slot-kept c.slots new.slots (slot_in c.opened.items j) (λ s' e. updates.others s' (λ same. other (table.apart j number slot (e ∙ ap Some same) here))))
       (ap (in_slot new.slots) (slot_in-gone c.opened.items number at table.rising is))
 
 -- A number that is not open is forgotten already.

@@ -83,10 +83,10 @@ some-taken config w k n bytes is some =
     ∙ ap (λ cs. record w { connections = cs })
     (at-alike w.connections k (λ v c. after_take v w.history (offered w.history c) (length bytes)) (λ v c. after_take v w.history (offered w.history c) n)
     (λ x c there client.
-        let d : Client = offered w.history c in
-        let e = first-offered config w k n bytes is c (ap client_of there ∙ client) in
-        ap (λ m. after_take x.view w.history d m) (ap length e)
-        ∙ ap₂ (λ (a b : List ℕ). if is_nothing a then d else left_with x.view w.history d b) (taken-length n d.waiting) (dropped-length n d.waiting)))
+    let d : Client = offered w.history c in
+    let e = first-offered config w k n bytes is c (ap client_of there ∙ client) in
+    ap (λ m. after_take x.view w.history d m) (ap length e)
+    ∙ ap₂ (λ (a b : List ℕ). if is_nothing a then d else left_with x.view w.history d b) (taken-length n d.waiting) (dropped-length n d.waiting)))
 
 -- Where nothing was offered, a Take is an offer.
 pub none-taken : (config : Config) (w : World) (k n : ℕ) (bytes : List ℕ) → bytes ≡ first_waiting n (client_of (slice_get (step config w (Take k 0)).connections k)) → is_nothing bytes ≡ true → step config w (Take k 0) ≡ step config w (Take k n)
@@ -94,9 +94,9 @@ none-taken config w k n bytes is none =
     ap (λ cs. record w { connections = cs })
     (at-alike w.connections k (offer w.history) (λ v c. after_take v w.history (offered w.history c) n)
     (λ x c there client.
-        let d : Client = offered w.history c in
-        let e = first-offered config w k n bytes is c (ap client_of there ∙ client) in
-        ap (λ (b : Bool). if b then d else left_with x.view w.history d (drop n d.waiting)) (sym none ∙ ap is_nothing e)))
+    let d : Client = offered w.history c in
+    let e = first-offered config w k n bytes is c (ap client_of there ∙ client) in
+    ap (λ (b : Bool). if b then d else left_with x.view w.history d (drop n d.waiting)) (sym none ∙ ap is_nothing e)))
 
 -- ---- what is handed
 

@@ -9,8 +9,8 @@ ghost use Rattle.protocol.specs.World.Event.{Open, Bytes, Take, Close, Arrive};
 
 use crate::arrivals::{ArriveFault, Placing, placed};
 use crate::client::{Client, Gone, Offer, Refusal};
-use crate::seats;
 use crate::clients::Clients;
+use crate::seats;
 use catalog::Config;
 use held_records::Rings;
 use session_state::Session;

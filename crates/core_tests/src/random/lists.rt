@@ -12,17 +12,19 @@ struct Maker {
     sites: &'static [Site],
     /// How many clients were opened.
     clients: usize,
+    /// How many of the last ones act.
+    acting: usize,
     steps: Vec<Step>,
 }
 
 impl Maker {
-    /// The number of one of the last eight clients; now and then of an earlier one, or of nobody.
+    /// The number of one of the last clients, those that act; now and then of an earlier one, or of nobody.
     fn client(&mut self) -> usize {
         if self.draws.is_one_of(40) {
             self.draws
                 .number(&[0, self.clients, 7, 0xFFFF_FFFF_FFFF_FFFF])
         } else {
-            let back = self.draws.below(self.clients.min(8));
+            let back = self.draws.below(self.clients.min(self.acting));
             self.clients.saturating_sub(1).saturating_sub(back)
         }
     }
@@ -108,6 +110,15 @@ impl Maker {
         self.send(client, bytes)
     }
 
+    /// So many more clients open, and all of them act.
+    fn crowd(&mut self, clients: usize) -> Result<(), AllocError> {
+        for _ in 0..clients {
+            self.open()?;
+        }
+        self.acting = clients;
+        Ok(())
+    }
+
     fn step(&mut self) -> Result<(), AllocError> {
         let client = self.client();
         match self.draws.below(32) {
@@ -122,14 +133,17 @@ impl Maker {
     }
 }
 
-/// How many steps a list has, but for a few more: 20 to 60 of short ones.
+/// How many steps a list has, but for a few more: 20 to 60 of short ones; and how many clients it begins with, of which any may act.
 #[derive(Clone, Copy, Drop)]
 pub enum Length {
+    /// With a client or two, of which the last eight act.
     Short,
     Steps(usize),
+    /// So many steps, with so many clients.
+    Crowd(usize, usize),
 }
 
-/// A list of steps, which begins with a client or two.
+/// A list of steps.
 pub fn list(
     alloc: Global,
     draws: Draws,
@@ -141,6 +155,7 @@ pub fn list(
         draws,
         sites,
         clients: 0,
+        acting: 8,
         steps: Vec::new(alloc),
     };
     maker.open()?;
@@ -150,6 +165,10 @@ pub fn list(
     let count = match length {
         Length::Short => maker.draws.below(41).saturating_add(20),
         Length::Steps(count) => count,
+        Length::Crowd(count, clients) => {
+            maker.crowd(clients)?;
+            count
+        }
     };
     for _ in 0..count {
         maker.step()?;

@@ -27,7 +27,5 @@ pub fn place_of(opened: &[Opened], near: usize, number: usize) -> Option<usize>
     if is_at(opened, next, number) {
         return Some(next);
     }
-    opened
-        .binary_search_by_key(&number, |one| one.number)
-        .ok()
+    opened.binary_search_by_key(&number, |one| one.number).ok()
 }
