@@ -7,4 +7,6 @@ mod dialogues;
 #[cfg(test)]
 mod random;
 #[cfg(test)]
+mod rows;
+#[cfg(test)]
 mod slots;

@@ -11,7 +11,8 @@ use Rattle.session_state.specs.declared.choices.Choice.{Choice}
 use Rattle.session_state.specs.Choices.{request_in}
 use Rattle.transfer.specs.declared.wanting.Candidate.{Candidate}
 use Rattle.transfer.specs.Choosing.{HoldsThere, comes_before}
-use Rattle.transfer.specs.Cursors.{IsReached, OfAll, RestsIn}
+use Rattle.transfer.specs.Cursors.{OfAll, RestsIn}
+use Rattle.transfer.specs.Sleeping.{HasNothing}
 use Rattle.transfer.proofs.Positions.{next-none}
 use Rattle.transfer.proofs.Nexts.{after-best, before-best, least-none, lesser-found}
 use Rattle.transfer.proofs.Resting.{choice-at}
@@ -22,7 +23,7 @@ pub record LeadsSoFar (rings : Holdings) (choices : List Choice) (i : ℕ) (best
   pub position : (q : ℕ) → OfAll (RestsIn rings q) choices → (config : Config) (h : List Arrival) → rings ≡ holdings_of config h → option_map (λ c. c.position) best ≡ next h (filter_map (request_in config) (take i choices)) q
   pub held : IfSome best (λ c. HoldsThere rings c.station c.place c.position)
   pub late : (q : ℕ) → OfAll (RestsIn rings q) choices → IfSome best (λ c. q ≤ c.position)
-  pub reached : (q : ℕ) → OfAll (RestsIn rings q) choices → best ≡ None → (j : ℕ) (c : Choice) → j < i → slice_get choices j ≡ Some c → IsReached rings c
+  pub reached : (q : ℕ) → OfAll (RestsIn rings q) choices → best ≡ None → (j : ℕ) (c : Choice) → j < i → slice_get choices j ≡ Some c → HasNothing rings q c
 
 pub leads-none : (rings : Holdings) (choices : List Choice) → LeadsSoFar rings choices 0 None
 leads-none rings choices = record {
@@ -36,7 +37,7 @@ leads-none rings choices = record {
 pub record Comes (rings : Holdings) (c : Choice) (found : Option Candidate) : Type 0 where
   pub position : (q : ℕ) → RestsIn rings q c → (config : Config) (h : List Arrival) → rings ≡ holdings_of config h → option_map (λ x. x.position) found ≡ next h (filter_map (request_in config) (c ∷ [])) q
   pub late : (q : ℕ) → RestsIn rings q c → IfSome found (λ x. q ≤ x.position)
-  pub none : (q : ℕ) → RestsIn rings q c → found ≡ None → IsReached rings c
+  pub none : (q : ℕ) → RestsIn rings q c → found ≡ None → HasNothing rings q c
   pub held : IfSome found (λ x. HoldsThere rings x.station x.place x.position)
 
 pub leads-first : (rings : Holdings) (choices : List Choice) (i : ℕ) (c : Choice) (best : Option Candidate) (found : Candidate) → i < length choices → c ≡ get_or choices i c → Comes rings c (Some found) → comes_before (option_map (λ x. x.position) best) found.position ≡ true → LeadsSoFar rings choices i best → LeadsSoFar rings choices (i + 1) (Some found)
@@ -76,7 +77,7 @@ leads-same rings choices i c best low is comes so_far =
       reached = λ q rests none j x below there. both (j == i)
           (λ y. let here : j ≡ i = grind (arith, nat_tests) in
           let same : c ≡ x = (let t : Some c ≡ Some x = sym at ∙ ap (slice_get choices) (sym here) ∙ there in cc) in
-          subst (IsReached rings) same (comes.none q (rests i c at) refl))
+          subst (HasNothing rings q) same (comes.none q (rests i c at) refl))
           (λ n. so_far.reached q rests none j x (grind (arith, nat_tests)) there);
     }
 

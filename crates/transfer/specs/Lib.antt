@@ -2,3 +2,4 @@ pub mod Wanting
 pub mod Choosing
 pub mod Cursors
 pub mod Founds
+pub mod Sleeping

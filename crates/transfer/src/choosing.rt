@@ -9,12 +9,13 @@ ghost use Rattle.protocol.specs.Packet.{packet};
 ghost use Rattle.station_ring.specs.declared.held.Held.{Held};
 ghost use Rattle.station_ring.specs.Rings.{Holding, held_at, number_at};
 ghost use Rattle.held_records.specs.Holdings.{holdings_of};
-ghost use Rattle.session_state.specs.Choices.{chosen_of, request_in};
+ghost use Rattle.session_state.specs.Choices.{all_at_start, chosen_of, request_in};
 ghost use Rattle.session_state.specs.Sessions.{client_in, but_for_cursors};
 ghost use Rattle.session_state.specs.declared.session.State.TheVariants.{Starting, Transfer, Ending};
 ghost use Rattle.session_state.specs.declared.choices.Action.TheVariants.{Time};
 ghost use Rattle.transfer.specs.declared.choosing.Chosen.TheVariants.{Packet, Nothing, Complete};
 ghost use Rattle.transfer.specs.Cursors.{ArePassed, IsReached, OfAll, PassedIn, RestsIn};
+ghost use Rattle.transfer.specs.Sleeping.{HasNothing, MayCome, MoreMayCome, Sleeps, starts_after};
 ghost use Rattle.transfer.specs.Choosing.{answer_of, is_over_of, comes_before, is_transfer, HoldsThere};
 
 use crate::wanting::{Candidate, at_cursor, cursor_in, has_passed_its_end};
@@ -64,7 +65,7 @@ fn candidate(choice: &Choice, rings: &Rings) -> Option<Candidate>
     ensures position { (next : ℕ) → RestsIn rings.now next choice.now → (config : ProtocolConfig) (h : List Arrival) → rings.now ≡ holdings_of config h →
         option_map (λ c. c.position) result ≡ next_position h (filter_map (request_in config) (choice.now ∷ [])) next }
     ensures late { (next : ℕ) → RestsIn rings.now next choice.now → IfSome result (λ c. next ≤ c.position) }
-    ensures none { (next : ℕ) → RestsIn rings.now next choice.now → result ≡ None → IsReached rings.now choice.now }
+    ensures none { (next : ℕ) → RestsIn rings.now next choice.now → result ≡ None → HasNothing rings.now next choice.now }
     ensures held { IfSome result (λ c. HoldsThere rings.now c.station c.place c.position) }
 {
     held_in_the_ring();
@@ -91,7 +92,7 @@ fn earliest(choices: &[Choice], rings: &Rings) -> Option<Candidate>
     ensures position { (next : ℕ) → OfAll (RestsIn rings.now next) choices.now → (config : ProtocolConfig) (h : List Arrival) → rings.now ≡ holdings_of config h →
         option_map (λ c. c.position) result ≡ next_position h (filter_map (request_in config) choices.now) next }
     ensures late { (next : ℕ) → OfAll (RestsIn rings.now next) choices.now → IfSome result (λ c. next ≤ c.position) }
-    ensures none { (next : ℕ) → OfAll (RestsIn rings.now next) choices.now → result ≡ None → OfAll (IsReached rings.now) choices.now }
+    ensures none { (next : ℕ) → OfAll (RestsIn rings.now next) choices.now → result ≡ None → OfAll (HasNothing rings.now next) choices.now }
     ensures held { IfSome result (λ c. HoldsThere rings.now c.station c.place c.position) }
 {
     let mut best = None;
@@ -108,7 +109,8 @@ fn earliest(choices: &[Choice], rings: &Rings) -> Option<Candidate>
 /// Whether nothing more can come for a named station whose request has passed all: it is asked for nothing, by FETCH, or by TIME
 /// with an end after which a held record of the station starts.
 fn is_over(choice: &Choice, rings: &Rings) -> bool
-    ensures { (next : ℕ) → RestsIn rings.now next choice.now → IsReached rings.now choice.now → (config : ProtocolConfig) (h : List Arrival) → rings.now ≡ holdings_of config h →
+    ensures more { (next : ℕ) → RestsIn rings.now next choice.now → IsReached rings.now choice.now → result ≡ false → MayCome rings.now choice.now }
+    ensures over { (next : ℕ) → RestsIn rings.now next choice.now → IsReached rings.now choice.now → (config : ProtocolConfig) (h : List Arrival) → rings.now ≡ holdings_of config h →
         result ≡ is_over_of h (station_at config.entries choice.now.place) choice.now.action }
 {
     match choice.action {
@@ -142,7 +144,9 @@ fn is_over(choice: &Choice, rings: &Rings) -> bool
 
 /// Whether a record of a named station is held that starts after the end of TIME, where its request has passed all.
 fn is_past_its_end(choice: &Choice, rings: &Rings) -> bool
-    ensures { (next : ℕ) (begin : Option ℤ) (last : ℤ) → choice.now.action ≡ Some (Time begin (Some last)) → RestsIn rings.now next choice.now → IsReached rings.now choice.now → (config : ProtocolConfig) (h : List Arrival) → rings.now ≡ holdings_of config h →
+    ensures ring { (next : ℕ) (begin : Option ℤ) (last : ℤ) → choice.now.action ≡ Some (Time begin (Some last)) → RestsIn rings.now next choice.now → IsReached rings.now choice.now →
+        result ≡ starts_after (slice_get rings.now.rings choice.now.place) begin last }
+    ensures history { (next : ℕ) (begin : Option ℤ) (last : ℤ) → choice.now.action ≡ Some (Time begin (Some last)) → RestsIn rings.now next choice.now → IsReached rings.now choice.now → (config : ProtocolConfig) (h : List Arrival) → rings.now ≡ holdings_of config h →
         result ≡ holds_after (station_at config.entries choice.now.place) last h }
 {
     match rings.ring(choice.place) {
@@ -153,7 +157,8 @@ fn is_past_its_end(choice: &Choice, rings: &Rings) -> bool
 
 /// Whether nothing more can come for any request, where all have passed all.
 fn is_complete(choices: &[Choice], rings: &Rings) -> bool
-    ensures { (next : ℕ) → OfAll (RestsIn rings.now next) choices.now → OfAll (IsReached rings.now) choices.now → (config : ProtocolConfig) (h : List Arrival) → rings.now ≡ holdings_of config h →
+    ensures more { (next : ℕ) → OfAll (RestsIn rings.now next) choices.now → OfAll (IsReached rings.now) choices.now → result ≡ false → MoreMayCome rings.now choices.now }
+    ensures complete { (next : ℕ) → OfAll (RestsIn rings.now next) choices.now → OfAll (IsReached rings.now) choices.now → (config : ProtocolConfig) (h : List Arrival) → rings.now ≡ holdings_of config h →
         result ≡ list_all (is_over h) (filter_map (request_in config) choices.now) }
 {
     for choice in choices {
@@ -200,6 +205,8 @@ pub fn choose(session: &mut Session, config: &Config, rings: &Rings) -> Chosen
     ensures unchanged { result ≡ Nothing → but_for_cursors session.new ≡ but_for_cursors session.old }
     ensures passed { ArePassed rings.now session.old → ArePassed rings.now session.new }
     ensures reached { is_transfer session.old.state ≡ true → ArePassed rings.now session.old → result ≡ Nothing → OfAll (IsReached rings.now) (chosen_of session.new.mode) }
+    ensures sleeps { is_transfer session.old.state ≡ true → ArePassed rings.now session.old → result ≡ Nothing → Sleeps rings.now session.new }
+    ensures requests { all_at_start session.new.mode ≡ all_at_start session.old.mode }
     ensures settled { session.old.state ≢ Starting → session.new.state ≢ Starting }
     ensures places { session.new.places ≡ session.old.places }
 {
@@ -225,6 +232,9 @@ fn end_if_complete(session: &mut Session, rings: &Rings) -> Chosen
     ensures ended { result ≡ Complete → session.new ≡ record session.old { state = Ending; unread = []; waiting = codes "END" } }
     ensures unchanged { result ≡ Nothing → session.new ≡ session.old }
     ensures nothing_chosen { result ≢ Packet }
+    ensures more { (next : ℕ) → OfAll (RestsIn rings.now next) (chosen_of session.old.mode) → OfAll (IsReached rings.now) (chosen_of session.old.mode) → result ≡ Nothing →
+        MoreMayCome rings.now (chosen_of session.old.mode) }
+    ensures mode { session.new.mode ≡ session.old.mode }
 {
     if is_complete(session.choices(), rings) {
         session.finish();

@@ -10,6 +10,8 @@ use Rattle.transfer.proofs.Beginning.{client-same, requests-same}
 use Rattle.transfer.proofs.Going.{ended-passes, ended-reached, packet-passes, passed-all, same-next}
 use Rattle.transfer.proofs.Leading.{leads-to-packet, leads-on}
 use Rattle.transfer.proofs.Packets.{arrived-there}
+use Rattle.transfer.specs.Sleeping.{HasNothing, Sleeps}
+use Rattle.transfer.proofs.Sleeping.{all-reached, sleeps-so}
 use Rattle.transfer.proofs.choosing.choose.Goals as goal
 
 pub returns-in-Some-clause-client : goal.returns-in-Some-clause-client
@@ -46,7 +48,7 @@ pub returns-in-None-clause-client : goal.returns-in-None-clause-client
 returns-in-None-clause-client c = λ transfers passed h holds.
     let rests = c.pass_unwanted.ensures.rest (passed-all c.args.rings.now c.args.session.now passed c.in-Transfer.next (sym c.in-Transfer.ensures)) in
     let lent = subst (OfAll (RestsIn c.args.rings.now c.in-Transfer.next)) (sym c.choices.ensures) rests in
-    let reached = subst (OfAll (IsReached c.args.rings.now)) c.choices.ensures (c.in-None.ensures.none c.in-Transfer.next lent refl) in
+    let reached = subst (OfAll (IsReached c.args.rings.now)) c.choices.ensures (all-reached c.args.rings.now c.in-Transfer.next _ (c.in-None.ensures.none c.in-Transfer.next lent refl)) in
     leads-on c.args.config.now h c.pass_unwanted.new.session c.end_if_complete.new.session c.in-Transfer.next c.end_if_complete.result
     (ap (λ (s : Sitting). s.state) c.pass_unwanted.ensures.same ∙ sym c.in-Transfer.ensures) (ap (λ (s : Sitting). s.waiting) c.pass_unwanted.ensures.same ∙ c.requires)
     (subst (λ cs. None ≡ next h (filter_map (request_in c.args.config.now) cs) c.in-Transfer.next) c.choices.ensures (c.in-None.ensures.position c.in-Transfer.next lent c.args.config.now h holds))
@@ -58,7 +60,7 @@ returns-in-None-clause-answer c = λ h q holds state passed.
     let same : c.in-Transfer.next ≡ q = same-next c.in-Transfer.next q (c.in-Transfer.ensures ∙ state) in
     let rests = c.pass_unwanted.ensures.rest (passed-all c.args.rings.now c.args.session.now passed c.in-Transfer.next (sym c.in-Transfer.ensures)) in
     let lent = subst (OfAll (RestsIn c.args.rings.now c.in-Transfer.next)) (sym c.choices.ensures) rests in
-    let reached = subst (OfAll (IsReached c.args.rings.now)) c.choices.ensures (c.in-None.ensures.none c.in-Transfer.next lent refl) in
+    let reached = subst (OfAll (IsReached c.args.rings.now)) c.choices.ensures (all-reached c.args.rings.now c.in-Transfer.next _ (c.in-None.ensures.none c.in-Transfer.next lent refl)) in
     let requests = requests-same c.args.config.now c.pass_unwanted.new.session c.args.session.now c.pass_unwanted.ensures.same in
     c.end_if_complete.ensures.complete c.in-Transfer.next rests reached c.args.config.now h holds
     ∙ ap (λ rs. answer_of None (list_all (is_over h) rs)) requests
@@ -78,5 +80,15 @@ pub returns-in-None-clause-reached : goal.returns-in-None-clause-reached
 returns-in-None-clause-reached c = λ transfers passed nothing.
     let rests = c.pass_unwanted.ensures.rest (passed-all c.args.rings.now c.args.session.now passed c.in-Transfer.next (sym c.in-Transfer.ensures)) in
     let lent = subst (OfAll (RestsIn c.args.rings.now c.in-Transfer.next)) (sym c.choices.ensures) rests in
-    let reached = subst (OfAll (IsReached c.args.rings.now)) c.choices.ensures (c.in-None.ensures.none c.in-Transfer.next lent refl) in
+    let reached = subst (OfAll (IsReached c.args.rings.now)) c.choices.ensures (all-reached c.args.rings.now c.in-Transfer.next _ (c.in-None.ensures.none c.in-Transfer.next lent refl)) in
     ended-reached c.args.rings.now c.pass_unwanted.new.session c.end_if_complete.new.session (c.end_if_complete.ensures.unchanged nothing) reached
+
+pub returns-in-None-clause-sleeps : goal.returns-in-None-clause-sleeps
+returns-in-None-clause-sleeps c = λ transfers passed nothing.
+    let rests = c.pass_unwanted.ensures.rest (passed-all c.args.rings.now c.args.session.now passed c.in-Transfer.next (sym c.in-Transfer.ensures)) in
+    let lent = subst (OfAll (RestsIn c.args.rings.now c.in-Transfer.next)) (sym c.choices.ensures) rests in
+    let none = subst (OfAll (HasNothing c.args.rings.now c.in-Transfer.next)) c.choices.ensures (c.in-None.ensures.none c.in-Transfer.next lent refl) in
+    subst (Sleeps c.args.rings.now) (sym (c.end_if_complete.ensures.unchanged nothing))
+    (sleeps-so c.args.rings.now c.pass_unwanted.new.session c.in-Transfer.next
+    (ap (λ (s : Sitting). s.state) c.pass_unwanted.ensures.same ∙ sym c.in-Transfer.ensures) (ap (λ (s : Sitting). s.waiting) c.pass_unwanted.ensures.same ∙ c.requires) none
+    (c.end_if_complete.ensures.more c.in-Transfer.next rests (all-reached c.args.rings.now c.in-Transfer.next _ none) nothing))

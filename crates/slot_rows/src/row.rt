@@ -1,0 +1,87 @@
+//! A row of bits.
+ghost use Rattle.std.specs.Prelude.{◌≡◌, ◌≢◌, ◌≤◌, ℕ, ◌*◌, ◌||◌, length, nat_lt, true, false, OnOk};
+
+use std::alloc::{AllocError, Global};
+
+/// A bit for each slot, from 0 on. A slot that the row has no room for has none, which is read as no.
+#[derive(Drop)]
+pub struct Row {
+    words: Vec<u64>,
+}
+
+impl Row {
+    ghost use Rattle.slot_rows.specs.Rows.{bit_of, HasRoom};
+
+    /// A row with no bit.
+    pub fn new(alloc: Global) -> Row
+        ensures { (slot : ℕ) → bit_of result slot ≡ false }
+    {
+        Row {
+            words: Vec::new(alloc),
+        }
+    }
+
+    /// Whether there is room for a slot's bit.
+    pub fn has_room(&self, slot: usize) -> bool
+        ensures { result ≡ nat_lt slot (64 * length self.now.words.items) }
+    {
+        slot / 64 < self.words.len()
+    }
+
+    /// Makes room for the bits of the slots up to one. All bits stay. It fails only where there is no memory.
+    pub fn reserve(&mut self, slot: usize) -> Result<(), AllocError>
+        ensures room { OnOk result (HasRoom self.new slot) }
+        ensures kept { (other : ℕ) → bit_of self.new other ≡ bit_of self.old other }
+        ensures longer { length self.old.words.items ≤ length self.new.words.items }
+    {
+        if !self.has_room(slot) {
+            self.words.resize(slot / 64 + 1, 0)?;
+        }
+        Ok(())
+    }
+
+    /// Whether a slot's bit is set.
+    pub fn is_set(&self, slot: usize) -> bool
+        ensures { result ≡ bit_of self.now slot }
+    {
+        match self.words.get(slot / 64) {
+            Some(word) => (*word >> (slot % 64)) & 1 == 1,
+            None => false,
+        }
+    }
+
+    /// Sets a slot's bit, which there is room for.
+    pub fn set(&mut self, slot: usize)
+        requires { HasRoom self.old slot }
+        ensures here { bit_of self.new slot ≡ true }
+        ensures others { (other : ℕ) → other ≢ slot → bit_of self.new other ≡ bit_of self.old other }
+        ensures room { length self.new.words.items ≡ length self.old.words.items }
+    {
+        let word = self.words[slot / 64];
+        self.words[slot / 64] = word | (1u64 << (slot % 64));
+    }
+
+    /// Clears a slot's bit.
+    pub fn clear(&mut self, slot: usize)
+        ensures here { bit_of self.new slot ≡ false }
+        ensures others { (other : ℕ) → other ≢ slot → bit_of self.new other ≡ bit_of self.old other }
+        ensures room { length self.new.words.items ≡ length self.old.words.items }
+    {
+        if self.has_room(slot) {
+            let word = self.words[slot / 64];
+            self.words[slot / 64] = word & !(1u64 << (slot % 64));
+        }
+    }
+
+    /// Sets each bit that is set in another row, which has room for no more slots.
+    pub fn merge(&mut self, other: &Row)
+        requires { length other.now.words.items ≤ length self.old.words.items }
+        ensures bits { (slot : ℕ) → bit_of self.new slot ≡ (bit_of self.old slot || bit_of other.now slot) }
+        ensures room { length self.new.words.items ≡ length self.old.words.items }
+    {
+        for i in 0..other.words.len() {
+            let word = self.words[i];
+            self.words[i] = word | other.words[i];
+        }
+    }
+}
