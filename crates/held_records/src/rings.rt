@@ -1,5 +1,5 @@
 //! The rings of all stations.
-ghost use Rattle.std.specs.Prelude.{◌≡◌, ◌≤◌, ◌<◌, ◌^◌, ◌+◌, ◌-◌, [], ◌∷◌, ◌++◌, List, ℕ, length, map, take, slice_get, slice_set, option_map, IfOk, IfSome, Some, None, true, int_lt};
+ghost use Rattle.std.specs.Prelude.{◌≡◌, ◌≢◌, ◌≤◌, ◌<◌, ◌^◌, ◌+◌, ◌-◌, [], ◌∷◌, ◌++◌, List, ℕ, length, map, take, slice_get, slice_set, option_map, IfOk, IfSome, Some, None, true, int_lt};
 ghost use Rattle.protocol.specs.Catalog.{Config as ProtocolConfig, Station};
 ghost use Rattle.protocol.specs.History.{Arrival, is_of, number_at as number_in_history, oldest_held, held_with_number, from_number, holds_after};
 ghost use Rattle.std.specs.List.{list_any};
@@ -78,6 +78,7 @@ impl Rings {
             result ≡ number_in_history (station_at config.entries place) h (length h) }
         ensures count { length self.new.rings ≡ length self.old.rings }
         ensures grow { AllGrow self.old.rings self.new.rings }
+        ensures others { (other : ℕ) → other ≢ place → slice_get self.new.rings other ≡ slice_get self.old.rings other }
     {
         let number = push_at(
             self.rings.as_mut_slice(),
@@ -142,6 +143,7 @@ fn push_at(
     ensures number { (r : Holding) → slice_get rings.old place ≡ Some r → result ≡ number_at r r.pushes }
     ensures behind { AreBehind (arrivals + 1) rings.new }
     ensures grow { AllGrow rings.old rings.new }
+    ensures others { (other : ℕ) → other ≢ place → slice_get rings.new other ≡ slice_get rings.old other }
 {
     rings[place].push(arrivals, bytes, summary)
 }

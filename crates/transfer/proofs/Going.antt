@@ -50,7 +50,7 @@ packet-passes rings a n q p w made late rests = record {
       rests-passed rings q next c (omega arith) (rests i c (ap (λ (s : Sitting). slice_get (chosen_of s.mode) i) (sym made) ∙ at));
 }
 
-same-passes : (rings : Holdings) (a : Sitting) (q : ℕ) → a.state ≡ Transfer q → OfAll (RestsIn rings q) (chosen_of a.mode) → ArePassed rings a
+pub same-passes : (rings : Holdings) (a : Sitting) (q : ℕ) → a.state ≡ Transfer q → OfAll (RestsIn rings q) (chosen_of a.mode) → ArePassed rings a
 unfolding ArePassed
 same-passes rings a q state rests = record {
   passed = λ next now i c at.

@@ -28,7 +28,7 @@ offered-empty : (h : List Arrival) (c : Client) → is_nothing c.waiting ≡ tru
 offered-empty h c none = ap (λ b. if b then filled_in h c c.state else c) none
 
 -- An offer in a transfer makes wait what comes next.
-offered-transfer : (config : Config) (h : List Arrival) (a : Sitting) (q : ℕ) → a.state ≡ Transfer q → a.waiting ≡ [] → offered h (client_in config h a) ≡ chosen h (requests_of config a) q (client_in config h a) (next h (requests_of config a) q)
+pub offered-transfer : (config : Config) (h : List Arrival) (a : Sitting) (q : ℕ) → a.state ≡ Transfer q → a.waiting ≡ [] → offered h (client_in config h a) ≡ chosen h (requests_of config a) q (client_in config h a) (next h (requests_of config a) q)
 offered-transfer config h a q state none =
     offered-empty h (client_in config h a) (ap is_nothing none)
     ∙ ap (λ t. filled_in h (client_in config h a) (client_in config h (record a { state = t })).state) state

@@ -33,7 +33,7 @@ wanted-of p later a (r ∷ rs) e =
     (λ n. rw n (wanted-of p later a rs (rw n at e)))
 
 -- What comes next is an arrival at a station that is asked for.
-next-asked : (h : List Arrival) (rs : List Request) (q p : ℕ) (a : Arrival) → next h rs q ≡ Some p → slice_get h p ≡ Some a → list_any (λ r. is_of r.station a) rs ≡ true
+pub next-asked : (h : List Arrival) (rs : List Request) (q p : ℕ) (a : Arrival) → next h rs q ≡ Some p → slice_get h p ≡ Some a → list_any (λ r. is_of r.station a) rs ≡ true
 next-asked h rs q p a e there =
     let wanted : Test = λ p later a. list_any (holds_and_wants p later a) rs in
     let late : Test = λ p later a. nat_le q p && wanted p later a in

@@ -1,11 +1,14 @@
 -- Transfers that wait for records.
-use Rattle.std.proofs.Common.{◌≡◌, ℕ, ℤ, zero, suc, Bool, true, false, ◌&&◌, List, [], ◌∷◌, Option, Some, None, option_map, filter_map, slice_get, refl, sym, ap, ap₂, subst, ◌∙◌}
+use Rattle.std.proofs.Common.{◌≡◌, ℕ, ℤ, zero, suc, Bool, true, false, ◌&&◌, List, [], ◌∷◌, Option, Some, None, option_map, filter_map, slice_get, unwrap_or, nat_le, if◌then◌else◌, codes, refl, sym, ap, ap₂, subst, ◌∙◌}
 use Rattle.std.specs.Prelude.{find, is_some}
 use Rattle.std.specs.List.{list_all, list_any}
 use Rattle.std.proofs.lemmas.List.Elements.{filter_map-append}
 use Rattle.protocol.specs.Catalog.{Config}
-use Rattle.protocol.specs.History.{Arrival, next, is_over, holds_after}
-use Rattle.protocol.specs.Client.{offered}
+use Rattle.protocol.specs.History.{Arrival, Request, next, is_over, is_of, holds_after, holds_and_wants}
+use Rattle.protocol.specs.Client.{Client, chosen, is_nothing, offered, packet_for}
+use Rattle.protocol.specs.Client.State.{Ending as ClientEnding}
+use Rattle.protocol.proofs.Found.{both, Found, first_position_found}
+use Rattle.protocol.proofs.Places.{slice_get-seam}
 use Rattle.catalog.specs.Places.{station_at}
 use Rattle.station_ring.specs.declared.held.Held.{Held}
 use Rattle.station_ring.specs.Rings.{Holding}
@@ -23,9 +26,10 @@ use Rattle.transfer.specs.Choosing.{is_over_of, least_of}
 use Rattle.transfer.specs.Sleeping.{HasNothing, MayCome, MoreMayCome, Sleeps, over_in, starts_after}
 use Rattle.transfer.specs.Wanting.{wants_held}
 use Rattle.transfer.proofs.Going.{same-next}
-use Rattle.transfer.proofs.Leading.{leads-nowhere, over-cons}
+use Rattle.transfer.proofs.Leading.{leads-nowhere, offered-transfer, over-cons, requests_of}
 use Rattle.transfer.proofs.Nexts.{first-comes, nothing-asked, nowhere-comes}
-use Rattle.transfer.proofs.Positions.{next-append, next-none}
+use Rattle.transfer.proofs.Packets.{next-asked}
+use Rattle.transfer.proofs.Positions.{Test, first_from, next-append, next-none}
 use Rattle.transfer.proofs.Resting.{reached-nothing, reached-nowhere, reached-ring, same-ring}
 
 -- ---- a named station of which nothing comes now
@@ -138,3 +142,33 @@ sleeps-on before after s same sleeps = record {
     };
   };
 }
+
+-- ---- what is offered where something is found
+
+some-packet : (h : List Arrival) (p : ℕ) (a : Arrival) (rs : List Request) → list_any (λ r. is_of r.station a) rs ≡ true → is_nothing (packet_for h p a rs) ≡ false
+some-packet h p a [] e = absurd cc
+some-packet h p a (r ∷ rs) e = both (is_of r.station a) (λ y. rw y refl) (λ n. rw n (some-packet h p a rs (rw n at e)))
+
+next-there : (h : List Arrival) (rs : List Request) (q p : ℕ) → next h rs q ≡ Some p → (a : Arrival) × (slice_get h p ≡ Some a)
+next-there h rs q p e =
+    let wanted : Test = λ i later a. list_any (holds_and_wants i later a) rs in
+    let late : Test = λ i later a. nat_le q i && wanted i later a in
+    let found : Found late h p = first_position_found late h [] h p refl (sym (first_from wanted q h) ∙ e) in
+    (found.arrival, ap₂ slice_get (sym found.whole) (sym found.at) ∙ slice_get-seam found.before found.arrival found.later)
+
+pub offers-packet : (config : Config) (h : List Arrival) (s : Sitting) (q p : ℕ) → s.state ≡ Transfer q → s.waiting ≡ [] → next h (requests_of config s) q ≡ Some p → is_nothing (offered h (client_in config h s)).waiting ≡ false
+offers-packet config h s q p state nothing e =
+    let there = next-there h (requests_of config s) q p e in
+    ap (λ (c : Client). is_nothing c.waiting) (offered-transfer config h s q state nothing ∙ ap (chosen h (requests_of config s) q (client_in config h s)) e)
+    ∙ ap (λ o. is_nothing (unwrap_or (option_map (λ a. packet_for h p a (requests_of config s)) o) [])) there.1
+    ∙ some-packet h p there.0 (requests_of config s) (next-asked h (requests_of config s) q p there.0 e there.1)
+
+pub offers-end : (config : Config) (h : List Arrival) (s : Sitting) (q : ℕ) → s.state ≡ Transfer q → s.waiting ≡ [] → next h (requests_of config s) q ≡ None → list_all (is_over h) (requests_of config s) ≡ true → is_nothing (offered h (client_in config h s)).waiting ≡ false
+offers-end config h s q state nothing e over =
+    ap (λ (c : Client). is_nothing c.waiting)
+    (offered-transfer config h s q state nothing ∙ ap (chosen h (requests_of config s) q (client_in config h s)) e
+    ∙ ap (λ b. if b then record (client_in config h s) { state = ClientEnding; unread = []; waiting = codes "END" } else client_in config h s) over)
+
+pub offers-nothing : (config : Config) (h : List Arrival) (rings : Holdings) (s : Sitting) (q : ℕ) → Sleeps rings s → s.state ≡ Transfer q → rings ≡ holdings_of config h → is_nothing (offered h (client_in config h s)).waiting ≡ true
+offers-nothing config h rings s q sleeps state holds =
+    ap (λ (c : Client). is_nothing c.waiting) (sym (sleeps-idle config h rings s q sleeps state holds)) ∙ ap is_nothing sleeps.nothing_waits

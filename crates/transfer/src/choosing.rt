@@ -1,9 +1,9 @@
 //! What is sent next.
-ghost use Rattle.std.specs.Prelude.{◌≡◌, ◌≢◌, ◌≤◌, ◌<◌, ◌+◌, [], ◌∷◌, List, ℕ, codes, slice_get, filter_map, option_map, IfSome, Some, None, true, false, ℤ, Option};
+ghost use Rattle.std.specs.Prelude.{◌≡◌, ◌≢◌, ◌≤◌, ◌<◌, ◌+◌, [], ◌∷◌, List, ℕ, codes, slice_get, filter_map, option_map, IfSome, Some, None, true, false, not, ℤ, Option};
 ghost use Rattle.std.specs.List.{list_all};
 ghost use Rattle.protocol.specs.Catalog.{Config as ProtocolConfig};
 ghost use Rattle.protocol.specs.History.{Arrival, next as next_position, is_over, holds_after};
-ghost use Rattle.protocol.specs.Client.{offered};
+ghost use Rattle.protocol.specs.Client.{is_nothing, offered};
 ghost use Rattle.catalog.specs.Places.{station_at};
 ghost use Rattle.protocol.specs.Packet.{packet};
 ghost use Rattle.station_ring.specs.declared.held.Held.{Held};
@@ -222,6 +222,28 @@ pub fn choose(session: &mut Session, config: &Config, rings: &Rings) -> Chosen
             Chosen::Packet
         }
         None => end_if_complete(session, rings),
+    }
+}
+
+/// Whether `choose` would find something, in a transfer while nothing waits: a packet, or the end. Nothing changes but how far the
+/// requests have come.
+pub fn finds(session: &mut Session, rings: &Rings) -> bool
+    requires { session.old.waiting ≡ [] }
+    ensures answer { is_transfer session.old.state ≡ true → ArePassed rings.now session.old → (config : ProtocolConfig) (h : List Arrival) → rings.now ≡ holdings_of config h →
+        result ≡ not (is_nothing (offered h (client_in config h session.old)).waiting) }
+    ensures elsewhere { is_transfer session.old.state ≡ false → result ≡ false }
+    ensures same { but_for_cursors session.new ≡ but_for_cursors session.old }
+    ensures passed { ArePassed rings.now session.old → ArePassed rings.now session.new }
+    ensures sleeps { is_transfer session.old.state ≡ true → ArePassed rings.now session.old → result ≡ false → Sleeps rings.now session.new }
+{
+    let State::Transfer(next) = session.state() else {
+        return false;
+    };
+    pass_unwanted(session, rings, next);
+    let found = earliest(session.choices(), rings);
+    match found {
+        Some(_found) => true,
+        None => is_complete(session.choices(), rings),
     }
 }
 

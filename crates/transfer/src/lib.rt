@@ -7,6 +7,6 @@ mod cursors;
 mod starting;
 mod wanting;
 
-pub use choosing::{Chosen, choose};
+pub use choosing::{Chosen, choose, finds};
 pub use cursors::cursor;
 pub use starting::start;
