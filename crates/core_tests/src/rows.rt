@@ -36,22 +36,33 @@ fn each_bit_is_set_and_cleared_alone(rt: HostRuntime) -> Result<(), Fail> {
     Ok(())
 }
 
-/// A row with room for all of the slots, of which one is set.
-fn row_with(alloc: Global, slot: usize) -> Result<Row, Fail> {
+/// A row with room for all of the slots, of which some are set.
+fn row_with(alloc: Global, slots: &[usize]) -> Result<Row, Fail> {
     let mut row = Row::new(alloc);
     row.reserve(200)?;
-    if row.has_room(slot) {
-        row.set(slot);
+    for slot in slots {
+        if row.has_room(*slot) {
+            row.set(*slot);
+        }
     }
     Ok(row)
 }
 
 #[test]
-fn a_row_is_merged_with_a_shorter_one(rt: HostRuntime) -> Result<(), Fail> {
-    let mut row = row_with(rt.alloc(), 128)?;
-    row.merge(&row_with(rt.alloc(), 63)?);
-    assert_eq!(rt; SLOTS.map(|slot| row.is_set(slot)), [false, false, true, false, false, true, false]);
-    row.merge(&Row::new(rt.alloc()));
-    assert!(rt; row.is_set(63) && row.is_set(128));
+fn what_two_rows_have_in_common_is_added(rt: HostRuntime) -> Result<(), Fail> {
+    let mut row = Row::new(rt.alloc());
+    let one = row_with(rt.alloc(), &[0, 63, 128, 200])?;
+    let other = row_with(rt.alloc(), &[1, 63, 127, 200])?;
+    row.add_common(&one, &other);
+    assert!(rt; !row.is_set(63));
+    row.reserve(127)?;
+    row.add_common(&one, &other);
+    assert_eq!(rt;
+        SLOTS.map(|slot| row.is_set(slot)),
+        [false, false, true, false, false, false, false]
+    );
+    row.reserve(200)?;
+    row.add_common(&one, &other);
+    assert!(rt; row.is_set(63) && row.is_set(200) && !row.is_set(128));
     Ok(())
 }

@@ -1,5 +1,5 @@
 //! A row of bits.
-ghost use Rattle.std.specs.Prelude.{◌≡◌, ◌≢◌, ◌≤◌, ℕ, ◌*◌, ◌||◌, length, nat_lt, true, false, OnOk};
+ghost use Rattle.std.specs.Prelude.{◌≡◌, ◌≢◌, ◌≤◌, ℕ, ◌*◌, ◌||◌, ◌&&◌, length, nat_lt, true, false, OnOk};
 
 use std::alloc::{AllocError, Global};
 
@@ -73,15 +73,15 @@ impl Row {
         }
     }
 
-    /// Sets each bit that is set in another row, which has room for no more slots.
-    pub fn merge(&mut self, other: &Row)
-        requires { length other.now.words.items ≤ length self.old.words.items }
-        ensures bits { (slot : ℕ) → bit_of self.new slot ≡ (bit_of self.old slot || bit_of other.now slot) }
+    /// Sets each bit that is set in both of two other rows, where there is room for it.
+    pub fn add_common(&mut self, one: &Row, other: &Row)
+        ensures bits { (slot : ℕ) → HasRoom self.old slot → bit_of self.new slot ≡ (bit_of self.old slot || (bit_of one.now slot && bit_of other.now slot)) }
         ensures room { length self.new.words.items ≡ length self.old.words.items }
     {
-        for i in 0..other.words.len() {
+        let both = one.words.len().min(other.words.len());
+        for i in 0..self.words.len().min(both) {
             let word = self.words[i];
-            self.words[i] = word | other.words[i];
+            self.words[i] = word | (one.words[i] & other.words[i]);
         }
     }
 }

@@ -11,7 +11,7 @@ use station_ring::Summary;
 use std::alloc::{AllocError, Global};
 use std::net::Ipv4Addr;
 use std::test::Fail;
-use transfer::{Chosen, choose, cursor, start};
+use transfer::{Chosen, choose, cursor, finds, start};
 
 const CENTRE: &[u8] = br#"title = "Test Centre"
 
@@ -406,6 +406,57 @@ fn a_cursor_tells_how_far_a_request_has_come(rt: HostRuntime) -> Result<(), Fail
             last: Some(last),
         };
         assert_eq!(rt; given, wanted);
+    }
+    Ok(())
+}
+
+/// Whether a session in a transfer finds something, and what is chosen then.
+fn found_then_chosen(
+    alloc: Global,
+    config: &Config,
+    rings: &mut Rings,
+    (lines, arrivals): (&[&[u8]], &[usize]),
+) -> Result<Option<(bool, Chosen)>, AllocError> {
+    let mut session = opened(alloc, config)?;
+    say_all(config, &mut session, lines);
+    start_it(&mut session, rings);
+    arrive(rings, arrivals);
+    if !session.waiting().is_empty() {
+        return Ok(None);
+    }
+    let found = finds(&mut session, rings);
+    if !session.waiting().is_empty() {
+        return Ok(None);
+    }
+    Ok(Some((found, choose(&mut session, config, rings))))
+}
+
+/// The lines of a client, the stations of the arrivals once its transfer has started, whether something is found, and what is chosen.
+type FindingRow = (
+    &'static [&'static [u8]],
+    &'static [usize],
+    (bool, Chosen),
+);
+
+static FINDINGS: [FindingRow; 5] = [
+    (&[b"DATA\r"], &[], (false, Chosen::Nothing)),
+    (&[b"DATA\r"], &[1], (false, Chosen::Nothing)),
+    (&[b"DATA\r"], &[0], (true, Chosen::Packet)),
+    (
+        &[b"SELECT BHE\r", b"DATA\r"],
+        &[0],
+        (false, Chosen::Nothing),
+    ),
+    (&[b"FETCH\r"], &[], (true, Chosen::Complete)),
+];
+
+#[test]
+fn what_is_found_is_what_is_chosen(rt: HostRuntime) -> Result<(), Fail> {
+    let config = Config::read(rt.alloc(), CENTRE)?;
+    for (lines, arrivals, wanted) in FINDINGS {
+        let mut rings = Rings::new(rt.alloc(), &config)?;
+        let given = found_then_chosen(rt.alloc(), &config, &mut rings, (lines, arrivals))?;
+        assert_eq!(rt; given, Some(wanted));
     }
     Ok(())
 }
