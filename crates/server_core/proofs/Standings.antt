@@ -35,9 +35,6 @@ goes_on-stands config h old new w k f goes clients j =
     let apart : k ≡ j → ⊥ = eqb-false k j e in
     ap (seated config h) (goes.others j (λ q. apart (sym q))) ∙ clients j ∙ ap seat_at (sym (slice_get-at_apart w.connections k j (changed f) apart)))
 
-pub whole-written : {X : Type 0} (n : ℕ) (a b : List X) → length a ≡ length b → n ≡ length b → take n (a ++ drop (length a) b) ≡ a
-whole-written n a b e f = grind (arith, common_steps)
-
 -- what one client does, of whatever kind
 pub client-stands : (f : View → Client → Client) (old new : Serving) (number : ℕ) → new.config ≡ old.config → new.rings ≡ old.rings → length new.sessions ≡ length old.sessions → (config : Config) (w : World) → OnlyGoesOn old.config w.history old.sessions new.sessions number f → StandsAt old config w → StandsAt new config (record w { connections = at w.connections number (changed f) })
 client-stands f old new number same kept longer config w goes stands =
@@ -70,13 +67,6 @@ some-took config h old new slot n a r there updates some fits client places =
     some_waits : (ws : List ℕ) (n : ℕ) → 0 < n → n ≤ length ws → is_nothing ws ≡ false
     some_waits [] n some fits = absurd (omega arith)
     some_waits (b ∷ ws) n some fits = refl
-
-pub take-stands : (old new : Serving) (number n : ℕ) → new.config ≡ old.config → new.rings ≡ old.rings → length new.sessions ≡ length old.sessions → (config : Config) (w : World) → OnlyGoesOn old.config w.history old.sessions new.sessions number (taking w.history n) → StandsAt old config w → StandsAt new config (step config w (Take number n))
-unfolding taking
-take-stands old new number n same kept longer config w goes stands = client-stands (taking w.history n) old new number same kept longer config w goes stands
-
-pub offer-stands : (old new : Serving) (number : ℕ) → new.config ≡ old.config → new.rings ≡ old.rings → length new.sessions ≡ length old.sessions → (config : Config) (w : World) → OnlyGoesOn old.config w.history old.sessions new.sessions number (λ v c. offered w.history c) → StandsAt old config w → StandsAt new config (step config w (Take number 0))
-offer-stands old new number same kept longer config w goes stands = client-stands (λ v c. offered w.history c) old new number same kept longer config w goes stands
 
 client_of-seat : (x : Option Connection) → client_of x ≡ seat_client (seat_at x)
 client_of-seat None = refl

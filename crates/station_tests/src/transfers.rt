@@ -432,11 +432,7 @@ fn found_then_chosen(
 }
 
 /// The lines of a client, the stations of the arrivals once its transfer has started, whether something is found, and what is chosen.
-type FindingRow = (
-    &'static [&'static [u8]],
-    &'static [usize],
-    (bool, Chosen),
-);
+type FindingRow = (&'static [&'static [u8]], &'static [usize], (bool, Chosen));
 
 static FINDINGS: [FindingRow; 5] = [
     (&[b"DATA\r"], &[], (false, Chosen::Nothing)),

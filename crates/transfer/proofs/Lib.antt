@@ -11,4 +11,4 @@ pub mod Found
 pub mod Beginning
 pub mod Going
 pub mod Asked
-pub mod Sleeping
+pub mod Waits

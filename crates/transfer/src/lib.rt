@@ -4,9 +4,11 @@
 
 mod choosing;
 mod cursors;
+mod sleeping;
 mod starting;
 mod wanting;
 
 pub use choosing::{Chosen, choose, finds};
 pub use cursors::cursor;
+pub use sleeping::{sleeping_goes_on, sleeping_is_idle};
 pub use starting::start;

@@ -1,7 +1,7 @@
 use Rattle.std.proofs.Common.{◌∙◌, ap, sym, option_map}
 use Rattle.transfer.proofs.Nexts.{first-comes, nothing-asked, nowhere-comes, asked-some, asked-none}
 use Rattle.transfer.specs.declared.wanting.Candidate.{Candidate}
-use Rattle.transfer.proofs.Sleeping.{nothing-of-none, nothing-of-nowhere, nothing-of-ring}
+use Rattle.transfer.proofs.Waits.{nothing-of-none, nothing-of-nowhere, nothing-of-ring}
 use Rattle.transfer.proofs.choosing.candidate.Goals as goal
 
 pub returns-then-is_none-clause-position : goal.returns-then-is_none-clause-position

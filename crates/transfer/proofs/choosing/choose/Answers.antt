@@ -11,7 +11,7 @@ use Rattle.transfer.proofs.Going.{ended-passes, ended-reached, packet-passes, pa
 use Rattle.transfer.proofs.Leading.{leads-to-packet, leads-on}
 use Rattle.transfer.proofs.Packets.{arrived-there}
 use Rattle.transfer.specs.Sleeping.{HasNothing, Sleeps}
-use Rattle.transfer.proofs.Sleeping.{all-reached, sleeps-so}
+use Rattle.transfer.proofs.Waits.{all-reached, sleeps-so}
 use Rattle.transfer.proofs.choosing.choose.Goals as goal
 
 pub returns-in-Some-clause-client : goal.returns-in-Some-clause-client

@@ -1,4 +1,4 @@
-use Rattle.std.proofs.Common.{◌≡◌, ◌∙◌, Some, None, ap, refl, sym, subst, not, filter_map, true, false, []}
+use Rattle.std.proofs.Common.{◌≡◌, ◌∙◌, Some, None, ap, refl, sym, subst, not, filter_map, false, []}
 use Rattle.std.specs.List.{list_all}
 use Rattle.protocol.specs.History.{is_over, next}
 use Rattle.protocol.specs.Client.{Client, is_nothing, offered}
@@ -10,7 +10,7 @@ use Rattle.transfer.specs.Cursors.{ArePassed, IsReached, OfAll, RestsIn}
 use Rattle.transfer.specs.Sleeping.{HasNothing, MoreMayCome, Sleeps}
 use Rattle.transfer.proofs.Beginning.{client-same}
 use Rattle.transfer.proofs.Going.{passed-all, same-passes}
-use Rattle.transfer.proofs.Sleeping.{all-reached, offers-end, offers-nothing, offers-packet, sleeps-so}
+use Rattle.transfer.proofs.Waits.{all-reached, offers-end, offers-nothing, offers-packet, sleeps-so}
 use Rattle.transfer.proofs.choosing.finds.Goals as goal
 
 pub returns-in-Some-clause-answer : goal.returns-in-Some-clause-answer

@@ -1,4 +1,4 @@
-use Rattle.std.proofs.Common.{◌≡◌, ◌∙◌, ◌<◌, ◌-◌, ◌+◌, ℕ, Some, None, [], ap, sym, subst, arith, length, drop, refl, slice_get}
+use Rattle.std.proofs.Common.{◌≡◌, ◌∙◌, ◌<◌, ◌-◌, ◌+◌, [], ap, sym, subst, arith, length, drop, refl, slice_get}
 use Rattle.std.proofs.lemmas.List.{drop_all}
 use Rattle.transfer.specs.Cursors.{request_cursors}
 use Rattle.transfer.proofs.Asked.{cursors-other, cursors-request, get-first, get-past}
