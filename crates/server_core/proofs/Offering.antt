@@ -1,14 +1,12 @@
 -- What the server does with a session is what its client does.
-use Rattle.std.proofs.Common.{◌≡◌, ℕ, ◌-◌, true, false, not, nat_lt, if◌then◌else◌, List, length, Some, Ok, Err, refl, sym, ap, ap₂, subst, ◌∙◌, arith}
+use Rattle.std.proofs.Common.{◌≡◌, ℕ, ◌-◌, true, false, not, nat_lt, if◌then◌else◌, List, length, Some, Ok, Err, refl, sym, ap, ◌∙◌, arith}
 use Rattle.protocol.specs.Catalog.{Config}
 use Rattle.protocol.specs.History.{Arrival}
-use Rattle.protocol.specs.Client.{Client, read_on, is_nothing, filled, filled_in, offered}
+use Rattle.protocol.specs.Client.{Client, is_nothing, filled, filled_in, offered}
 use Rattle.protocol.proofs.Found.{both}
-use Rattle.catalog.specs.Places.{view_in}
-use Rattle.session_state.specs.declared.session.State.TheVariants.{Negotiating, Transfer, Ending}
-use Rattle.session_state.specs.declared.session.Settled.{Settled}
-use Rattle.session_state.specs.declared.session.Settled.TheVariants.{Rest, Start}
-use Rattle.session_state.specs.Sessions.{Sitting, client_in, sitting_view, never_starts, Comes}
+use Rattle.session_state.specs.declared.session.State.TheVariants.{Negotiating, Ending}
+use Rattle.session_state.specs.declared.session.Settled.TheVariants.{Rest}
+use Rattle.session_state.specs.Sessions.{Sitting, client_in, Comes}
 use Rattle.transfer.proofs.Going.{keeps-passed}
 use Rattle.server_core.specs.Refusals.{receipt}
 use Rattle.server_core.specs.declared.client.Refusal.TheVariants.{NoRoom}

@@ -1,5 +1,5 @@
 -- Clients in slots: what each keeps while another one comes, goes on or leaves.
-use Rattle.std.proofs.Common.{◌≡◌, ℕ, zero, suc, ◌+◌, ◌<◌, ◌≤◌, ◌==◌, nat_lt, Bool, true, false, List, [], ◌∷◌, ◌++◌, map, length, slice_get, slice_set, slice_index_or, Option, Some, None, unwrap_or, refl, sym, ap, ap₂, subst, ◌∙◌, arith, eqb-true}
+use Rattle.std.proofs.Common.{◌≡◌, ℕ, zero, suc, ◌+◌, ◌<◌, ◌≤◌, ◌==◌, nat_lt, List, [], ◌∷◌, ◌++◌, map, length, slice_get, slice_set, slice_index_or, Option, Some, None, unwrap_or, refl, sym, ap, ap₂, subst, ◌∙◌, arith, eqb-true}
 use Rattle.std.specs.Prelude.{IsSome, ◌≢◌}
 use Rattle.std.specs.List.{range_with_len, remove}
 use Rattle.std.proofs.lemmas.Bool.{eqb-false}
@@ -15,9 +15,9 @@ use Rattle.held_records.specs.Holdings.{Holdings}
 use Rattle.session_state.specs.Sessions.{Sitting}
 use Rattle.server_core.specs.declared.clients.Opened.{Opened}
 use Rattle.server_core.specs.declared.clients.Clients.{Clients}
-use Rattle.server_core.specs.Clients.{AreApart, AreBelow, AreRising, IsNumberAt, IsTable, in_slot, no_one, session_of, sessions_of, slot_in}
+use Rattle.server_core.specs.Clients.{AreApart, AreBelow, AreRising, IsNumberAt, IsTable, in_slot, session_of, sessions_of, slot_in}
 use Rattle.server_core.specs.Standing.{AreSettled, IsSettled, OnlyGoesOn, SlotGoesOn, StayOpen, goes_on, seated}
-use Rattle.server_core.proofs.Numbers.{below-less, below-more, none-below, rising-less, rising-more, slot-at, slot_in-below, slot_in-gone, slot_in-less, slot_in-more, slot_in-new}
+use Rattle.server_core.proofs.Numbers.{below-less, below-more, none-below, rising-less, rising-more, slot_in-below, slot_in-gone, slot_in-less, slot_in-more, slot_in-new}
 
 -- ---- values of numbers, as a list
 

@@ -1,20 +1,19 @@
 -- How a server goes on standing for a world.
-use Rattle.std.proofs.Common.{◌≡◌, ℕ, ◌+◌, ◌<◌, ◌≤◌, true, false, ◌==◌, List, [], ◌∷◌, ◌++◌, length, take, drop, Some, None, Option, option_map, slice_get, slice_set, refl, sym, ap, ap₂, length-append, subst, ◌∙◌, arith, zero, suc, eqb-true, unwrap_or}
+use Rattle.std.proofs.Common.{◌≡◌, ℕ, ◌+◌, ◌<◌, ◌≤◌, true, false, ◌==◌, List, [], ◌∷◌, ◌++◌, length, Some, None, Option, option_map, slice_get, slice_set, refl, sym, ap, ap₂, length-append, subst, ◌∙◌, arith, zero, suc, eqb-true}
 use Rattle.std.proofs.lemmas.Bool.{eqb-false}
-use Rattle.std.proofs.lemmas.Grind.{common_steps}
 use Rattle.protocol.specs.Catalog.{View, Config, view_of}
-use Rattle.protocol.specs.Client.{Client, new_client, taken_of, offered, after_take, is_nothing}
-use Rattle.protocol.specs.World.{world_after, empty_world, client_of, taken_by, gone, Connection, World, Event, at, changed, closed, step}
-use Rattle.protocol.specs.World.Event.{Open, Take, Close}
+use Rattle.protocol.specs.Client.{Client, new_client, offered, after_take, is_nothing}
+use Rattle.protocol.specs.World.{client_of, Connection, World, at, changed, closed, step}
+use Rattle.protocol.specs.World.Event.{Open, Close}
 use Rattle.protocol.proofs.Found.{both}
-use Rattle.protocol.proofs.Connections.{length-at, slice_get-at_same, slice_get-at_here, slice_get-at_apart, at_past_the_end, none_past_the_end, world_from-append}
-use Rattle.held_records.specs.Holdings.{Holdings, holdings_of}
+use Rattle.protocol.proofs.Connections.{length-at, slice_get-at_same, slice_get-at_here, slice_get-at_apart}
+use Rattle.held_records.specs.Holdings.{holdings_of}
 use Rattle.slab.specs.Slab.{Slab, get, Updates}
 use Rattle.session_state.specs.Sessions.{Sitting, client_in, sitting_view}
 use Rattle.server_core.proofs.Offering.{offered-waiting}
 use Rattle.catalog.specs.Places.{view_in}
 use Rattle.protocol.specs.History.{Arrival}
-use Rattle.server_core.specs.Standing.{taking, Stands, Serving, seat_client, seat_of, Seat, seated, seat_with, seat_at, goes_on, StandsAt, OnlyGoesOn, SlotGoesOn}
+use Rattle.server_core.specs.Standing.{taking, Serving, seat_client, seat_of, Seat, seated, seat_with, seat_at, goes_on, StandsAt, OnlyGoesOn, SlotGoesOn}
 
 seat_with-changed : (f : View → Client → Client) (v : View) (o : Option Client) → seat_with v (option_map (f v) o) ≡ goes_on f (seat_with v o)
 seat_with-changed f v None = refl

@@ -3,7 +3,7 @@ use Rattle.std.proofs.Common.{◌≡◌, ℕ, zero, suc, true, false, Bool, ◌&
 use Rattle.protocol.specs.Catalog.{Config, View}
 use Rattle.protocol.specs.History.{Arrival}
 use Rattle.protocol.specs.Client.{Client, Taken, offered, after_take, is_nothing, left_with}
-use Rattle.protocol.specs.World.{World, Connection, Handed, step, at, changed, client_of, taken_by, told}
+use Rattle.protocol.specs.World.{World, Connection, step, at, changed, client_of, taken_by}
 use Rattle.protocol.specs.World.Event.{Take}
 use Rattle.protocol.proofs.Connections.{slice_get-at_same}
 use Rattle.server_core.specs.declared.client.Offer.{Offer}

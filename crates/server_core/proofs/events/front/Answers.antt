@@ -1,7 +1,6 @@
-use Rattle.std.proofs.Common.{◌≡◌, ◌∙◌, ap, sym, arith, take, List, ℕ, Some, None, Option, option_map, unwrap_or}
+use Rattle.std.proofs.Common.{◌≡◌, ◌∙◌, ap, arith, take, List, ℕ, Some, None, Option, option_map, unwrap_or}
 use Rattle.std.proofs.lemmas.Grind.{common_steps}
 use Rattle.protocol.specs.Client.{Client}
-use Rattle.protocol.specs.World.{client_of}
 use Rattle.server_core.specs.Runs.{first_waiting}
 use Rattle.server_core.proofs.events.front.Goals as goal
 

@@ -1,8 +1,8 @@
-use Rattle.std.proofs.Common.{◌≡◌, ◌∙◌, ap, ap₂, sym, subst, refl, arith, true, false, Bool, not, length, take, List, ℕ, Some, ◌<◌, ◌≤◌, [], ◌∷◌}
+use Rattle.std.proofs.Common.{◌≡◌, ◌∙◌, ap, ap₂, sym, subst, refl, arith, true, false, Bool, length, take, List, ℕ, ◌<◌, ◌≤◌, [], ◌∷◌}
 use Rattle.std.proofs.lemmas.Grind.{common_steps}
 use Rattle.std.specs.Result.{result_ok}
 use Rattle.protocol.specs.Client.{Taken, is_nothing}
-use Rattle.protocol.specs.World.{Handed, step, told}
+use Rattle.protocol.specs.World.{step, told}
 use Rattle.protocol.specs.World.Event.{Take}
 use Rattle.server_core.specs.Standing.{StandsAt}
 use Rattle.server_core.proofs.Taking.{none-taken, some-taken, taken-told}

@@ -1,6 +1,5 @@
 use Rattle.std.proofs.Common.{◌≡◌, ◌∙◌, ap, sym, Some, length}
-use Rattle.slab.specs.Slab.{Slab, get, with_value, Updates}
-use Rattle.session_state.specs.Sessions.{Sitting}
+use Rattle.slab.specs.Slab.{get, with_value, Updates}
 use Rattle.server_core.specs.Refusals.{receipt}
 use Rattle.server_core.specs.Standing.{seated, seat_client}
 use Rattle.server_core.proofs.Slots.{settled-goes, stays-open, wrote}

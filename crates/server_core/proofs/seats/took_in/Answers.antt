@@ -1,6 +1,5 @@
-use Rattle.std.proofs.Common.{◌≡◌, ◌∙◌, ap, sym, Some}
-use Rattle.slab.specs.Slab.{Slab, get, with_value, Updates}
-use Rattle.session_state.specs.Sessions.{Sitting}
+use Rattle.std.proofs.Common.{◌≡◌, sym, Some}
+use Rattle.slab.specs.Slab.{get, with_value, Updates}
 use Rattle.server_core.proofs.Standings.{some-took}
 use Rattle.server_core.proofs.Slots.{settled-goes, stays-open, wrote}
 use Rattle.server_core.proofs.seats.took_in.Goals as goal

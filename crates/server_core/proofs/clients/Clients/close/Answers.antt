@@ -1,7 +1,6 @@
 use Rattle.std.proofs.Common.{rules, ◌≡◌, ◌∙◌, ap, sym, Some, None, refl}
 use Rattle.std.specs.Prelude.{is_some}
 use Rattle.std.proofs.lemmas.List.{get_or_default}
-use Rattle.slab.specs.Slab.{get}
 use Rattle.server_core.specs.declared.clients.Opened.{Opened}
 use Rattle.server_core.specs.Clients.{IsNumberAt, in_slot, no_one, slot_in}
 use Rattle.server_core.proofs.Numbers.{slot-at}

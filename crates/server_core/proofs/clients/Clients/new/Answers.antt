@@ -1,4 +1,4 @@
-use Rattle.std.proofs.Common.{◌≡◌, ◌∙◌, refl}
+use Rattle.std.proofs.Common.{refl}
 use Rattle.server_core.specs.Clients.{sessions_of}
 use Rattle.server_core.proofs.clients.Clients.new.Goals as goal
 

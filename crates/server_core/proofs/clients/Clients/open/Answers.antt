@@ -1,10 +1,8 @@
 use Rattle.std.proofs.Common.{rules, ◌≡◌, ◌∙◌, ap, sym, refl, Some, None, subst, List, Option}
 use Rattle.std.specs.Prelude.{◌+◌, slice_index_or, ◌∷◌, [], ◌++◌}
-use Rattle.slab.specs.Slab.{Slab, get, Updates}
+use Rattle.slab.specs.Slab.{Slab, Updates}
 use Rattle.session_state.specs.Sessions.{Sitting}
-use Rattle.server_core.specs.declared.clients.Opened.{Opened}
 use Rattle.server_core.specs.declared.clients.Clients.{Clients}
-use Rattle.server_core.specs.Standing.{IsSettled}
 use Rattle.server_core.proofs.Slots.{opens-sessions, opens-table, room-sessions, room-table, settled-goes}
 use Rattle.server_core.proofs.clients.Clients.open.Goals as goal
 

@@ -1,4 +1,4 @@
-use Rattle.std.proofs.Common.{rules, ◌≡◌, ◌∙◌, ap, sym, Some}
+use Rattle.std.proofs.Common.{rules, ◌∙◌, ap, sym, Some}
 use Rattle.std.proofs.lemmas.List.{get_or_default}
 use Rattle.server_core.specs.declared.clients.Opened.{Opened}
 use Rattle.server_core.specs.Clients.{IsNumberAt, no_one}

@@ -1,4 +1,4 @@
-use Rattle.std.proofs.Common.{◌≡◌, ◌∙◌, sym, subst, rules, None, Option, ℕ}
+use Rattle.std.proofs.Common.{◌∙◌, sym, subst, rules, Option, ℕ}
 use Rattle.std.specs.Prelude.{IfSome}
 use Rattle.std.proofs.lemmas.List.Sorted.{answers_always}
 use Rattle.server_core.specs.Clients.{IsNumberAt}

@@ -1,7 +1,4 @@
-use Rattle.std.proofs.Common.{◌≡◌, ◌∙◌, ap, sym, refl, is_some, is_ok, slice_set, slice_index_or, List, Option, None}
-use Rattle.protocol.specs.World.{client_of}
-use Rattle.session_state.specs.Sessions.{Sitting}
-use Rattle.server_core.specs.Clients.{sessions_of}
+use Rattle.std.proofs.Common.{◌≡◌, ◌∙◌, ap, sym, refl, is_ok}
 use Rattle.server_core.proofs.GoingOn.{found, seen-session, serving}
 use Rattle.server_core.proofs.Standings.{close-stands}
 use Rattle.server_core.proofs.server.Server.close.Goals as goal

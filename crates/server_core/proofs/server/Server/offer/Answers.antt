@@ -1,9 +1,7 @@
-use Rattle.std.proofs.Common.{◌≡◌, ◌∙◌, ap, sym, subst, List, Option, option_map}
-use Rattle.protocol.specs.Catalog.{Config}
-use Rattle.protocol.specs.World.{World}
+use Rattle.std.proofs.Common.{◌∙◌, ap, sym, subst, option_map}
 use Rattle.session_state.specs.Sessions.{Sitting}
 use Rattle.slab.specs.Slab.{Slab}
-use Rattle.server_core.specs.Standing.{AreSettled, StandsAt}
+use Rattle.server_core.specs.Standing.{AreSettled}
 use Rattle.protocol.specs.Client.{Client, offered}
 use Rattle.server_core.specs.Refusals.{offer_of}
 use Rattle.server_core.proofs.GoingOn.{found, goes-nowhere, goes-there, seen-nowhere, seen-there}

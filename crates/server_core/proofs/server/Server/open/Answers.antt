@@ -3,7 +3,6 @@ use Rattle.std.specs.Net.Addr.{ipv4_bits}
 use Rattle.catalog.specs.Places.{view_in, IsPlace}
 use Rattle.session_state.specs.declared.session.State.TheVariants.{Negotiating, Transfer}
 use Rattle.transfer.proofs.Going.{none-passed}
-use Rattle.server_core.specs.Clients.{sessions_of}
 use Rattle.server_core.specs.Standing.{IsSettled, Serving}
 use Rattle.server_core.proofs.GoingOn.{found, serving}
 use Rattle.server_core.proofs.Slots.{sessions-counted}

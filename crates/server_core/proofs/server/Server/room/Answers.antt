@@ -1,4 +1,4 @@
-use Rattle.std.proofs.Common.{◌≡◌, ◌∙◌, ap, Some, Option, option_map}
+use Rattle.std.proofs.Common.{◌∙◌, ap, Some, Option, option_map}
 use Rattle.session_state.specs.Sessions.{Sitting, client_in}
 use Rattle.server_core.specs.Refusals.{room_of}
 use Rattle.server_core.proofs.GoingOn.{seen-by}

@@ -1,4 +1,4 @@
-use Rattle.std.proofs.Common.{◌≡◌, ◌∙◌, ap, sym, None, Option, option_map, slice_index_or}
+use Rattle.std.proofs.Common.{◌∙◌, ap, sym, None, option_map, slice_index_or}
 use Rattle.server_core.specs.Clients.{in_slot, sessions_of}
 use Rattle.server_core.specs.Standing.{Serving}
 use Rattle.server_core.proofs.Slots.{session-is}

@@ -1,9 +1,7 @@
-use Rattle.std.proofs.Common.{◌≡◌, ◌∙◌, ap, sym, subst, List, Option, Some, is_some, slice_get}
-use Rattle.protocol.specs.Catalog.{Config}
-use Rattle.protocol.specs.World.{World}
+use Rattle.std.proofs.Common.{◌∙◌, ap, sym, subst, List, Option, Some, is_some, slice_get}
 use Rattle.session_state.specs.Sessions.{Sitting}
 use Rattle.slab.specs.Slab.{Slab}
-use Rattle.server_core.specs.Standing.{AreSettled, StandsAt}
+use Rattle.server_core.specs.Standing.{AreSettled}
 use Rattle.server_core.specs.Standing.{Serving}
 use Rattle.server_core.specs.Clients.{sessions_of}
 use Rattle.server_core.proofs.GoingOn.{found, seen-nowhere, seen-there, took-nowhere, took-there}
