@@ -1,0 +1,3 @@
+mod Dots
+mod MaskBits
+mod Walks

@@ -1,0 +1,85 @@
+//! Lists of addresses and masks.
+ghost use Rattle.std.specs.Prelude.{◌≡◌};
+ghost use Rattle.std.specs.List.{list_any};
+ghost use Rattle.protocol.specs.Access.{is_in};
+ghost use Rattle.access_list.specs.Tokens.{is_separator};
+
+use crate::fault::AccessFault;
+use crate::token::Token;
+use std::alloc::Global;
+use std::marker::Model;
+use std::net::Ipv4Addr;
+
+/// A list of addresses and masks. In a contract it is its tokens, in order.
+#[derive(Drop)]
+pub struct AccessList {
+    tokens: Vec<Token>,
+}
+
+impl Model for AccessList {
+    ghost use Rattle.std.specs.Prelude.{List};
+    ghost use Rattle.protocol.specs.Access.{Token as ProtocolToken};
+
+    ghost Value = { List ProtocolToken };
+
+    ghost view = { λ a. a.tokens.items };
+}
+
+impl AccessList {
+    ghost use Rattle.std.specs.Prelude.{◌≢◌, ◌↔◌, ℕ, true, Ok, Err, IfOk, IfErr};
+    ghost use Rattle.std.specs.Net.Addr.{ipv4_bits};
+    ghost use Rattle.protocol.specs.Access.{allows, IsAllowed};
+    ghost use Rattle.access_list.specs.Tokens.{list_of};
+    ghost use Rattle.access_list.specs.declared.fault.AccessFault.TheVariants.{OutOfMemory};
+
+    /// The list that a text spells. Any number of spaces and commas separate its tokens, and nothing else does. A token is an
+    /// address, which is that address alone, or an address, `/` and a mask: a number 0 to 32 of one or two digits, which is
+    /// that many leading one-bits, or four numbers joined by dots.
+    ///
+    /// It fails with the fault of the first bad token: Address where the part before its first `/` is no address, and else
+    /// Mask where the part after it is no mask. It fails with OutOfMemory only where there is no memory.
+    ///
+    /// The list allows an address exactly where one of its tokens has the same bit as the address in each of the 32 bits in
+    /// which its mask is one.
+    pub fn parse(alloc: Global, text: &[u8]) -> Result<AccessList, AccessFault>
+        ensures ok { IfOk result (λ list. list_of text.now ≡ Ok list) }
+        ensures words { IfOk result (λ list. (a : ℕ) → (allows list a ≡ true) ↔ IsAllowed list a) }
+        ensures err { IfErr result (λ fault. fault ≢ OutOfMemory → list_of text.now ≡ Err fault) }
+    {
+        let mut tokens = Vec::new(alloc);
+        let words = text.split(
+            |byte|
+                ensures { result ≡ is_separator byte.now }
+            { is_separator(*byte) },
+        );
+        for word in words {
+            if !word.is_empty() {
+                tokens
+                    .push(Token::parse(word)?)
+                    .map_err(|_| AccessFault::OutOfMemory)?;
+            }
+        }
+        Ok(AccessList { tokens })
+    }
+
+    /// Whether some token of the list has the bits of the address wherever its mask is one. An empty list allows nobody.
+    pub fn allows(&self, address: Ipv4Addr) -> bool
+        ensures { result ≡ allows self.now (ipv4_bits address) }
+    {
+        is_allowed(self.tokens.as_slice(), address.to_bits())
+    }
+}
+
+/// Whether a byte parts tokens.
+fn is_separator(byte: u8) -> bool
+    ensures { result ≡ is_separator byte }
+{
+    byte == b' ' || byte == b','
+}
+
+/// Whether one of the tokens has the address.
+fn is_allowed(tokens: &[Token], address: u32) -> bool
+    ensures { result ≡ list_any (is_in address) tokens.now }
+{
+    tokens.iter().any(|token| token.has(address))
+}

@@ -1,0 +1,6 @@
+mod Distinct
+mod Elements
+mod Finds
+mod Indexing
+mod ReadOn
+mod Views

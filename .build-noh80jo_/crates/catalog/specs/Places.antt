@@ -1,0 +1,27 @@
+-- Stations that are named by their places in a configuration.
+use Rattle.std.specs.Prelude.{◌≡◌, ℕ, ◌<◌, List, [], length, map, slice_get, option_map, unwrap_or}
+use Rattle.protocol.specs.Catalog.{Config, Entry, Station, View}
+
+-- the station of a place that is not there
+abbrev pub nowhere : Station
+nowhere = record { network = []; code = []; description = []; capacity = 0; first = 0 }
+
+-- the station at a place
+abbrev pub station_at : List Entry → ℕ → Station
+station_at entries place = unwrap_or (option_map (λ e. e.station) (slice_get entries place)) nowhere
+
+-- the view that the places are
+abbrev pub view_in : Config → List ℕ → View
+view_in config places = record { title = config.title; stations = map (station_at config.entries) places }
+
+-- a place at which the configuration has a station
+abbrev pub IsPlace : Config → ℕ → Type 0
+IsPlace config place = place < length config.entries
+
+-- two stations have the same network and code
+abbrev pub SameCodes : Station → Station → Type 0
+SameCodes s t = (s.network ≡ t.network) × (s.code ≡ t.code)
+
+-- no station has the codes of another place's; at a place that is not there they are empty
+abbrev pub HasDistinctCodes : List Entry → Type 0
+HasDistinctCodes entries = (i j : ℕ) → i < length entries → SameCodes (station_at entries i) (station_at entries j) → i ≡ j

@@ -1,0 +1,186 @@
+//! What a server is set up with.
+ghost use Rattle.std.specs.Prelude.{◌≡◌, ◌≢◌, ◌≤◌, All, length, slice_get, option_map, unwrap_or, false, IfOk, IfErr, OnOk, Ok, Err, Some, None};
+ghost use Rattle.std.specs.List.{position};
+ghost use Rattle.std.specs.Str.{IsUtf8};
+ghost use Rattle.std.specs.Net.Addr.{ipv4_bits};
+ghost use Rattle.toml.specs.Parse.{parse_document};
+ghost use Rattle.toml.specs.View.{table_view};
+ghost use Rattle.protocol.specs.Catalog.{has_codes, sees, view_of};
+ghost use Rattle.catalog.specs.Places.{view_in, HasDistinctCodes, IsPlace};
+ghost use Rattle.catalog.specs.Reading.{config_of, config_read};
+
+use crate::fault::ConfigFault;
+use crate::index::Index;
+use crate::listing::stations_of;
+use crate::settings::{access_of, connections_of, title_of};
+use crate::station::Station;
+use crate::view::View;
+use access_list::AccessList;
+use std::alloc::{AllocError, Global};
+use std::marker::Model;
+use std::net::Ipv4Addr;
+use toml::Table;
+
+/// The settings of a server.
+#[derive(Drop)]
+pub struct Config {
+    title: Vec<u8>,
+    max_connections: usize,
+    access: Option<AccessList>,
+    stations: Vec<Station>,
+    index: Index,
+}
+
+impl Model for Config {
+    ghost use Rattle.std.specs.Prelude.{◌≤◌, length, All};
+    ghost use Rattle.protocol.specs.Catalog.{Config as ProtocolConfig};
+    ghost use Rattle.catalog.specs.Places.{HasDistinctCodes};
+    ghost use Rattle.catalog.specs.Indexing.{Finds, HasShortCodes};
+
+    ghost Value = { ProtocolConfig };
+
+    ghost view = { λ c. record {
+      title = c.title.items;
+      max_connections = c.max_connections;
+      access = c.access;
+      entries = c.stations.items;
+    } };
+
+    ghost invariant = { λ c.
+        (length c.title.items ≤ 100) × (1 ≤ c.max_connections) × (c.max_connections ≤ 10000) ×
+        HasDistinctCodes c.stations.items × All HasShortCodes c.stations.items ×
+        Finds c.index.places c.stations.items };
+}
+
+/// The table of a configuration's text.
+fn table_of(alloc: Global, bytes: &[u8]) -> Result<Table, ConfigFault>
+    ensures ok { IfOk result (λ table. parse_document bytes.now ≡ Some (table_view table)) }
+    ensures text { OnOk result (IsUtf8 bytes.now) }
+    ensures toml { IfErr result (λ e. e ≢ ConfigFault.OutOfMemory → e ≡ ConfigFault.Toml) }
+    ensures fault { IfErr result (λ e. e ≢ ConfigFault.OutOfMemory → IsUtf8 bytes.now → parse_document bytes.now ≡ None) }
+{
+    match toml::table_from_slice(alloc, bytes) {
+        Ok(table) => Ok(table),
+        Err(error) => {
+            if error.is_memory() {
+                Err(ConfigFault::OutOfMemory)
+            } else {
+                Err(ConfigFault::Toml)
+            }
+        }
+    }
+}
+
+impl Config {
+    /// Reads the text of a configuration, which is TOML in UTF-8. Its keys are judged in this order, and the first that fails
+    /// is told: `title`, `access`, `max_connections`, `station`, and then for each station in order `network`, `code`,
+    /// `description`, `capacity`, `first`, `access`, and whether an earlier station has the same network and code. Other keys
+    /// are ignored.
+    ///
+    /// - `title` has 1 to 100 bytes of printable ASCII.
+    /// - `access`, of the server or of a station, is a list of addresses and masks, and may be missing.
+    /// - `max_connections` is 1 to 10,000, and 100 where it is missing.
+    /// - `station` is an array of 1 to 1,024 tables.
+    /// - `network` has 1 to 2 and `code` 1 to 5 of `A` to `Z` and `0` to `9`.
+    /// - `description` has at most 60 bytes of printable ASCII.
+    /// - `capacity` is 1 to 65,536.
+    /// - `first` has 1 to 6 hexadecimal digits of either case, and is 0 where it is missing.
+    ///
+    /// It fails with Toml where the bytes are no UTF-8 or no TOML; with Missing where a key that has to be there is missing, or
+    /// one has a value of another kind; with Limit where a value is outside these limits; with Access where an access list is
+    /// refused; with Duplicate; and with OutOfMemory only where there is no memory.
+    pub fn read(alloc: Global, bytes: &[u8]) -> Result<Config, ConfigFault>
+        ensures ok { IfOk result (λ config. config_read (parse_document bytes.now) ≡ Ok config) }
+        ensures text { OnOk result (IsUtf8 bytes.now) }
+        ensures fault { IfErr result (λ e. e ≢ ConfigFault.OutOfMemory → IsUtf8 bytes.now → config_read (parse_document bytes.now) ≡ Err e) }
+        ensures no_text { IfErr result (λ e. e ≢ ConfigFault.OutOfMemory → ¬ IsUtf8 bytes.now → e ≡ ConfigFault.Toml) }
+    {
+        let table = table_of(alloc, bytes)?;
+        Config::of_table(alloc, &table)
+    }
+
+    /// The settings that a table has.
+    #[tactic(auto, unfolding(crate::specs::Reading::config_of))]
+    fn of_table(alloc: Global, table: &Table) -> Result<Config, ConfigFault>
+        ensures ok { IfOk result (λ config. config_of (table_view table.now) ≡ Ok config) }
+        ensures fault { IfErr result (λ e. e ≢ ConfigFault.OutOfMemory → config_of (table_view table.now) ≡ Err e) }
+    {
+        let title = title_of(alloc, table)?;
+        let access = access_of(alloc, table)?;
+        let max_connections = connections_of(table)?;
+        let stations = stations_of(alloc, table)?;
+        let index = Index::of(alloc, stations.as_slice()).map_err(|_| ConfigFault::OutOfMemory)?;
+        Ok(Config {
+            title,
+            max_connections,
+            access,
+            stations,
+            index,
+        })
+    }
+
+    /// The title, of at most 100 bytes.
+    pub fn title(&self) -> &[u8]
+        ensures value { result.now ≡ self.now.title }
+        ensures short { length result.now ≤ 100 }
+    {
+        self.title.as_slice()
+    }
+
+    /// How many clients may be connected at a time, 1 to 10,000.
+    pub fn max_connections(&self) -> usize
+        ensures value { result ≡ self.now.max_connections }
+        ensures some { 1 ≤ result }
+        ensures limit { result ≤ 10000 }
+    {
+        self.max_connections
+    }
+
+    /// The stations, in order.
+    pub fn stations(&self) -> &[Station]
+        ensures { result.now ≡ self.now.entries }
+    {
+        self.stations.as_slice()
+    }
+
+    /// The place of the first station with these codes, byte for byte, found by halving.
+    pub fn place_of(&self, network: &[u8], code: &[u8]) -> Option<usize>
+        ensures { result ≡ position (λ e. has_codes network.now code.now e.station) self.now.entries }
+    {
+        self.index.place_of(network, code)
+    }
+
+    /// No two of its stations have the same network and code, and none has empty ones: a call that does nothing, for its contract.
+    pub fn codes_are_distinct(&self)
+        ensures { HasDistinctCodes self.now.entries }
+    {
+        let _ = &self.stations;
+    }
+
+    /// Whether an address may use the station at a place: the station's own list decides, without one the global list, and
+    /// without either everybody may. At a place without a station nobody sees anything.
+    pub fn sees(&self, place: usize, address: Ipv4Addr) -> bool
+        ensures { result ≡ unwrap_or (option_map (λ e. sees e.access self.now.access (ipv4_bits address))
+            (slice_get self.now.entries place)) false }
+    {
+        match self.stations.get(place) {
+            Some(station) => station.is_open_to(&self.access, address),
+            None => false,
+        }
+    }
+
+    /// What an address sees: the stations that it may use, in order. Only memory can lack.
+    #[tactic(auto, using(crate::proofs::Views::view_lemmas))]
+    pub fn view(&self, alloc: Global, address: Ipv4Addr) -> Result<View, AllocError>
+        ensures view { IfOk result (λ v. view_in self.now v ≡ view_of self.now (ipv4_bits address)) }
+        ensures places { IfOk result (λ v. All (IsPlace self.now) v) }
+    {
+        let mut places = Vec::new(alloc);
+        for (place, station) in self.stations.iter().enumerate() {
+            if station.is_open_to(&self.access, address) {
+                places.push(place)?;
+            }
+        }
+        Ok(View::of(places))
+    }
+}

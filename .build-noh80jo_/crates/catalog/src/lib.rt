@@ -1,0 +1,17 @@
+//! The configuration of a server, and what one address sees of it (SeedLink 3, CAT and STATION; seedlink's `access`).
+#![tactic(auto)]
+
+pub mod config;
+pub mod fault;
+mod index;
+mod keys;
+mod listing;
+mod settings;
+pub mod station;
+mod texts;
+pub mod view;
+
+pub use config::Config;
+pub use fault::ConfigFault;
+pub use station::Station;
+pub use view::View;

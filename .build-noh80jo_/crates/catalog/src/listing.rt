@@ -1,0 +1,98 @@
+//! The stations that a configuration lists.
+ghost use Rattle.std.specs.Prelude.{◌≡◌, ◌≢◌, ◌≤◌, [], length, map, IfOk, IfErr, Ok, Err, false};
+ghost use Rattle.std.specs.List.{list_all};
+ghost use Rattle.toml.specs.View.{table_view, view};
+ghost use Rattle.catalog.specs.Places.{HasDistinctCodes};
+ghost use Rattle.catalog.specs.Reading.{is_few, is_repeated, is_table, station_of, station_values, stations_of, stations_read};
+
+use crate::fault::ConfigFault;
+use crate::keys::{elements_at, table_in};
+use crate::station::Station;
+use std::alloc::Global;
+use toml::{Table, Value};
+
+/// How many stations there may be.
+const STATIONS: usize = 1024;
+
+/// The stations of `station`, an array of 1 to 1,024 tables, in order.
+#[tactic(auto, unfolding(crate::specs::Reading::stations_of))]
+pub fn stations_of(alloc: Global, table: &Table) -> Result<Vec<Station>, ConfigFault>
+    ensures ok { IfOk result (λ stations. stations_of (table_view table.now) ≡ Ok stations.items) }
+    ensures distinct { IfOk result (λ stations. HasDistinctCodes stations.items) }
+    ensures fault { IfErr result (λ e. e ≢ ConfigFault.OutOfMemory → stations_of (table_view table.now) ≡ Err e) }
+{
+    let values = station_values(table)?;
+    stations_read(alloc, values)
+}
+
+/// The values that describe the stations.
+#[tactic(auto, using(crate::proofs::Elements::values_lemmas), unfolding(crate::specs::Reading::station_values))]
+fn station_values(table: &Table) -> Result<&[Value], ConfigFault>
+    ensures ok { IfOk result (λ values. station_values (table_view table.now) ≡ Ok (map view values.now)) }
+    ensures fault { IfErr result (λ e. station_values (table_view table.now) ≡ Err e) }
+{
+    let values = elements_at(table, "station")?;
+    if !are_tables(values) {
+        return Err(ConfigFault::Missing);
+    }
+    if !is_few(values.len()) {
+        return Err(ConfigFault::Limit);
+    }
+    Ok(values)
+}
+
+/// Whether there may be so many stations.
+fn is_few(count: usize) -> bool
+    ensures { result ≡ is_few count }
+{
+    1 <= count && count <= STATIONS
+}
+
+/// Whether each value is a table.
+fn are_tables(values: &[Value]) -> bool
+    ensures { result ≡ list_all (λ v. is_table (view v)) values.now }
+{
+    values.iter().all(|value| value.is_table())
+}
+
+/// The stations that values describe.
+#[tactic(auto, using(crate::proofs::Distinct::distinct_lemmas))]
+fn stations_read(alloc: Global, values: &[Value]) -> Result<Vec<Station>, ConfigFault>
+    ensures ok { IfOk result (λ stations. stations_read [] (map view values.now) ≡ Ok stations.items) }
+    ensures distinct { IfOk result (λ stations. HasDistinctCodes stations.items) }
+    ensures fault { IfErr result (λ e. e ≢ ConfigFault.OutOfMemory → stations_read [] (map view values.now) ≡ Err e) }
+{
+    let mut stations = Vec::new(alloc);
+    for value in values {
+        let station = station_of(alloc, stations.as_slice(), value)?;
+        stations
+            .push(station)
+            .map_err(|_| ConfigFault::OutOfMemory)?;
+    }
+    Ok(stations)
+}
+
+/// The station that a value describes, behind earlier ones.
+#[tactic(auto, unfolding(crate::specs::Reading::station_of))]
+fn station_of(alloc: Global, earlier: &[Station], value: &Value) -> Result<Station, ConfigFault>
+    ensures ok { IfOk result (λ s. station_of earlier.now (view value.now) ≡ Ok s) }
+    ensures apart { IfOk result (λ s. is_repeated earlier.now s.station ≡ false) }
+    ensures some { IfOk result (λ s. 1 ≤ length s.station.network) }
+    ensures fault { IfErr result (λ e. e ≢ ConfigFault.OutOfMemory → station_of earlier.now (view value.now) ≡ Err e) }
+{
+    let table = table_in(value)?;
+    let station = Station::read(alloc, table)?;
+    if is_repeated(earlier, &station) {
+        return Err(ConfigFault::Duplicate);
+    }
+    Ok(station)
+}
+
+/// Whether an earlier station has the same network and code.
+fn is_repeated(earlier: &[Station], station: &Station) -> bool
+    ensures { result ≡ is_repeated earlier.now station.now.station }
+{
+    let network = station.network();
+    let code = station.code();
+    earlier.iter().any(|other| other.has_codes(network, code))
+}

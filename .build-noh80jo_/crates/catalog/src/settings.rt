@@ -1,0 +1,120 @@
+//! The settings that a configuration's table and a station's table have: a function a key.
+ghost use Rattle.std.specs.Prelude.{◌≡◌, ◌≢◌, ◌≤◌, length, IfOk, IfErr, Ok, Err};
+ghost use Rattle.toml.specs.View.{table_view};
+ghost use Rattle.catalog.specs.Settings.{access_spelled, access_of, title_of, connections_of, network_of, code_of, description_of, capacity_of, first_of};
+
+use crate::fault::ConfigFault;
+use crate::keys::{copied_if, number_at, number_if_any, number_up_to, text_at, text_if_any};
+use crate::texts::{is_code, is_description, is_network, is_title};
+use access_list::{AccessFault, AccessList};
+use sl_packet::Seq;
+use std::alloc::Global;
+use toml::Table;
+
+/// How many clients may be connected where a configuration says nothing of it.
+const CONNECTIONS: usize = 100;
+
+/// The list that an access text spells.
+fn access_spelled(alloc: Global, text: &[u8]) -> Result<AccessList, ConfigFault>
+    ensures ok { IfOk result (λ list. access_spelled text.now ≡ Ok list) }
+    ensures fault { IfErr result (λ e. e ≢ ConfigFault.OutOfMemory → access_spelled text.now ≡ Err e) }
+{
+    match AccessList::parse(alloc, text) {
+        Ok(list) => Ok(list),
+        Err(AccessFault::OutOfMemory) => Err(ConfigFault::OutOfMemory),
+        Err(cause) => Err(ConfigFault::Access(cause)),
+    }
+}
+
+/// The list of `access`, which may be missing.
+#[tactic(auto, unfolding(crate::specs::Settings::access_of))]
+pub fn access_of(alloc: Global, table: &Table) -> Result<Option<AccessList>, ConfigFault>
+    ensures ok { IfOk result (λ access. access_of (table_view table.now) ≡ Ok access) }
+    ensures fault { IfErr result (λ e. e ≢ ConfigFault.OutOfMemory → access_of (table_view table.now) ≡ Err e) }
+{
+    match text_if_any(table, "access")? {
+        Some(text) => Ok(Some(access_spelled(alloc, text)?)),
+        None => Ok(None),
+    }
+}
+
+/// The text of `title`: 1 to 100 bytes of printable ASCII.
+#[tactic(auto, unfolding(crate::specs::Settings::title_of))]
+pub fn title_of(alloc: Global, table: &Table) -> Result<Vec<u8>, ConfigFault>
+    ensures ok { IfOk result (λ title. title_of (table_view table.now) ≡ Ok title.items) }
+    ensures fault { IfErr result (λ e. e ≢ ConfigFault.OutOfMemory → title_of (table_view table.now) ≡ Err e) }
+    ensures short { IfOk result (λ title. length title.items ≤ 100) }
+{
+    let text = text_at(table, "title")?;
+    copied_if(alloc, is_title(text), text)
+}
+
+/// The number of `max_connections`, 1 to 10,000; 100 where it is missing.
+#[tactic(auto, unfolding(crate::specs::Settings::connections_of))]
+pub fn connections_of(table: &Table) -> Result<usize, ConfigFault>
+    ensures value { result ≡ connections_of (table_view table.now) }
+    ensures some { IfOk result (λ n. 1 ≤ n) }
+    ensures limit { IfOk result (λ n. n ≤ 10000) }
+{
+    match number_if_any(table, "max_connections")? {
+        Some(number) => number_up_to(10000, number),
+        None => Ok(CONNECTIONS),
+    }
+}
+
+/// The text of `network`: 1 to 2 of `A` to `Z` and `0` to `9`.
+#[tactic(auto, unfolding(crate::specs::Settings::network_of))]
+pub fn network_of(alloc: Global, table: &Table) -> Result<Vec<u8>, ConfigFault>
+    ensures ok { IfOk result (λ text. network_of (table_view table.now) ≡ Ok text.items) }
+    ensures fault { IfErr result (λ e. e ≢ ConfigFault.OutOfMemory → network_of (table_view table.now) ≡ Err e) }
+    ensures some { IfOk result (λ text. 1 ≤ length text.items) }
+    ensures short { IfOk result (λ text. length text.items ≤ 2) }
+{
+    let text = text_at(table, "network")?;
+    copied_if(alloc, is_network(text), text)
+}
+
+/// The text of `code`: 1 to 5 of `A` to `Z` and `0` to `9`.
+#[tactic(auto, unfolding(crate::specs::Settings::code_of))]
+pub fn code_of(alloc: Global, table: &Table) -> Result<Vec<u8>, ConfigFault>
+    ensures ok { IfOk result (λ text. code_of (table_view table.now) ≡ Ok text.items) }
+    ensures fault { IfErr result (λ e. e ≢ ConfigFault.OutOfMemory → code_of (table_view table.now) ≡ Err e) }
+    ensures some { IfOk result (λ text. 1 ≤ length text.items) }
+    ensures short { IfOk result (λ text. length text.items ≤ 5) }
+{
+    let text = text_at(table, "code")?;
+    copied_if(alloc, is_code(text), text)
+}
+
+/// The text of `description`: 0 to 60 bytes of printable ASCII.
+#[tactic(auto, unfolding(crate::specs::Settings::description_of))]
+pub fn description_of(alloc: Global, table: &Table) -> Result<Vec<u8>, ConfigFault>
+    ensures ok { IfOk result (λ text. description_of (table_view table.now) ≡ Ok text.items) }
+    ensures fault { IfErr result (λ e. e ≢ ConfigFault.OutOfMemory → description_of (table_view table.now) ≡ Err e) }
+    ensures short { IfOk result (λ text. length text.items ≤ 60) }
+{
+    let text = text_at(table, "description")?;
+    copied_if(alloc, is_description(text), text)
+}
+
+/// The number of `capacity`, 1 to 65,536.
+#[tactic(auto, unfolding(crate::specs::Settings::capacity_of))]
+pub fn capacity_of(table: &Table) -> Result<usize, ConfigFault>
+    ensures value { result ≡ capacity_of (table_view table.now) }
+    ensures some { IfOk result (λ n. 1 ≤ n) }
+    ensures limit { IfOk result (λ n. n ≤ 65536) }
+{
+    let number = number_at(table, "capacity")?;
+    number_up_to(65536, number)
+}
+
+/// The number that the text of `first` spells in 1 to 6 hexadecimal digits of either case; 0 where it is missing.
+#[tactic(auto, unfolding(crate::specs::Settings::first_of))]
+pub fn first_of(table: &Table) -> Result<Seq, ConfigFault>
+    ensures { result ≡ first_of (table_view table.now) }
+{
+    match text_if_any(table, "first")? {
+        Some(text) => Seq::parse(text).ok_or(ConfigFault::Limit),
+        None => Ok(Seq::of(0).unwrap()),
+    }
+}

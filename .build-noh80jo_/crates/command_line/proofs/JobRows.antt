@@ -1,0 +1,89 @@
+-- Worked words of a command line.
+use Rattle.std.specs.Prelude.{◌≡◌, refl, ℕ, List, [], ◌∷◌, Some, None, true, false, codes}
+use Rattle.clap.specs.Words.{Text, fault_of}
+use Rattle.clap.specs.declared.error.ErrorKind.TheVariants.{DisplayVersion, MissingRequiredArgument, UnknownArgument, ValueValidation}
+use Rattle.clap.proofs.OnLiterals.{clap_on_literals}
+use Rattle.command_line.specs.Jobs.{job_of, program_app}
+use Rattle.command_line.specs.Jobs.Asked.{Check, Replay, Serve, Feed, Read}
+
+abbrev replay_words : List Text
+replay_words = codes "seedlinkd" ∷ codes "replay" ∷ codes "island.toml" ∷ codes "hello.script" ∷ []
+
+pub replay_asked : job_of replay_words ≡ Some (Replay (codes "island.toml") (codes "hello.script"))
+unfolding clap_on_literals
+replay_asked = refl
+
+pub replay_taken : fault_of program_app replay_words ≡ []
+unfolding clap_on_literals
+replay_taken = refl
+
+abbrev check_words : List Text
+check_words = codes "seedlinkd" ∷ codes "check" ∷ codes "records.mseed" ∷ []
+
+pub check_asked : job_of check_words ≡ Some (Check (codes "records.mseed"))
+unfolding clap_on_literals
+check_asked = refl
+
+abbrev serve_words : List Text
+serve_words =
+    codes "seedlinkd" ∷ codes "serve" ∷ codes "c.toml" ∷ codes "--listen" ∷ codes "127.0.0.1:18000" ∷ codes "--feed"
+    ∷ codes "127.0.0.1:18001" ∷ []
+
+pub serve_asked : job_of serve_words ≡ Some (Serve (codes "c.toml") (codes "127.0.0.1:18000") (codes "127.0.0.1:18001") None)
+unfolding clap_on_literals
+serve_asked = refl
+
+pub serve_taken : fault_of program_app serve_words ≡ []
+unfolding clap_on_literals
+serve_taken = refl
+
+abbrev turns_words : List Text
+turns_words =
+    codes "seedlinkd" ∷ codes "serve" ∷ codes "--turns" ∷ codes "20" ∷ codes "c" ∷ codes "--feed=b" ∷ codes "--listen=a" ∷ []
+
+pub turns_asked : job_of turns_words ≡ Some (Serve (codes "c") (codes "a") (codes "b") (Some 20))
+unfolding clap_on_literals
+turns_asked = refl
+
+pub feed_asked : job_of (codes "seedlinkd" ∷ codes "feed" ∷ codes "a" ∷ codes "f" ∷ []) ≡ Some (Feed (codes "a") (codes "f"))
+unfolding clap_on_literals
+feed_asked = refl
+
+abbrev read_words : List Text
+read_words = codes "seedlinkd" ∷ codes "read" ∷ codes "a" ∷ codes "GE_WLF" ∷ codes "XX_APE" ∷ codes "--fetch" ∷ []
+
+pub read_asked : job_of read_words ≡ Some (Read (codes "a") (codes "GE_WLF" ∷ codes "XX_APE" ∷ []) true None)
+unfolding clap_on_literals
+read_asked = refl
+
+pub read_taken : fault_of program_app read_words ≡ []
+unfolding clap_on_literals
+read_taken = refl
+
+abbrev output_words : List Text
+output_words =
+    codes "seedlinkd" ∷ codes "read" ∷ codes "a" ∷ codes "GE_WLF" ∷ codes "--output" ∷ codes "-" ∷ []
+
+pub output_asked : job_of output_words ≡ Some (Read (codes "a") (codes "GE_WLF" ∷ []) false (Some (codes "-")))
+unfolding clap_on_literals
+output_asked = refl
+
+pub version_asked : fault_of program_app (codes "seedlinkd" ∷ codes "--version" ∷ []) ≡ DisplayVersion ∷ []
+unfolding clap_on_literals
+version_asked = refl
+
+pub one_text_too_few :
+    fault_of program_app (codes "seedlinkd" ∷ codes "replay" ∷ codes "island.toml" ∷ []) ≡ MissingRequiredArgument ∷ []
+unfolding clap_on_literals
+one_text_too_few = refl
+
+pub one_text_too_many :
+    fault_of program_app (codes "seedlinkd" ∷ codes "replay" ∷ codes "a" ∷ codes "b" ∷ codes "c" ∷ []) ≡ UnknownArgument ∷ []
+unfolding clap_on_literals
+one_text_too_many = refl
+
+pub no_turns :
+    fault_of program_app (codes "seedlinkd" ∷ codes "serve" ∷ codes "c" ∷ codes "--listen=a" ∷ codes "--feed=b" ∷ codes "--turns=0" ∷ [])
+    ≡ ValueValidation ∷ []
+unfolding clap_on_literals
+no_turns = refl

@@ -1,0 +1,2 @@
+mod JobRows
+mod Refusing

@@ -1,0 +1,191 @@
+-- What the words of a command line ask, by the definitions of `clap`: which subcommand they name, and which text or number
+-- stands at each of its arguments.
+use Rattle.std.specs.Prelude.{◌≡◌, ◌⊎◌, ◌||◌, ℕ, Bool, true, false, List, [], ◌∷◌, Option, Some, None, option_map, map}
+use Rattle.std.specs.Prelude.{if◌then◌else◌, codes, nat_lt, IsSome}
+use Rattle.std.specs.Option.{option_map_or}
+use Rattle.std.specs.Str.{bytes_eq}
+use Rattle.clap.specs.Lexer.{usize_max}
+use Rattle.clap.specs.Words.{App, Kinds, IsAmong, Row, Rule, Text, all_of, fault_of, first_of, new_app, new_rule}
+use Rattle.clap.specs.Words.{subcommand_of, with_rule, with_subcommand}
+use Rattle.clap.specs.declared.builder.ArgAction.TheVariants.{SetTrue}
+use Rattle.clap.specs.declared.builder.value_parser.ValueParser.TheVariants.{Unsigned}
+use Rattle.clap.specs.declared.error.ErrorKind.{ErrorKind}
+use Rattle.clap.specs.declared.error.ErrorKind.TheVariants.{DisplayHelp, DisplayVersion}
+use Rattle.protocol.specs.Reading.{Not}
+use Rattle.protocol.specs.Time.{digits_between}
+use Rattle.command_line.specs.declared.job.Job.{Job}
+use Rattle.command_line.specs.declared.job.Job.TheVariants as job
+use Rattle.command_line.specs.declared.job.WordsFault.{WordsFault}
+use Rattle.command_line.specs.declared.job.WordsFault.TheVariants.{OutOfMemory, Refused}
+
+-- ---- the command line
+
+-- a text that has to be there
+abbrev pub wanted : Text → Rule
+wanted name = record (new_rule name) { required = true }
+
+-- an option `--name VALUE`
+abbrev pub option : Bool → Text → Rule
+option required name = record (new_rule name) { long = Some name; value_names = 1; required = required }
+
+-- `check FILE`
+abbrev pub check_app : App
+check_app = with_rule (new_app (codes "check")) (wanted (codes "FILE"))
+
+-- `replay CONFIG SCRIPT`
+abbrev pub replay_app : App
+replay_app = with_rule (with_rule (new_app (codes "replay")) (wanted (codes "CONFIG"))) (wanted (codes "SCRIPT"))
+
+-- `--turns N`, with N from 1 to 1,000,000,000
+abbrev pub turns_rule : Rule
+turns_rule = record (option false (codes "turns")) { parser = Some (Unsigned 1 1000000000) }
+
+-- `serve CONFIG --listen A:P --feed A:P [--turns N]`
+abbrev pub serve_app : App
+serve_app =
+    with_rule (with_rule (with_rule (with_rule (new_app (codes "serve")) (wanted (codes "CONFIG")))
+    (option true (codes "listen"))) (option true (codes "feed"))) turns_rule
+
+-- `feed A:P FILE`
+abbrev pub feed_app : App
+feed_app = with_rule (with_rule (new_app (codes "feed")) (wanted (codes "SERVER"))) (wanted (codes "FILE"))
+
+-- `WANT..`, one or more
+abbrev pub wants_rule : Rule
+wants_rule =
+    record (wanted (codes "WANT")) { range = Some (record { start_inclusive = 1; end_inclusive = usize_max }) }
+
+-- `--fetch`
+abbrev pub fetch_rule : Rule
+fetch_rule = record (new_rule (codes "fetch")) { long = Some (codes "fetch"); action = Some SetTrue }
+
+-- `read A:P WANT.. [--fetch] [--output FILE]`
+abbrev pub read_app : App
+read_app =
+    with_rule (with_rule (with_rule (with_rule (new_app (codes "read")) (wanted (codes "SERVER"))) wants_rule) fetch_rule)
+    (option false (codes "output"))
+
+-- the program, which wants a subcommand
+abbrev pub named_app : App
+named_app =
+    let a = new_app (codes "seedlinkd") in
+    record a { top = record a.top { subcommand_required = true; has_version = true } }
+
+-- the program and its subcommands
+abbrev pub program_app : App
+program_app =
+    with_subcommand (with_subcommand (with_subcommand (with_subcommand (with_subcommand named_app check_app.top)
+    replay_app.top) serve_app.top) feed_app.top) read_app.top
+
+-- ---- jobs
+
+-- A job as texts and numbers.
+pub data Asked : Type 0 where
+  Check : (file : List ℕ) → Asked
+  Replay : (config : List ℕ) → (script : List ℕ) → Asked
+  Serve : (config listen feed : List ℕ) → (turns : Option ℕ) → Asked
+  Feed : (server file : List ℕ) → Asked
+  Read : (server : List ℕ) → (wants : List (List ℕ)) → (fetch : Bool) → (output : Option (List ℕ)) → Asked
+
+-- the job that the code has
+abbrev pub asked : Job → Asked
+asked (job.Check file) = Check file.now
+asked (job.Replay config script) = Replay config.now script.now
+asked (job.Serve config listen feed turns) = Serve config.now listen.now feed.now turns
+asked (job.Feed server file) = Feed server.now file.now
+asked (job.Read server wants fetch output) =
+    Read server.now (map (λ want. want.now) wants.items) fetch (option_map (λ file. file.now) output)
+
+-- a job of one text, where it is there
+abbrev pub check_asked : List Row → Option Asked
+check_asked rows = option_map Check (first_of (codes "FILE") rows)
+
+-- a job of two texts, where both are there
+abbrev pub with_both : (List ℕ → List ℕ → Asked) → Option (List ℕ) → Option (List ℕ) → Option Asked
+with_both make (Some a) (Some b) = Some (make a b)
+with_both make _ _ = None
+
+-- the job of `replay`, by what was found of its arguments
+abbrev pub replay_asked : List Row → Option Asked
+replay_asked rows = with_both Replay (first_of (codes "CONFIG") rows) (first_of (codes "SCRIPT") rows)
+
+-- a number of turns from 1 to 1,000,000,000
+abbrev pub checked_turns : Option ℕ → Option (Option ℕ)
+checked_turns None = None
+checked_turns (Some n) = if nat_lt n 1 || nat_lt 1000000000 n then None else Some (Some n)
+
+-- the number of turns that a text of 1 to 10 decimal digits spells; any number where the option is left out
+abbrev pub turns_of : Option (List ℕ) → Option (Option ℕ)
+turns_of None = Some None
+turns_of (Some text) = checked_turns (digits_between 1 10 text)
+
+abbrev pub turns_in : List Row → Option (Option ℕ)
+turns_in rows = turns_of (first_of (codes "turns") rows)
+
+-- a server's job, where all of it is there
+abbrev pub with_server : Option (List ℕ) → Option (List ℕ) → Option (List ℕ) → Option (Option ℕ) → Option Asked
+with_server (Some config) (Some listen) (Some feed) (Some turns) = Some (Serve config listen feed turns)
+with_server _ _ _ _ = None
+
+abbrev pub serve_asked : List Row → Option Asked
+serve_asked rows =
+    with_server (first_of (codes "CONFIG") rows) (first_of (codes "listen") rows) (first_of (codes "feed") rows)
+    (turns_in rows)
+
+abbrev pub feed_asked : List Row → Option Asked
+feed_asked rows = with_both Feed (first_of (codes "SERVER") rows) (first_of (codes "FILE") rows)
+
+-- the flag `--fetch` was given
+abbrev pub fetch_in : List Row → Bool
+fetch_in rows = option_map_or (λ text. bytes_eq text (codes "true")) (first_of (codes "fetch") rows) false
+
+-- a reader's job, where all of it is there
+abbrev pub with_wants : Bool → Option (List ℕ) → Option (List ℕ) → Option (List (List ℕ)) → Option Asked
+with_wants fetch output (Some server) (Some wants) = Some (Read server wants fetch output)
+with_wants fetch output _ _ = None
+
+abbrev pub read_asked : List Row → Option Asked
+read_asked rows =
+    with_wants (fetch_in rows) (first_of (codes "output") rows) (first_of (codes "SERVER") rows)
+    (all_of (codes "WANT") rows)
+
+-- the job of a subcommand with its arguments
+abbrev pub asked_by : Option (Text × List Row) → Option Asked
+asked_by None = None
+asked_by (Some p) =
+    if bytes_eq p.0 (codes "check") then check_asked p.1
+    else if bytes_eq p.0 (codes "replay") then replay_asked p.1
+    else if bytes_eq p.0 (codes "serve") then serve_asked p.1
+    else if bytes_eq p.0 (codes "feed") then feed_asked p.1
+    else if bytes_eq p.0 (codes "read") then read_asked p.1 else None
+
+-- the job that words ask
+abbrev pub job_of : List Text → Option Asked
+job_of words = asked_by (subcommand_of program_app words)
+
+-- The words are a job: `clap` finds no fault with them, and all of the job's texts and numbers are there.
+abbrev pub IsJob : List Text → Type 0
+IsJob words = (fault_of program_app words ≡ []) × IsSome (job_of words)
+
+-- ---- words that are no job
+
+-- the user asked to be shown something, and made no mistake
+abbrev pub is_shown : ErrorKind → Bool
+is_shown DisplayHelp = true
+is_shown DisplayVersion = true
+is_shown _ = false
+
+-- The words are a mistake: they are no job, and `clap` finds nothing in them that asks to be shown something.
+abbrev pub IsMistake : List Text → Type 0
+IsMistake words = Not (IsJob words) × ((k : ErrorKind) → IsAmong k (fault_of program_app words) → is_shown k ≡ false)
+
+-- what is told is help, or is none, as is said
+abbrev pub HelpIs : Bool → WordsFault → Type 0
+HelpIs asked OutOfMemory = Unit {0}
+HelpIs asked (Refused text is_help) = is_help ≡ asked
+
+-- Words are told as help where that is what they ask, by the kinds of refusal that `clap` has for them, and as a mistake
+-- where that is what they are, or where it has none and they are no job all the same.
+abbrev pub IsTold : Kinds → WordsFault → Type 0
+IsTold kinds OutOfMemory = Unit {0}
+IsTold kinds (Refused text is_help) = ((kinds ≡ []) × (is_help ≡ false)) ⊎ ((k : ErrorKind) × IsAmong k kinds × (is_help ≡ is_shown k))

@@ -1,0 +1,200 @@
+//! The commands that the program takes, as `clap` has them.
+ghost use Rattle.std.specs.Prelude.{◌≡◌, Some, false, IfOk};
+ghost use Rattle.clap.specs.Words.{app_of, rule_of, with_rule, with_subcommand};
+ghost use Rattle.clap.specs.declared.Command.TheViews.{out-Command as fields_of};
+ghost use Rattle.command_line.specs.Jobs.{check_app, feed_app, fetch_rule, named_app, option, program_app, read_app, replay_app, serve_app, turns_rule, wanted, wants_rule};
+
+use clap::builder::ValueParser;
+use clap::{Arg, ArgAction, Command};
+use std::alloc::{AllocError, Global};
+
+/// What `--version` prints after the program's name.
+const VERSION: &str = "0.1.0";
+
+/// A text that has to be there.
+fn wanted<'a>(alloc: Global, name: &'a str, help: &'a str) -> Arg<'a>
+    ensures rule { rule_of result ≡ wanted name.entry.now }
+    ensures own { result.global ≡ false }
+{
+    Arg::new(alloc, name).required(true).help(help)
+}
+
+/// An option `--name VALUE`.
+fn option<'a>(
+    alloc: Global,
+    name: &'a str,
+    value: &'a str,
+    required: bool,
+    help: &'a str,
+) -> Arg<'a>
+    ensures rule { rule_of result ≡ option required name.entry.now }
+    ensures own { result.global ≡ false }
+{
+    Arg::new(alloc, name)
+        .long(name)
+        .value_name(value)
+        .required(required)
+        .help(help)
+}
+
+/// A command with one more argument.
+fn with_argument<'a>(command: Command<'a>, argument: Arg<'a>) -> Result<Command<'a>, AllocError>
+    requires { argument.global ≡ false }
+    ensures app { IfOk result (λ c. app_of c ≡ with_rule (app_of command.entry) (rule_of argument.entry)) }
+    ensures own { IfOk result (λ c. (fields_of c).has_globals ≡ (fields_of command.entry).has_globals) }
+{
+    command.arg(argument)
+}
+
+/// `check FILE`.
+fn check_command<'a>(alloc: Global) -> Result<Command<'a>, AllocError>
+    ensures app { IfOk result (λ c. app_of c ≡ check_app) }
+    ensures own { IfOk result (λ c. (fields_of c).has_globals ≡ false) }
+{
+    let command = Command::new(alloc, "check").about("Lists the records of a file, a line each");
+    let file = wanted(alloc, "FILE", "The file, of records of 512 bytes");
+    with_argument(command, file)
+}
+
+/// `replay CONFIG SCRIPT`.
+fn replay_command<'a>(alloc: Global) -> Result<Command<'a>, AllocError>
+    ensures app { IfOk result (λ c. app_of c ≡ replay_app) }
+    ensures own { IfOk result (λ c. (fields_of c).has_globals ≡ false) }
+{
+    let command = Command::new(alloc, "replay").about(
+        "Replays a script against a server and prints what each client receives, in hex",
+    );
+    let config = wanted(alloc, "CONFIG", "The configuration, in TOML");
+    let script = wanted(alloc, "SCRIPT", "The script, an event a line");
+    let with_config = with_argument(command, config)?;
+    with_argument(with_config, script)
+}
+
+/// The option `--turns N`.
+fn turns<'a>(alloc: Global) -> Arg<'a>
+    ensures rule { rule_of result ≡ turns_rule }
+    ensures own { result.global ≡ false }
+{
+    option(
+        alloc,
+        "turns",
+        "N",
+        false,
+        "Ends after N turns, 1 to 1000000000",
+    )
+    .value_parser(ValueParser::Unsigned(1, 1_000_000_000))
+}
+
+/// `serve CONFIG --listen A:P --feed A:P [--turns N]`.
+fn serve_command<'a>(alloc: Global) -> Result<Command<'a>, AllocError>
+    ensures app { IfOk result (λ c. app_of c ≡ serve_app) }
+    ensures own { IfOk result (λ c. (fields_of c).has_globals ≡ false) }
+{
+    let command = Command::new(alloc, "serve").about("Serves records to clients over sockets");
+    let config = wanted(alloc, "CONFIG", "The configuration, in TOML");
+    let listen = option(alloc, "listen", "A:P", true, "Address and port for clients");
+    let feed = option(
+        alloc,
+        "feed",
+        "A:P",
+        true,
+        "Address and port for feeds of records",
+    );
+    let turns = turns(alloc);
+    let with_config = with_argument(command, config)?;
+    let with_listen = with_argument(with_config, listen)?;
+    let with_feed = with_argument(with_listen, feed)?;
+    with_argument(with_feed, turns)
+}
+
+/// `feed A:P FILE`.
+fn feed_command<'a>(alloc: Global) -> Result<Command<'a>, AllocError>
+    ensures app { IfOk result (λ c. app_of c ≡ feed_app) }
+    ensures own { IfOk result (λ c. (fields_of c).has_globals ≡ false) }
+{
+    let command = Command::new(alloc, "feed").about("Sends the records of a file to a server");
+    let server = wanted(
+        alloc,
+        "SERVER",
+        "Address and port for feeds, as 127.0.0.1:18001",
+    );
+    let file = wanted(alloc, "FILE", "The file, of records of 512 bytes");
+    let with_server = with_argument(command, server)?;
+    with_argument(with_server, file)
+}
+
+/// The arguments `WANT..`.
+fn wants<'a>(alloc: Global) -> Arg<'a>
+    ensures rule { rule_of result ≡ wants_rule }
+    ensures own { result.global ≡ false }
+{
+    wanted(
+        alloc,
+        "WANT",
+        "NET_STA, NET_STA:PATTERN,.. or NET_STA:PATTERN,..@NUMBER",
+    )
+    .num_args(1..)
+}
+
+/// The flag `--fetch`.
+fn fetch<'a>(alloc: Global) -> Arg<'a>
+    ensures rule { rule_of result ≡ fetch_rule }
+    ensures own { result.global ≡ false }
+{
+    Arg::new(alloc, "fetch")
+        .long("fetch")
+        .action(ArgAction::SetTrue)
+        .help("Ends once the records that the server holds are read")
+}
+
+/// `read A:P WANT.. [--fetch] [--output FILE]`.
+fn read_command<'a>(alloc: Global) -> Result<Command<'a>, AllocError>
+    ensures app { IfOk result (λ c. app_of c ≡ read_app) }
+    ensures own { IfOk result (λ c. (fields_of c).has_globals ≡ false) }
+{
+    let command = Command::new(alloc, "read").about("Reads records from a server, a line each");
+    let server = wanted(
+        alloc,
+        "SERVER",
+        "Address and port for clients, as 127.0.0.1:18000",
+    );
+    let wants = wants(alloc);
+    let fetch = fetch(alloc);
+    let output = option(
+        alloc,
+        "output",
+        "FILE",
+        false,
+        "Adds each record to FILE; - is standard output",
+    );
+    let with_server = with_argument(command, server)?;
+    let with_wants = with_argument(with_server, wants)?;
+    let with_fetch = with_argument(with_wants, fetch)?;
+    with_argument(with_fetch, output)
+}
+
+/// The program with the subcommands that need no socket.
+fn program_over_files<'a>(alloc: Global) -> Result<Command<'a>, AllocError>
+    ensures { IfOk result (λ c. app_of c ≡ with_subcommand (with_subcommand named_app check_app.top) replay_app.top) }
+{
+    let check = check_command(alloc)?;
+    let replay = replay_command(alloc)?;
+    let named = Command::new(alloc, "seedlinkd")
+        .about("A SeedLink 3 server whose stations are open to stated addresses only")
+        .version(VERSION)
+        .subcommand_required(true);
+    named.subcommand(check)?.subcommand(replay)
+}
+
+/// The program and its subcommands.
+pub fn program<'a>(alloc: Global) -> Result<Command<'a>, AllocError>
+    ensures { IfOk result (λ c. app_of c ≡ program_app) }
+{
+    let serve = serve_command(alloc)?;
+    let feed = feed_command(alloc)?;
+    let read = read_command(alloc)?;
+    program_over_files(alloc)?
+        .subcommand(serve)?
+        .subcommand(feed)?
+        .subcommand(read)
+}

@@ -1,0 +1,47 @@
+//! What the program can be asked to do.
+use thiserror::Error;
+
+/// What the program is asked to do, with the texts of the command line as they stand there.
+#[derive(Debug, PartialEq, Drop)]
+pub enum Job<'a> {
+    /// `check FILE`: a line for each record of a file.
+    Check {
+        file: &'a str,
+    },
+    /// `replay CONFIG SCRIPT`: the events of a script at a server with that configuration.
+    Replay {
+        config: &'a str,
+        script: &'a str,
+    },
+    /// `serve CONFIG --listen A:P --feed A:P [--turns N]`: a server over sockets. `turns` is 1 to 1,000,000,000. Without
+    /// it the server runs until it is ended from outside.
+    Serve {
+        config: &'a str,
+        listen: &'a str,
+        feed: &'a str,
+        turns: Option<usize>,
+    },
+    /// `feed A:P FILE`: sends the records of a file to a server.
+    Feed {
+        server: &'a str,
+        file: &'a str,
+    },
+    /// `read A:P WANT.. [--fetch] [--output FILE]`: asks a server for records.
+    Read {
+        server: &'a str,
+        wants: Vec<&'a str>,
+        fetch: bool,
+        output: Option<&'a str>,
+    },
+}
+
+/// Why a command line asks for no job.
+#[derive(Debug, Drop, Error)]
+pub enum WordsFault {
+    /// Out of memory while reading it.
+    #[error("out of memory")]
+    OutOfMemory,
+    /// It is invalid, or asks for help or the version. The text is for the user.
+    #[error("{text}")]
+    Refused { text: String, is_help: bool },
+}

@@ -1,0 +1,183 @@
+//! The words of the command line.
+ghost use Rattle.std.specs.Prelude.{◌≡◌, [], Some, false, IfOk, IfErr, map, option_map, string_bytes};
+ghost use Rattle.clap.specs.Words.{all_of, fault_of, first_of, found_of, kind_of, rows_of, subcommand_rows_of};
+ghost use Rattle.command_line.specs.Jobs.{HelpIs, IsJob, IsTold, asked, asked_by, check_asked, feed_asked, is_shown, job_of, program_app, read_asked, replay_asked, serve_asked, turns_in};
+ghost use Rattle.command_line.specs.declared.job.WordsFault.TheVariants.{OutOfMemory};
+
+use crate::commands::program;
+use crate::job::{Job, WordsFault};
+use clap::ArgMatches;
+use clap::error::ErrorKind;
+use std::alloc::{AllocError, Global};
+
+/// The text of an argument, where it has one.
+fn text_at<'a>(arguments: &ArgMatches<'a>, name: &str) -> Option<&'a str>
+    ensures { option_map (λ s. s.now) result ≡ first_of name.now (rows_of (found_of arguments.now)) }
+{
+    arguments.get_str(name)
+}
+
+/// All texts of an argument, where it has some.
+fn texts_at<'m, 'a>(arguments: &'m ArgMatches<'a>, name: &str) -> Option<&'m [&'a str]>
+    ensures { option_map (λ s. map (λ text. text.now) s.now) result ≡ all_of name.now (rows_of (found_of arguments.now)) }
+{
+    arguments.get_strs(name)
+}
+
+fn check_job<'a>(arguments: &ArgMatches<'a>) -> Option<Job<'a>>
+    ensures { option_map asked result ≡ check_asked (rows_of (found_of arguments.now)) }
+{
+    let file = text_at(arguments, "FILE")?;
+    Some(Job::Check { file })
+}
+
+fn replay_job<'a>(arguments: &ArgMatches<'a>) -> Option<Job<'a>>
+    ensures { option_map asked result ≡ replay_asked (rows_of (found_of arguments.now)) }
+{
+    let config = text_at(arguments, "CONFIG")?;
+    let script = text_at(arguments, "SCRIPT")?;
+    Some(Job::Replay { config, script })
+}
+
+/// The number of turns: the inner None where it is left out, and None where the text is no number of its range.
+fn turns_in<'a>(arguments: &ArgMatches<'a>) -> Option<Option<usize>>
+    ensures { result ≡ turns_in (rows_of (found_of arguments.now)) }
+{
+    let Some(text) = text_at(arguments, "turns") else {
+        return Some(None);
+    };
+    let number = decimal::number(text.as_bytes(), 1, 10)?;
+    if number < 1 || number > 1_000_000_000 {
+        return None;
+    }
+    Some(Some(number))
+}
+
+fn serve_job<'a>(arguments: &ArgMatches<'a>) -> Option<Job<'a>>
+    ensures { option_map asked result ≡ serve_asked (rows_of (found_of arguments.now)) }
+{
+    let config = text_at(arguments, "CONFIG")?;
+    let listen = text_at(arguments, "listen")?;
+    let feed = text_at(arguments, "feed")?;
+    let turns = turns_in(arguments)?;
+    Some(Job::Serve {
+        config,
+        listen,
+        feed,
+        turns,
+    })
+}
+
+fn feed_job<'a>(arguments: &ArgMatches<'a>) -> Option<Job<'a>>
+    ensures { option_map asked result ≡ feed_asked (rows_of (found_of arguments.now)) }
+{
+    let server = text_at(arguments, "SERVER")?;
+    let file = text_at(arguments, "FILE")?;
+    Some(Job::Feed { server, file })
+}
+
+fn read_job<'a>(alloc: Global, arguments: &ArgMatches<'a>) -> Result<Option<Job<'a>>, AllocError>
+    ensures { IfOk result (λ job. option_map asked job ≡ read_asked (rows_of (found_of arguments.now))) }
+{
+    let Some(server) = text_at(arguments, "SERVER") else {
+        return Ok(None);
+    };
+    let Some(texts) = texts_at(arguments, "WANT") else {
+        return Ok(None);
+    };
+    let wants = texts.to_vec(alloc)?;
+    let fetch = text_at(arguments, "fetch") == Some("true");
+    let output = text_at(arguments, "output");
+    Ok(Some(Job::Read {
+        server,
+        wants,
+        fetch,
+        output,
+    }))
+}
+
+fn job_in<'a>(alloc: Global, matches: &ArgMatches<'a>) -> Result<Option<Job<'a>>, AllocError>
+    ensures { IfOk result (λ job. option_map asked job ≡ asked_by (subcommand_rows_of matches.now)) }
+{
+    let Some((name, arguments)) = matches.subcommand() else {
+        return Ok(None);
+    };
+    if name == "check" {
+        Ok(check_job(arguments))
+    } else if name == "replay" {
+        Ok(replay_job(arguments))
+    } else if name == "serve" {
+        Ok(serve_job(arguments))
+    } else if name == "feed" {
+        Ok(feed_job(arguments))
+    } else if name == "read" {
+        read_job(alloc, arguments)
+    } else {
+        Ok(None)
+    }
+}
+
+/// Whether the user asked to be shown help or the version, and made no mistake.
+fn is_shown(kind: ErrorKind) -> bool
+    ensures { result ≡ is_shown kind }
+{
+    matches!(kind, ErrorKind::DisplayHelp | ErrorKind::DisplayVersion)
+}
+
+/// What the user is told of words that `clap` refuses.
+fn refused(alloc: Global, error: clap::Error) -> WordsFault
+    ensures memory { kind_of error ≡ ErrorKind.OutOfMemory → result ≡ OutOfMemory }
+    ensures help { HelpIs (is_shown (kind_of error)) result }
+{
+    let kind = error.kind();
+    if kind == ErrorKind::OutOfMemory {
+        return WordsFault::OutOfMemory;
+    }
+    match error.to_string(alloc) {
+        Ok(text) => WordsFault::Refused {
+            text,
+            is_help: is_shown(kind),
+        },
+        Err(_) => WordsFault::OutOfMemory,
+    }
+}
+
+/// What the user is told of words that `clap` takes and that are no job: a number with a sign, or with leading zeros beyond
+/// ten digits.
+fn no_number(alloc: Global) -> WordsFault
+    ensures { HelpIs false result }
+{
+    match "error: the number of turns is 1 to 10 decimal digits\n".to_string(alloc) {
+        Ok(text) => WordsFault::Refused {
+            text,
+            is_help: false,
+        },
+        Err(_) => WordsFault::OutOfMemory,
+    }
+}
+
+/// The job that a command line asks for. Its first word is the program's name.
+///
+/// Which words name which job is said by the definitions of `clap`: at Ok `clap` finds no fault with the words, so that no
+/// word is left over, and each text and number of the job is the one that stands at its place.
+///
+/// It fails with Refused if the words are no job, with the text that `clap` has for the user and whether that is help or
+/// the version, and with OutOfMemory only if there is no memory.
+pub fn read_words<'a>(alloc: Global, words: &'a [String]) -> Result<Job<'a>, WordsFault>
+    ensures ok { IfOk result (λ job. job_of (map string_bytes words.entry.now) ≡ Some (asked job)) }
+    ensures taken { IfOk result (λ job. fault_of program_app (map string_bytes words.entry.now) ≡ []) }
+    ensures err { IfErr result (λ fault. IsJob (map string_bytes words.entry.now) → fault ≡ OutOfMemory) }
+    ensures told { IfErr result (IsTold (fault_of program_app (map string_bytes words.entry.now))) }
+{
+    let Ok(command) = program(alloc) else {
+        return Err(WordsFault::OutOfMemory);
+    };
+    match command.try_get_matches_from(words) {
+        Ok(matches) => match job_in(alloc, &matches) {
+            Ok(Some(job)) => Ok(job),
+            Ok(None) => Err(no_number(alloc)),
+            Err(_) => Err(WordsFault::OutOfMemory),
+        },
+        Err(error) => Err(refused(alloc, error)),
+    }
+}

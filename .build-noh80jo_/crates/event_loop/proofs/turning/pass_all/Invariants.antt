@@ -1,0 +1,22 @@
+use Rattle.std.proofs.Common.{◌≤◌, ◌-◌, ℕ, take, drop, length, vec_len}
+use Rattle.protocol.specs.Catalog.{Config}
+use Rattle.protocol.specs.World.{World}
+use Rattle.server_core.specs.Standing.{StandsAt}
+use Rattle.event_loop.specs.Feeding.{feed_tally}
+use Rattle.event_loop.specs.Tables.{IsTable, PassesSoFar}
+use Rattle.event_loop.proofs.turning.pass_all.Given as goal
+
+abbrev pub invariant-passes : goal.invariant-passes
+invariant-passes g l =
+    let calls = g.P.Ports.calls in
+    record {
+      goes : (happenings : ℕ) (config : Config) (w : World) → StandsAt l.fn.server config w →
+          PassesSoFar l.limit config w (calls l.fn.ports) (calls l.ports) l.server
+          (feed_tally happenings l.fn.dropped) (feed_tally happenings l.dropped)
+          l.fn.seats.items (take l.at l.seats.items) (drop l.at l.seats.items);
+      table : (most : ℕ) → IsTable most l.fn.seats.items → IsTable most l.seats.items;
+      fits : l.at ≤ length l.seats.items;
+    }
+
+abbrev pub decreases-passes : goal.decreases-passes
+decreases-passes g l = vec_len l.seats - l.at

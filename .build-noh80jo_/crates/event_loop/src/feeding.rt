@@ -1,0 +1,109 @@
+//! The pass over a feed's port.
+ghost use Rattle.std.specs.Prelude.{◌≡◌, ℕ, ◌<◌, ◌≤◌, Bool, [], ◌∷◌, length};
+ghost use Rattle.protocol.specs.Catalog.{Config};
+ghost use Rattle.protocol.specs.World.{World};
+ghost use Rattle.server_core.specs.Standing.{StandsAt};
+ghost use Rattle.event_loop.specs.Deeds.{Tally};
+ghost use Rattle.event_loop.specs.Feeding.{Arrives, FeedReads, fed, feed_seat, feed_tally};
+ghost use Rattle.event_loop.specs.Going.{Once, Whole, if_open};
+
+use crate::passes::Went;
+use feeder::{FeedCutter, Feeding};
+use ports::{Got, PortFault, Ports};
+use server_core::Server;
+
+// A record arrives, and one that is refused is counted.
+fn take_record(server: &mut Server, whole: &[u8; 512], dropped: &mut u64)
+    ensures { (config : Config) (w : World) → StandsAt server.old config w →
+        Arrives config w (whole.now ∷ []) server.new dropped.old dropped.new }
+{
+    if server.arrive(whole).is_err() {
+        *dropped = dropped.saturating_add(1);
+    }
+}
+
+// The records that a piece of a feed makes whole arrive.
+fn take_records(server: &mut Server, cutter: &mut FeedCutter, piece: &[u8], dropped: &mut u64)
+    ensures arrives { (config : Config) (w : World) → StandsAt server.old config w →
+        Arrives config w (fed cutter.old piece.now).records server.new dropped.old dropped.new }
+    ensures rest { cutter.new ≡ (fed cutter.old piece.now).rest }
+{
+    let mut left = piece;
+    'records: while !left.is_empty() {
+        let Feeding { used, whole } = cutter.feed(left);
+        match whole {
+            Some(whole) => take_record(server, whole, dropped),
+            None => {}
+        }
+        left = &left[used..];
+    }
+}
+
+// One read of a feed's port, if it may be read.
+fn read_feed_once<P: Ports>(
+    server: &mut Server,
+    ports: &mut P,
+    port: u64,
+    readable: &mut bool,
+    cutter: &mut FeedCutter,
+    buffer: &mut [u8],
+    dropped: &mut u64,
+) -> Went
+    requires some { 0 < length buffer.old }
+    requires short { length buffer.old ≤ 512 }
+    ensures goes { (writable : Bool) (happenings : ℕ) (config : Config) (w : World) → StandsAt server.old config w →
+        Once (FeedReads config) config w (P.calls ports.old) (P.calls ports.new) server.new
+        (feed_tally happenings dropped.old) (feed_tally happenings dropped.new)
+        (feed_seat port cutter.old readable.old writable) (feed_seat port cutter.new readable.new writable) result }
+{
+    if !*readable {
+        return Went::Stop;
+    }
+    match ports.read(port, buffer) {
+        Ok(Got::Bytes(count)) => {
+            take_records(server, cutter, &buffer[..count], dropped);
+            Went::On
+        }
+        Ok(Got::Later) => {
+            *readable = false;
+            Went::Stop
+        }
+        Ok(Got::Closed) => {
+            ports.shut(port);
+            Went::Over
+        }
+        Err(PortFault) => {
+            ports.shut(port);
+            Went::Over
+        }
+    }
+}
+
+// The reads of a pass over a feed's port, up to so many; whether the port stays open.
+pub fn read_feed<P: Ports>(
+    server: &mut Server,
+    ports: &mut P,
+    port: u64,
+    readable: &mut bool,
+    cutter: &mut FeedCutter,
+    buffer: &mut [u8],
+    limit: usize,
+    dropped: &mut u64,
+) -> bool
+    requires some { 0 < length buffer.old }
+    requires short { length buffer.old ≤ 512 }
+    ensures goes { (writable : Bool) (happenings : ℕ) (config : Config) (w : World) → StandsAt server.old config w →
+        Whole (FeedReads config) limit config w (P.calls ports.old) (P.calls ports.new) server.new
+        (feed_tally happenings dropped.old) (feed_tally happenings dropped.new)
+        (feed_seat port cutter.old readable.old writable) (if_open result (feed_seat port cutter.new readable.new writable)) }
+{
+    let mut left = limit;
+    'reads: while left > 0 {
+        match read_feed_once(server, ports, port, readable, cutter, buffer, dropped) {
+            Went::On => left -= 1,
+            Went::Stop => return true,
+            Went::Over => return false,
+        }
+    }
+    true
+}

@@ -1,0 +1,176 @@
+//! What happens at the ports: who joins, and which port may be read or written to.
+ghost use Rattle.std.specs.Prelude.{◌≡◌, ◌≤◌, ℕ, List, [], ◌∷◌, Some, None, Ok, IfOk, OnErr};
+ghost use Rattle.std.specs.declared.option.Option.{Option};
+ghost use Rattle.protocol.specs.Catalog.{Config};
+ghost use Rattle.protocol.specs.World.{World};
+ghost use Rattle.server_core.specs.Standing.{StandsAt};
+ghost use Rattle.sl_io.specs.Counts.{IsMore};
+ghost use Rattle.ports.specs.Calls.{Call, Tells};
+ghost use Rattle.ports.specs.Calls.Call.{Next};
+ghost use Rattle.ports.specs.declared.answers.Happening.TheVariants.{Joined, JoinedFeed};
+ghost use Rattle.event_loop.specs.Deeds.{Tally, no_tally};
+ghost use Rattle.event_loop.specs.Going.{Whole};
+ghost use Rattle.event_loop.specs.Hearing.{heard};
+ghost use Rattle.event_loop.specs.Hearing.End.{Faulted};
+ghost use Rattle.event_loop.specs.Tables.{IsTable, HearsOnce, HeardBy, WholeHearing, CountsFault, tally_heard_by, heard_end};
+
+use crate::seat::{Role, Seat};
+use crate::table::{clients, feeds, mark_readable, mark_writable, place_of};
+use feeder::FeedCutter;
+use ports::{Happening, PortFault, Ports};
+use server_core::Server;
+use std::alloc::Global;
+use std::net::Ipv4Addr;
+
+/// How many feeds' ports may be open.
+const FEEDS: usize = 16;
+
+/// What was heard by one call.
+#[derive(Clone, Copy, Debug, PartialEq, Eq, Drop)]
+pub enum Hark {
+    /// Something happened at a port.
+    Happened,
+    /// Nothing more happened for now.
+    Quiet,
+    /// The ports failed.
+    Fault,
+}
+
+/// What was heard in a turn.
+#[derive(Clone, Copy, Debug, PartialEq, Eq, Drop)]
+pub struct Report {
+    /// How many happenings other than Quiet.
+    pub happenings: usize,
+    /// Whether Quiet ended them.
+    pub quiet: bool,
+}
+
+// A client's port joins: a seat is made and the client opened; or else the port is shut, and nothing came of it. The place of the
+// seat is reserved first, so that no client is opened that could have no seat.
+fn join_client<P: Ports>(
+    server: &mut Server,
+    ports: &mut P,
+    seats: &mut Vec<Seat>,
+    alloc: Global,
+    most: usize,
+    port: u64,
+    address: Ipv4Addr,
+)
+    requires { IsTable most seats.old.items }
+    ensures table { IsTable most seats.new.items }
+    ensures failures { P.failures ports.new ≡ P.failures ports.old }
+    ensures goes { (t : Tally) (calls : Option (List Call)) (config : Config) (w : World) →
+        Tells calls (P.calls ports.old) (Next (Ok (Joined port address)) ∷ []) → StandsAt server.old config w →
+        HearsOnce config most w calls (P.calls ports.new) server.new t seats.old.items seats.new.items Hark.Happened }
+{
+    let Err(at) = place_of(seats.as_slice(), port) else {
+        return;
+    };
+    if clients(seats.as_slice()) >= most || seats.reserve(1).is_err() {
+        ports.shut(port);
+        return;
+    }
+    match server.open(alloc, address) {
+        Ok(client) => {
+            let _kept = seats.insert(at, Seat::joining(port, Role::Client(client)));
+        }
+        Err(_) => ports.shut(port),
+    }
+}
+
+// A feed's port joins: a seat is made, or else the port is shut.
+fn join_feed<P: Ports>(
+    server: &Server,
+    ports: &mut P,
+    seats: &mut Vec<Seat>,
+    most: usize,
+    port: u64,
+)
+    requires { IsTable most seats.old.items }
+    ensures table { IsTable most seats.new.items }
+    ensures failures { P.failures ports.new ≡ P.failures ports.old }
+    ensures goes { (t : Tally) (calls : Option (List Call)) (config : Config) (w : World) →
+        Tells calls (P.calls ports.old) (Next (Ok (JoinedFeed port)) ∷ []) → StandsAt server.now config w →
+        HearsOnce config most w calls (P.calls ports.new) server.now t seats.old.items seats.new.items Hark.Happened }
+{
+    let Err(at) = place_of(seats.as_slice(), port) else {
+        return;
+    };
+    if feeds(seats.as_slice()) >= FEEDS || seats.reserve(1).is_err() {
+        ports.shut(port);
+        return;
+    }
+    let _kept = seats.insert(at, Seat::joining(port, Role::Feed(FeedCutter::new())));
+}
+
+// Hears what happened next.
+fn hear_once<P: Ports>(
+    server: &mut Server,
+    ports: &mut P,
+    seats: &mut Vec<Seat>,
+    alloc: Global,
+    most: usize,
+) -> Hark
+    requires { IsTable most seats.old.items }
+    ensures table { IsTable most seats.new.items }
+    ensures failures { CountsFault (P.failures ports.old) (P.failures ports.new) result }
+    ensures goes { (t : Tally) (config : Config) (w : World) → StandsAt server.old config w →
+        HearsOnce config most w (P.calls ports.old) (P.calls ports.new) server.new t seats.old.items seats.new.items result }
+{
+    match ports.next() {
+        Ok(Happening::Joined(port, address)) => {
+            join_client(server, ports, seats, alloc, most, port, address);
+            Hark::Happened
+        }
+        Ok(Happening::JoinedFeed(port)) => {
+            join_feed(server, ports, seats, most, port);
+            Hark::Happened
+        }
+        Ok(Happening::Readable(port)) => {
+            mark_readable(seats, port);
+            Hark::Happened
+        }
+        Ok(Happening::Writable(port)) => {
+            mark_writable(seats, port);
+            Hark::Happened
+        }
+        Ok(Happening::Quiet) => Hark::Quiet,
+        Err(PortFault) => Hark::Fault,
+    }
+}
+
+/// Hears up to `limit` happenings, or until Quiet. It fails only if the ports could not say what happened.
+pub fn hear<P: Ports>(
+    server: &mut Server,
+    ports: &mut P,
+    seats: &mut Vec<Seat>,
+    alloc: Global,
+    most: usize,
+    limit: usize,
+) -> Result<Report, PortFault>
+    requires { IsTable most seats.old.items }
+    ensures table { IsTable most seats.new.items }
+    ensures ok { IfOk result (λ report. (config : Config) (w : World) → StandsAt server.old config w →
+        WholeHearing config most limit w (P.calls ports.old) (P.calls ports.new) server.new (tally_heard_by report) seats.old.items seats.new.items (heard_end report)) }
+    ensures failed { OnErr result ((config : Config) (w : World) → StandsAt server.old config w →
+        (t : Tally) × WholeHearing config most limit w (P.calls ports.old) (P.calls ports.new) server.new t seats.old.items seats.new.items Faulted) }
+    ensures failures { OnErr result (IsMore (P.failures ports.old) (P.failures ports.new) 1) }
+{
+    let mut left = limit;
+    'hearing: while left > 0 {
+        match hear_once(server, ports, seats, alloc, most) {
+            Hark::Happened => left -= 1,
+            Hark::Quiet => {
+                return Ok(Report {
+                    happenings: limit - left,
+                    quiet: true,
+                });
+            }
+            Hark::Fault => return Err(PortFault),
+        }
+    }
+    Ok(Report {
+        happenings: limit,
+        quiet: false,
+    })
+}

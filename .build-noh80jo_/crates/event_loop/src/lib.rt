@@ -1,0 +1,12 @@
+//! The loop over ports: what comes from them and what they take is a list of events of the server.
+#![tactic(auto)]
+
+mod feeding;
+mod hearing;
+mod passes;
+pub mod seat;
+mod table;
+mod turning;
+
+pub use seat::{Role, Seat};
+pub use turning::{Loop, LoopFault, Turned};

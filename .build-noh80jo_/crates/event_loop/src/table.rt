@@ -1,0 +1,49 @@
+//! The seats of a loop, by rising port.
+ghost use Rattle.std.specs.Prelude.{◌≡◌, ◌<◌, ◌≤◌, IfOk, IfErr, map, length, vec_len};
+ghost use Rattle.event_loop.specs.Hearing.{clients_in, feeds_in, readable_at, writable_at};
+ghost use Rattle.event_loop.specs.Tables.{AreRising, IsSeatOf, IsGapFor};
+
+use crate::seat::Seat;
+
+/// The place of a port's seat, or the place where it belongs.
+pub fn place_of(seats: &[Seat], port: u64) -> Result<usize, usize>
+    requires { AreRising seats.now }
+    ensures found { IfOk result (λ at. IsSeatOf seats.now port at) }
+    ensures absent { IfErr result (λ at. IsGapFor seats.now port at) }
+{
+    seats.binary_search_by_key(&port, |seat| seat.port)
+}
+
+/// The port may be read from now on, if it is open.
+pub fn mark_readable(seats: &mut Vec<Seat>, port: u64)
+    requires { AreRising seats.old.items }
+    ensures { seats.new.items ≡ map (readable_at port) seats.old.items }
+{
+    if let Ok(at) = place_of(seats.as_slice(), port) {
+        seats[at].readable = true;
+    }
+}
+
+/// The port may be written to from now on, if it is open.
+pub fn mark_writable(seats: &mut Vec<Seat>, port: u64)
+    requires { AreRising seats.old.items }
+    ensures { seats.new.items ≡ map (writable_at port) seats.old.items }
+{
+    if let Ok(at) = place_of(seats.as_slice(), port) {
+        seats[at].writable = true;
+    }
+}
+
+/// How many clients' ports are open.
+pub fn clients(seats: &[Seat]) -> usize
+    ensures { result ≡ clients_in seats.now }
+{
+    seats.iter().filter(|seat| seat.role.is_client()).count()
+}
+
+/// How many feeds' ports are open.
+pub fn feeds(seats: &[Seat]) -> usize
+    ensures { result ≡ feeds_in seats.now }
+{
+    seats.iter().filter(|seat| !seat.role.is_client()).count()
+}

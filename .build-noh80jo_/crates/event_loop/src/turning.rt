@@ -1,0 +1,216 @@
+//! The loop: what happens at its ports, and each port's pass in turn.
+ghost use Rattle.std.specs.Prelude.{◌≡◌, ◌≤◌, ℕ, [], IfOk, OnErr, codes};
+ghost use Rattle.protocol.specs.Catalog.{Config as ProtocolConfig};
+ghost use Rattle.protocol.specs.World.{World, empty_world};
+ghost use Rattle.server_core.specs.Standing.{StandsAt};
+ghost use Rattle.sl_io.specs.Counts.{IsMore};
+ghost use Rattle.event_loop.specs.Deeds.{Tally};
+ghost use Rattle.event_loop.specs.Feeding.{feed_tally};
+ghost use Rattle.event_loop.specs.Going.{Whole, if_open};
+ghost use Rattle.event_loop.specs.Hearing.{clients_in, feeds_in};
+ghost use Rattle.event_loop.specs.Tables.{IsTable, IsSameSeat, PassesAll};
+ghost use Rattle.event_loop.specs.Turns.{SeatPass, Turns, Fails};
+
+use crate::feeding::read_feed;
+use crate::hearing::hear;
+use crate::passes::{read_client, write_client};
+use crate::seat::{Role, Seat};
+use catalog::Config;
+use ports::Ports;
+use protocol::report::Report;
+use server_core::Server;
+use std::alloc::{AllocError, Global};
+use thiserror::Error;
+
+/// How many bytes a client's read asks for at most: as many as a client ever has room for.
+const CLIENT_READ: usize = 1024;
+
+/// How many bytes a feed's read asks for at most: one record, so that no feed brings more records in a pass than a client takes.
+const FEED_READ: usize = 512;
+
+/// What a turn did.
+#[derive(Clone, Copy, Debug, PartialEq, Eq, Drop)]
+pub struct Turned {
+    /// How many happenings other than Quiet were taken.
+    pub happenings: usize,
+    /// Whether Quiet ended them.
+    pub quiet: bool,
+    /// How many records the server refused; it stays at 2^64 - 1.
+    pub dropped: u64,
+}
+
+/// The ports could not say what happened.
+#[derive(Clone, Copy, Debug, PartialEq, Eq, Drop, Error)]
+#[error("the ports can't say what happened")]
+pub struct LoopFault;
+
+impl LoopFault {
+    /// The number and the name by which the program reports it: 40 Poll.
+    pub fn report(self) -> Report
+        ensures number { result.number ≡ 40 }
+        ensures name { result.name.now ≡ codes "Poll" }
+    {
+        Report::new(40, "Poll")
+    }
+}
+
+// The pass over one port; whether the port stays open.
+fn pass<P: Ports>(
+    server: &mut Server,
+    ports: &mut P,
+    seat: &mut Seat,
+    buffer: &mut [u8; CLIENT_READ],
+    limit: usize,
+    dropped: &mut u64,
+) -> bool
+    ensures goes { (happenings : ℕ) (config : ProtocolConfig) (w : World) → StandsAt server.old config w →
+        Whole (SeatPass config) limit config w (P.calls ports.old) (P.calls ports.new) server.new
+        (feed_tally happenings dropped.old) (feed_tally happenings dropped.new) seat.old (if_open result seat.new) }
+    ensures same { IsSameSeat seat.old seat.new }
+{
+    match &mut seat.role {
+        Role::Client(client) => {
+            let client = *client;
+            read_client(server, ports, client, seat, buffer, limit)
+                && write_client(server, ports, client, seat, limit)
+        }
+        Role::Feed(cutter) => read_feed(
+            server,
+            ports,
+            seat.port,
+            &mut seat.readable,
+            cutter,
+            &mut buffer[..FEED_READ],
+            limit,
+            dropped,
+        ),
+    }
+}
+
+// The passes over all ports, by rising number. A port that is shut has no seat any more.
+fn pass_all<P: Ports>(
+    server: &mut Server,
+    ports: &mut P,
+    seats: &mut Vec<Seat>,
+    limit: usize,
+    dropped: &mut u64,
+)
+    ensures goes { (happenings : ℕ) (config : ProtocolConfig) (w : World) → StandsAt server.old config w →
+        PassesAll limit config w (P.calls ports.old) (P.calls ports.new) server.new
+        (feed_tally happenings dropped.old) (feed_tally happenings dropped.new) seats.old.items seats.new.items }
+    ensures table { (most : ℕ) → IsTable most seats.old.items → IsTable most seats.new.items }
+{
+    let mut buffer = [0u8; CLIENT_READ];
+    let mut at = 0usize;
+    'passes: while at < seats.len() {
+        if pass(server, ports, &mut seats[at], &mut buffer, limit, dropped) {
+            at += 1;
+        } else {
+            let _gone = seats.remove(at);
+        }
+    }
+}
+
+/// A server over ports. It goes on by turns, and a turn allocates only when a port joins.
+#[derive(Drop)]
+pub struct Loop<P> {
+    server: Server,
+    ports: P,
+    /// The open ports, by rising number.
+    seats: Vec<Seat>,
+    alloc: Global,
+    most: usize,
+    ghost table: { IsTable most seats.items },
+}
+
+impl<P: Ports + Drop> Loop<P> {
+    /// A loop over a new server of this configuration, at which no port is open. It fails only for want of memory.
+    pub fn new(alloc: Global, config: Config, ports: P) -> Result<Loop<P>, AllocError>
+        ensures server { IfOk result (λ made. StandsAt made.server config empty_world) }
+        ensures ports { IfOk result (λ made. made.ports ≡ ports) }
+        ensures seats { IfOk result (λ made. made.seats.items ≡ []) }
+        ensures most { IfOk result (λ made. made.most ≡ config.max_connections) }
+    {
+        let most = config.max_connections();
+        let server = Server::new(alloc, config)?;
+        Ok(Loop {
+            server,
+            ports,
+            seats: Vec::new(alloc),
+            alloc,
+            most,
+        })
+    }
+}
+
+impl<P: Ports> Loop<P> {
+    /// Takes up to `limit` happenings, or until Quiet; then goes through the open ports by rising number. Each port's pass reads
+    /// while the port may be read, up to `limit` times, and on a client's port then offers and writes, up to `limit` times.
+    ///
+    /// It fails with 40 Poll only if the ports could not say what happened. What was done before it in the turn stands, and a
+    /// further turn goes on.
+    pub fn turn(&mut self, limit: usize) -> Result<Turned, LoopFault>
+        ensures ok { IfOk result (λ turned. (config : ProtocolConfig) (w : World) → StandsAt self.old.server config w →
+            Turns config self.old.most limit w (P.calls self.old.ports) (P.calls self.new.ports) self.new.server
+            self.old.seats.items self.new.seats.items turned) }
+        ensures failed { OnErr result ((config : ProtocolConfig) (w : World) → StandsAt self.old.server config w →
+            Fails config self.old.most limit w (P.calls self.old.ports) (P.calls self.new.ports) self.new.server
+            self.old.seats.items self.new.seats.items) }
+        ensures failures { OnErr result (IsMore (P.failures self.old.ports) (P.failures self.new.ports) 1) }
+        ensures few_clients { clients_in self.new.seats.items ≤ self.new.most }
+        ensures few_feeds { feeds_in self.new.seats.items ≤ 16 }
+        ensures most { self.new.most ≡ self.old.most }
+    {
+        let Ok(heard) = hear(
+            &mut self.server,
+            &mut self.ports,
+            &mut self.seats,
+            self.alloc,
+            self.most,
+            limit,
+        ) else {
+            return Err(LoopFault);
+        };
+        let mut dropped = 0u64;
+        pass_all(
+            &mut self.server,
+            &mut self.ports,
+            &mut self.seats,
+            limit,
+            &mut dropped,
+        );
+        Ok(Turned {
+            happenings: heard.happenings,
+            quiet: heard.quiet,
+            dropped,
+        })
+    }
+
+    /// The ports.
+    pub fn ports(&self) -> &P
+        ensures { result.now ≡ self.now.ports }
+    {
+        &self.ports
+    }
+
+    /// The ports, once the loop is over. The server is dropped.
+    pub fn into_ports(self) -> P
+        ensures { result ≡ self.ports }
+    {
+        self.ports
+    }
+
+    /// How many clients' ports are open.
+    pub fn clients(&self) -> usize
+        ensures { result ≡ clients_in self.now.seats.items }
+    {
+        crate::table::clients(self.seats.as_slice())
+    }
+
+    /// How many feeds' ports are open.
+    pub fn feeds(&self) -> usize
+        ensures { result ≡ feeds_in self.now.seats.items }
+    {
+        crate::table::feeds(self.seats.as_slice())
+    }
+}

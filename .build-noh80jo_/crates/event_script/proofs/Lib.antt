@@ -1,0 +1,10 @@
+mod ArriveRows
+mod Examples
+mod FittingLemmas
+mod HexRecords
+mod Lines
+mod OptionSteps
+mod Separators
+mod SpaceLemmas
+mod TableLemmas
+mod Takes

@@ -1,0 +1,48 @@
+//! Why a text is no script.
+ghost use Rattle.std.specs.Prelude.{◌≡◌};
+ghost use Rattle.event_script.specs.Faults.{script_fault_number, script_fault_name};
+ghost use Rattle.event_script.specs.declared.fault.ScriptFault.TheVariants.{OutOfMemory as ScriptOutOfMemory};
+
+use protocol::report::Report;
+use std::alloc::{AllocError, AllocFailed};
+use thiserror::Error;
+
+/// Why a text is no script.
+#[derive(Clone, Copy, Debug, PartialEq, Eq, Drop, Error)]
+pub enum ScriptFault {
+    /// There is no memory for its events.
+    #[error("out of memory")]
+    OutOfMemory,
+    /// A line is no event.
+    #[error("a line of the script is no event")]
+    Script,
+}
+
+impl ScriptFault {
+    /// The number and the name by which the program reports it: 25 or 45.
+    pub fn report(self) -> Report
+        ensures number { result.number ≡ script_fault_number self }
+        ensures name { result.name.now ≡ script_fault_name self }
+    {
+        match self {
+            ScriptFault::OutOfMemory => Report::new(25, "OutOfMemory"),
+            ScriptFault::Script => Report::new(45, "Script"),
+        }
+    }
+}
+
+impl From<AllocError> for ScriptFault {
+    ghost from_gives = { λ _ e. e ≡ ScriptOutOfMemory };
+
+    fn from(_error: AllocError) -> ScriptFault {
+        ScriptFault::OutOfMemory
+    }
+}
+
+impl<T: Drop> From<AllocFailed<T>> for ScriptFault {
+    ghost from_gives = { λ _ e. e ≡ ScriptOutOfMemory };
+
+    fn from(_error: AllocFailed<T>) -> ScriptFault {
+        ScriptFault::OutOfMemory
+    }
+}

@@ -1,0 +1,2 @@
+pub mod Feedings
+pub mod Sending

@@ -1,0 +1,119 @@
+//! Records out of bytes.
+ghost use Rattle.std.specs.Prelude.{◌≡◌, ◌+◌, ◌≤◌, ◌++◌, length, take, drop};
+
+use std::marker::Model;
+
+/// The length of a record, in bytes.
+const RECORD: usize = 512;
+
+/// What a piece of a feed gives.
+#[derive(Clone, Copy, Debug, PartialEq, Eq)]
+pub struct Feeding<'a> {
+    /// How many bytes of the piece were read: up to the last byte of the first record that becomes whole, and all of them where
+    /// none does.
+    pub used: usize,
+    /// The record that became whole: in the piece itself, or in the cutter where it came in more than one piece.
+    pub whole: Option<&'a [u8; 512]>,
+}
+
+/// Writes the piece into the buffer, from `start` on.
+fn put(buffer: &mut [u8; 512], start: usize, piece: &[u8])
+    requires { start + length piece.now ≤ 512 }
+    ensures { buffer.new ≡ take start buffer.old ++ (piece.now ++ drop (start + length piece.now) buffer.old) }
+{
+    buffer[start..start + piece.len()].copy_from_slice(piece);
+}
+
+/// Cuts the bytes of a feed into records of 512 bytes, in whatever pieces they come. In a contract a cutter is the bytes of
+/// an unfinished record, fewer than 512.
+#[derive(Drop)]
+pub struct FeedCutter {
+    /// The bytes of the unfinished record are its first ones.
+    buffer: [u8; 512],
+    count: usize,
+}
+
+impl Model for FeedCutter {
+    ghost use Rattle.std.specs.Prelude.{ℕ, ◌<◌, List, take};
+
+    ghost Value = { List ℕ };
+
+    ghost view = { λ s. take s.count s.buffer };
+
+    ghost invariant = { λ s. s.count < 512 };
+}
+
+impl FeedCutter {
+    ghost use Rattle.std.specs.Prelude.{ℕ, ◌-◌, ◌<◌, List, [], min};
+    ghost use Rattle.std.specs.Borrow.{sem};
+    ghost use Rattle.protocol.specs.Streams.{feed_from};
+    ghost use Rattle.feeder.specs.Feedings.{feed_read, lent_records, left_over, Leaves};
+
+    /// A cutter that holds no byte.
+    pub fn new() -> FeedCutter
+        ensures { result ≡ [] }
+    {
+        FeedCutter {
+            buffer: [0; RECORD],
+            count: 0,
+        }
+    }
+
+    /// How many bytes of an unfinished record it holds, 0 to 511.
+    pub fn rest(&self) -> usize
+        ensures rest { result ≡ length self.now }
+        ensures bound { result < 512 }
+    {
+        self.count
+    }
+
+    /// Holds the piece too, which makes no record whole.
+    fn hold(&mut self, piece: &[u8])
+        requires { length self.old + length piece.now < 512 }
+        ensures { self.new ≡ self.old ++ piece.now }
+    {
+        put(&mut self.buffer, self.count, piece);
+        self.count += piece.len();
+    }
+
+    /// Lends the record that the piece makes whole, and holds nothing of it.
+    fn complete(&mut self, piece: &[u8]) -> &[u8; 512]
+        requires { length self.old + length piece.now ≡ 512 }
+        ensures whole { result.now ≡ self.old ++ piece.now }
+        ensures* rest { sem 𝓛 (Leaves self.entry []) }
+    {
+        put(&mut self.buffer, self.count, piece);
+        self.count = 0;
+        &self.buffer
+    }
+
+    /// Reads the piece up to the end of the first record that becomes whole, and lends that record up to the next call. Where
+    /// none becomes whole, it reads and holds all of the piece.
+    pub fn feed<'a>(&'a mut self, piece: &'a [u8]) -> Feeding<'a>
+        ensures used { result.used ≡ min (512 - length self.old) (length piece.now) }
+        ensures read { (records : List (List ℕ)) → feed_from (feed_read records self.old) (take result.used piece.now)
+            ≡ feed_read (records ++ lent_records result.whole) (left_over self.old piece.now result.whole) }
+        ensures bound { length self.old < 512 }
+        ensures* rest { sem 𝓛 (Leaves self.entry (left_over self.old piece.now result.whole)) }
+    {
+        let held = self.rest();
+        let missing = RECORD - held;
+        if piece.len() < missing {
+            self.hold(piece);
+            return Feeding {
+                used: piece.len(),
+                whole: None,
+            };
+        }
+        if held == 0 {
+            return Feeding {
+                used: RECORD,
+                whole: Some(piece.first_chunk().unwrap()),
+            };
+        }
+        Feeding {
+            used: missing,
+            whole: Some(self.complete(&piece[..missing])),
+        }
+    }
+}

@@ -1,0 +1,73 @@
+-- The numbers and names by which the program reports a replay that failed, and any other failure of its own.
+use Rattle.std.specs.Prelude.{ℕ, List, codes}
+use Rattle.catalog.specs.Faults.{fault_number, fault_name}
+use Rattle.feeder.specs.Sending.{send_fault_number, send_fault_name}
+use Rattle.slreader.specs.Faults.{reader_fault_number, reader_fault_name}
+use Rattle.packet_listing.specs.Faults.{listing_fault_number, listing_fault_name}
+use Rattle.socket_ports.specs.Faults.{listen_fault_number, listen_fault_name}
+use Rattle.record_listing.specs.Checks.{check_fault_number, check_fault_name}
+use Rattle.record_listing.specs.Listing.{file_fault_number, file_fault_name}
+use Rattle.jobs.specs.declared.failure.Failure.{Failure}
+use Rattle.jobs.specs.declared.failure.Failure.TheVariants as failure
+use Rattle.jobs.specs.declared.faults.ReplayFault.{ReplayFault}
+use Rattle.jobs.specs.declared.faults.ReplayFault.TheVariants as replay
+use Rattle.jobs.specs.declared.serving.ServeFault.{ServeFault}
+use Rattle.jobs.specs.declared.serving.ServeFault.TheVariants as serve
+
+-- the number of a replay that failed
+abbrev pub replay_fault_number : ReplayFault → ℕ
+replay_fault_number replay.OutOfMemory = 25
+replay_fault_number replay.Read = 42
+replay_fault_number replay.Write = 43
+replay_fault_number replay.Script = 45
+
+-- its name
+abbrev pub replay_fault_name : ReplayFault → List ℕ
+replay_fault_name replay.OutOfMemory = codes "OutOfMemory"
+replay_fault_name replay.Read = codes "Read"
+replay_fault_name replay.Write = codes "Write"
+replay_fault_name replay.Script = codes "Script"
+
+-- the number of a server that ended before its turns were done
+abbrev pub serve_fault_number : ServeFault → ℕ
+serve_fault_number serve.OutOfMemory = 25
+serve_fault_number serve.Poll = 40
+
+-- its name
+abbrev pub serve_fault_name : ServeFault → List ℕ
+serve_fault_name serve.OutOfMemory = codes "OutOfMemory"
+serve_fault_name serve.Poll = codes "Poll"
+
+-- the number of a failure of the program
+abbrev pub failure_number : Failure → ℕ
+failure_number failure.OutOfMemory = 25
+failure_number failure.Write = 43
+failure_number failure.File = 44
+failure_number (failure.Config fault) = fault_number fault
+failure_number (failure.Replay fault) = replay_fault_number fault
+failure_number (failure.Check fault) = check_fault_number fault
+failure_number (failure.Records fault) = file_fault_number fault
+failure_number failure.Address = 11
+failure_number (failure.Listen fault) = listen_fault_number fault
+failure_number failure.Connect = 47
+failure_number (failure.Serve fault) = serve_fault_number fault
+failure_number (failure.Send fault) = send_fault_number fault
+failure_number (failure.Want fault) = reader_fault_number fault
+failure_number (failure.Packets fault) = listing_fault_number fault
+
+-- its name
+abbrev pub failure_name : Failure → List ℕ
+failure_name failure.OutOfMemory = codes "OutOfMemory"
+failure_name failure.Write = codes "Write"
+failure_name failure.File = codes "File"
+failure_name (failure.Config fault) = fault_name fault
+failure_name (failure.Replay fault) = replay_fault_name fault
+failure_name (failure.Check fault) = check_fault_name fault
+failure_name (failure.Records fault) = file_fault_name fault
+failure_name failure.Address = codes "Address"
+failure_name (failure.Listen fault) = listen_fault_name fault
+failure_name failure.Connect = codes "Connect"
+failure_name (failure.Serve fault) = serve_fault_name fault
+failure_name (failure.Send fault) = send_fault_name fault
+failure_name (failure.Want fault) = reader_fault_name fault
+failure_name (failure.Packets fault) = listing_fault_name fault

@@ -1,0 +1,5 @@
+pub mod Endpoints
+pub mod Faults
+pub mod Feeding
+pub mod Output
+pub mod Replaying

@@ -1,0 +1,23 @@
+//! The jobs of `seedlinkd`, over files, sockets and the standard output: a server, a feeder, a reader, a replay of a script and
+//! a check of records. Why they fail, and what the exit status is.
+#![tactic(auto)]
+
+mod endpoint;
+mod failure;
+mod faults;
+mod feeding;
+mod files;
+mod network;
+mod replaying;
+mod serving;
+mod standard_error;
+mod statuses;
+mod work;
+
+pub use endpoint::Endpoint;
+pub use failure::Failure;
+pub use faults::ReplayFault;
+pub use feeding::{feed, feed_records};
+pub use replaying::replay;
+pub use serving::{ServeFault, serve};
+pub use statuses::{failed, obey, told};

@@ -1,0 +1,63 @@
+//! A script's events at a server, from a reader to a writer.
+ghost use Rattle.std.specs.Prelude.{◌≡◌, ◌≢◌, Some, None, IfOk, OnOk, IfErr, IfSome, MatchResult};
+ghost use Rattle.jobs.specs.Output.{replayed};
+ghost use Rattle.jobs.specs.Replaying.{LeavesReader, LeavesWriter, WritesAll, WritesBeginning};
+ghost use Rattle.event_script.specs.declared.fault.ScriptFault.TheVariants.{Script as ScriptIsNone};
+ghost use Rattle.jobs.specs.declared.faults.ReplayFault.TheVariants.{Script, Write};
+
+use crate::faults::ReplayFault;
+use catalog::Config;
+use event_script::{ScriptFault, events_of, output_of};
+use server_core::run;
+use sl_io::{ReadFault, Sink, Source, read_all, write_all};
+use std::alloc::Global;
+
+/// What a server with that configuration writes of a script.
+fn output_for(alloc: Global, config: Config, text: &[u8]) -> Result<Vec<u8>, ScriptFault>
+    ensures ok { IfOk result (λ output. replayed config text.now ≡ Some output.items) }
+    ensures script { IfErr result (λ fault. fault ≡ ScriptIsNone → replayed config text.now ≡ None) }
+{
+    let events = events_of(alloc, text)?;
+    let takes = run(alloc, config, events.as_slice())?;
+    let output = output_of(alloc, takes.as_slice())?;
+    Ok(output)
+}
+
+/// Reads a script to its end, does its events at a new server with that configuration, and writes a line for each take. The
+/// output is made whole before its first byte is written, and written in as few calls as the writer takes.
+///
+/// It fails with Read where a read failed or 2^64 - 1 reads were made, with Script where the text is no script, with Write
+/// where a write failed or took no byte, and with OutOfMemory only where there is no memory. The writer is unchanged at all
+/// of them but Write, at which it was given a beginning of the output.
+pub fn replay<R: Source, W: Sink>(
+    alloc: Global,
+    config: Config,
+    script: &mut R,
+    out: &mut W,
+) -> Result<(), ReplayFault>
+    ensures ok { OnOk result (IfSome (R.left script.old) (λ text. WritesAll (replayed config text) (W.written out.old) (W.written out.new))) }
+    ensures write { IfErr result (λ fault. fault ≡ Write →
+        IfSome (R.left script.old) (λ text. WritesBeginning (replayed config text) (W.written out.old) (W.written out.new))) }
+    ensures script { IfErr result (λ fault. fault ≡ Script → IfSome (R.left script.old) (λ text. replayed config text ≡ None)) }
+    ensures unchanged { IfErr result (λ fault. fault ≢ Write → out.new ≡ out.old) }
+    ensures reader { MatchResult result (λ _. R.failures script.new ≡ R.failures script.old)
+        (λ fault. LeavesReader fault (R.failures script.old) (R.failures script.new) (R.calls script.old) (R.calls script.new)) }
+    ensures writer { MatchResult result
+        (λ _. (W.failures out.new ≡ W.failures out.old) × (W.empty_writes out.new ≡ W.empty_writes out.old))
+        (λ fault. LeavesWriter fault (W.failures out.old) (W.failures out.new) (W.empty_writes out.old) (W.empty_writes out.new)) }
+{
+    let text = match read_all(alloc, script) {
+        Ok(text) => text,
+        Err(ReadFault::OutOfMemory) => return Err(ReplayFault::OutOfMemory),
+        Err(ReadFault::Read) => return Err(ReplayFault::Read),
+    };
+    let output = match output_for(alloc, config, text.as_slice()) {
+        Ok(output) => output,
+        Err(ScriptFault::OutOfMemory) => return Err(ReplayFault::OutOfMemory),
+        Err(ScriptFault::Script) => return Err(ReplayFault::Script),
+    };
+    match write_all(out, output.as_slice()) {
+        Ok(()) => Ok(()),
+        Err(_) => Err(ReplayFault::Write),
+    }
+}

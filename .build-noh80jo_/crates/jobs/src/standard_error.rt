@@ -1,0 +1,31 @@
+//! The standard error as a writer, for lines of text beside records on the standard output.
+use std::io;
+use std::io::Write;
+
+/// Writes text to the standard error.
+#[derive(Drop)]
+pub struct StandardError<'a, R> {
+    rt: &'a R,
+}
+
+impl<'a, R> StandardError<'a, R> {
+    pub fn new(rt: &'a R) -> StandardError<'a, R> {
+        StandardError { rt }
+    }
+}
+
+impl<'a, R: Eprint> Write for StandardError<'a, R> {
+    fn write(&mut self, bytes: &[u8]) -> io::Result<usize> {
+        match str::from_utf8(bytes) {
+            Ok(text) => {
+                self.rt.eprint(text)?;
+                Ok(bytes.len())
+            }
+            Err(_) => Err(io::Error::from(io::ErrorKind::InvalidData)),
+        }
+    }
+
+    fn flush(&mut self) -> io::Result<()> {
+        Ok(())
+    }
+}

@@ -1,0 +1,57 @@
+//! What the user is told, and the exit status: 0 where the job was done or help was asked for, 1 at a fault of input or of a
+//! device, and 2 where the words are none that the program takes.
+ghost use Rattle.std.specs.Prelude.{◌≡◌, ◌≢◌, false, true, map, string_bytes};
+ghost use Rattle.std.specs.Process.{exit_status};
+ghost use Rattle.command_line.specs.Jobs.{IsJob, IsMistake};
+
+use crate::failure::Failure;
+use crate::work::run_job;
+use command_line::{WordsFault, read_words};
+use protocol::report::Report;
+use std::net::Net;
+use std::process::ExitCode;
+use std::rt::Files;
+
+/// The status of words that the program does not take.
+const REFUSED: u8 = 2;
+
+/// Tells a failure, in the line `seedlinkd: N Name` of the standard error. The status is 1.
+pub fn failed<R: Eprint>(rt: &R, failure: Failure) -> ExitCode
+    ensures { exit_status result ≡ 1 }
+{
+    let Report { number, name } = failure.report();
+    let _ = eprintln!(rt; "seedlinkd: {number} {name}");
+    ExitCode::FAILURE
+}
+
+/// Tells the user how words are taken: help on the standard output, or a mistake on the standard error. The status is 2 for
+/// a mistake. For help it is 0, or 1 where that could not be written.
+pub fn told<R: Print + Eprint>(rt: &R, text: &str, is_help: bool) -> ExitCode
+    ensures mistake { is_help ≡ false → exit_status result ≡ 2 }
+    ensures help { is_help ≡ true → exit_status result ≢ 2 }
+{
+    if !is_help {
+        let _ = rt.eprint(text);
+        return ExitCode::from(REFUSED);
+    }
+    match rt.print(text) {
+        Ok(()) => ExitCode::SUCCESS,
+        Err(_) => failed(rt, Failure::Write),
+    }
+}
+
+/// Does the job that the words of a command line ask, of which the first is the program's name. The status is never 2 where
+/// they are a job, and never 0 where they are a mistake.
+pub fn obey<R: Files + Print + Eprint + Net + AllocGlobal>(rt: &R, words: &[String]) -> ExitCode
+    ensures job { IsJob (map string_bytes words.now) → exit_status result ≢ 2 }
+    ensures mistake { IsMistake (map string_bytes words.now) → exit_status result ≢ 0 }
+{
+    match read_words(rt.alloc(), words) {
+        Ok(job) => match run_job(rt, job) {
+            Ok(()) => ExitCode::SUCCESS,
+            Err(failure) => failed(rt, failure),
+        },
+        Err(WordsFault::Refused { text, is_help }) => told(rt, text.as_str(), is_help),
+        Err(WordsFault::OutOfMemory) => failed(rt, Failure::OutOfMemory),
+    }
+}

@@ -1,0 +1,4 @@
+pub mod Chain
+pub mod Header
+pub mod Fields
+pub mod Layout

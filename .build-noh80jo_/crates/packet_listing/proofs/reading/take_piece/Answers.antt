@@ -1,0 +1,26 @@
+-- A part of the piece was read, and what it gave is told.
+use Rattle.std.proofs.Common.{◌≡◌, sym, ap, ◌∙◌}
+use Rattle.slreader.specs.Dialogue.Outcome.{Gave}
+use Rattle.slreader.specs.Whats.{what_value}
+use Rattle.packet_listing.proofs.Taking.{takes-nothing, takes-end, taken-on, fails-in, taken-no-limit}
+use Rattle.packet_listing.proofs.reading.take_piece.Goals as goal
+
+pub returns-in-Err-clause-failed : goal.returns-in-Err-clause-failed
+returns-in-Err-clause-failed c = λ _. fails-in _ _ _ _ _ _ _ _ c.given.invariant c.in-Err.ensures.outcome c.incoming.follows.holds-at-none
+
+pub returns-in-Nothing-clause-taken : goal.returns-in-Nothing-clause-taken
+returns-in-Nothing-clause-taken c =
+    let gave = ap (λ w. Gave c.in-Ok.came.used (what_value w)) (sym c.in-Nothing.is) ∙ c.in-Ok.ensures.outcome in
+    takes-nothing _ _ _ _ _ _ _ _ c.given.invariant gave c.incoming.follows.holds-at-none
+
+pub returns-in-End-clause-taken : goal.returns-in-End-clause-taken
+returns-in-End-clause-taken c =
+    let gave = ap (λ w. Gave c.in-Ok.came.used (what_value w)) (sym c.in-End.is) ∙ c.in-Ok.ensures.outcome in
+    takes-end _ _ _ _ _ _ _ _ c.given.invariant gave c.incoming.follows.holds-at-none
+
+pub given-preserved : goal.given-preserved
+given-preserved c =
+    taken-on _ _ _ _ _ _ _ _ _ _ c.given.invariant c.in-Ok.ensures.outcome c.incoming.follows.holds-at-none c.in-Ok-put.ensures
+
+pub returns-in-Err-clause-plan : goal.returns-in-Err-clause-plan
+returns-in-Err-clause-plan c = taken-no-limit _ _ _ _ _ _ _ c.given.invariant c.in-Err.ensures.outcome c.requires.plan

@@ -1,0 +1,5 @@
+pub mod Faults
+pub mod Lines
+pub mod Pieces
+pub mod Stops
+pub mod Whole

@@ -1,0 +1,77 @@
+-- What a listing of packets has read, sent and told as a whole, by the bytes that came.
+-- SeedLink 3: the dialogue of a reader; the lines are this project's own.
+use Rattle.std.specs.Prelude.{◌≡◌, ℕ, Bool, true, false, List, [], ◌∷◌, ◌++◌, drop, Option, ⊤}
+use Rattle.std.specs.Io.KnownBytes.{Appends, Consumes}
+use Rattle.sl_io.specs.Known.{AppendsBeginning}
+use Rattle.slreader.specs.declared.fault.ReaderFault.TheVariants.{Limit, OutOfMemory, NotAPacket, AllRefused, BadReply}
+use Rattle.slreader.specs.Dialogue.{Given, ReaderValue, Stage, given_from, read_on}
+use Rattle.slreader.specs.Dialogue.Given.{Hello, Refused, Packet, End}
+use Rattle.slreader.specs.Dialogue.Stage.{Over, Failed}
+use Rattle.packet_listing.specs.declared.fault.ListingFault.{ListingFault}
+use Rattle.packet_listing.specs.declared.fault.ListingFault.TheVariants.{Reader, Read, Write}
+use Rattle.packet_listing.specs.Lines.{packet_line, record_of, refusal_at}
+
+-- ---- what is told
+
+-- the line of one thing that is given, by the lines of wants if they are refused
+abbrev pub line_given : (refusals : List (List ℕ)) → Given → List ℕ
+line_given refusals Hello = []
+line_given refusals (Refused want) = refusal_at refusals want
+line_given refusals (Packet packet) = packet_line packet
+line_given refusals End = []
+
+abbrev pub lines_given : (refusals : List (List ℕ)) → List Given → List ℕ
+lines_given refusals [] = []
+lines_given refusals (g ∷ gs) = line_given refusals g ++ lines_given refusals gs
+
+-- the record of one thing that is given, if it is a packet
+abbrev pub record_given : Given → List ℕ
+record_given Hello = []
+record_given (Refused want) = []
+record_given (Packet packet) = record_of packet
+record_given End = []
+
+abbrev pub records_given : List Given → List ℕ
+records_given [] = []
+records_given (g ∷ gs) = record_given g ++ records_given gs
+
+-- ---- at the end
+
+-- Bytes `came` that bring the dialogue of the reader to its end. All that it asks by them was sent, and of all that they give the
+-- lines and the records were written. What was read `behind` the end is dropped.
+pub record Ends (r : ReaderValue) (refusals : List (List ℕ)) (left left' sent sent' lines lines' records records' : Option (List ℕ)) : Type 0 where
+  pub came : List ℕ
+  pub behind : List ℕ
+  pub read : Consumes left left' (came ++ behind)
+  pub over : (read_on r came).stage ≡ Over
+  pub asked : Appends sent sent' (drop r.sent (read_on r came).asked)
+  pub told : Appends lines lines' (lines_given refusals (given_from r came))
+  pub kept : Appends records records' (records_given (given_from r came))
+
+-- ---- at a fault
+
+-- the reader's fault is the one of the dialogue
+abbrev pub IsWhy : ListingFault → Stage → Type 0
+IsWhy (Reader fault) stage = stage ≡ Failed fault
+IsWhy Read stage = ⊤
+IsWhy Write stage = ⊤
+
+-- All of what was given is told at this fault: it is not one of the plan, of memory or of a write.
+abbrev pub is_told_before : ListingFault → Bool
+is_told_before (Reader Limit) = false
+is_told_before (Reader OutOfMemory) = false
+is_told_before (Reader NotAPacket) = true
+is_told_before (Reader AllRefused) = true
+is_told_before (Reader BadReply) = true
+is_told_before Read = true
+is_told_before Write = false
+
+-- Bytes `came`. A beginning of what the reader asks by them was sent, and of all that they give the lines and the records were
+-- written.
+pub record StopsAt (fault : ListingFault) (r : ReaderValue) (refusals : List (List ℕ)) (left left' sent sent' lines lines' records records' : Option (List ℕ)) : Type 0 where
+  pub came : List ℕ
+  pub read : Consumes left left' came
+  pub why : IsWhy fault (read_on r came).stage
+  pub asked : AppendsBeginning sent sent' (drop r.sent (read_on r came).asked)
+  pub told : Appends lines lines' (lines_given refusals (given_from r came))
+  pub kept : Appends records records' (records_given (given_from r came))

@@ -1,0 +1,35 @@
+//! Why a listing of packets stops.
+ghost use Rattle.std.specs.Prelude.{◌≡◌};
+ghost use Rattle.packet_listing.specs.Faults.{listing_fault_number, listing_fault_name};
+
+use protocol::report::Report;
+use slreader::ReaderFault;
+use thiserror::Error;
+
+/// Why a listing of packets stops.
+#[derive(Clone, Copy, Debug, PartialEq, Eq, Drop, Error)]
+pub enum ListingFault {
+    /// The plan can't be asked for, there is no memory, or the server sent what a reader can't read.
+    #[error("{0}")]
+    Reader(ReaderFault),
+    /// A read failed, or the server closed the connection before the end.
+    #[error("the connection ended before the end of the transfer")]
+    Read,
+    /// A command, a line or a record could not be written.
+    #[error("not everything could be written")]
+    Write,
+}
+
+impl ListingFault {
+    /// The number and the name by which the program reports it: those of the reader's fault, 42 or 43.
+    pub fn report(self) -> Report
+        ensures number { result.number ≡ listing_fault_number self }
+        ensures name { result.name.now ≡ listing_fault_name self }
+    {
+        match self {
+            ListingFault::Reader(fault) => fault.report(),
+            ListingFault::Read => Report::new(42, "Read"),
+            ListingFault::Write => Report::new(43, "Write"),
+        }
+    }
+}

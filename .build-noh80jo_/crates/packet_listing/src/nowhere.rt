@@ -1,0 +1,32 @@
+//! A writer of nothing.
+ghost use Rattle.std.specs.Prelude.{None};
+
+use sl_io::{DeviceFault, Sink};
+
+/// A writer that takes all bytes and keeps none, for records that nobody wants.
+#[derive(Drop)]
+pub struct Nowhere {
+    calls: u64,
+}
+
+impl Nowhere {
+    /// A writer of nothing.
+    pub fn new() -> Nowhere {
+        Nowhere { calls: 0 }
+    }
+}
+
+impl Sink for Nowhere {
+    ghost written = { λ _. None };
+
+    ghost failures = { λ _. 0 };
+
+    ghost calls = { λ s. s.calls };
+
+    ghost empty_writes = { λ _. 0 };
+
+    fn write(&mut self, bytes: &[u8]) -> Result<usize, DeviceFault> {
+        self.calls = self.calls.wrapping_add(1);
+        Ok(bytes.len())
+    }
+}

@@ -1,0 +1,269 @@
+//! A reader over a connection.
+ghost use Rattle.std.specs.Prelude.{◌≡◌, ◌≢◌, ◌⊎◌, ◌+◌, ◌<◌, ◌≤◌, [], drop, length, IfOk, OnOk, OnErr, IfErr, IfSome, IfNone, MatchOption, take, true, false};
+ghost use Rattle.std.specs.Io.KnownBytes.{Appends, Consumes, Keeps};
+ghost use Rattle.sl_io.specs.Counts.{IsMore, StopsWriting};
+ghost use Rattle.slreader.specs.declared.fault.ReaderFault.TheVariants.{Limit, OutOfMemory};
+ghost use Rattle.slreader.specs.Dialogue.{begun};
+ghost use Rattle.slreader.specs.Dialogue.Stage.{Failed};
+ghost use Rattle.slreader.specs.Views.{plan_value};
+ghost use Rattle.slreader.specs.Wants.{is_plan};
+ghost use Rattle.packet_listing.specs.declared.fault.ListingFault.TheVariants.{Reader};
+ghost use Rattle.packet_listing.specs.Lines.{refusals_of};
+ghost use Rattle.packet_listing.specs.Pieces.{FailsIn, Takes};
+ghost use Rattle.packet_listing.specs.Whole.{Ends, StopsAt, is_told_before};
+ghost use Rattle.packet_listing.specs.Stops.{EndsReading, EndsReads, IsQuiet, StopsListing};
+
+use crate::fault::ListingFault;
+use crate::output::Output;
+use sl_io::{Sink, Source, WriteFault, write_all};
+use slreader::{Plan, ReaderCore, ReaderFault, What};
+use std::alloc::{AllocError, Global};
+
+/// How many bytes are read at most by one call.
+const BLOCK: usize = 65_536;
+
+/// Writes all that is asked and was not sent.
+fn send<W: Sink>(core: &mut ReaderCore, writer: &mut W) -> Result<(), WriteFault>
+    ensures written { OnOk result (Appends (W.written writer.old) (W.written writer.new) (drop core.old.sent core.old.asked)) }
+    ensures sent { OnOk result (core.new ≡ record core.old { sent = core.old.sent + length (drop core.old.sent core.old.asked) }) }
+    ensures quiet { OnOk result (IsQuiet (W.failures writer.old) (W.failures writer.new)
+        (W.empty_writes writer.old) (W.empty_writes writer.new)) }
+    ensures stopped { OnErr result (StopsWriting (W.failures writer.old) (W.failures writer.new)
+        (W.empty_writes writer.old) (W.empty_writes writer.new)) }
+{
+    let outgoing = core.outgoing();
+    match write_all(writer, outgoing) {
+        Ok(()) => {
+            let count = outgoing.len();
+            core.sent(count);
+            Ok(())
+        }
+        Err(fault) => Err(fault),
+    }
+}
+
+/// Writes what is told, the lines and then the records.
+fn write_output<O: Sink, P: Sink>(
+    output: &mut Output,
+    out: &mut O,
+    records: &mut P,
+) -> Result<(), WriteFault>
+    ensures lines { OnOk result (Appends (O.written out.old) (O.written out.new) output.old.lines) }
+    ensures records { OnOk result (Appends (P.written records.old) (P.written records.new) output.old.records) }
+    ensures cleared { OnOk result (output.new ≡ record output.old { lines = []; records = [] }) }
+    ensures quiet { OnOk result (IsQuiet (O.failures out.old) (O.failures out.new)
+        (O.empty_writes out.old) (O.empty_writes out.new)
+        × IsQuiet (P.failures records.old) (P.failures records.new)
+        (P.empty_writes records.old) (P.empty_writes records.new)) }
+    ensures stopped { OnErr result ((StopsWriting (O.failures out.old) (O.failures out.new)
+        (O.empty_writes out.old) (O.empty_writes out.new)
+        × IsQuiet (P.failures records.old) (P.failures records.new)
+        (P.empty_writes records.old) (P.empty_writes records.new))
+        ⊎ (IsQuiet (O.failures out.old) (O.failures out.new) (O.empty_writes out.old) (O.empty_writes out.new)
+        × StopsWriting (P.failures records.old) (P.failures records.new)
+        (P.empty_writes records.old) (P.empty_writes records.new))) }
+{
+    match write_all(out, output.lines()) {
+        Ok(()) => {}
+        Err(fault) => return Err(fault),
+    }
+    match write_all(records, output.records()) {
+        Ok(()) => {}
+        Err(fault) => return Err(fault),
+    }
+    output.clear();
+    Ok(())
+}
+
+/// Reads a piece, and tells what it gives. Answers whether the transfer is over.
+fn take_piece(core: &mut ReaderCore, output: &mut Output, piece: &[u8]) -> Result<bool, ReaderFault>
+    requires plan { core.old.stage ≢ Failed Limit }
+    ensures taken { IfOk result (λ is_over. Takes core.old core.new output.old output.new piece.now is_over) }
+    ensures failed { IfErr result (λ fault. fault ≢ OutOfMemory → FailsIn core.old core.new output.old output.new piece.now fault) }
+    ensures plan { IfErr result (λ fault. fault ≢ Limit) }
+{
+    let mut left = piece;
+    'given: loop {
+        let came = match core.incoming(left) {
+            Ok(came) => came,
+            Err(fault) => return Err(fault),
+        };
+        match came.what {
+            What::Nothing => return Ok(false),
+            What::End => return Ok(true),
+            what => match output.put(what) {
+                Ok(()) => {}
+                Err(_) => return Err(ReaderFault::OutOfMemory),
+            },
+        }
+        left = &left[came.used..];
+    }
+}
+
+/// One read. Answers how many bytes it gave; None where it failed, or gave none.
+fn read_block<R: Source>(reader: &mut R, block: &mut [u8]) -> Option<usize>
+    requires { 0 < length block.old }
+    ensures bound { IfSome result (λ count. count ≤ length block.new) }
+    ensures consumed { IfSome result (λ count. Consumes (R.left reader.old) (R.left reader.new) (take count block.new)) }
+    ensures kept { IfNone result (Keeps (R.left reader.old) (R.left reader.new)) }
+    ensures call { IsMore (R.calls reader.old) (R.calls reader.new) 1 }
+    ensures ended { MatchOption result (EndsReading (R.failures reader.old) (R.failures reader.new) (R.left reader.new))
+        (λ _. R.failures reader.new ≡ R.failures reader.old) }
+{
+    match reader.read(block) {
+        Ok(0) => None,
+        Ok(count) => Some(count),
+        Err(_) => None,
+    }
+}
+
+/// Sends what was asked last: an answer may come before its command was sent.
+fn finish<W: Sink>(core: &mut ReaderCore, writer: &mut W) -> Result<(), ListingFault>
+    ensures written { OnOk result (Appends (W.written writer.old) (W.written writer.new) (drop core.old.sent core.old.asked)) }
+    ensures quiet { OnOk result (IsQuiet (W.failures writer.old) (W.failures writer.new)
+        (W.empty_writes writer.old) (W.empty_writes writer.new)) }
+    ensures fault { IfErr result (λ fault. fault ≡ ListingFault.Write) }
+    ensures stopped { OnErr result (StopsWriting (W.failures writer.old) (W.failures writer.new)
+        (W.empty_writes writer.old) (W.empty_writes writer.new)) }
+{
+    match send(core, writer) {
+        Ok(()) => Ok(()),
+        Err(_) => Err(ListingFault::Write),
+    }
+}
+
+/// Sends, writes and reads until the transfer is over.
+fn read_blocks<R: Source, W: Sink, O: Sink, P: Sink>(
+    core: &mut ReaderCore,
+    output: &mut Output,
+    block: &mut [u8],
+    reader: &mut R,
+    writer: &mut W,
+    out: &mut O,
+    records: &mut P,
+) -> Result<(), ListingFault>
+    requires block { length block.old ≡ 65536 }
+    requires plan { core.old.stage ≢ Failed Limit }
+    requires sent { core.old.sent ≤ length core.old.asked }
+    requires output { (output.old.lines ≡ []) × (output.old.records ≡ []) }
+    ensures ends { OnOk result (Ends core.old output.old.refusals
+        (R.left reader.old) (R.left reader.new) (W.written writer.old) (W.written writer.new)
+        (O.written out.old) (O.written out.new) (P.written records.old) (P.written records.new)) }
+    ensures told { IfErr result (λ fault. is_told_before fault ≡ true → StopsAt fault core.old output.old.refusals
+        (R.left reader.old) (R.left reader.new) (W.written writer.old) (W.written writer.new)
+        (O.written out.old) (O.written out.new) (P.written records.old) (P.written records.new)) }
+    ensures plan { IfErr result (λ fault. fault ≢ Reader Limit) }
+    ensures stopped { IfErr result (λ fault. StopsListing fault
+        (EndsReads (R.failures reader.old) (R.failures reader.new)
+        (R.calls reader.old) (R.calls reader.new) (R.left reader.new))
+        (R.failures reader.new ≡ R.failures reader.old)
+        (IsQuiet (W.failures writer.old) (W.failures writer.new) (W.empty_writes writer.old) (W.empty_writes writer.new)
+        × IsQuiet (O.failures out.old) (O.failures out.new) (O.empty_writes out.old) (O.empty_writes out.new)
+        × IsQuiet (P.failures records.old) (P.failures records.new)
+        (P.empty_writes records.old) (P.empty_writes records.new))
+        ((StopsWriting (W.failures writer.old) (W.failures writer.new)
+        (W.empty_writes writer.old) (W.empty_writes writer.new)
+        × IsQuiet (O.failures out.old) (O.failures out.new) (O.empty_writes out.old) (O.empty_writes out.new)
+        × IsQuiet (P.failures records.old) (P.failures records.new)
+        (P.empty_writes records.old) (P.empty_writes records.new))
+        ⊎ (IsQuiet (W.failures writer.old) (W.failures writer.new)
+        (W.empty_writes writer.old) (W.empty_writes writer.new)
+        × ((StopsWriting (O.failures out.old) (O.failures out.new) (O.empty_writes out.old) (O.empty_writes out.new)
+        × IsQuiet (P.failures records.old) (P.failures records.new)
+        (P.empty_writes records.old) (P.empty_writes records.new))
+        ⊎ (IsQuiet (O.failures out.old) (O.failures out.new) (O.empty_writes out.old) (O.empty_writes out.new)
+        × StopsWriting (P.failures records.old) (P.failures records.new)
+        (P.empty_writes records.old) (P.empty_writes records.new)))))) }
+{
+    'reads: for _ in 0..u64::MAX {
+        match send(core, writer) {
+            Ok(()) => {}
+            Err(_) => return Err(ListingFault::Write),
+        }
+        let count = match read_block(reader, block) {
+            Some(count) => count,
+            None => return Err(ListingFault::Read),
+        };
+        let taken = take_piece(core, output, &block[..count]);
+        match write_output(output, out, records) {
+            Ok(()) => {}
+            Err(_) => return Err(ListingFault::Write),
+        }
+        match taken {
+            Ok(true) => return finish(core, writer),
+            Ok(false) => {}
+            Err(fault) => return Err(ListingFault::Reader(fault)),
+        }
+    }
+    Err(ListingFault::Read)
+}
+
+/// Asks a server for what a plan wants, and lists what it sends (SeedLink 3), a line a packet: `SEQ NET STA LOC CHA
+/// TYPE START END SAMPLES`, with the six digits of its number in upper case and the rest as in the listing of a file
+/// of records, or `SEQ unreadable` where its record can't be read; and `refused NET STA` for a want that the server
+/// refuses. The record of each packet, 512 bytes, is written to `records` as it came. It ends with the end of the
+/// transfer.
+///
+/// All that is asked is sent before each read, and all that is told is written before each read, so that nothing is
+/// held back while it waits. A read takes up to 64 KiB. After a fault all that was told before it is written, where
+/// the writers take it.
+///
+/// It fails with the reader's faults; with Read where a read failed, where the input ends before the end of the
+/// transfer, or where 2^64 - 1 reads were made; and with Write where something could not be written.
+pub fn read_over<R: Source, W: Sink, O: Sink, P: Sink>(
+    alloc: Global,
+    plan: Plan<'_>,
+    reader: &mut R,
+    writer: &mut W,
+    out: &mut O,
+    records: &mut P,
+) -> Result<(), ListingFault>
+    ensures ends { OnOk result (Ends (begun (plan_value plan.entry)) (refusals_of (plan_value plan.entry))
+        (R.left reader.old) (R.left reader.new) (W.written writer.old) (W.written writer.new)
+        (O.written out.old) (O.written out.new) (P.written records.old) (P.written records.new)) }
+    ensures told { IfErr result (λ fault. is_told_before fault ≡ true →
+        StopsAt fault (begun (plan_value plan.entry)) (refusals_of (plan_value plan.entry))
+        (R.left reader.old) (R.left reader.new) (W.written writer.old) (W.written writer.new)
+        (O.written out.old) (O.written out.new) (P.written records.old) (P.written records.new)) }
+    ensures limit { IfErr result (λ fault. fault ≡ Reader Limit → is_plan (plan_value plan.entry) ≡ false) }
+    ensures stopped { IfErr result (λ fault. StopsListing fault
+        (EndsReads (R.failures reader.old) (R.failures reader.new)
+        (R.calls reader.old) (R.calls reader.new) (R.left reader.new))
+        (R.failures reader.new ≡ R.failures reader.old)
+        (IsQuiet (W.failures writer.old) (W.failures writer.new) (W.empty_writes writer.old) (W.empty_writes writer.new)
+        × IsQuiet (O.failures out.old) (O.failures out.new) (O.empty_writes out.old) (O.empty_writes out.new)
+        × IsQuiet (P.failures records.old) (P.failures records.new)
+        (P.empty_writes records.old) (P.empty_writes records.new))
+        ((StopsWriting (W.failures writer.old) (W.failures writer.new)
+        (W.empty_writes writer.old) (W.empty_writes writer.new)
+        × IsQuiet (O.failures out.old) (O.failures out.new) (O.empty_writes out.old) (O.empty_writes out.new)
+        × IsQuiet (P.failures records.old) (P.failures records.new)
+        (P.empty_writes records.old) (P.empty_writes records.new))
+        ⊎ (IsQuiet (W.failures writer.old) (W.failures writer.new)
+        (W.empty_writes writer.old) (W.empty_writes writer.new)
+        × ((StopsWriting (O.failures out.old) (O.failures out.new) (O.empty_writes out.old) (O.empty_writes out.new)
+        × IsQuiet (P.failures records.old) (P.failures records.new)
+        (P.empty_writes records.old) (P.empty_writes records.new))
+        ⊎ (IsQuiet (O.failures out.old) (O.failures out.new) (O.empty_writes out.old) (O.empty_writes out.new)
+        × StopsWriting (P.failures records.old) (P.failures records.new)
+        (P.empty_writes records.old) (P.empty_writes records.new)))))) }
+{
+    let Ok(mut output) = Output::new(alloc, &plan) else {
+        return Err(ListingFault::Reader(ReaderFault::OutOfMemory));
+    };
+    let Ok(mut block) = vec![in alloc; 0; BLOCK] else {
+        return Err(ListingFault::Reader(ReaderFault::OutOfMemory));
+    };
+    match ReaderCore::new(alloc, plan) {
+        Ok(mut core) => read_blocks(
+            &mut core,
+            &mut output,
+            &mut block,
+            reader,
+            writer,
+            out,
+            records,
+        ),
+        Err(fault) => Err(ListingFault::Reader(fault)),
+    }
+}

@@ -1,0 +1,49 @@
+//! Ports: where clients and feeds join, what comes from them and what they take. A loop over a server is stated over this trait
+//! alone, so that it is the same over memory and over sockets. Ports may tell all calls with their answers: those in memory do.
+#![tactic(auto)]
+
+ghost use Rattle.std.specs.Prelude.{ℕ, ◌≡◌, ◌<◌, List, [], ◌∷◌, length};
+ghost use Rattle.std.specs.declared.option.Option.{Option};
+ghost use Rattle.sl_io.specs.Counts.{CountsFailure};
+ghost use Rattle.ports.specs.Calls.{Call, Tells, given, IsGiven, IsTaken};
+ghost use Rattle.ports.specs.Calls.Call.{Next, Read, Write, Shut};
+
+mod answers;
+pub mod memory_ports;
+
+pub use answers::{Got, Happening, PortFault, Put};
+pub use memory_ports::{MemoryPorts, PortScript, ReadAnswer, Script, WriteAnswer};
+
+/// Where clients and feeds join, each at a port of its own number. No port joins twice. The count of failures is a number below
+/// 2^64 that goes on at 0 after 2^64 - 1: a call fails only with one failure more.
+pub trait Ports {
+    // All calls and their answers, if the ports tell them.
+    ghost calls: { Self → Option (List Call) };
+
+    // How many calls failed.
+    ghost failures: { Self → ℕ };
+
+    /// What happened next.
+    fn next(&mut self) -> Result<Happening, PortFault>
+        ensures call { Tells (calls self.old) (calls self.new) (Next result ∷ []) }
+        ensures failure { CountsFailure (failures self.old) (failures self.new) result };
+
+    /// Reads some bytes of a port into the beginning of the buffer, which is not empty.
+    fn read(&mut self, port: u64, buffer: &mut [u8]) -> Result<Got, PortFault>
+        requires { 0 < length buffer.old }
+        ensures bound { IsGiven result (length buffer.new) }
+        ensures call { Tells (calls self.old) (calls self.new) (Read port (length buffer.new) (given result buffer.new) ∷ []) }
+        ensures failure { CountsFailure (failures self.old) (failures self.new) result };
+
+    /// Hands a beginning of the bytes, of which there is at least one, to a port.
+    fn write(&mut self, port: u64, bytes: &[u8]) -> Result<Put, PortFault>
+        requires { 0 < length bytes.now }
+        ensures bound { IsTaken result (length bytes.now) }
+        ensures call { Tells (calls self.old) (calls self.new) (Write port bytes.now result ∷ []) }
+        ensures failure { CountsFailure (failures self.old) (failures self.new) result };
+
+    /// Ends a port.
+    fn shut(&mut self, port: u64)
+        ensures call { Tells (calls self.old) (calls self.new) (Shut port ∷ []) }
+        ensures failures { failures self.new ≡ failures self.old };
+}

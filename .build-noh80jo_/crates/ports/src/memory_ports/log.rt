@@ -1,0 +1,165 @@
+//! Calls that were made.
+ghost use Rattle.std.specs.Prelude.{◌≡◌, IfOk, Some, None, [], ◌∷◌, length};
+ghost use Rattle.sl_io.specs.Counts.{CountsFailure, IsMore};
+ghost use Rattle.ports.specs.Calls.{Tells, given, IsGiven, IsTaken};
+ghost use Rattle.ports.specs.Calls.Call.{Next, Read, Write, Shut};
+ghost use Rattle.ports.specs.Made.{told, gave_value};
+
+use crate::{Got, Happening, PortFault, Put};
+use std::alloc::{AllocError, Global};
+
+/// What a read gave.
+#[derive(Drop)]
+pub enum Gave {
+    Piece(Vec<u8>),
+    Nothing,
+    TheEnd,
+    Failure,
+}
+
+/// A call that was made, and its answer.
+#[derive(Drop)]
+pub enum Made {
+    Next(Result<Happening, PortFault>),
+    /// Of a port, at most so many bytes.
+    Read(u64, usize, Gave),
+    /// To a port, these bytes.
+    Write(u64, Vec<u8>, Result<Put, PortFault>),
+    Shut(u64),
+}
+
+/// All calls that were made.
+#[derive(Drop)]
+pub struct Log {
+    alloc: Global,
+    made: Vec<Made>,
+    /// There was no memory for a call.
+    lost: bool,
+    pub failures: u64,
+}
+
+fn kept_answer(
+    alloc: Global,
+    buffer: &[u8],
+    answer: Result<Got, PortFault>,
+) -> Result<Gave, AllocError>
+    requires { IsGiven answer (length buffer.now) }
+    ensures { IfOk result (λ g. gave_value g ≡ given answer buffer.now) }
+{
+    match answer {
+        Ok(Got::Bytes(count)) => Ok(Gave::Piece(buffer[..count].to_vec(alloc)?)),
+        Ok(Got::Later) => Ok(Gave::Nothing),
+        Ok(Got::Closed) => Ok(Gave::TheEnd),
+        Err(PortFault) => Ok(Gave::Failure),
+    }
+}
+
+impl Log {
+    pub fn new(alloc: Global) -> Log
+        ensures { told result ≡ Some [] }
+    {
+        Log {
+            alloc,
+            made: Vec::new(alloc),
+            lost: false,
+            failures: 0,
+        }
+    }
+
+    /// The calls that were kept.
+    pub fn made(&self) -> &[Made]
+        ensures { result.now ≡ self.now.made.items }
+    {
+        self.made.as_slice()
+    }
+
+    // A call for which there was no memory.
+    fn lose(&mut self)
+        ensures lost { told self.new ≡ None }
+        ensures failures { IsMore self.old.failures self.new.failures 1 }
+    {
+        self.lost = true;
+        self.failures = self.failures.wrapping_add(1);
+    }
+
+    fn fail(&mut self)
+        ensures same { told self.new ≡ told self.old }
+        ensures failures { IsMore self.old.failures self.new.failures 1 }
+    {
+        self.failures = self.failures.wrapping_add(1);
+    }
+
+    pub fn next(&mut self, happening: Happening) -> Result<Happening, PortFault>
+        ensures call { Tells (told self.old) (told self.new) (Next result ∷ []) }
+        ensures failure { CountsFailure self.old.failures self.new.failures result }
+    {
+        if self.made.push(Made::Next(Ok(happening))).is_err() {
+            self.lose();
+            return Err(PortFault);
+        }
+        Ok(happening)
+    }
+
+    pub fn read(
+        &mut self,
+        port: u64,
+        buffer: &[u8],
+        answer: Result<Got, PortFault>,
+    ) -> Result<Got, PortFault>
+        requires { IsGiven answer (length buffer.now) }
+        ensures bound { IsGiven result (length buffer.now) }
+        ensures call { Tells (told self.old) (told self.new) (Read port (length buffer.now) (given result buffer.now) ∷ []) }
+        ensures failure { CountsFailure self.old.failures self.new.failures result }
+    {
+        let Ok(gave) = kept_answer(self.alloc, buffer, answer) else {
+            self.lose();
+            return Err(PortFault);
+        };
+        if self
+            .made
+            .push(Made::Read(port, buffer.len(), gave))
+            .is_err()
+        {
+            self.lose();
+            return Err(PortFault);
+        }
+        if answer.is_err() {
+            self.fail();
+        }
+        answer
+    }
+
+    pub fn write(
+        &mut self,
+        port: u64,
+        bytes: &[u8],
+        answer: Result<Put, PortFault>,
+    ) -> Result<Put, PortFault>
+        requires { IsTaken answer (length bytes.now) }
+        ensures bound { IsTaken result (length bytes.now) }
+        ensures call { Tells (told self.old) (told self.new) (Write port bytes.now result ∷ []) }
+        ensures failure { CountsFailure self.old.failures self.new.failures result }
+    {
+        let Ok(copy) = bytes.to_vec(self.alloc) else {
+            self.lose();
+            return Err(PortFault);
+        };
+        if self.made.push(Made::Write(port, copy, answer)).is_err() {
+            self.lose();
+            return Err(PortFault);
+        }
+        if answer.is_err() {
+            self.fail();
+        }
+        answer
+    }
+
+    pub fn shut(&mut self, port: u64)
+        ensures call { Tells (told self.old) (told self.new) (Shut port ∷ []) }
+        ensures failures { self.new.failures ≡ self.old.failures }
+    {
+        if self.made.push(Made::Shut(port)).is_err() {
+            self.lost = true;
+        }
+    }
+}

@@ -1,0 +1,13 @@
+use Rattle.protocol.proofs.Connections.{slice_get-at_same, slice_get-at_apart, length-at, at_past_the_end, none_past_the_end, slice_get-push_last, slice_get-push_apart}
+use Rattle.protocol.proofs.connections_numbered.Goals as goal
+
+pub returns : goal.returns
+returns c = record {
+  here = slice_get-at_same;
+  others = slice_get-at_apart;
+  count = length-at;
+  past_the_end = at_past_the_end;
+  nobody = none_past_the_end;
+  pushed = slice_get-push_last;
+  before_pushed = slice_get-push_apart;
+}

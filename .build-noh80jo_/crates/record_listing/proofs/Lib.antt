@@ -1,0 +1,4 @@
+mod Checking
+mod Joining
+mod Pieces
+mod Readings

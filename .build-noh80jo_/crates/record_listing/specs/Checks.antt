@@ -1,0 +1,60 @@
+-- A check under way: what is listed so far, and why it stopped.
+use Rattle.std.specs.Prelude.{◌≡◌, ℕ, ◌+◌, List, [], ◌∷◌, ◌++◌, Option, None, codes}
+use Rattle.sl_io.specs.Counts.{StopsReading, StopsWriting}
+use Rattle.sl_io.specs.declared.faults.ReadFault.TheVariants.{Read as ReadingFailed}
+use Rattle.protocol.specs.Streams.{FeedRead, feed_from}
+use Rattle.feeder.specs.Feedings.{feed_read}
+use Rattle.protocol.specs.declared.record.RecordFault.{RecordFault}
+use Rattle.record_listing.specs.declared.check.CheckFault.{CheckFault}
+use Rattle.record_listing.specs.declared.check.CheckFault.TheVariants.{OutOfMemory, Read, Write}
+use Rattle.record_listing.specs.Listing.{reading_of, record_line, refusal, first_of}
+
+-- the number by which a check that stopped is reported
+abbrev pub check_fault_number : CheckFault → ℕ
+check_fault_number OutOfMemory = 25
+check_fault_number Read = 42
+check_fault_number Write = 43
+
+-- the name
+abbrev pub check_fault_name : CheckFault → List ℕ
+check_fault_name OutOfMemory = codes "OutOfMemory"
+check_fault_name Read = codes "Read"
+check_fault_name Write = codes "Write"
+
+-- why a check stopped, by the counts of the reader's failures and calls and of the writer's failures and empty writes, before
+-- and after it: no memory, and nothing had failed; a read, by which the reading stopped; or a write, by which the writing did
+abbrev pub StopsChecking : CheckFault → (failures failures' calls calls' : ℕ) → (write_failures write_failures' empty empty' : ℕ) → Type 0
+StopsChecking OutOfMemory failures failures' calls calls' write_failures write_failures' empty empty' =
+    (failures' ≡ failures) × (write_failures' ≡ write_failures) × (empty' ≡ empty)
+StopsChecking Read failures failures' calls calls' write_failures write_failures' empty empty' =
+    StopsReading ReadingFailed failures failures' calls calls' × (write_failures' ≡ write_failures) × (empty' ≡ empty)
+StopsChecking Write failures failures' calls calls' write_failures write_failures' empty empty' =
+    (failures' ≡ failures) × StopsWriting write_failures write_failures' empty empty'
+
+-- how many records are listed, why the first refused one of them is none, and the lines that are not written yet
+pub record Progress : Type 0 where
+  pub count : ℕ
+  pub fault : Option RecordFault
+  pub lines : List ℕ
+
+-- no record is listed
+abbrev pub nothing_listed : Progress
+nothing_listed = record { count = 0; fault = None; lines = [] }
+
+-- one record more
+abbrev pub with_record : Progress → List ℕ → Progress
+with_record p r =
+    record {
+      count = p.count + 1;
+      fault = first_of p.fault (refusal (reading_of r));
+      lines = p.lines ++ record_line (p.count + 1) (reading_of r);
+    }
+
+-- all the records more
+abbrev pub with_records : Progress → List (List ℕ) → Progress
+with_records p [] = p
+with_records p (r ∷ records) = with_records (with_record p r) records
+
+-- what a piece of a feed gives behind bytes that are held
+abbrev pub piece_read : (held piece : List ℕ) → FeedRead
+piece_read held piece = feed_from (feed_read [] held) piece

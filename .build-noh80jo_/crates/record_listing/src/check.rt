@@ -1,0 +1,223 @@
+//! The check of a file of records: a line a record, and the first fault.
+ghost use Rattle.std.specs.Prelude.{◌≡◌, ◌≤◌, ◌<◌, ◌+◌, ◌^◌, ◌++◌, [], List, ℕ, length, take, IfOk, OnOk, IfErr, OnErr, IfSome, MatchResult};
+ghost use Rattle.std.specs.Io.KnownBytes.{Appends, Consumes, IsAtEnd};
+ghost use Rattle.sl_io.specs.Counts.{IsMore, StopsReading, StopsWriting};
+ghost use Rattle.sl_io.specs.Known.{AppendsBeginning, ConsumesSome};
+ghost use Rattle.record_listing.specs.Listing.{listing_of, partial_text, verdict_by, verdict_of};
+ghost use Rattle.record_listing.specs.Checks.{check_fault_number, check_fault_name, nothing_listed, piece_read, with_records, StopsChecking};
+
+use crate::fault::FileFault;
+use crate::listing::Listing;
+use feeder::{FeedCutter, Feeding};
+use protocol::report::Report;
+use sl_io::{ReadFault, Sink, Source, WriteFault, write_all};
+use std::alloc::{AllocError, Global};
+use thiserror::Error;
+
+/// How many bytes are read at most by one call.
+const BLOCK: usize = 65_536;
+
+/// Why a check stopped early.
+#[derive(Clone, Copy, Debug, PartialEq, Eq, Drop, Error)]
+pub enum CheckFault {
+    /// There was no memory for a block of records or of lines.
+    #[error("there is no memory for a block of records or of lines")]
+    OutOfMemory,
+    /// A read failed, or 2^64 - 1 reads were made.
+    #[error("the records could not be read to their end")]
+    Read,
+    /// A write failed, or took none of the bytes that were left.
+    #[error("the lines could not be written")]
+    Write,
+}
+
+impl CheckFault {
+    /// The number and the name by which the program reports it: 25, 42 or 43.
+    pub fn report(self) -> Report
+        ensures number { result.number ≡ check_fault_number self }
+        ensures name { result.name.now ≡ check_fault_name self }
+    {
+        match self {
+            CheckFault::OutOfMemory => Report::new(25, "OutOfMemory"),
+            CheckFault::Read => Report::new(42, "Read"),
+            CheckFault::Write => Report::new(43, "Write"),
+        }
+    }
+}
+
+/// Lists the records that become whole in a piece.
+fn list_piece(
+    cutter: &mut FeedCutter,
+    listing: &mut Listing,
+    piece: &[u8],
+) -> Result<(), AllocError>
+    requires { listing.old.count + length piece.now < 2 ^ 100 }
+    ensures listed { OnOk result (listing.new ≡ with_records listing.old (piece_read cutter.old piece.now).records) }
+    ensures rest { OnOk result (cutter.new ≡ (piece_read cutter.old piece.now).rest) }
+    ensures count { OnOk result (listing.new.count ≤ listing.old.count + length piece.now) }
+{
+    let mut left = piece;
+    'records: while !left.is_empty() {
+        let Feeding { used, whole } = cutter.feed(left);
+        match whole {
+            Some(record) => listing.list(record)?,
+            None => {}
+        }
+        left = &left[used..];
+    }
+    Ok(())
+}
+
+/// One read, whose records are listed. Answers how many bytes it gave, 0 at the end.
+fn list_block<R: Source>(
+    reader: &mut R,
+    block: &mut [u8],
+    cutter: &mut FeedCutter,
+    listing: &mut Listing,
+) -> Result<usize, ReadFault>
+    requires room { 0 < length block.old }
+    requires count { listing.old.count + length block.old < 2 ^ 100 }
+    ensures consumed { IfOk result (λ n. Consumes (R.left reader.old) (R.left reader.new) (take n block.new)) }
+    ensures end { IfOk result (λ n. n ≡ 0 → IsAtEnd (R.left reader.new)) }
+    ensures listed { IfOk result (λ n. listing.new ≡ with_records listing.old (piece_read cutter.old (take n block.new)).records) }
+    ensures rest { IfOk result (λ n. cutter.new ≡ (piece_read cutter.old (take n block.new)).rest) }
+    ensures count { OnOk result (listing.new.count ≤ listing.old.count + length block.new) }
+    ensures lost { OnErr result (ConsumesSome (R.left reader.old) (R.left reader.new)) }
+    ensures call { IsMore (R.calls reader.old) (R.calls reader.new) 1 }
+    ensures failures { MatchResult result (λ _. R.failures reader.new ≡ R.failures reader.old)
+        (λ fault. StopsReading fault (R.failures reader.old) (R.failures reader.new) (R.calls reader.old) (R.calls reader.new)) }
+{
+    match reader.read(block) {
+        Ok(count) => match list_piece(cutter, listing, &block[..count]) {
+            Ok(()) => Ok(count),
+            Err(_) => Err(ReadFault::OutOfMemory),
+        },
+        Err(_) => Err(ReadFault::Read),
+    }
+}
+
+/// Writes the lines that are not written yet.
+fn write_lines<W: Sink>(writer: &mut W, listing: &mut Listing) -> Result<(), WriteFault>
+    ensures ok { OnOk result (Appends (W.written writer.old) (W.written writer.new) listing.old.lines) }
+    ensures cleared { OnOk result (listing.new ≡ record listing.old { lines = [] }) }
+    ensures err { OnErr result (AppendsBeginning (W.written writer.old) (W.written writer.new) listing.old.lines) }
+    ensures same { OnOk result ((W.failures writer.new ≡ W.failures writer.old) × (W.empty_writes writer.new ≡ W.empty_writes writer.old)) }
+    ensures stopped { OnErr result (StopsWriting (W.failures writer.old) (W.failures writer.new) (W.empty_writes writer.old) (W.empty_writes writer.new)) }
+{
+    match write_all(writer, listing.lines()) {
+        Ok(()) => {
+            listing.clear();
+            Ok(())
+        }
+        Err(fault) => Err(fault),
+    }
+}
+
+/// Writes the lines that are not written yet, where they are many.
+fn write_many<W: Sink>(writer: &mut W, listing: &mut Listing) -> Result<(), WriteFault>
+    ensures ok { OnOk result ((lines : List ℕ) × Appends (W.written writer.old) (W.written writer.new) lines × (listing.old.lines ≡ lines ++ listing.new.lines)) }
+    ensures kept { OnOk result (listing.new ≡ record listing.old { lines = listing.new.lines }) }
+    ensures few { OnOk result (length listing.new.lines < 32768) }
+    ensures err { OnErr result (AppendsBeginning (W.written writer.old) (W.written writer.new) listing.old.lines) }
+    ensures same { OnOk result ((W.failures writer.new ≡ W.failures writer.old) × (W.empty_writes writer.new ≡ W.empty_writes writer.old)) }
+    ensures stopped { OnErr result (StopsWriting (W.failures writer.old) (W.failures writer.new) (W.empty_writes writer.old) (W.empty_writes writer.new)) }
+{
+    if listing.is_long() {
+        write_lines(writer, listing)
+    } else {
+        Ok(())
+    }
+}
+
+/// Lists what is left over, and writes the last lines. Answers what is wrong with the file.
+fn finish<W: Sink>(
+    writer: &mut W,
+    rest: usize,
+    listing: &mut Listing,
+) -> Result<Option<FileFault>, CheckFault>
+    ensures answer { IfOk result (λ answer. answer ≡ verdict_by listing.old.fault rest) }
+    ensures ok { OnOk result (Appends (W.written writer.old) (W.written writer.new) (listing.old.lines ++ partial_text rest)) }
+    ensures err { OnErr result (AppendsBeginning (W.written writer.old) (W.written writer.new) (listing.old.lines ++ partial_text rest)) }
+    ensures same { OnOk result ((W.failures writer.new ≡ W.failures writer.old) × (W.empty_writes writer.new ≡ W.empty_writes writer.old)) }
+    ensures stopped { IfErr result (λ fault. (failures failures' calls calls' : ℕ) → failures' ≡ failures
+        → StopsChecking fault failures failures' calls calls' (W.failures writer.old) (W.failures writer.new) (W.empty_writes writer.old) (W.empty_writes writer.new)) }
+{
+    match listing.list_rest(rest) {
+        Ok(()) => match write_lines(writer, listing) {
+            Ok(()) => Ok(listing.verdict(rest)),
+            Err(_) => Err(CheckFault::Write),
+        },
+        Err(_) => Err(CheckFault::OutOfMemory),
+    }
+}
+
+/// Checks what is left of the reader, a block at a time.
+fn check_blocks<R: Source, W: Sink>(
+    reader: &mut R,
+    writer: &mut W,
+    block: &mut [u8],
+    listing: &mut Listing,
+) -> Result<Option<FileFault>, CheckFault>
+    requires room { length block.old ≡ 65536 }
+    requires nothing { listing.old ≡ nothing_listed }
+    ensures verdict { IfOk result (λ answer. IfSome (R.left reader.old) (λ bytes. answer ≡ verdict_of bytes)) }
+    ensures written { OnOk result (IfSome (R.left reader.old)
+        (λ bytes. Appends (W.written writer.old) (W.written writer.new) (listing_of bytes))) }
+    ensures end { OnOk result (IsAtEnd (R.left reader.new)) }
+    ensures begun { OnErr result (IfSome (R.left reader.old)
+        (λ bytes. AppendsBeginning (W.written writer.old) (W.written writer.new) (listing_of bytes))) }
+    ensures same { OnOk result ((R.failures reader.new ≡ R.failures reader.old)
+        × (W.failures writer.new ≡ W.failures writer.old) × (W.empty_writes writer.new ≡ W.empty_writes writer.old)) }
+    ensures stopped { IfErr result (λ fault. StopsChecking fault
+        (R.failures reader.old) (R.failures reader.new) (R.calls reader.old) (R.calls reader.new)
+        (W.failures writer.old) (W.failures writer.new) (W.empty_writes writer.old) (W.empty_writes writer.new)) }
+{
+    let mut cutter = FeedCutter::new();
+    'reads: for _ in 0..u64::MAX {
+        match list_block(reader, block, &mut cutter, listing) {
+            Ok(0) => return finish(writer, cutter.rest(), listing),
+            Ok(_) => {}
+            Err(ReadFault::OutOfMemory) => return Err(CheckFault::OutOfMemory),
+            Err(ReadFault::Read) => return Err(CheckFault::Read),
+        }
+        match write_many(writer, listing) {
+            Ok(()) => {}
+            Err(_) => return Err(CheckFault::Write),
+        }
+    }
+    Err(CheckFault::Read)
+}
+
+/// Lists each record of 512 bytes that is left of the reader in a line, and the bytes that are left over in one more, and answers
+/// what is wrong: that a record is refused, with the fault of the first (SEED Reference Manual 2.4, chapter 8), else that bytes
+/// are left over, and nothing where all is well. A record that is refused is a line of the listing, and the check goes on.
+///
+/// A line is `K NET STA LOC CHA TYPE START END SAMPLES`, with the record's number from 1 on, times in units of 0.0001 s since
+/// 1970, each space of the location or channel as `-`, and each other byte of a code that is not 33 to 126 as `?`; or
+/// `K refused N Name`. The last is `partial R bytes`. The reader is read in blocks of 64 KiB, and never kept as a whole. After a
+/// fault a beginning of the listing is written.
+pub fn check_records<R: Source, W: Sink>(
+    alloc: Global,
+    reader: &mut R,
+    writer: &mut W,
+) -> Result<Option<FileFault>, CheckFault>
+    ensures verdict { IfOk result (λ answer. IfSome (R.left reader.old) (λ bytes. answer ≡ verdict_of bytes)) }
+    ensures written { OnOk result (IfSome (R.left reader.old)
+        (λ bytes. Appends (W.written writer.old) (W.written writer.new) (listing_of bytes))) }
+    ensures end { OnOk result (IsAtEnd (R.left reader.new)) }
+    ensures begun { OnErr result (IfSome (R.left reader.old)
+        (λ bytes. AppendsBeginning (W.written writer.old) (W.written writer.new) (listing_of bytes))) }
+    ensures same { OnOk result ((R.failures reader.new ≡ R.failures reader.old)
+        × (W.failures writer.new ≡ W.failures writer.old) × (W.empty_writes writer.new ≡ W.empty_writes writer.old)) }
+    ensures stopped { IfErr result (λ fault. StopsChecking fault
+        (R.failures reader.old) (R.failures reader.new) (R.calls reader.old) (R.calls reader.new)
+        (W.failures writer.old) (W.failures writer.new) (W.empty_writes writer.old) (W.empty_writes writer.new)) }
+{
+    let Ok(mut block) = vec![in alloc; 0; BLOCK] else {
+        return Err(CheckFault::OutOfMemory);
+    };
+    let Ok(mut listing) = Listing::new(alloc) else {
+        return Err(CheckFault::OutOfMemory);
+    };
+    check_blocks(reader, writer, &mut block, &mut listing)
+}

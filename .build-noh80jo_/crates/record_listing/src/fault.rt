@@ -1,0 +1,31 @@
+//! What is wrong with a file of records.
+ghost use Rattle.std.specs.Prelude.{◌≡◌};
+ghost use Rattle.record_listing.specs.Listing.{file_fault_number, file_fault_name};
+
+use mseed_header::RecordFault;
+use protocol::report::Report;
+use thiserror::Error;
+
+/// What is wrong with a file of records.
+#[derive(Clone, Copy, Debug, PartialEq, Eq, Drop, Error)]
+pub enum FileFault {
+    /// A record is refused. This is why the first of them is none.
+    #[error("{0}")]
+    Record(RecordFault),
+    /// No record is refused, and bytes are left over.
+    #[error("the file ends inside a record")]
+    Partial,
+}
+
+impl FileFault {
+    /// The number and the name by which the program reports it: those of the record's fault, 1 to 6, or 41.
+    pub fn report(self) -> Report
+        ensures number { result.number ≡ file_fault_number self }
+        ensures name { result.name.now ≡ file_fault_name self }
+    {
+        match self {
+            FileFault::Record(fault) => fault.report(),
+            FileFault::Partial => Report::new(41, "Partial"),
+        }
+    }
+}

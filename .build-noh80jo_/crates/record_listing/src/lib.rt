@@ -1,0 +1,11 @@
+//! Listings of files of records: a line a record, and what is wrong with the file (SEED Reference Manual 2.4, chapter 8).
+#![tactic(auto)]
+
+mod check;
+mod fault;
+mod listing;
+mod texts;
+
+pub use check::{CheckFault, check_records};
+pub use fault::FileFault;
+pub use texts::put_header;

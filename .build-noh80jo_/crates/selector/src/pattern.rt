@@ -1,0 +1,214 @@
+//! One selector.
+ghost use Rattle.std.specs.Prelude.{◌≡◌};
+ghost use Rattle.std.specs.List.{list_all};
+ghost use Rattle.protocol.specs.Pattern.{body_of, byte_matches, channel_pattern, is_channel_byte, is_location_byte, kind_matches, kind_of_letter, kind_pattern, matches, part_matches, pattern_of, place_pattern};
+ghost use Rattle.protocol.specs.Record.{Facts};
+ghost use Rattle.selector.specs.Matching.{matches_parts};
+
+use protocol::record::Kind;
+use std::marker::Model;
+
+/// A pattern that chooses records by their location, channel and type, or that refuses them where it is negated. What it
+/// leaves off matches anything; the default leaves off everything.
+///
+/// In the location and the channel `?` matches any byte, `-` a space, and every other character itself.
+#[derive(Clone, Copy, Debug, PartialEq, Eq, Default)]
+pub struct Selector {
+    negated: bool,
+    location: Option<[u8; 2]>,
+    channel: Option<[u8; 3]>,
+    kind: Option<Kind>,
+}
+
+impl Model for Selector {
+    ghost use Rattle.protocol.specs.Pattern.{Pattern};
+
+    ghost Value = { Pattern };
+
+    ghost view = { λ s. record { negated = s.negated; location = s.location; channel = s.channel; kind = s.kind } };
+
+    ghost inverse = { λ p. record { negated = p.negated; location = p.location; channel = p.channel; kind = p.kind } };
+}
+
+impl Selector {
+    /// The selector that a text is: an optional `!`, which negates, and one of a location and a channel (5 characters), a
+    /// channel (3 characters), either of these with `.` and a type, a type alone, and `.` and a type. A type is one of `D`,
+    /// `E`, `C`, `O`, `T` and `L`. A channel's characters are letters, digits and `?`, a location's these and `-`.
+    ///
+    /// None where the text is anything else.
+    pub fn parse(text: &[u8]) -> Option<Selector>
+        ensures { result ≡ pattern_of text.now }
+    {
+        match text {
+            [b'!', body @ ..] => Selector::of_body(true, body),
+            body => Selector::of_body(false, body),
+        }
+    }
+
+    fn of_body(negated: bool, body: &[u8]) -> Option<Selector>
+        ensures { result ≡ body_of negated body.now }
+    {
+        match *body {
+            [letter] => Selector::of_kind(negated, kind_of_letter(letter)?),
+            [b'.', letter] => Selector::of_kind(negated, kind_of_letter(letter)?),
+            [a, b, c] => Selector::of_channel(negated, [a, b, c], None),
+            [a, b, c, b'.', letter] => Selector::of_channel(
+                negated,
+                [a, b, c],
+                Some(kind_of_letter(letter)?),
+            ),
+            [a, b, c, d, e] => Selector::of_place(negated, [a, b], [c, d, e], None),
+            [a, b, c, d, e, b'.', letter] => Selector::of_place(
+                negated,
+                [a, b],
+                [c, d, e],
+                Some(kind_of_letter(letter)?),
+            ),
+            _ => None,
+        }
+    }
+
+    fn of_kind(negated: bool, kind: Kind) -> Option<Selector>
+        ensures { result ≡ kind_pattern negated (Some kind) }
+    {
+        Some(Selector {
+            negated,
+            location: None,
+            channel: None,
+            kind: Some(kind),
+        })
+    }
+
+    fn of_channel(negated: bool, channel: [u8; 3], kind: Option<Kind>) -> Option<Selector>
+        ensures { result ≡ channel_pattern negated channel kind }
+    {
+        if !is_channel(&channel) {
+            return None;
+        }
+        Some(Selector {
+            negated,
+            location: None,
+            channel: Some(channel),
+            kind,
+        })
+    }
+
+    fn of_place(
+        negated: bool,
+        location: [u8; 2],
+        channel: [u8; 3],
+        kind: Option<Kind>,
+    ) -> Option<Selector>
+        ensures { result ≡ place_pattern negated location channel kind }
+    {
+        if !is_location(&location) || !is_channel(&channel) {
+            return None;
+        }
+        Some(Selector {
+            negated,
+            location: Some(location),
+            channel: Some(channel),
+            kind,
+        })
+    }
+
+    /// Whether the location, the channel and the type match, whether it is negated or not.
+    pub fn matches(&self, location: &[u8; 2], channel: &[u8; 3], kind: Kind) -> bool
+        ensures parts { result ≡ matches_parts location.now channel.now kind self.now }
+        ensures facts { (x : Facts) → x.location ≡ location.now → x.channel ≡ channel.now → x.kind ≡ kind
+            → result ≡ matches x self.now }
+    {
+        location_matches(&self.location, location)
+            && channel_matches(&self.channel, channel)
+            && kind_matches(self.kind, kind)
+    }
+
+    /// Whether a match refuses the record.
+    pub fn negated(&self) -> bool
+        ensures { result ≡ self.now.negated }
+    {
+        self.negated
+    }
+}
+
+fn location_matches(pattern: &Option<[u8; 2]>, location: &[u8; 2]) -> bool
+    ensures { result ≡ part_matches pattern.now location.now }
+{
+    match pattern {
+        Some(pattern) => byte_matches(pattern[0], location[0])
+            && byte_matches(pattern[1], location[1]),
+        None => true,
+    }
+}
+
+fn channel_matches(pattern: &Option<[u8; 3]>, channel: &[u8; 3]) -> bool
+    ensures { result ≡ part_matches pattern.now channel.now }
+{
+    match pattern {
+        Some(pattern) => byte_matches(pattern[0], channel[0])
+            && byte_matches(pattern[1], channel[1])
+            && byte_matches(pattern[2], channel[2]),
+        None => true,
+    }
+}
+
+fn kind_matches(pattern: Option<Kind>, kind: Kind) -> bool
+    ensures { result ≡ kind_matches pattern kind }
+{
+    match pattern {
+        Some(pattern) => pattern == kind,
+        None => true,
+    }
+}
+
+/// Whether a character of a pattern matches a byte.
+fn byte_matches(character: u8, byte: u8) -> bool
+    ensures { result ≡ byte_matches character byte }
+{
+    match character {
+        b'?' => true,
+        b'-' => byte == b' ',
+        _ => character == byte,
+    }
+}
+
+/// The type that a letter stands for.
+fn kind_of_letter(letter: u8) -> Option<Kind>
+    ensures { result ≡ kind_of_letter letter }
+{
+    match letter {
+        b'D' => Some(Kind::D),
+        b'E' => Some(Kind::E),
+        b'C' => Some(Kind::C),
+        b'O' => Some(Kind::O),
+        b'T' => Some(Kind::T),
+        b'L' => Some(Kind::L),
+        _ => None,
+    }
+}
+
+/// A letter, a digit or `?`.
+fn is_channel_byte(byte: u8) -> bool
+    ensures { result ≡ is_channel_byte byte }
+{
+    matches!(byte, b'0'..=b'9' | b'A'..=b'Z' | b'a'..=b'z' | b'?')
+}
+
+/// The same or `-`.
+fn is_location_byte(byte: u8) -> bool
+    ensures { result ≡ is_location_byte byte }
+{
+    is_channel_byte(byte) || byte == b'-'
+}
+
+fn is_channel(bytes: &[u8]) -> bool
+    ensures { result ≡ list_all is_channel_byte bytes.now }
+{
+    bytes.iter().all(|byte| is_channel_byte(*byte))
+}
+
+fn is_location(bytes: &[u8]) -> bool
+    ensures { result ≡ list_all is_location_byte bytes.now }
+{
+    bytes.iter().all(|byte| is_location_byte(*byte))
+}

@@ -1,0 +1,72 @@
+-- What a server stands for while one of its clients goes on in its slot.
+use Rattle.std.proofs.Common.{◌≡◌, ℕ, ◌∙◌, zero, suc, Some, None, Option, option_map, is_some, List, [], ◌∷◌, slice_get, slice_index_or, refl, sym, ap, subst}
+use Rattle.slab.specs.Slab.{Slab, get}
+use Rattle.protocol.specs.Catalog.{View, Config}
+use Rattle.protocol.specs.Client.{Client}
+use Rattle.protocol.specs.World.{World, at, changed, client_of, step}
+use Rattle.protocol.specs.World.Event.{Take}
+use Rattle.held_records.specs.Holdings.{Holdings}
+use Rattle.protocol.specs.History.{Arrival}
+use Rattle.session_state.specs.Sessions.{Sitting, client_in}
+use Rattle.server_core.specs.declared.clients.Clients.{Clients}
+use Rattle.server_core.specs.Clients.{IsTable, session_of, sessions_of, slot_in}
+use Rattle.server_core.specs.Standing.{Serving, SlotGoesOn, StandsAt, seat_client, seated, taking}
+use Rattle.server_core.proofs.Numbers.{slot_in-below}
+use Rattle.server_core.proofs.Slots.{goes-by-number, nowhere-goes, session-is, session-nowhere, session-there, sessions-counted}
+use Rattle.server_core.proofs.Standings.{client-stands, seat_seen}
+
+-- a server of these clients
+abbrev pub serving : Config → Holdings → Clients → Serving
+serving g rings c = record { config = g; rings = rings; sessions = sessions_of c }
+
+-- Where a client was looked for, a server stands for what it stood for before.
+pub found : (g : Config) (rings : Holdings) (before after : Clients) (server : Serving) (config : Config) (w : World) → serving g rings before ≡ server → sessions_of after ≡ sessions_of before → StandsAt server config w → StandsAt (serving g rings after) config w
+found g rings before after server config w is same stands =
+    subst (λ (xs : List (Option Sitting)). StandsAt (record { config = g; rings = rings; sessions = xs }) config w) (sym same) (subst (λ s. StandsAt s config w) (sym is) stands)
+
+-- The client of a number is that of its session.
+as-client : (g : Config) (h : List Arrival) (xs : List (Option Sitting)) (k : ℕ) → option_map (client_in g h) (slice_index_or xs k None) ≡ seat_client (seated g h (slice_get xs k))
+as-client g h [] k = refl
+as-client g h (None ∷ xs) zero = refl
+as-client g h (Some s ∷ xs) zero = refl
+as-client g h (x ∷ xs) (suc k) = as-client g h xs k
+
+pub seen-by : (server : Serving) (number : ℕ) (config : Config) (w : World) → StandsAt server config w → option_map (client_in server.config w.history) (slice_index_or server.sessions number None) ≡ client_of (slice_get w.connections number)
+seen-by server number config w stands = as-client server.config w.history server.sessions number ∙ seat_seen server number config w stands
+
+module _ (g : Config) (rings : Holdings) (c : Clients) (number : ℕ) (config : Config) (w : World) where
+  pub goes-there : (f : View → Client → Client) (new : Slab Sitting) (slot : ℕ) → IsTable c → slot_in c.opened.items number ≡ Some slot → SlotGoesOn g w.history c.slots new slot f → StandsAt (serving g rings c) config w → StandsAt (serving g rings (record c { slots = new })) config (record w { connections = at w.connections number (changed f) })
+  unfolding sessions_of
+  goes-there f new slot table there goes stands =
+      client-stands f (serving g rings c) (serving g rings (record c { slots = new })) number refl refl (sessions-counted (record c { slots = new }) ∙ sym (sessions-counted c)) config w
+      (goes-by-number g w.history c.opened.items c.slots new c.opens number slot f table.apart there (slot_in-below c.opens c.opened.items number slot table.below there) goes)
+      stands
+
+  pub goes-nowhere : (f : View → Client → Client) → slot_in c.opened.items number ≡ None → StandsAt (serving g rings c) config w → StandsAt (serving g rings c) config (record w { connections = at w.connections number (changed f) })
+  goes-nowhere f none stands =
+      client-stands f (serving g rings c) (serving g rings c) number refl refl refl config w
+      (nowhere-goes g w.history (sessions_of c) number f (session-nowhere g w.history c number none)) stands
+
+  pub seen-there : (slot : ℕ) → IsTable c → slot_in c.opened.items number ≡ Some slot → StandsAt (serving g rings c) config w → seat_client (seated g w.history (Some (get c.slots slot))) ≡ client_of (slice_get w.connections number)
+  seen-there slot table there stands =
+      ap (λ (o : Option (Option Sitting)). seat_client (seated g w.history o)) (sym (session-there c number slot table there)) ∙ seat_seen (serving g rings c) number config w stands
+
+  pub seen-nowhere : slot_in c.opened.items number ≡ None → StandsAt (serving g rings c) config w → None ≡ client_of (slice_get w.connections number)
+  seen-nowhere none stands =
+      sym (ap seat_client (session-nowhere g w.history c number none)) ∙ seat_seen (serving g rings c) number config w stands
+
+  pub took-there : (n : ℕ) (new : Slab Sitting) (slot : ℕ) → IsTable c → slot_in c.opened.items number ≡ Some slot → SlotGoesOn g w.history c.slots new slot (taking w.history n) → StandsAt (serving g rings c) config w → StandsAt (serving g rings (record c { slots = new })) config (step config w (Take number n))
+  unfolding taking
+  took-there n new slot table there goes stands = goes-there (taking w.history n) new slot table there goes stands
+
+  pub took-nowhere : (n : ℕ) → slot_in c.opened.items number ≡ None → StandsAt (serving g rings c) config w → StandsAt (serving g rings c) config (step config w (Take number n))
+  unfolding taking
+  took-nowhere n none stands = goes-nowhere (taking w.history n) none stands
+
+  pub seen-session : IsTable c → StandsAt (serving g rings c) config w → is_some (session_of c.opened.items c.slots number) ≡ is_some (client_of (slice_get w.connections number))
+  seen-session table stands =
+      ap is_some (sym (session-is c number table)) ∙ mapped (slice_index_or (sessions_of c) number None) ∙ ap is_some (seen-by (serving g rings c) number config w stands)
+    where
+      mapped : (o : Option Sitting) → is_some o ≡ is_some (option_map (client_in g w.history) o)
+      mapped None = refl
+      mapped (Some s) = refl

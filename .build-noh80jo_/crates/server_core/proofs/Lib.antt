@@ -1,0 +1,8 @@
+pub mod Offering
+pub mod Standings
+pub mod Running
+pub mod Arriving
+pub mod Numbers
+pub mod Slots
+pub mod GoingOn
+pub mod Taking

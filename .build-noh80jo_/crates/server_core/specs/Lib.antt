@@ -1,0 +1,5 @@
+pub mod Standing
+pub mod Runs
+pub mod Refusals
+pub mod Arrivals
+pub mod Clients

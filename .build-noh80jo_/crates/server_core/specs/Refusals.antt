@@ -1,0 +1,31 @@
+-- Why bytes are not taken, and what a server answers.
+use Rattle.std.specs.Prelude.{ℕ, nat_lt, ◌-◌, Bool, if◌then◌else◌, List, length, Option, Some, None, Result, Ok, Err, codes}
+use Rattle.protocol.specs.Client.{Client, inbox, is_nothing, is_ending}
+use Rattle.server_core.specs.declared.client.Refusal.{Refusal}
+use Rattle.server_core.specs.declared.client.Refusal.TheVariants.{Gone, NoRoom}
+use Rattle.server_core.specs.declared.client.Offer.{Offer}
+use Rattle.server_core.specs.declared.client.Offer.TheVariants.{Bytes, Ended, Idle}
+
+abbrev pub refusal_number : Refusal → ℕ
+refusal_number Gone = 30
+refusal_number NoRoom = 31
+
+abbrev pub refusal_name : Refusal → List ℕ
+refusal_name Gone = codes "Gone"
+refusal_name NoRoom = codes "NoRoom"
+
+-- how many bytes a client may send
+abbrev pub room_of : Client → ℕ
+room_of c = inbox - length c.unread
+
+-- what bytes of such a length are answered
+abbrev pub receipt : ℕ → Option Client → Result (Unit {0}) Refusal
+receipt n None = Err Gone
+receipt n (Some c) = if nat_lt (room_of c) n then Err NoRoom else Ok tt
+
+-- what an offer is, by what waits after it
+abbrev pub offer_when : (nothing_waits : Bool) → (ends : Bool) → Offer
+offer_when nothing_waits ends = if nothing_waits then (if ends then Ended else Idle) else Bytes
+
+abbrev pub offer_of : Client → Offer
+offer_of c = offer_when (is_nothing c.waiting) (is_ending c.state)

@@ -1,0 +1,96 @@
+-- What a server stands for: a world of clients over one history.
+use Rattle.std.specs.Prelude.{◌≡◌, ◌≢◌, ℕ, List, length, slice_get, Option, Some, None, IsSome, option_map}
+use Rattle.slab.specs.Slab.{Slab, get}
+use Rattle.protocol.specs.Catalog.{Config, View}
+use Rattle.protocol.specs.Client.{Client, after_take, offered}
+use Rattle.protocol.specs.History.{Arrival}
+use Rattle.protocol.specs.World.{Event, World, Connection, world_after}
+use Rattle.held_records.specs.Holdings.{Holdings, holdings_of}
+use Rattle.session_state.specs.declared.session.State.TheVariants.{Starting}
+use Rattle.session_state.specs.Sessions.{Sitting, HasPlaces, client_in, sitting_view}
+use Rattle.transfer.specs.Cursors.{ArePassed}
+
+-- a server: its configuration, what it holds of all stations, and the session of the k-th client while that is open
+pub record Serving : Type 0 where
+  pub config : Config
+  pub rings : Holdings
+  pub sessions : List (Option Sitting)
+
+-- an open connection's view and client
+pub record Seat : Type 0 where
+  pub view : View
+  pub client : Client
+
+-- The rings hold what is held of the history.
+abbrev pub HoldsOf : Config → Holdings → List Arrival → Type 0
+HoldsOf config rings h = rings ≡ holdings_of config h
+
+-- the seat of a session after the history
+abbrev pub seat_of : Config → List Arrival → Sitting → Seat
+seat_of config h s = record { view = sitting_view config s; client = client_in config h s }
+
+-- the seat of a number, of a server's sessions
+abbrev pub seated : Config → List Arrival → Option (Option Sitting) → Option Seat
+seated config h None = None
+seated config h (Some None) = None
+seated config h (Some (Some s)) = Some (seat_of config h s)
+
+-- the seat of a connection that is open
+abbrev pub seat_with : View → Option Client → Option Seat
+seat_with v None = None
+seat_with v (Some c) = Some (record { view = v; client = c })
+
+-- the seat of a number, of a world's connections
+abbrev pub seat_at : Option Connection → Option Seat
+seat_at None = None
+seat_at (Some k) = seat_with k.view k.client
+
+-- a seat whose client goes on
+abbrev pub goes_on : (View → Client → Client) → Option Seat → Option Seat
+goes_on f None = None
+goes_on f (Some x) = Some (record x { client = f x.view x.client })
+
+-- the client of a seat
+abbrev pub seat_client : Option Seat → Option Client
+seat_client o = option_map (λ s. s.client) o
+
+-- A session's stations are there, no transfer of it is still to start, and its cursors have passed nothing in the rings that it may
+-- still want.
+pub record IsSettled (config : Config) (rings : Holdings) (s : Sitting) : Type 0 where
+  pub places : HasPlaces config s
+  pub started : s.state ≢ Starting
+  pub passed : ArePassed rings s
+
+-- the same of the session in each slot
+abbrev pub AreSettled : Config → Holdings → Slab Sitting → Type 0
+AreSettled config rings slots = (slot : ℕ) (s : Sitting) → get slots slot ≡ Some s → IsSettled config rings s
+
+-- The server has the configuration, what is held of the history, a session for each connection, and at each number the same
+-- view and client.
+pub record StandsAt (server : Serving) (config : Config) (w : World) : Type 0 where
+  pub config_is : server.config ≡ config
+  pub holds : HoldsOf server.config server.rings w.history
+  pub count : length server.sessions ≡ length w.connections
+  pub clients : (k : ℕ) → seated config w.history (slice_get server.sessions k) ≡ seat_at (slice_get w.connections k)
+
+-- It stands for the world after events.
+abbrev pub Stands : Serving → Config → List Event → Type 0
+Stands server config events = StandsAt server config (world_after config events)
+
+-- Only the k-th session goes on.
+pub record OnlyGoesOn (config : Config) (h : List Arrival) (old new : List (Option Sitting)) (k : ℕ) (f : View → Client → Client) : Type 0 where
+  pub here : seated config h (slice_get new k) ≡ goes_on f (seated config h (slice_get old k))
+  pub others : (j : ℕ) → j ≢ k → slice_get new j ≡ slice_get old j
+
+-- Each slot that has a session keeps one.
+abbrev pub StayOpen : Slab Sitting → Slab Sitting → Type 0
+StayOpen old new = (slot : ℕ) → IsSome (get old slot) → IsSome (get new slot)
+
+-- Only the session in a slot goes on.
+pub record SlotGoesOn (config : Config) (h : List Arrival) (old new : Slab Sitting) (slot : ℕ) (f : View → Client → Client) : Type 0 where
+  pub here : seated config h (Some (get new slot)) ≡ goes_on f (seated config h (Some (get old slot)))
+  pub others : (other : ℕ) → other ≢ slot → get new other ≡ get old other
+
+-- the client after a Take; contracts need not look into it
+unfoldable pub taking : List Arrival → ℕ → View → Client → Client
+taking h n v c = after_take v h (offered h c) n

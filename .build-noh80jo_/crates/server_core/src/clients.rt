@@ -1,0 +1,110 @@
+//! The open clients of a server: their numbers, and the slots in which their sessions are.
+ghost use Rattle.std.specs.Prelude.{◌≡◌, ◌∷◌, ◌++◌, [], IfOk, OnOk, OnErr, IfSome, Some, None, true, is_some, slice_set};
+ghost use Rattle.protocol.specs.Catalog.{Config as ProtocolConfig};
+ghost use Rattle.held_records.specs.Holdings.{Holdings};
+
+use session_state::Session;
+use slab::Slab;
+use std::alloc::{AllocError, Global};
+
+mod finding;
+
+/// The number of an open client, and the slot in which its session is.
+#[derive(Clone, Copy, Debug, PartialEq, Eq)]
+pub struct Opened {
+    pub number: usize,
+    pub slot: usize,
+}
+
+/// The clients of a server. A slot is used again once its client has closed, and a number never.
+#[derive(Drop)]
+pub struct Clients {
+    /// How many opened so far, which is the number of the next one.
+    pub opens: usize,
+    /// The open ones, by rising number.
+    pub opened: Vec<Opened>,
+    /// The place among them at which one was found last. What is asked for next is mostly that one or the one after it.
+    pub near: usize,
+    /// Their sessions.
+    pub slots: Slab<Session>,
+}
+
+impl Clients {
+    ghost use Rattle.server_core.specs.Clients.{IsTable, slot_in, session_of, sessions_of};
+    ghost use Rattle.server_core.specs.Standing.{AreSettled, IsSettled};
+
+    /// No client.
+    pub fn new(alloc: Global) -> Clients
+        ensures table { IsTable result }
+        ensures sessions { sessions_of result ≡ [] }
+        ensures settled { (config : ProtocolConfig) (rings : Holdings) → AreSettled config rings result.slots }
+    {
+        Clients {
+            opens: 0,
+            opened: Vec::new(alloc),
+            near: 0,
+            slots: Slab::new(alloc),
+        }
+    }
+
+    /// The slot of a client's session, while it is open.
+    pub fn slot_of(&self, number: usize) -> Option<usize>
+        requires { IsTable self.now }
+        ensures { result ≡ slot_in self.now.opened.items number }
+    {
+        let at = finding::place_of(self.opened.as_slice(), self.near, number)?;
+        Some(self.opened[at].slot)
+    }
+
+    /// The same, and what is asked for next is looked for from there on.
+    pub fn seek(&mut self, number: usize) -> Option<usize>
+        requires { IsTable self.old }
+        ensures table { IsTable self.new }
+        ensures slot { result ≡ slot_in self.new.opened.items number }
+        ensures sessions { sessions_of self.new ≡ sessions_of self.old }
+        ensures slots { self.new.slots ≡ self.old.slots }
+    {
+        let at = finding::place_of(self.opened.as_slice(), self.near, number)?;
+        self.near = at;
+        Some(self.opened[at].slot)
+    }
+
+    /// One more client opens with its session, and has the next number. It fails where memory lacks, or once 2^64 - 1 clients
+    /// opened, and then no client changes.
+    pub fn open(&mut self, session: Session) -> Result<usize, AllocError>
+        requires { IsTable self.old }
+        ensures table { IsTable self.new }
+        ensures number { IfOk result (λ number. number ≡ self.old.opens) }
+        ensures opened { OnOk result (sessions_of self.new ≡ sessions_of self.old ++ Some session ∷ []) }
+        ensures err { OnErr result (sessions_of self.new ≡ sessions_of self.old) }
+        ensures settled { (config : ProtocolConfig) (rings : Holdings) → AreSettled config rings self.old.slots →
+            IsSettled config rings session → AreSettled config rings self.new.slots }
+    {
+        let number = self.opens;
+        if number == usize::MAX {
+            return Err(AllocError);
+        }
+        self.slots.reserve(1)?;
+        let slot = self.slots.vacant_key();
+        self.opened.push(Opened { number, slot })?;
+        let _slot = self.slots.insert_reserved(session);
+        self.opens = number + 1;
+        Ok(number)
+    }
+
+    /// A client is gone, and its slot is free; whether it was open.
+    pub fn close(&mut self, number: usize) -> bool
+        requires { IsTable self.old }
+        ensures table { IsTable self.new }
+        ensures closed { sessions_of self.new ≡ slice_set (sessions_of self.old) number None }
+        ensures answer { result ≡ is_some (session_of self.old.opened.items self.old.slots number) }
+        ensures settled { (config : ProtocolConfig) (rings : Holdings) → AreSettled config rings self.old.slots →
+            AreSettled config rings self.new.slots }
+    {
+        let Some(at) = finding::place_of(self.opened.as_slice(), self.near, number) else {
+            return false;
+        };
+        let gone = self.opened.remove(at);
+        self.slots.try_remove(gone.slot).is_some()
+    }
+}

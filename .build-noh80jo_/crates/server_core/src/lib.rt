@@ -1,0 +1,15 @@
+//! The server: its clients and what is handed to them.
+#![tactic(auto)]
+
+mod arrivals;
+pub mod client;
+mod clients;
+pub mod events;
+mod seats;
+pub mod server;
+mod serving;
+
+pub use arrivals::ArriveFault;
+pub use client::{Client, Gone, Offer, Refusal};
+pub use events::{Event, Handed, run};
+pub use server::Server;

@@ -1,0 +1,196 @@
+//! All clients of a server.
+ghost use Rattle.std.specs.Prelude.{OnErr, option_map, ◌≡◌, ◌≢◌, ◌-◌, ◌^◌, Err, ◌<◌, ◌≤◌, [], ◌∷◌, ◌++◌, length, slice_get, slice_index_or, IfOk, OnOk, Some, None, is_some, is_ok};
+ghost use Rattle.std.specs.Result.{result_ok};
+ghost use Rattle.std.specs.Net.Addr.{ipv4_bits};
+ghost use Rattle.protocol.specs.Catalog.{Config as ProtocolConfig};
+ghost use Rattle.protocol.specs.Client.{offered};
+ghost use Rattle.protocol.specs.World.{World, step, empty_world, client_of};
+ghost use Rattle.protocol.specs.World.Event.{Open, Bytes, Take, Close, Arrive};
+
+use crate::arrivals::{ArriveFault, Placing, placed};
+use crate::client::{Client, Gone, Offer, Refusal};
+use crate::clients::Clients;
+use crate::seats;
+use catalog::Config;
+use held_records::Rings;
+use session_state::Session;
+use sl_packet::Seq;
+use std::alloc::{AllocError, Global};
+use std::marker::Model;
+use std::net::Ipv4Addr;
+
+/// All clients of a server, each at its number.
+#[derive(Drop)]
+pub struct Server {
+    config: Config,
+    rings: Rings,
+    clients: Clients,
+}
+
+impl Model for Server {
+    ghost use Rattle.std.specs.Prelude.{◌≡◌, length};
+    ghost use Rattle.server_core.specs.Clients.{IsTable, sessions_of};
+    ghost use Rattle.server_core.specs.Standing.{Serving, AreSettled};
+
+    ghost Value = { Serving };
+
+    ghost view = { λ s. record { config = s.config; rings = s.rings; sessions = sessions_of s.clients } };
+
+    ghost invariant = { λ s. IsTable s.clients × AreSettled s.config s.rings s.clients.slots × (length s.rings.rings ≡ length s.config.entries) };
+}
+
+impl Server {
+    ghost use Rattle.session_state.specs.Sessions.{Sitting};
+    ghost use Rattle.server_core.specs.Standing.{StandsAt};
+    ghost use Rattle.server_core.specs.Refusals.{room_of, receipt, offer_of};
+    ghost use Rattle.server_core.specs.Arrivals.{answer_to, IsExhausted, IsPlaced};
+    ghost use Rattle.server_core.specs.declared.arrivals.ArriveFault.TheVariants.{Exhausted};
+
+    /// A server that no one has come to, and where no record arrived. Only memory can lack.
+    pub fn new(alloc: Global, config: Config) -> Result<Server, AllocError>
+        ensures { IfOk result (λ server. StandsAt server config empty_world) }
+    {
+        let rings = Rings::new(alloc, &config)?;
+        Ok(Server {
+            config,
+            rings,
+            clients: Clients::new(alloc),
+        })
+    }
+
+    /// A client comes from an address, and has the next number. Only memory can lack, or numbers once 2^64 - 1 clients came, and
+    /// then nothing changes.
+    pub fn open(&mut self, alloc: Global, address: Ipv4Addr) -> Result<Client, AllocError>
+        ensures ok { OnOk result ((config : ProtocolConfig) (w : World) → StandsAt self.old config w → StandsAt self.new config (step config w (Open (ipv4_bits address)))) }
+        ensures number { IfOk result (λ c. c ≡ length self.old.sessions) }
+        ensures err { OnErr result (self.new ≡ self.old) }
+    {
+        let view = self.config.view(alloc, address)?;
+        let number = self.clients.open(Session::new(view))?;
+        Ok(Client::new(number))
+    }
+
+    /// How many bytes a client may send: 1,024 less the unread ones.
+    pub fn room(&self, client: Client) -> Result<usize, Gone>
+        ensures { (config : ProtocolConfig) (w : World) → StandsAt self.now config w → result_ok result ≡ option_map room_of (client_of (slice_get w.connections client)) }
+    {
+        match self.session(client) {
+            Some(session) => Ok(session.room()),
+            None => Err(Gone),
+        }
+    }
+
+    /// Bytes come from a client, and its lines are obeyed as far as they may be. Bytes that do not fit are refused as a whole,
+    /// and nothing changes. In its end they are taken and dropped.
+    pub fn receive(&mut self, client: Client, bytes: &[u8]) -> Result<(), Refusal>
+        ensures stands { (config : ProtocolConfig) (w : World) → StandsAt self.old config w → StandsAt self.new config (step config w (Bytes client bytes.now)) }
+        ensures answer { (config : ProtocolConfig) (w : World) → StandsAt self.old config w → result ≡ receipt (length bytes.now) (client_of (slice_get w.connections client)) }
+    {
+        match self.clients.seek(client.number()) {
+            Some(slot) => seats::receive_in(
+                &self.config,
+                &self.rings,
+                &mut self.clients.slots,
+                slot,
+                bytes,
+            ),
+            None => Err(Refusal::Gone),
+        }
+    }
+
+    /// Where nothing waits for a client, what comes next is made to wait, and stays until it is taken. It answers whether bytes
+    /// wait then, or the client's connection is over, or neither.
+    pub fn offer(&mut self, client: Client) -> Result<Offer, Gone>
+        ensures stands { (config : ProtocolConfig) (w : World) → StandsAt self.old config w → StandsAt self.new config (step config w (Take client 0)) }
+        ensures answer { (config : ProtocolConfig) (w : World) → StandsAt self.old config w → result_ok result ≡ option_map (λ c. offer_of (offered w.history c)) (client_of (slice_get w.connections client)) }
+    {
+        match self.clients.seek(client.number()) {
+            Some(slot) => seats::offer_in(&self.config, &self.rings, &mut self.clients.slots, slot),
+            None => Err(Gone),
+        }
+    }
+
+    /// The bytes that wait for a client.
+    pub fn waiting(&self, client: Client) -> Result<&[u8], Gone>
+        ensures sitting { (s : Sitting) → slice_get self.now.sessions client ≡ Some (Some s) → option_map (λ bytes. bytes.now) (result_ok result) ≡ Some s.waiting }
+        ensures answer { (config : ProtocolConfig) (w : World) → StandsAt self.now config w → option_map (λ bytes. bytes.now) (result_ok result) ≡ option_map (λ c. c.waiting) (client_of (slice_get w.connections client)) }
+    {
+        match self.session(client) {
+            Some(session) => Ok(session.waiting()),
+            None => Err(Gone),
+        }
+    }
+
+    /// The first bytes that wait for a client, 1 to all of them, were handed. When none is left, its further lines are obeyed.
+    pub fn took(&mut self, client: Client, count: usize) -> Result<(), Gone>
+        requires { (s : Sitting) → slice_get self.old.sessions client ≡ Some (Some s) → (0 < count) × (count ≤ length s.waiting) }
+        ensures stands { (config : ProtocolConfig) (w : World) → StandsAt self.old config w → StandsAt self.new config (step config w (Take client count)) }
+        ensures answer { (config : ProtocolConfig) (w : World) → StandsAt self.old config w → is_ok result ≡ is_some (client_of (slice_get w.connections client)) }
+    {
+        match self.clients.seek(client.number()) {
+            Some(slot) => seats::took_in(
+                &self.config,
+                &self.rings,
+                &mut self.clients.slots,
+                slot,
+                count,
+            ),
+            None => Err(Gone),
+        }
+    }
+
+    /// A record comes from a feeder. Where it is one, and of a station of the configuration, it is the last arrival, is held, and
+    /// is answered its number. It fails with Record where it is no record, else with UnknownStation where no station has its
+    /// codes, and else with Exhausted exactly where 2^64 - 1 records arrived. It takes no memory.
+    pub fn arrive(&mut self, bytes: &[u8; 512]) -> Result<Seq, ArriveFault>
+        ensures stands { result ≢ Err Exhausted → (config : ProtocolConfig) (w : World) → StandsAt self.old config w → StandsAt self.new config (step config w (Arrive bytes.now)) }
+        ensures answer { result ≢ Err Exhausted → (config : ProtocolConfig) (w : World) → StandsAt self.old config w → result ≡ answer_to config w.history bytes.now }
+        ensures exhausted { result ≡ Err Exhausted → (config : ProtocolConfig) (w : World) → StandsAt self.old config w →
+            IsExhausted config w.history bytes.now }
+        ensures counted { OnOk result ((config : ProtocolConfig) (w : World) → StandsAt self.old config w →
+            length w.history < 2 ^ 64 - 1) }
+        ensures unchanged { OnErr result (self.new ≡ self.old) }
+    {
+        match placed(&self.config, bytes) {
+            Ok(placing) => self.hold(bytes, placing),
+            Err(fault) => Err(fault),
+        }
+    }
+
+    /// A record of a station that is there is the last arrival.
+    fn hold(&mut self, bytes: &[u8; 512], placing: Placing) -> Result<Seq, ArriveFault>
+        requires { IsPlaced self.old.config bytes.now placing.place placing.summary }
+        ensures stands { result ≢ Err Exhausted → (config : ProtocolConfig) (w : World) → StandsAt self.old config w → StandsAt self.new config (step config w (Arrive bytes.now)) }
+        ensures answer { result ≢ Err Exhausted → (config : ProtocolConfig) (w : World) → StandsAt self.old config w → result ≡ answer_to config w.history bytes.now }
+        ensures exhausted { result ≡ Err Exhausted → (config : ProtocolConfig) (w : World) → StandsAt self.old config w →
+            IsExhausted config w.history bytes.now }
+        ensures counted { OnOk result ((config : ProtocolConfig) (w : World) → StandsAt self.old config w →
+            length w.history < 2 ^ 64 - 1) }
+        ensures unchanged { OnErr result (self.new ≡ self.old) }
+    {
+        self.config.codes_are_distinct();
+        if self.rings.arrivals() == u64::MAX {
+            return Err(ArriveFault::Exhausted);
+        }
+        Ok(self.rings.arrive(placing.place, bytes, placing.summary))
+    }
+
+    /// A client's connection ends, and the client is gone for good.
+    pub fn close(&mut self, client: Client) -> Result<(), Gone>
+        ensures stands { (config : ProtocolConfig) (w : World) → StandsAt self.old config w → StandsAt self.new config (step config w (Close client)) }
+        ensures answer { (config : ProtocolConfig) (w : World) → StandsAt self.old config w → is_ok result ≡ is_some (client_of (slice_get w.connections client)) }
+    {
+        if self.clients.close(client.number()) {
+            Ok(())
+        } else {
+            Err(Gone)
+        }
+    }
+    /// The session of a client, while it is open.
+    fn session(&self, client: Client) -> Option<&Session>
+        ensures { option_map (λ session. session.now) result ≡ slice_index_or self.now.sessions client None }
+    {
+        let slot = self.clients.slot_of(client.number())?;
+        self.clients.slots.get(slot)
+    }
+}

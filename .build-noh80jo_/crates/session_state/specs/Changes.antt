@@ -1,0 +1,47 @@
+-- What a command changes of what was negotiated, and what it leads to.
+-- SeedLink 3, the dialogue in uni-station and multi-station mode.
+use Rattle.std.specs.Prelude.{ℕ, nat_lt, if◌then◌else◌, List, [], ◌∷◌, ◌++◌, length, Option, Some, None, option_map, filter_map}
+use Rattle.protocol.specs.Catalog.{Config, View}
+use Rattle.protocol.specs.Pattern.{Pattern}
+use Rattle.protocol.specs.Session.{Choice, Negotiated, Outcome, act, choices_of, choose_station, end_multi, error_line, ok_line, select, select_in, select_uni, wish_of, with_pattern, max_patterns}
+use Rattle.protocol.specs.Session.Negotiated.{Uni, Multi}
+use Rattle.protocol.specs.Session.{current_choice}
+use Rattle.protocol.specs.Session.Outcome.{Stays, Starts as StartsOutcome}
+use Rattle.catalog.specs.Places.{station_at}
+use Rattle.session_state.specs.declared.modes.Change.{Change}
+use Rattle.session_state.specs.declared.modes.Change.TheVariants.{Name, Clear, Add, Act, Finish}
+use Rattle.session_state.specs.declared.modes.Effect.{Effect}
+use Rattle.session_state.specs.declared.modes.Effect.TheVariants.{Done, Refused, Starts}
+use Rattle.session_state.specs.Choices.{action_value}
+
+-- SELECT with a pattern, where a station is current; without a pattern, as for a text that is none, nothing changes
+abbrev pub selecting_in : List Choice → Option ℕ → Option Pattern → Option Choice → Outcome
+selecting_in cs current pattern None = Stays error_line (Multi cs current)
+selecting_in cs current pattern (Some c) = select_in cs current c (with_pattern c.patterns pattern)
+
+-- the same in either mode
+abbrev pub selecting : Negotiated → Option Pattern → Outcome
+selecting (Uni ps) pattern = select_uni ps (with_pattern ps pattern)
+selecting (Multi cs current) pattern = selecting_in cs current pattern (current_choice cs current)
+
+-- what a change leads to
+abbrev pub changed_by : View → Config → Negotiated → Change → Outcome
+changed_by v config n (Name found) = choose_station (choices_of n) (option_map (station_at config.entries) found)
+changed_by v config n Clear = select n None
+changed_by v config n (Add pattern) = selecting n (Some pattern)
+changed_by v config n (Act action) = act v n (action_value action)
+changed_by v config n Finish = end_multi n
+
+-- the outcome of a change with that effect, after which so much is negotiated
+abbrev pub outcome_after : Effect → Negotiated → Outcome
+outcome_after Done n = Stays ok_line n
+outcome_after Refused n = Stays error_line n
+outcome_after Starts n = StartsOutcome (filter_map wish_of (choices_of n))
+
+-- the patterns with one more, where there is room
+abbrev pub widened : List Pattern → Pattern → List Pattern
+widened ps p = if nat_lt (length ps) max_patterns then ps ++ p ∷ [] else ps
+
+-- whether there is
+abbrev pub widening : List Pattern → Effect
+widening ps = if nat_lt (length ps) max_patterns then Done else Refused

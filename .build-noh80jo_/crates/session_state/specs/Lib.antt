@@ -1,0 +1,5 @@
+pub mod Naming
+pub mod Choices
+pub mod Changes
+pub mod Asking
+pub mod Sessions

@@ -1,0 +1,17 @@
+//! One client's side of the server: what it negotiated, which bytes of it are read, and what waits to be handed to it
+//! (SeedLink 3, the dialogue in uni-station and multi-station mode).
+//!
+//! A session knows stations by their places in the configuration, and no record. Where a transfer is asked for it stops
+//! reading, until it is told from which arrival on each request wants records.
+#![tactic(auto)]
+
+mod asked;
+pub mod choices;
+mod modes;
+mod refusals;
+mod replies;
+pub mod session;
+
+pub use choices::{Action, Choice, Cursor};
+pub use refusals::NoRoom;
+pub use session::{Session, Settled, State};

@@ -1,0 +1,315 @@
+//! One client's side of the server.
+ghost use Rattle.std.specs.Prelude.{◌≡◌, ◌≢◌, ◌≤◌, ◌<◌, ◌+◌, ◌-◌, ◌&&◌, IfOk, OnErr, List, [], ◌∷◌, ◌++◌, length, drop, nat_lt, not, is_ok, true, false, codes, ℕ, Some, slice_get};
+ghost use Rattle.protocol.specs.History.{Arrival};
+ghost use Rattle.protocol.specs.Client.{read_on, received, offered, after_take, new_client, is_ending, is_nothing};
+
+use crate::choices::{Choice, Cursor};
+use crate::modes::Mode;
+use crate::refusals::NoRoom;
+use crate::replies::{Waiting, put_bytes};
+use arrayvec::ArrayVec;
+use catalog::{Config, View};
+use selector::Selectors;
+use sl_lines::LineCutter;
+use std::marker::Model;
+
+mod reading;
+mod steps;
+
+/// How many unread bytes there may be.
+const INBOX: usize = 1024;
+
+/// How many bytes the buffer of unread bytes holds, with those that were read and are not overwritten yet. Since it is twice the
+/// inbox, bytes are moved to its front only after as many were read.
+const BUFFER: usize = 2048;
+
+/// What a session is in the middle of.
+#[derive(Clone, Copy, Debug, PartialEq, Eq)]
+pub enum State {
+    /// Commands are read while nothing waits.
+    Negotiating,
+    /// So many lines of CAT were made to wait.
+    Listing(usize),
+    /// A transfer is to start.
+    Starting,
+    /// A transfer, which may choose arrivals from this one on.
+    Transfer(u64),
+    /// The client said BYE, or all was sent.
+    Ending,
+}
+
+/// Whether reading came to an end.
+#[derive(Clone, Copy, Debug, PartialEq, Eq)]
+pub enum Settled {
+    /// All was read that may be read now.
+    Rest,
+    /// A transfer is to start; what follows is read once it has.
+    Start,
+}
+
+/// A client's state.
+#[derive(Drop)]
+pub struct Session {
+    view: View,
+    mode: Mode,
+    state: State,
+    cutter: LineCutter,
+    unread: ArrayVec<u8, BUFFER>,
+    read: usize,
+    waiting: Waiting,
+    sent: usize,
+}
+
+impl Model for Session {
+    ghost use Rattle.std.specs.Prelude.{◌≤◌, ◌+◌, drop, length};
+    ghost use Rattle.session_state.specs.Sessions.{Sitting};
+
+    ghost Value = { Sitting };
+
+    ghost view = { λ s. record {
+      places = s.view;
+      mode = s.mode;
+      state = s.state;
+      open_line = s.cutter;
+      unread = drop s.read s.unread.items;
+      waiting = drop s.sent s.waiting.items;
+    } };
+
+    ghost invariant = { λ s. (s.read ≤ length s.unread.items) × (s.sent ≤ length s.waiting.items)
+        × (length s.unread.items ≤ s.read + 1024) };
+}
+
+/// What others see of a session.
+impl Session {
+    ghost use Rattle.protocol.specs.Catalog.{Config as ProtocolConfig};
+    ghost use Rattle.session_state.specs.Choices.{chosen_of};
+    ghost use Rattle.session_state.specs.Sessions.{client_in};
+    ghost use Rattle.session_state.specs.declared.session.State.TheVariants.{Negotiating, Starting};
+
+    /// The session of a client that has just come, with what it sees.
+    pub fn new(view: View) -> Session
+        ensures client { (config : ProtocolConfig) (h : List Arrival) → client_in config h result ≡ new_client }
+        ensures places { result.places ≡ view }
+        ensures settled { result.state ≢ Starting }
+        ensures negotiates { result.state ≡ Negotiating }
+    {
+        Session {
+            view,
+            mode: Mode::Uni(Selectors::new()),
+            state: State::Negotiating,
+            cutter: LineCutter::new(),
+            unread: ArrayVec::new(),
+            read: 0,
+            waiting: ArrayVec::new(),
+            sent: 0,
+        }
+    }
+
+    /// How many bytes may be received, from 0 to 1,024.
+    pub fn room(&self) -> usize
+        ensures value { result ≡ 1024 - length self.now.unread }
+        ensures whole { result + length self.now.unread ≡ 1024 }
+    {
+        INBOX - (self.unread.len() - self.read)
+    }
+
+    /// The bytes that wait, at most 520.
+    pub fn waiting(&self) -> &[u8]
+        ensures { result.now ≡ self.now.waiting }
+    {
+        &self.waiting.as_slice()[self.sent..]
+    }
+
+    /// What it is in the middle of.
+    pub fn state(&self) -> State
+        ensures { result ≡ self.now.state }
+    {
+        self.state
+    }
+
+    /// The stations that were named, in that order. Those with an action are the requests of a transfer.
+    pub fn choices(&self) -> &[Choice]
+        ensures { result.now ≡ chosen_of self.now.mode }
+    {
+        self.mode.choices()
+    }
+
+    /// Whether nothing waits.
+    #[tactic(auto, using(crate::proofs::Following::nothing_drop))]
+    pub fn is_empty(&self) -> bool
+        ensures { result ≡ is_nothing self.now.waiting }
+    {
+        self.sent == self.waiting.len()
+    }
+
+    /// Whether the client said BYE, or all was sent.
+    pub fn is_ending(&self) -> bool
+        ensures { (config : ProtocolConfig) (h : List Arrival) → result ≡ is_ending (client_in config h self.now).state }
+    {
+        match self.state {
+            State::Negotiating => false,
+            State::Listing(_) => false,
+            State::Starting => false,
+            State::Transfer(_) => false,
+            State::Ending => true,
+        }
+    }
+}
+
+/// What others do with a session.
+impl Session {
+    ghost use Rattle.protocol.specs.Catalog.{Config as ProtocolConfig};
+    ghost use Rattle.session_state.specs.declared.choices.Choice.{Choice as ChoiceValue};
+    ghost use Rattle.session_state.specs.Choices.{chosen_of, kept_in};
+    ghost use Rattle.session_state.specs.Sessions.{client_in, sitting_view, is_listing, HasPlaces, HasFirsts, Comes, KeepsTransfer, but_for_cursors, never_starts};
+    ghost use Rattle.session_state.specs.declared.session.State.TheVariants.{Negotiating, Listing, Starting, Transfer, Ending};
+    ghost use Rattle.session_state.specs.declared.session.Settled.TheVariants.{Rest, Start};
+
+    fn settled(&self) -> Settled
+        ensures start { result ≡ Start → self.now.state ≡ Starting }
+        ensures rest { result ≡ Rest → self.now.state ≢ Starting }
+    {
+        match self.state {
+            State::Starting => Settled::Start,
+            State::Negotiating => Settled::Rest,
+            State::Listing(_) => Settled::Rest,
+            State::Transfer(_) => Settled::Rest,
+            State::Ending => Settled::Rest,
+        }
+    }
+
+    /// What was received is read as far as it may be, up to a command that starts a transfer.
+    pub fn settle(&mut self, config: &Config) -> Settled
+        requires { HasPlaces config.now self.old }
+        ensures client { (h : List Arrival) → Comes result config.now h self.new
+            (read_on (sitting_view config.now self.old) h self.old.unread (client_in config.now h self.old)) }
+        ensures places { self.new.places ≡ self.old.places }
+        ensures stays { never_starts self.old.state ≡ true → result ≡ Rest }
+        ensures kept { KeepsTransfer self.old self.new }
+        ensures starting { result ≡ Start → self.new.state ≡ Starting }
+        ensures settled { result ≡ Rest → self.new.state ≢ Starting }
+    {
+        while self.has_unread() && self.is_reading() {
+            let byte = self.next_byte();
+            self.read_byte(config, byte);
+        }
+        self.drop_if_ending();
+        self.settled()
+    }
+
+    /// Bytes come. Where there is no room for all of them they are refused as a whole, and nothing changes. In its end a session
+    /// takes and drops them.
+    #[tactic(auto, using(crate::proofs::Receiving::receive_lemmas))]
+    pub fn receive(&mut self, config: &Config, bytes: &[u8]) -> Result<Settled, NoRoom>
+        requires { HasPlaces config.now self.old }
+        ensures client { IfOk result (λ settled. (h : List Arrival) → Comes settled config.now h self.new
+            (received (sitting_view config.now self.old) h bytes.now (client_in config.now h self.old))) }
+        ensures refused { OnErr result ((h : List Arrival) → client_in config.now h self.new ≡ received (sitting_view config.now self.old) h bytes.now (client_in config.now h self.old)) }
+        ensures unchanged { OnErr result (self.new ≡ self.old) }
+        ensures starting { IfOk result (λ settled. settled ≡ Start → self.new.state ≡ Starting) }
+        ensures settled { IfOk result (λ settled. settled ≡ Rest → self.new.state ≢ Starting) }
+        ensures room { is_ok result ≡ not (nat_lt (1024 - length self.old.unread) (length bytes.now)) }
+        ensures kept { KeepsTransfer self.old self.new }
+        ensures places { self.new.places ≡ self.old.places }
+    {
+        if bytes.len() > self.room() {
+            return Err(NoRoom);
+        }
+        if self.is_ending() {
+            return Ok(Settled::Rest);
+        }
+        self.append(bytes);
+        Ok(self.settle(config))
+    }
+
+    /// The transfer that was asked for starts, once it is kept from which arrival on each request wants records. What is unread
+    /// stays so until the session settles.
+    #[tactic(auto, using(crate::proofs::Receiving::start_lemmas))]
+    pub fn enter(&mut self)
+        requires { self.old.state ≡ Starting }
+        ensures state { self.new ≡ record self.old { state = Transfer 0 } }
+        ensures client { (config : ProtocolConfig) (h : List Arrival) → HasFirsts config h self.old →
+            client_in config h self.new ≡ client_in config h self.old }
+    {
+        self.turn_to(State::Transfer(0));
+    }
+
+    /// The first bytes that wait, 1 to all of them, were handed. When none is left, further lines are read.
+    #[tactic(auto, using(crate::proofs::Taking::took_lemmas))]
+    pub fn took(&mut self, config: &Config, count: usize) -> Settled
+        requires places { HasPlaces config.now self.old }
+        requires some { 0 < count }
+        requires waiting { count ≤ length self.old.waiting }
+        ensures client { (h : List Arrival) → Comes result config.now h self.new
+            (after_take (sitting_view config.now self.old) h (client_in config.now h self.old) count) }
+        ensures starting { result ≡ Start → self.new.state ≡ Starting }
+        ensures settled { result ≡ Rest → self.old.state ≢ Starting → self.new.state ≢ Starting }
+        ensures kept { KeepsTransfer self.old self.new }
+        ensures places { self.new.places ≡ self.old.places }
+    {
+        self.skip(count);
+        if self.is_empty() {
+            self.end_listing();
+            self.settle(config)
+        } else {
+            Settled::Rest
+        }
+    }
+
+    /// The next line of a listing is made to wait, while nothing waits. In another state nothing changes.
+    pub fn next_line(&mut self, config: &Config)
+        requires places { HasPlaces config.now self.old }
+        requires nothing_waits { self.old.waiting ≡ [] }
+        ensures client { is_listing self.old.state ≡ true → (h : List Arrival) → client_in config.now h self.new ≡ offered h (client_in config.now h self.old) }
+        ensures unchanged { is_listing self.old.state ≡ false → self.new ≡ self.old }
+        ensures settled { self.old.state ≢ Starting → self.new.state ≢ Starting }
+        ensures kept { KeepsTransfer self.old self.new }
+        ensures places { self.new.places ≡ self.old.places }
+    {
+        if let State::Listing(made) = self.state {
+            self.make_line(config, made);
+        }
+    }
+
+    /// A packet, or other bytes up to 520, is made to wait, after which a transfer may choose arrivals from that one on.
+    pub fn put(&mut self, bytes: &[u8], next: u64)
+        requires { length bytes.now ≤ 520 }
+        ensures { self.new ≡ record self.old { state = Transfer next; waiting = bytes.now } }
+    {
+        put_bytes(&mut self.waiting, bytes);
+        self.sent = 0;
+        self.state = State::Transfer(next);
+    }
+
+    /// All was sent: `END` is made to wait, and what is unread is dropped.
+    pub fn finish(&mut self)
+        ensures { self.new ≡ record self.old { state = Ending; unread = []; waiting = codes "END" } }
+    {
+        put_bytes(&mut self.waiting, b"END");
+        self.sent = 0;
+        self.read = self.unread.len();
+        self.state = State::Ending;
+    }
+
+    /// Keeps from which arrival on the i-th named station's records are wanted.
+    pub fn keep(&mut self, i: usize, first: u64)
+        requires { i < length (chosen_of self.old.mode) }
+        ensures { self.new ≡ record self.old { mode = kept_in self.old.mode i first } }
+    {
+        let _ = &self.state;
+        self.mode.keep(i, first);
+    }
+
+    /// Keeps how far the transfer has come in the ring of the i-th named station.
+    #[tactic(auto, using(crate::proofs::Passing::pass_lemmas))]
+    pub fn pass(&mut self, i: usize, cursor: Cursor)
+        requires { i < length (chosen_of self.old.mode) }
+        ensures same { but_for_cursors self.new ≡ but_for_cursors self.old }
+        ensures here { (c : ChoiceValue) → slice_get (chosen_of self.old.mode) i ≡ Some c →
+            slice_get (chosen_of self.new.mode) i ≡ Some (record c { cursor = cursor }) }
+        ensures others { (j : ℕ) → j ≢ i → slice_get (chosen_of self.new.mode) j ≡ slice_get (chosen_of self.old.mode) j }
+        ensures count { length (chosen_of self.new.mode) ≡ length (chosen_of self.old.mode) }
+    {
+        self.pass_to(i, cursor);
+    }
+}

@@ -1,0 +1,3 @@
+pub mod LineValues
+pub mod OrderValues
+pub mod WordValues

@@ -1,0 +1,21 @@
+-- The command that an order is, whose texts are lent by a line.
+-- SeedLink 3, commands.
+use Rattle.std.specs.Option.{option_copied}
+use Rattle.protocol.specs.Command.{Command}
+use Rattle.protocol.specs.Command.Command.{Blank as BlankCommand, Hello as HelloCommand, Cat as CatCommand, Bye as ByeCommand, End as EndCommand, Station as StationCommand, Select as SelectCommand, Data as DataCommand, Fetch as FetchCommand, Time as TimeCommand, Bad as BadCommand}
+use Rattle.sl_lines.specs.declared.orders.Order.{Order}
+use Rattle.sl_lines.specs.declared.orders.Order.TheVariants.{Blank, Hello, Cat, Bye, End, Station, Select, Data, Fetch, Time, Bad}
+
+-- Numbers and times are seen as those of a command already.
+abbrev pub order_value : Order → Command
+order_value Blank = BlankCommand
+order_value Hello = HelloCommand
+order_value Cat = CatCommand
+order_value Bye = ByeCommand
+order_value End = EndCommand
+order_value (Station station network) = StationCommand station.now (option_copied network)
+order_value (Select pattern) = SelectCommand (option_copied pattern)
+order_value (Data number begin) = DataCommand number begin
+order_value (Fetch number begin) = FetchCommand number begin
+order_value (Time begin last) = TimeCommand begin last
+order_value Bad = BadCommand

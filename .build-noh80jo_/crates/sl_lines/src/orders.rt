@@ -1,0 +1,249 @@
+//! Commands out of lines.
+ghost use Rattle.std.specs.Prelude.{◌≡◌, List, ℕ, ℤ, Option, Some};
+ghost use Rattle.protocol.specs.Command.{Command, command_of, command_of_words, named, numbered, timed, uppercased, words};
+ghost use Rattle.protocol.specs.Command.Command.{Data, Fetch};
+ghost use Rattle.protocol.specs.Time.{time_of};
+ghost use Rattle.sl_lines.specs.LineValues.{line_value};
+ghost use Rattle.sl_lines.specs.OrderValues.{order_value};
+ghost use Rattle.sl_lines.specs.WordValues.{AreWords, command_by, resuming, between};
+
+use crate::lines::Line;
+use crate::words::{Arguments, arguments_of, first_word, is_named};
+use sl_packet::Seq;
+use sl_time::Tick;
+
+/// The most bytes of a line that can be a command.
+const LONGEST: usize = 256;
+
+/// What a line asks (SeedLink 3, commands). Codes and patterns are the line's own bytes, 1 to 256 of them and none a
+/// space: whether a station, a network or a pattern is meant by them is not judged here.
+#[derive(Clone, Copy, Debug, PartialEq, Eq)]
+pub enum Order<'a> {
+    /// Spaces alone.
+    Blank,
+    /// `HELLO`: who the server is.
+    Hello,
+    /// `CAT`: the list of stations.
+    Cat,
+    /// `BYE`: the end of the connection.
+    Bye,
+    /// `END`: the end of the negotiation, with which the transfer begins.
+    End,
+    /// `STATION station [network]`: the station that the commands behind it are for.
+    Station {
+        station: &'a [u8],
+        network: Option<&'a [u8]>,
+    },
+    /// `SELECT [pattern]`: one more pattern of the records that are wanted, or none any more.
+    Select {
+        pattern: Option<&'a [u8]>,
+    },
+    /// `DATA [number [begin]]`: records as they come, from that sequence number on, and none that ended before that moment.
+    Data {
+        number: Option<Seq>,
+        begin: Option<Tick>,
+    },
+    /// `FETCH [number [begin]]`: the same of the records that are held, and then the end.
+    Fetch {
+        number: Option<Seq>,
+        begin: Option<Tick>,
+    },
+    /// `TIME [begin [last]]`: the records between two moments.
+    Time {
+        begin: Option<Tick>,
+        last: Option<Tick>,
+    },
+    /// Anything else: an unknown name, too few words or too many, a word that is no number or no time, or a line of more
+    /// than 256 bytes.
+    Bad,
+}
+
+/// The names of the commands.
+#[derive(Clone, Copy)]
+enum Name {
+    Hello,
+    Cat,
+    Bye,
+    End,
+    Station,
+    Select,
+    Data,
+    Fetch,
+    Time,
+}
+
+/// From where records are asked, by the words of DATA and FETCH.
+#[derive(Clone, Copy)]
+struct Resumption {
+    number: Option<Seq>,
+    begin: Option<Tick>,
+}
+
+/// Between which moments records are asked, by the words of TIME.
+#[derive(Clone, Copy)]
+struct Interval {
+    begin: Option<Tick>,
+    last: Option<Tick>,
+}
+
+/// What a line asks: its first word is a command's name in letters of either case, and the others are what the command
+/// takes. Runs of spaces (byte 32) separate words, and those at either end count for nothing. A line of more than 256 bytes
+/// is Bad, whatever it holds. A number is 1 to 6 hexadecimal
+/// digits; a time is `year,month,day` and up to three of `,hour`, `,minute` and `,second`.
+pub fn command(line: Line<'_>) -> Order<'_>
+    ensures { order_value result ≡ command_of (line_value line.entry) }
+{
+    match line {
+        Line::Text(text) => {
+            if text.len() > LONGEST {
+                return Order::Bad;
+            }
+            command_of_text(text)
+        }
+        Line::TooLong => Order::Bad,
+    }
+}
+
+fn command_of_text(text: &[u8]) -> Order<'_>
+    ensures { order_value result ≡ command_of_words (words text.now) }
+{
+    let Some((word, rest)) = first_word(text) else {
+        return Order::Blank;
+    };
+    match name_of(word) {
+        Some(name) => order_of(name, arguments_of(rest)),
+        None => Order::Bad,
+    }
+}
+
+/// The command that a word names, in letters of either case.
+fn name_of(word: &[u8]) -> Option<Name>
+    ensures { (ws : List (List ℕ)) → named (uppercased word.now) ws ≡ command_by result ws }
+{
+    if is_named(word, b"HELLO") {
+        Some(Name::Hello)
+    } else if is_named(word, b"CAT") {
+        Some(Name::Cat)
+    } else if is_named(word, b"BYE") {
+        Some(Name::Bye)
+    } else if is_named(word, b"END") {
+        Some(Name::End)
+    } else if is_named(word, b"STATION") {
+        Some(Name::Station)
+    } else if is_named(word, b"SELECT") {
+        Some(Name::Select)
+    } else if is_named(word, b"DATA") {
+        Some(Name::Data)
+    } else if is_named(word, b"FETCH") {
+        Some(Name::Fetch)
+    } else if is_named(word, b"TIME") {
+        Some(Name::Time)
+    } else {
+        None
+    }
+}
+
+/// The command of that name with those words behind it.
+fn order_of(name: Name, arguments: Arguments<'_>) -> Order<'_>
+    ensures { (ws : List (List ℕ)) → AreWords arguments.entry ws → order_value result ≡ command_by (Some name) ws }
+{
+    match (name, arguments) {
+        (Name::Hello, Arguments::Nothing) => Order::Hello,
+        (Name::Cat, Arguments::Nothing) => Order::Cat,
+        (Name::Bye, Arguments::Nothing) => Order::Bye,
+        (Name::End, Arguments::Nothing) => Order::End,
+        (Name::Station, Arguments::One(station)) => Order::Station {
+            station,
+            network: None,
+        },
+        (Name::Station, Arguments::Two(station, network)) => Order::Station {
+            station,
+            network: Some(network),
+        },
+        (Name::Select, Arguments::Nothing) => Order::Select { pattern: None },
+        (Name::Select, Arguments::One(pattern)) => Order::Select {
+            pattern: Some(pattern),
+        },
+        (Name::Data, arguments) => data_order(arguments),
+        (Name::Fetch, arguments) => fetch_order(arguments),
+        (Name::Time, arguments) => time_order(arguments),
+        _ => Order::Bad,
+    }
+}
+
+fn data_order(arguments: Arguments<'_>) -> Order<'_>
+    ensures { (ws : List (List ℕ)) → AreWords arguments.entry ws → order_value result ≡ numbered Data ws }
+{
+    match resumption_of(arguments) {
+        Some(Resumption { number, begin }) => Order::Data { number, begin },
+        None => Order::Bad,
+    }
+}
+
+fn fetch_order(arguments: Arguments<'_>) -> Order<'_>
+    ensures { (ws : List (List ℕ)) → AreWords arguments.entry ws → order_value result ≡ numbered Fetch ws }
+{
+    match resumption_of(arguments) {
+        Some(Resumption { number, begin }) => Order::Fetch { number, begin },
+        None => Order::Bad,
+    }
+}
+
+fn time_order(arguments: Arguments<'_>) -> Order<'_>
+    ensures { (ws : List (List ℕ)) → AreWords arguments.entry ws → order_value result ≡ timed ws }
+{
+    match interval_of(arguments) {
+        Some(Interval { begin, last }) => Order::Time { begin, last },
+        None => Order::Bad,
+    }
+}
+
+/// What the words of DATA and FETCH say; None where they are not `[number [begin]]`.
+fn resumption_of(arguments: Arguments<'_>) -> Option<Resumption>
+    ensures { (make : Option ℕ → Option ℤ → Command) (ws : List (List ℕ)) → AreWords arguments.entry ws
+        → resuming make result ≡ numbered make ws }
+{
+    match arguments {
+        Arguments::Nothing => Some(Resumption {
+            number: None,
+            begin: None,
+        }),
+        Arguments::One(number) => Some(Resumption {
+            number: Some(Seq::parse(number)?),
+            begin: None,
+        }),
+        Arguments::Two(number, begin) => Some(Resumption {
+            number: Some(Seq::parse(number)?),
+            begin: Some(time(begin)?),
+        }),
+        Arguments::More => None,
+    }
+}
+
+/// What the words of TIME say; None where they are not `[begin [last]]`.
+fn interval_of(arguments: Arguments<'_>) -> Option<Interval>
+    ensures { (ws : List (List ℕ)) → AreWords arguments.entry ws → between result ≡ timed ws }
+{
+    match arguments {
+        Arguments::Nothing => Some(Interval {
+            begin: None,
+            last: None,
+        }),
+        Arguments::One(begin) => Some(Interval {
+            begin: Some(time(begin)?),
+            last: None,
+        }),
+        Arguments::Two(begin, last) => Some(Interval {
+            begin: Some(time(begin)?),
+            last: Some(time(last)?),
+        }),
+        Arguments::More => None,
+    }
+}
+
+/// The moment that a word spells; None where it spells none.
+fn time(word: &[u8]) -> Option<Tick>
+    ensures { result ≡ time_of word.now }
+{
+    sl_time::parse(word).ok()
+}

@@ -1,0 +1,5 @@
+mod Reading
+mod Judging
+mod Pieces
+mod EndPieces
+mod Feeding

@@ -1,0 +1,11 @@
+//! Sequence numbers and packets: `SL`, six hexadecimal digits and a record of 512 bytes (SeedLink 3, data packets). No call
+//! takes memory.
+#![tactic(auto)]
+
+mod cutter;
+mod packets;
+pub mod sequence;
+
+pub use cutter::{Cut, Fed, NotAPacket, PacketCutter};
+pub use packets::frame;
+pub use sequence::Seq;

@@ -1,0 +1,50 @@
+//! Packets: `SL`, six hexadecimal digits and a record of 512 bytes (SeedLink 3, data packets).
+ghost use Rattle.std.specs.Prelude.{◌≡◌, ◌<◌};
+ghost use Rattle.protocol.specs.Packet.{packet};
+ghost use Rattle.protocol.specs.Streams.{may_stand, may_continue};
+
+use crate::sequence::Seq;
+
+/// The length of a packet, in bytes.
+pub const PACKET: usize = 520;
+
+/// The length of what stands before the record, in bytes.
+const HEADER: usize = 8;
+
+/// The packet of a record: `SL`, the six digits of its number in upper case, and the record as it is (SeedLink 3, data
+/// packets).
+pub fn frame(number: Seq, record: &[u8; 512]) -> [u8; 520]
+    ensures { result ≡ packet number «record».now }
+{
+    let mut packet = [0; PACKET];
+    packet[..2].copy_from_slice(b"SL");
+    packet[2..HEADER].copy_from_slice(&number.digits());
+    packet[HEADER..].copy_from_slice(record);
+    packet
+}
+
+/// Whether a byte may stand at that place of a packet: `S`, `L`, six hexadecimal digits of either case, and then anything.
+fn may_stand(place: usize, byte: u8) -> bool
+    ensures { result ≡ may_stand place byte }
+{
+    match place {
+        0 => byte == b'S',
+        1 => byte == b'L',
+        2..=7 => byte.is_ascii_hexdigit(),
+        _ => true,
+    }
+}
+
+/// Whether the bytes may stand in a packet from that place on. Behind the header nothing needs a test.
+pub fn may_continue(place: usize, bytes: &[u8]) -> bool
+    requires { place < 520 }
+    ensures { result ≡ may_continue place bytes.now }
+{
+    let tested = HEADER.saturating_sub(place).min(bytes.len());
+    for index in 0..tested {
+        if !may_stand(place + index, bytes[index]) {
+            return false;
+        }
+    }
+    true
+}

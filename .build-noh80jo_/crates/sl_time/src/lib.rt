@@ -1,0 +1,10 @@
+//! Moments as ticks of 0.0001 s: those that records have, and those that commands spell.
+#![tactic(auto)]
+
+mod calendar;
+pub mod command;
+mod parts;
+pub mod ticks;
+
+pub use command::{TimeFault, parse};
+pub use ticks::{Tick, of_btime};

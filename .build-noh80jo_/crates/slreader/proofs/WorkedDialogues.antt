@@ -1,0 +1,78 @@
+-- Worked dialogues of readers: what is asked and given, and where they end.
+use Rattle.std.specs.Prelude.{◌≡◌, refl, ℕ, List, [], ◌∷◌, Some, None, true, false, codes}
+use Rattle.slreader.specs.declared.fault.ReaderFault.TheVariants.{AllRefused, BadReply, NotAPacket}
+use Rattle.slreader.specs.Wants.{PlanValue, commands_of_want, is_plan, is_want}
+use Rattle.slreader.specs.Wants.PlanValue.{Uni, Multi}
+use Rattle.slreader.specs.Wants.Action.{Data, Fetch, Time}
+use Rattle.slreader.specs.Dialogue.{after_byte, asked_of, begun, given_by, given_from, reader_of}
+use Rattle.slreader.specs.Dialogue.Given.{Hello, Refused, End}
+use Rattle.slreader.specs.Dialogue.Stage.{Failed, Over}
+
+-- GE WLF by FETCH with two patterns, and GE NONE by FETCH
+abbrev two_wants : PlanValue
+two_wants = Multi (
+    record { network = codes "GE"; station = codes "WLF"; patterns = codes "BH?" ∷ codes "!E" ∷ []; action = Fetch None None }
+    ∷ record { network = codes "GE"; station = codes "NONE"; patterns = []; action = Fetch None None } ∷ [])
+
+-- one of two wants is refused
+abbrev one_refused : List ℕ
+one_refused = codes "SeedLink v3.0\r\nTest Centre\r\nOK\r\nOK\r\nOK\r\nOK\r\nERROR\r\nEND"
+
+pub one_refused_asked : asked_of two_wants one_refused
+    ≡ codes "HELLO\rSTATION WLF GE\rSELECT BH?\rSELECT !E\rFETCH\rSTATION NONE GE\rEND\r"
+unfolding after_byte commands_of_want
+one_refused_asked = refl
+
+pub one_refused_given : given_from (begun two_wants) one_refused ≡ Hello ∷ Refused 1 ∷ End ∷ []
+unfolding after_byte given_by commands_of_want
+one_refused_given = refl
+
+pub one_refused_over : (reader_of two_wants one_refused).stage ≡ Over
+unfolding after_byte commands_of_want
+one_refused_over = refl
+
+-- Both are refused: END is not asked, and nothing more is read.
+abbrev both_refused : List ℕ
+both_refused = codes "SeedLink v3.0\r\nTest Centre\r\nERROR\r\nERROR\r\nEND"
+
+pub both_refused_asked : asked_of two_wants both_refused ≡ codes "HELLO\rSTATION WLF GE\rSTATION NONE GE\r"
+unfolding after_byte commands_of_want
+both_refused_asked = refl
+
+pub both_refused_given : given_from (begun two_wants) both_refused ≡ Hello ∷ Refused 0 ∷ Refused 1 ∷ []
+unfolding after_byte given_by commands_of_want
+both_refused_given = refl
+
+pub both_refused_failed : (reader_of two_wants both_refused).stage ≡ Failed AllRefused
+unfolding after_byte commands_of_want
+both_refused_failed = refl
+
+-- The first byte is that of no server.
+pub no_server_failed : (reader_of two_wants (codes "X")).stage ≡ Failed BadReply
+unfolding after_byte commands_of_want
+no_server_failed = refl
+
+-- Whatever station the server takes first, from a number on: the action has no answer.
+abbrev any_station : PlanValue
+any_station = Uni (record { network = codes "GE"; station = codes "WLF"; patterns = codes "BHZ" ∷ []; action = Data (Some 163) None })
+
+pub any_station_asked : asked_of any_station (codes "SeedLink v3\r\n\r\nOK\r\n") ≡ codes "HELLO\rSELECT BHZ\rDATA 0000A3\r"
+unfolding after_byte commands_of_want
+any_station_asked = refl
+
+-- ERROR in a transfer is no answer.
+pub error_failed : (reader_of any_station (codes "SeedLink v3\r\n\r\nOK\r\nERROR\r\n")).stage ≡ Failed NotAPacket
+unfolding after_byte commands_of_want
+error_failed = refl
+
+-- A last moment without a begin can't be asked for.
+abbrev no_begin : PlanValue
+no_begin = Uni (record { network = codes "GE"; station = codes "WLF"; patterns = []; action = Time None (Some (codes "2024,2,29")) })
+
+pub no_begin_refused : is_plan no_begin ≡ false
+unfolding is_want
+no_begin_refused = refl
+
+pub two_wants_asked : is_plan two_wants ≡ true
+unfolding is_want
+two_wants_asked = refl

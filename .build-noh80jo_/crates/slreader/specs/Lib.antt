@@ -1,0 +1,14 @@
+pub mod Wants
+pub mod WantTexts
+pub mod Views
+pub mod Lines
+pub mod OutboxValue
+pub mod Tallies
+pub mod Pieces
+pub mod Dialogue
+pub mod Faults
+pub mod ReaderViews
+pub mod Reads
+pub mod Comings
+pub mod Words
+pub mod Whats

@@ -1,0 +1,22 @@
+-- What the texts of a want are in the definitions.
+use Rattle.std.specs.Prelude.{ℕ, List, [], ◌∷◌}
+use Rattle.std.specs.Option.{option_copied}
+use Rattle.std.specs.Borrow.{Bor}
+use Rattle.slreader.specs.Wants.{Action, WantValue}
+use Rattle.slreader.specs.Wants.Action.{Data, Fetch, Time}
+use Rattle.slreader.specs.declared.want.Action.{Action as CodeAction}
+use Rattle.slreader.specs.declared.want.Action.TheVariants as code
+
+-- texts that are lent
+abbrev pub texts : List (Bor (List ℕ)) → List (List ℕ)
+texts [] = []
+texts (t ∷ ts) = t.now ∷ texts ts
+
+abbrev pub action_value : CodeAction → Action
+action_value (code.Data number begin) = Data number (option_copied begin)
+action_value (code.Fetch number begin) = Fetch number (option_copied begin)
+action_value (code.Time begin last) = Time (option_copied begin) (option_copied last)
+
+abbrev pub want_value : (network station : List ℕ) → List (Bor (List ℕ)) → CodeAction → WantValue
+want_value network station patterns action =
+    record { network = network; station = station; patterns = texts patterns; action = action_value action }

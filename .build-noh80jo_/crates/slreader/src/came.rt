@@ -1,0 +1,44 @@
+//! What a piece gives.
+ghost use Rattle.std.specs.Prelude.{◌≡◌};
+ghost use Rattle.slreader.specs.ReaderViews.{given_option};
+ghost use Rattle.slreader.specs.Whats.{what_value};
+
+use crate::stage::Event;
+
+/// What a reader is given.
+#[derive(Clone, Copy, Debug, PartialEq, Eq)]
+pub enum What<'a> {
+    /// Nothing became whole.
+    Nothing,
+    /// The server answered HELLO.
+    Hello,
+    /// A command of the want with that index was answered ERROR. Its other commands are not asked.
+    Refused(usize),
+    /// A packet.
+    Packet(&'a [u8; 520]),
+    /// The end of the transfer.
+    End,
+}
+
+/// What a piece gives.
+#[derive(Clone, Copy, Debug, PartialEq, Eq)]
+pub struct Came<'a> {
+    /// How many bytes of the piece were read: up to the last byte of the first thing that became whole, else all of
+    /// them.
+    pub used: usize,
+    /// What became whole.
+    pub what: What<'a>,
+}
+
+/// What became whole; a packet lies in the buffer.
+pub(crate) fn what_of(event: Option<Event>, packet: &[u8; 520]) -> What<'_>
+    ensures { what_value result ≡ given_option event packet.now }
+{
+    match event {
+        None => What::Nothing,
+        Some(Event::Hello) => What::Hello,
+        Some(Event::Refused(want)) => What::Refused(want),
+        Some(Event::Packet) => What::Packet(packet),
+        Some(Event::End) => What::End,
+    }
+}

@@ -1,0 +1,25 @@
+//! The reader's side of SeedLink 3: what a reader asks for, what it is sent, and what it makes of that, over bytes
+//! alone. No call allocates, but for those that take an allocator.
+#![tactic(auto)]
+
+mod agenda;
+mod came;
+mod commands;
+mod dialogue;
+mod fault;
+mod laws;
+mod outbox;
+mod packets;
+mod pieces;
+mod reader;
+mod spelling;
+mod stage;
+mod tally;
+mod want;
+mod words;
+
+pub use came::{Came, What};
+pub use fault::ReaderFault;
+pub use laws::{dialogue_in_pieces, first_of_a_piece};
+pub use reader::ReaderCore;
+pub use want::{Action, Plan, Want};

@@ -1,0 +1,42 @@
+//! Packets of a transfer.
+ghost use Rattle.std.specs.Prelude.{◌≡◌, ◌≢◌, ◌≤◌, IfOk, OnOk, length};
+ghost use Rattle.sl_packet.specs.Progress.Progress.{Faulty};
+ghost use Rattle.slreader.specs.Dialogue.{ReaderValue, at_stage, read_first};
+ghost use Rattle.slreader.specs.ReaderViews.{transfer_stage};
+ghost use Rattle.slreader.specs.Reads.{cut_first};
+
+use crate::stage::{Event, Step};
+use sl_packet::{Cut, NotAPacket, PacketCutter};
+
+/// Reads packets and the end, and copies the packet that becomes whole.
+pub(crate) fn read_packet(
+    cutter: &mut PacketCutter,
+    piece: &[u8],
+    packet: &mut [u8; 520],
+) -> Result<Step, NotAPacket>
+    ensures first { (r : ReaderValue) → read_first (at_stage r (transfer_stage cutter.old)) piece.now
+        ≡ cut_first r piece.now result cutter.new packet.new }
+    ensures sound { OnOk result (cutter.new ≢ Faulty) }
+    ensures within { IfOk result (λ step. step.used ≤ length piece.now) }
+{
+    match cutter.feed(piece) {
+        Ok(fed) => match fed.cut {
+            Cut::Nothing => Ok(Step {
+                used: fed.used,
+                event: None,
+            }),
+            Cut::Packet(whole) => {
+                packet.copy_from_slice(whole);
+                Ok(Step {
+                    used: fed.used,
+                    event: Some(Event::Packet),
+                })
+            }
+            Cut::End => Ok(Step {
+                used: fed.used,
+                event: Some(Event::End),
+            }),
+        },
+        Err(fault) => Err(fault),
+    }
+}

@@ -1,0 +1,175 @@
+//! What is counted of the packets.
+ghost use Rattle.std.specs.Prelude.{◌≡◌, ◌++◌, slice_range, map, IfOk, OnOk};
+ghost use Rattle.slreader.specs.Tallies.{has_codes as spec_has_codes, packet_facts, packet_number, passed, resume_of, resumes_of as spec_resumes_of};
+
+use crate::want::{Plan, Want};
+use mseed_header::{Header, read};
+use sl_packet::Seq;
+use std::alloc::{AllocError, Global};
+use std::marker::Model;
+
+/// The number from which a want goes on: the one after the last packet of its station, or of any station.
+#[derive(Drop)]
+pub(crate) struct Resume {
+    is_any: bool,
+    network: Vec<u8>,
+    station: Vec<u8>,
+    next: Option<Seq>,
+}
+
+impl Model for Resume {
+    ghost use Rattle.slreader.specs.Tallies.{Resume as ResumeValue};
+
+    ghost Value = { ResumeValue };
+
+    ghost view = { λ r. record { is_any = r.is_any; network = r.network.items; station = r.station.items; next = r.next } };
+}
+
+/// Whether a record has those codes; one that can't be read has none.
+fn has_codes(network: &[u8], station: &[u8], header: &Option<Header<'_>>) -> bool
+    ensures { result ≡ spec_has_codes network.now station.now header.now }
+{
+    match header {
+        Some(header) => header.network() == network && header.station() == station,
+        None => false,
+    }
+}
+
+impl Resume {
+    ghost use Rattle.slreader.specs.Tallies.{resume_of};
+
+    /// Before the first packet.
+    fn new(alloc: Global, is_any: bool, want: &Want<'_>) -> Result<Resume, AllocError>
+        ensures { IfOk result (λ r. r ≡ resume_of is_any want.now) }
+    {
+        Ok(Resume {
+            is_any,
+            network: Vec::from_slice(alloc, want.network)?,
+            station: Vec::from_slice(alloc, want.station)?,
+            next: None,
+        })
+    }
+
+    /// A packet with that number and that record.
+    fn pass(&mut self, number: &Option<Seq>, header: &Option<Header<'_>>)
+        ensures { self.new ≡ passed number.now header.now self.old }
+    {
+        if self.is_any || has_codes(&self.network, &self.station, header) {
+            self.next = match number {
+                Some(number) => Some(number.next()),
+                None => None,
+            };
+        }
+    }
+}
+
+/// The number that a packet has behind `SL`.
+fn packet_number(packet: &[u8; 520]) -> Option<Seq>
+    ensures { result ≡ packet_number packet.now }
+{
+    Seq::parse(&packet[2..8])
+}
+
+/// Its record.
+fn packet_record(packet: &[u8; 520]) -> &[u8; 512]
+    ensures { result.now ≡ slice_range packet.now 8 520 }
+{
+    packet[8..520].as_array().unwrap()
+}
+
+/// What its record says, if it can be read.
+#[tactic(auto, unfolding(crate::specs::Tallies::packet_facts))]
+fn packet_header(packet: &[u8; 520]) -> Option<Header<'_>>
+    ensures { result ≡ packet_facts packet.now }
+{
+    read(packet_record(packet)).ok()
+}
+
+/// Each of the wants is one that goes on with a packet, or is not.
+fn pass_all(resumes: &mut Vec<Resume>, number: &Option<Seq>, header: &Option<Header<'_>>)
+    ensures { resumes.new.items ≡ map (passed number.now header.now) resumes.old.items }
+{
+    for index in 0..resumes.len() {
+        let resume = &mut resumes[index];
+        resume.pass(number, header);
+    }
+}
+
+/// Where wants go on before the first packet.
+fn put_resumes(
+    alloc: Global,
+    resumes: &mut Vec<Resume>,
+    is_any: bool,
+    wants: &[Want<'_>],
+) -> Result<(), AllocError>
+    ensures { OnOk result (resumes.new.items ≡ resumes.old.items ++ map (resume_of is_any) wants.now) }
+{
+    for want in wants {
+        resumes.push(Resume::new(alloc, is_any, want)?)?;
+    }
+    Ok(())
+}
+
+/// How many packets were given, and where each want goes on.
+#[derive(Drop)]
+pub(crate) struct Tally {
+    records: u64,
+    resumes: Vec<Resume>,
+}
+
+impl Model for Tally {
+    ghost use Rattle.slreader.specs.Tallies.{TallyValue};
+
+    ghost Value = { TallyValue };
+
+    ghost view = { λ t. record { records = t.records; resumes = t.resumes.items } };
+}
+
+impl Tally {
+    ghost use Rattle.slreader.specs.Tallies.{counted, next_of, tally_of};
+    ghost use Rattle.slreader.specs.Views.{plan_value};
+
+    /// Before the first packet.
+    pub(crate) fn new(alloc: Global, plan: &Plan<'_>) -> Result<Tally, AllocError>
+        ensures { IfOk result (λ t. t ≡ tally_of (plan_value plan.now)) }
+    {
+        let mut resumes = Vec::new(alloc);
+        match plan {
+            Plan::Uni(want) => resumes.push(Resume::new(alloc, true, want)?)?,
+            Plan::Multi(wants) => put_resumes(alloc, &mut resumes, false, wants)?,
+        }
+        Ok(Tally {
+            records: 0,
+            resumes,
+        })
+    }
+
+    /// One packet more.
+    pub(crate) fn count(&mut self, packet: &[u8; 520])
+        ensures { self.new ≡ counted self.old packet.now }
+    {
+        self.records = self.records.saturating_add(1);
+        pass_all(
+            &mut self.resumes,
+            &packet_number(packet),
+            &packet_header(packet),
+        );
+    }
+
+    /// How many packets were given, at most 2^64 - 1.
+    pub(crate) fn records(&self) -> u64
+        ensures { result ≡ self.now.records }
+    {
+        self.records
+    }
+
+    /// Where a want goes on.
+    pub(crate) fn next(&self, want: usize) -> Option<Seq>
+        ensures { result ≡ next_of self.now want }
+    {
+        match self.resumes.get(want) {
+            Some(resume) => resume.next,
+            None => None,
+        }
+    }
+}

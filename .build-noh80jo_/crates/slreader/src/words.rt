@@ -1,0 +1,141 @@
+//! Words that spell wants.
+ghost use Rattle.std.specs.Prelude.{◌≡◌, ◌==◌, ◌∷◌, ◌<◌, [], length, Some, IfSome, IfOk, IfErr, MatchOption};
+ghost use Rattle.std.specs.Option.{option_copied};
+ghost use Rattle.protocol.specs.Pieces.{split};
+ghost use Rattle.slreader.specs.WantTexts.{action_value, texts};
+ghost use Rattle.slreader.specs.Words.{action_of, front_of, number_behind, patterns_of, place_of, rest_of, want_of, IsNoWant};
+
+use crate::fault::ReaderFault;
+use crate::want::{Action, Want};
+use sl_packet::Seq;
+use std::alloc::{AllocError, Global};
+
+/// A text cut at its first separator.
+#[derive(Clone, Copy)]
+struct Cut<'a> {
+    front: &'a [u8],
+    rest: Option<&'a [u8]>,
+}
+
+/// Where the first separator stands.
+fn place_of(separator: u8, text: &[u8]) -> Option<usize>
+    ensures place { result ≡ place_of separator text.now }
+    ensures bound { IfSome result (λ place. place < length text.now) }
+{
+    text.iter().position(|byte| *byte == separator)
+}
+
+/// A text cut at its first separator; all of it where it has none.
+fn cut_at(separator: u8, text: &[u8]) -> Cut<'_>
+    ensures front { result.front.now ≡ front_of separator text.now }
+    ensures rest { option_copied result.rest ≡ rest_of separator text.now }
+{
+    match place_of(separator, text) {
+        Some(place) => Cut {
+            front: &text[..place],
+            rest: Some(&text[place + 1..]),
+        },
+        None => Cut {
+            front: text,
+            rest: None,
+        },
+    }
+}
+
+/// What stands before the first comma of a text and what stands behind it; None where it has none.
+fn cut_at_comma(text: &[u8]) -> Option<(&[u8], &[u8])>
+    ensures { MatchOption result (split (λ b. b == 44) text.now ≡ text.now ∷ [])
+        (λ cut. (split (λ b. b == 44) text.now ≡ cut.0.now ∷ split (λ b. b == 44) cut.1.now) × (length cut.1.now < length text.now)) }
+{
+    let comma = place_of(b',', text)?;
+    Some((&text[..comma], &text[comma + 1..]))
+}
+
+/// The texts that commas separate.
+fn pieces_of<'a>(alloc: Global, text: &'a [u8]) -> Result<Vec<&'a [u8]>, AllocError>
+    ensures { IfOk result (λ pieces. texts pieces.items ≡ split (λ b. b == 44) text.now) }
+{
+    let mut pieces = Vec::new(alloc);
+    let mut left = text;
+    'commas: while let Some((piece, rest)) = cut_at_comma(left) {
+        pieces.push(piece)?;
+        left = rest;
+    }
+    pieces.push(left)?;
+    Ok(pieces)
+}
+
+/// The texts of patterns, where there are some.
+fn patterns_of<'a>(alloc: Global, list: Option<&'a [u8]>) -> Result<Vec<&'a [u8]>, AllocError>
+    ensures { IfOk result (λ pieces. texts pieces.items ≡ patterns_of (option_copied list.entry)) }
+{
+    match list {
+        Some(list) => pieces_of(alloc, list),
+        None => Ok(Vec::new(alloc)),
+    }
+}
+
+/// The number behind `@`, if there is one; None where its digits are none of a number.
+fn number_behind(digits: Option<&[u8]>) -> Option<Option<Seq>>
+    ensures { result ≡ number_behind (option_copied digits.entry) }
+{
+    match digits {
+        Some(digits) => Some(Some(Seq::parse(digits)?)),
+        None => Some(None),
+    }
+}
+
+/// DATA, or FETCH.
+fn action_of(is_fetch: bool, number: Option<Seq>) -> Action<'static>
+    ensures { action_value result ≡ action_of is_fetch number }
+{
+    if is_fetch {
+        Action::Fetch {
+            number,
+            begin: None,
+        }
+    } else {
+        Action::Data {
+            number,
+            begin: None,
+        }
+    }
+}
+
+impl<'a> Want<'a> {
+    /// The want that a word spells: the network and the station, joined by `_`; then possibly `:` and patterns,
+    /// joined by commas; then possibly `@` and a number of 1 to 6 hexadecimal digits, from which on its records are
+    /// wanted. So `GE_WLF:BH?,!E@0000A3`. The action is FETCH, or DATA.
+    ///
+    /// It fails with Limit where the word spells no want that can be asked for, and with OutOfMemory only where there
+    /// is no memory for the patterns.
+    #[tactic(auto, unfolding(crate::specs::Words::want_of))]
+    pub fn parse(alloc: Global, word: &'a [u8], is_fetch: bool) -> Result<Want<'a>, ReaderFault>
+        ensures want { IfOk result (λ want. want_of is_fetch word.now ≡ Some want) }
+        ensures fault { IfErr result (λ fault. IsNoWant fault (want_of is_fetch word.now)) }
+    {
+        let numbered = cut_at(b'@', word);
+        let selected = cut_at(b':', numbered.front);
+        let codes = cut_at(b'_', selected.front);
+        let Some(number) = number_behind(numbered.rest) else {
+            return Err(ReaderFault::Limit);
+        };
+        let Some(station) = codes.rest else {
+            return Err(ReaderFault::Limit);
+        };
+        let Ok(patterns) = patterns_of(alloc, selected.rest) else {
+            return Err(ReaderFault::OutOfMemory);
+        };
+        let want = Want {
+            network: codes.front,
+            station,
+            patterns,
+            action: action_of(is_fetch, number),
+        };
+        if want.is_spellable() {
+            Ok(want)
+        } else {
+            Err(ReaderFault::Limit)
+        }
+    }
+}

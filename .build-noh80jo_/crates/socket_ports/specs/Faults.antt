@@ -1,0 +1,12 @@
+-- The numbers and names by which the program reports that it can't listen.
+use Rattle.std.specs.Prelude.{ℕ, List, codes}
+use Rattle.socket_ports.specs.declared.fault.ListenFault.{ListenFault}
+use Rattle.socket_ports.specs.declared.fault.ListenFault.TheVariants.{OutOfMemory, Listen}
+
+abbrev pub listen_fault_number : ListenFault → ℕ
+listen_fault_number OutOfMemory = 25
+listen_fault_number Listen = 46
+
+abbrev pub listen_fault_name : ListenFault → List ℕ
+listen_fault_name OutOfMemory = codes "OutOfMemory"
+listen_fault_name Listen = codes "Listen"

@@ -1,0 +1,16 @@
+-- What a read from the system gives, and what a write to it takes.
+use Rattle.std.specs.Prelude.{ℕ, ◌≤◌}
+use Rattle.socket_ports.specs.declared.connection.Receipt.{Receipt}
+use Rattle.socket_ports.specs.declared.connection.Receipt.TheVariants.{Bytes}
+use Rattle.socket_ports.specs.declared.connection.Sent.{Sent}
+use Rattle.socket_ports.specs.declared.connection.Sent.TheVariants.{Took}
+
+-- 1 to so many bytes, or none
+abbrev pub IsReceived : Receipt → ℕ → Type 0
+IsReceived (Bytes count) most = (1 ≤ count) × (count ≤ most)
+IsReceived _ most = Unit {0}
+
+-- at most so many bytes, or none
+abbrev pub IsSent : Sent → ℕ → Type 0
+IsSent (Took count) most = count ≤ most
+IsSent _ most = Unit {0}

@@ -1,0 +1,31 @@
+//! Why no sockets can be listened on.
+ghost use Rattle.std.specs.Prelude.{◌≡◌};
+ghost use Rattle.socket_ports.specs.Faults.{listen_fault_number, listen_fault_name};
+
+use protocol::report::Report;
+use thiserror::Error;
+
+/// Why no sockets can be listened on.
+#[derive(Clone, Copy, Debug, PartialEq, Eq, Drop, Error)]
+pub enum ListenFault {
+    /// Out of memory.
+    #[error("out of memory")]
+    OutOfMemory,
+    /// An address can't be listened on: its port is taken, it is not an address of this machine, or the system lets the
+    /// program have no socket.
+    #[error("an address can't be listened on")]
+    Listen,
+}
+
+impl ListenFault {
+    /// The number and the name by which the program reports it: 25 or 46.
+    pub fn report(self) -> Report
+        ensures number { result.number ≡ listen_fault_number self }
+        ensures name { result.name.now ≡ listen_fault_name self }
+    {
+        match self {
+            ListenFault::OutOfMemory => Report::new(25, "OutOfMemory"),
+            ListenFault::Listen => Report::new(46, "Listen"),
+        }
+    }
+}

@@ -1,0 +1,94 @@
+//! Ports over sockets.
+ghost use Rattle.std.specs.Prelude.{◌≡◌, ◌<◌, [], ◌∷◌, length, None};
+ghost use Rattle.sl_io.specs.Counts.{CountsFailure};
+ghost use Rattle.ports.specs.Calls.{Tells, given, IsGiven, IsTaken};
+ghost use Rattle.ports.specs.Calls.Call.{Next};
+ghost use Rattle.socket_ports.specs.Numbers.{TellsOpenPorts, numbers};
+
+use crate::fault::ListenFault;
+use crate::sockets::Sockets;
+use ports::{Got, Happening, PortFault, Ports, Put};
+use std::alloc::Global;
+use std::net::{Net, SocketAddrV4};
+
+/// Ports over sockets. They tell nothing of their calls.
+#[derive(Drop)]
+pub struct MioPorts {
+    sockets: Sockets,
+    bound: (u16, u16),
+    failures: u64,
+}
+
+impl MioPorts {
+    /// Listens at two addresses, for clients and for feeds. For port 0 the system chooses one.
+    ///
+    /// It fails with OutOfMemory only if there is no memory, and with Listen if an address can't be listened on.
+    pub fn listen(
+        rt: &impl Net,
+        alloc: Global,
+        clients: SocketAddrV4,
+        feeds: SocketAddrV4,
+    ) -> Result<MioPorts, ListenFault> {
+        let sockets = Sockets::listen(rt, alloc, clients, feeds)?;
+        let bound = sockets.bound()?;
+        Ok(MioPorts {
+            sockets,
+            bound,
+            failures: 0,
+        })
+    }
+
+    /// The ports that are listened on, for clients and for feeds.
+    pub fn bound(&self) -> (u16, u16)
+        ensures { result ≡ self.now.bound }
+    {
+        self.bound
+    }
+
+    /// Sends the bytes that were taken and not sent yet, as long as somebody takes them, for five seconds at most.
+    pub fn finish(&mut self)
+        ensures { self.new.failures ≡ self.old.failures }
+    {
+        self.sockets.finish();
+    }
+}
+
+impl Ports for MioPorts {
+    ghost calls = { λ _. None };
+
+    ghost failures = { λ s. s.failures };
+
+    /// What happened next. A new port has a number that no port had before, and Readable and Writable are told of open ports
+    /// alone.
+    fn next(&mut self) -> Result<Happening, PortFault>
+        ensures call { Tells None None (Next result ∷ []) }
+        ensures failure { CountsFailure self.old.failures self.new.failures result }
+        ensures numbers { TellsOpenPorts self.old.sockets.joined self.new.sockets.joined (numbers self.new.sockets.connections.items) result }
+    {
+        let answer = self.sockets.next();
+        if answer.is_err() {
+            self.failures = self.failures.wrapping_add(1);
+        }
+        answer
+    }
+
+    fn read(&mut self, port: u64, buffer: &mut [u8]) -> Result<Got, PortFault> {
+        let answer = self.sockets.read(port, buffer);
+        if answer.is_err() {
+            self.failures = self.failures.wrapping_add(1);
+        }
+        answer
+    }
+
+    fn write(&mut self, port: u64, bytes: &[u8]) -> Result<Put, PortFault> {
+        let answer = self.sockets.write(port, bytes);
+        if answer.is_err() {
+            self.failures = self.failures.wrapping_add(1);
+        }
+        answer
+    }
+
+    fn shut(&mut self, port: u64) {
+        self.sockets.shut(port);
+    }
+}

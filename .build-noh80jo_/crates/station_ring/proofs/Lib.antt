@@ -1,0 +1,4 @@
+pub mod Holdings
+pub mod Numbers
+pub mod Reaching
+pub mod Growing

@@ -1,0 +1,14 @@
+pub mod Positions
+pub mod Wants
+pub mod Nexts
+pub mod Packets
+pub mod Keeping
+pub mod Leading
+pub mod Scanning
+pub mod Passing
+pub mod Resting
+pub mod Found
+pub mod Beginning
+pub mod Going
+pub mod Asked
+pub mod Waits

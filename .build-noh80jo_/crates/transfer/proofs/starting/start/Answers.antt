@@ -1,0 +1,43 @@
+use Rattle.std.proofs.Common.{◌≡◌, ◌∙◌, ◌<◌, ◌≤◌, arith, length, slice_index_or, subst, ap, sym}
+use Rattle.session_state.specs.Choices.{chosen_of}
+use Rattle.session_state.specs.Sessions.{Sitting}
+use Rattle.transfer.specs.Cursors.{BeginsIn, OfAll}
+use Rattle.transfer.proofs.Beginning.{client-same, starts-passed}
+use Rattle.transfer.proofs.Keeping.{all-begin, has-firsts, keeps-on, one-begin, one-first}
+use Rattle.transfer.proofs.starting.start.Goals as goal
+
+pub loop-i-preserved : goal.loop-i-preserved
+loop-i-preserved c =
+    let within : c.loop-i.i < length (chosen_of c.loop-i.session.mode) = omega (arith, c.loop-i-test.true, c.loop-i.invariant.2, c.loop-i.invariant.0.count) in (
+      keeps-on c.args.rings.now c.loop-i.session c.keep.new.self c.args.session.now c.loop-i.i c.first_of-first.result c.requires c.keep.ensures
+          (one-first c.args.rings.now (chosen_of c.loop-i.session.mode) c.loop-i.i c.first_of-first.result c.index-choices-i.result within (subst (λ cs. c.index-choices-i.result ≡ slice_index_or cs c.loop-i.i c.index-choices-i.result) c.choices.ensures c.index-choices-i.is) c.first_of-first.ensures.first)
+          (one-begin c.args.rings.now (chosen_of c.loop-i.session.mode) c.loop-i.i c.first_of-first.result c.index-choices-i.result within (subst (λ cs. c.index-choices-i.result ≡ slice_index_or cs c.loop-i.i c.index-choices-i.result) c.choices.ensures c.index-choices-i.is) c.first_of-first.ensures.before)
+          c.loop-i.invariant.0,
+      omega (arith, c.loop-i-test.true),
+      c.loop-i.invariant.2,
+    )
+
+pub returns-clause-client : goal.returns-clause-client
+returns-clause-client c = λ config h holds.
+    let all : length (chosen_of c.args.session.now.mode) ≤ c.loop-i.i = omega (arith, c.loop-i-test.false, c.loop-i.invariant.2) in
+    client-same config h c.place_cursors.new.session c.enter.new.self c.place_cursors.ensures.same
+    ∙ c.enter.ensures.client config h (has-firsts c.args.rings.now c.loop-i.session c.args.session.now c.loop-i.i all c.loop-i.invariant.0 config h holds)
+    ∙ c.loop-i.invariant.0.same config h
+
+pub returns-clause-passed : goal.returns-clause-passed
+returns-clause-passed c =
+    let all : length (chosen_of c.args.session.now.mode) ≤ c.loop-i.i = omega (arith, c.loop-i-test.false, c.loop-i.invariant.2) in
+    starts-passed c.args.rings.now c.place_cursors.new.session c.place_cursors.ensures.starts
+    (c.place_cursors.ensures.begin (subst (λ (s : Sitting). OfAll (BeginsIn c.args.rings.now) (chosen_of s.mode)) (sym c.enter.ensures.state) (all-begin c.args.rings.now c.loop-i.session c.args.session.now c.loop-i.i all c.loop-i.invariant.0)))
+
+pub returns-clause-state : goal.returns-clause-state
+returns-clause-state c = ap (λ (s : Sitting). s.state) c.place_cursors.ensures.same ∙ ap (λ (s : Sitting). s.state) c.enter.ensures.state
+
+pub returns-clause-places : goal.returns-clause-places
+returns-clause-places c = ap (λ (s : Sitting). s.places) c.place_cursors.ensures.same ∙ ap (λ (s : Sitting). s.places) c.enter.ensures.state ∙ c.loop-i.invariant.0.places
+
+pub returns-clause-unread : goal.returns-clause-unread
+returns-clause-unread c = ap (λ (s : Sitting). s.unread) c.place_cursors.ensures.same ∙ ap (λ (s : Sitting). s.unread) c.enter.ensures.state ∙ c.loop-i.invariant.0.unread
+
+pub returns-clause-waiting : goal.returns-clause-waiting
+returns-clause-waiting c = ap (λ (s : Sitting). s.waiting) c.place_cursors.ensures.same ∙ ap (λ (s : Sitting). s.waiting) c.enter.ensures.state ∙ c.loop-i.invariant.0.waiting

@@ -1,0 +1,54 @@
+-- What an offer in a transfer leads to.
+use Rattle.std.specs.Prelude.{◌≡◌, ℕ, ◌<◌, Bool, true, false, if◌then◌else◌, nat_le, nat_lt, List, length, Option, Some, None, slice_get}
+use Rattle.protocol.specs.Catalog.{Config, Station}
+use Rattle.protocol.specs.History.{Arrival, is_over_by}
+use Rattle.held_records.specs.Holdings.{Holdings, IsArrival}
+use Rattle.station_ring.specs.Rings.{Holding}
+use Rattle.transfer.specs.Wanting.{HoldsRecord}
+use Rattle.catalog.specs.Places.{station_at}
+use Rattle.session_state.specs.declared.choices.Action.{Action}
+use Rattle.session_state.specs.Choices.{action_value}
+use Rattle.session_state.specs.declared.session.State.{State}
+use Rattle.session_state.specs.declared.session.State.TheVariants.{Transfer}
+use Rattle.station_ring.specs.declared.held.Held.{Held}
+use Rattle.transfer.specs.declared.choosing.Chosen.{Chosen}
+use Rattle.transfer.specs.declared.choosing.Chosen.TheVariants.{Packet, Nothing, Complete}
+
+-- It is a transfer that has started.
+abbrev pub is_transfer : State → Bool
+is_transfer (Transfer next) = true
+is_transfer _ = false
+
+-- by the position that comes next, where one does, and whether all was sent
+abbrev pub answer_of : Option ℕ → (complete : Bool) → Chosen
+answer_of (Some p) complete = Packet
+answer_of None true = Complete
+answer_of None false = Nothing
+
+-- Nothing more can come for a named station; a station without an action is no request.
+abbrev pub is_over_of : List Arrival → Station → Option Action → Bool
+is_over_of h s None = true
+is_over_of h s (Some action) = is_over_by s h (action_value action)
+
+-- A held record is an arrival of some station that is there, and has that number.
+pub record IsArrived (config : Config) (h : List Arrival) (number : ℕ) (x : Held) : Type 0 where
+  pub place : ℕ
+  pub is_there : place < length config.entries
+  pub arrives : IsArrival (station_at config.entries place) h number x
+
+-- The ring of a station holds a record at a place, which arrived at that position.
+pub record HoldsThere (rings : Holdings) (station place position : ℕ) : Type 0 where
+  pub ring : Holding
+  pub ring_there : slice_get rings.rings station ≡ Some ring
+  pub holds : HoldsRecord ring place position
+
+-- the lesser of two positions, where both are there
+abbrev pub least_of : Option ℕ → Option ℕ → Option ℕ
+least_of None b = b
+least_of (Some p) None = Some p
+least_of (Some p) (Some q) = if nat_le p q then Some p else Some q
+
+-- Whether a position is less than the one that was found so far, where one was.
+abbrev pub comes_before : Option ℕ → ℕ → Bool
+comes_before None p = true
+comes_before (Some best) p = nat_lt p best

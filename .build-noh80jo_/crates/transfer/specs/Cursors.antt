@@ -1,0 +1,104 @@
+-- How far the requests of a transfer have come in the rings of their stations. A cursor is a place before which a request wants
+-- nothing more.
+-- SeedLink 3, DATA, FETCH and TIME. Left out: how a cursor is moved.
+use Rattle.std.specs.Prelude.{◌≡◌, ℕ, ◌<◌, ◌≤◌, Bool, true, false, int_lt, if◌then◌else◌, is_some, List, [], ◌∷◌, Option, Some, None, slice_get}
+use Rattle.station_ring.specs.declared.held.Held.{Held}
+use Rattle.station_ring.specs.Rings.{Holding, first_place, held_at}
+use Rattle.held_records.specs.Holdings.{Holdings, IsBefore, place_from}
+use Rattle.session_state.specs.declared.choices.Action.{Action}
+use Rattle.session_state.specs.declared.choices.Action.TheVariants.{Data, Fetch, Time}
+use Rattle.session_state.specs.declared.choices.Choice.{Choice}
+use Rattle.session_state.specs.declared.choices.Cursor.{Cursor}
+use Rattle.session_state.specs.declared.modes.Mode.{Mode}
+use Rattle.session_state.specs.declared.session.State.TheVariants.{Transfer}
+use Rattle.session_state.specs.Choices.{chosen_of}
+use Rattle.session_state.specs.Sessions.{Sitting}
+use Rattle.transfer.specs.Wanting.{wants_held}
+
+-- The record starts after the end of TIME, where one is asked.
+abbrev pub is_after_end : Option Action → Held → Bool
+is_after_end None x = false
+is_after_end (Some (Data number begin)) x = false
+is_after_end (Some (Fetch number begin)) x = false
+is_after_end (Some (Time begin None)) x = false
+is_after_end (Some (Time begin (Some last))) x = int_lt last x.summary.start
+
+-- ---- where a request begins
+
+-- the place in its ring at which a request begins: the next record's, that of a number, or the oldest
+abbrev pub begin_place : Holding → Action → ℕ
+begin_place r (Data None begin) = r.pushes
+begin_place r (Data (Some number) begin) = place_from r number
+begin_place r (Fetch None begin) = first_place r
+begin_place r (Fetch (Some number) begin) = place_from r number
+begin_place r (Time begin last) = first_place r
+
+-- What a station's ring holds before the place at which its request begins arrived before the first that the request wants.
+pub record BeginsIn (rings : Holdings) (c : Choice) : Type 0 where
+  pub before : (r : Holding) (action : Action) → slice_get rings.rings c.place ≡ Some r → c.action ≡ Some action → IsBefore r (begin_place r action) c.first
+
+-- The cursor of a request is at the place at which it begins.
+pub record IsAtBegin (r : Holding) (action : Action) (cursor : Cursor) : Type 0 where
+  pub place : cursor.place ≡ begin_place r action
+  pub after_end : cursor.after_end ≡ None
+  pub within : cursor.place ≤ r.pushes
+
+pub record StartsIn (rings : Holdings) (c : Choice) : Type 0 where
+  pub starts : (r : Holding) (action : Action) → slice_get rings.rings c.place ≡ Some r → c.action ≡ Some action → IsAtBegin r action c.cursor
+
+-- ---- what a request has passed
+
+-- A record that starts after the end was passed at this place or a later one, and the cursor tells the last of them.
+pub record IsTold (cursor : Cursor) (place : ℕ) : Type 0 where
+  pub last : ℕ
+  pub is : cursor.after_end ≡ Some last
+  pub from : place ≤ last
+
+-- No record that the ring holds before the cursor is wanted, of those from position `next` on; and the cursor tells the last place
+-- before it whose record starts after the end of TIME.
+pub record HasPassed (r : Holding) (next : ℕ) (c : Choice) (cursor : Cursor) : Type 0 where
+  pub within : cursor.place ≤ r.pushes
+  pub unwanted : (place : ℕ) (x : Held) → place < cursor.place → held_at r place ≡ Some x → wants_held c next x ≡ false
+  pub told : (place : ℕ) (x : Held) → place < cursor.place → held_at r place ≡ Some x → is_after_end c.action x ≡ true → IsTold cursor place
+  pub before : (place : ℕ) → cursor.after_end ≡ Some place → place < cursor.place
+  pub after : (place : ℕ) (x : Held) → cursor.after_end ≡ Some place → held_at r place ≡ Some x → is_after_end c.action x ≡ true
+
+-- Besides, the cursor is not before the oldest record, and the request wants the record at the cursor, where one is there.
+pub record RestsAt (r : Holding) (next : ℕ) (c : Choice) (cursor : Cursor) : Type 0 where
+  pub passed : HasPassed r next c cursor
+  pub low : first_place r ≤ cursor.place
+  pub wanted : (x : Held) → held_at r cursor.place ≡ Some x → wants_held c next x ≡ true
+
+-- the same of a named station that is asked for something, in its ring
+pub record PassedIn (rings : Holdings) (next : ℕ) (c : Choice) : Type 0 where
+  pub passed : (r : Holding) (action : Action) → slice_get rings.rings c.place ≡ Some r → c.action ≡ Some action → HasPassed r next c c.cursor
+
+pub record RestsIn (rings : Holdings) (next : ℕ) (c : Choice) : Type 0 where
+  pub rests : (r : Holding) (action : Action) → slice_get rings.rings c.place ≡ Some r → c.action ≡ Some action → RestsAt r next c c.cursor
+
+-- All records of the station were passed.
+pub record IsReached (rings : Holdings) (c : Choice) : Type 0 where
+  pub reached : (r : Holding) (action : Action) → slice_get rings.rings c.place ≡ Some r → c.action ≡ Some action → c.cursor.place ≡ r.pushes
+
+-- ---- of all requests
+
+-- It is true of each named station.
+abbrev pub OfAll : (Choice → Type 0) → List Choice → Type 0
+OfAll P cs = (i : ℕ) (c : Choice) → slice_get cs i ≡ Some c → P c
+
+-- A session in a transfer has passed nothing that it may still want.
+pub record PassesUnwanted (rings : Holdings) (s : Sitting) : Type 0 where
+  pub passed : (next : ℕ) → s.state ≡ Transfer next → OfAll (PassedIn rings next) (chosen_of s.mode)
+
+-- the same; contracts need not look into it
+unfoldable pub ArePassed : Holdings → Sitting → Type 0
+ArePassed rings s = PassesUnwanted rings s
+
+-- the cursors of the requests, those of the named stations that are asked for something
+abbrev pub request_cursors : List Choice → List ℕ
+request_cursors [] = []
+request_cursors (c ∷ cs) = if is_some c.action then c.cursor.place ∷ request_cursors cs else request_cursors cs
+
+-- the same of a session's mode
+abbrev pub cursors_of : Mode → List ℕ
+cursors_of mode = request_cursors (chosen_of mode)

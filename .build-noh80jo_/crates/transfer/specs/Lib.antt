@@ -1,0 +1,5 @@
+pub mod Wanting
+pub mod Choosing
+pub mod Cursors
+pub mod Founds
+pub mod Sleeping

@@ -1,0 +1,267 @@
+//! What is sent next.
+ghost use Rattle.std.specs.Prelude.{◌≡◌, ◌≢◌, ◌≤◌, ◌<◌, ◌+◌, [], ◌∷◌, List, ℕ, codes, slice_get, filter_map, option_map, IfSome, Some, None, true, false, not, ℤ, Option};
+ghost use Rattle.std.specs.List.{list_all};
+ghost use Rattle.protocol.specs.Catalog.{Config as ProtocolConfig};
+ghost use Rattle.protocol.specs.History.{Arrival, next as next_position, is_over, holds_after};
+ghost use Rattle.protocol.specs.Client.{is_nothing, offered};
+ghost use Rattle.catalog.specs.Places.{station_at};
+ghost use Rattle.protocol.specs.Packet.{packet};
+ghost use Rattle.station_ring.specs.declared.held.Held.{Held};
+ghost use Rattle.station_ring.specs.Rings.{Holding, held_at, number_at};
+ghost use Rattle.held_records.specs.Holdings.{holdings_of};
+ghost use Rattle.session_state.specs.Choices.{all_at_start, chosen_of, request_in};
+ghost use Rattle.session_state.specs.Sessions.{client_in, but_for_cursors};
+ghost use Rattle.session_state.specs.declared.session.State.TheVariants.{Starting, Transfer, Ending};
+ghost use Rattle.session_state.specs.declared.choices.Action.TheVariants.{Time};
+ghost use Rattle.transfer.specs.declared.choosing.Chosen.TheVariants.{Packet, Nothing, Complete};
+ghost use Rattle.transfer.specs.Cursors.{ArePassed, IsReached, OfAll, PassedIn, RestsIn};
+ghost use Rattle.transfer.specs.Sleeping.{HasNothing, MayCome, MoreMayCome, Sleeps, starts_after};
+ghost use Rattle.transfer.specs.Choosing.{answer_of, is_over_of, comes_before, is_transfer, HoldsThere};
+
+use crate::wanting::{Candidate, at_cursor, cursor_in, has_passed_its_end};
+use catalog::Config;
+use held_records::{Rings, arrivals_by_place, held_in_the_ring};
+use session_state::{Action, Choice, Cursor, Session, State};
+use sl_packet::frame;
+
+/// What an offer in a transfer leads to.
+#[derive(Clone, Copy, Debug, PartialEq, Eq)]
+pub enum Chosen {
+    /// A packet waits.
+    Packet,
+    /// There is nothing to send now.
+    Nothing,
+    /// All was sent: `END` waits, and the session is in its end.
+    Complete,
+}
+
+/// How far the request for a named station comes that passes what it doesn't want.
+fn cursor_of(choice: &Choice, rings: &Rings, next: u64) -> Cursor
+    ensures { PassedIn rings.now next choice.now → RestsIn rings.now next (record choice.now { cursor = result }) }
+{
+    if choice.action.is_none() {
+        return choice.cursor;
+    }
+    match rings.ring(choice.place) {
+        Some(ring) => cursor_in(ring, choice, next),
+        None => choice.cursor,
+    }
+}
+
+/// Each request passes what it doesn't want.
+fn pass_unwanted(session: &mut Session, rings: &Rings, next: u64)
+    ensures same { but_for_cursors session.new ≡ but_for_cursors session.old }
+    ensures rest { OfAll (PassedIn rings.now next) (chosen_of session.old.mode) → OfAll (RestsIn rings.now next) (chosen_of session.new.mode) }
+{
+    let count = session.choices().len();
+    for i in 0..count {
+        let cursor = cursor_of(&session.choices()[i], rings, next);
+        session.pass(i, cursor);
+    }
+}
+
+/// The first held record of a named station that is wanted, where its request has passed what it doesn't want.
+fn candidate(choice: &Choice, rings: &Rings) -> Option<Candidate>
+    ensures position { (next : ℕ) → RestsIn rings.now next choice.now → (config : ProtocolConfig) (h : List Arrival) → rings.now ≡ holdings_of config h →
+        option_map (λ c. c.position) result ≡ next_position h (filter_map (request_in config) (choice.now ∷ [])) next }
+    ensures late { (next : ℕ) → RestsIn rings.now next choice.now → IfSome result (λ c. next ≤ c.position) }
+    ensures none { (next : ℕ) → RestsIn rings.now next choice.now → result ≡ None → HasNothing rings.now next choice.now }
+    ensures held { IfSome result (λ c. HoldsThere rings.now c.station c.place c.position) }
+{
+    held_in_the_ring();
+    if choice.action.is_none() {
+        return None;
+    }
+    let ring = rings.ring(choice.place)?;
+    at_cursor(ring, choice)
+}
+
+/// Whether an arrival came before the one that was found so far, where one was.
+fn comes_before(position: u64, best: &Option<Candidate>) -> bool
+    ensures { result ≡ comes_before (option_map (λ c. c.position) best.now) position }
+{
+    match best {
+        Some(best) => position < best.position,
+        None => true,
+    }
+}
+
+/// Of all held records that some request wants, from the arrival `next` on, the one that came first, where the requests have
+/// passed what they don't want.
+fn earliest(choices: &[Choice], rings: &Rings) -> Option<Candidate>
+    ensures position { (next : ℕ) → OfAll (RestsIn rings.now next) choices.now → (config : ProtocolConfig) (h : List Arrival) → rings.now ≡ holdings_of config h →
+        option_map (λ c. c.position) result ≡ next_position h (filter_map (request_in config) choices.now) next }
+    ensures late { (next : ℕ) → OfAll (RestsIn rings.now next) choices.now → IfSome result (λ c. next ≤ c.position) }
+    ensures none { (next : ℕ) → OfAll (RestsIn rings.now next) choices.now → result ≡ None → OfAll (HasNothing rings.now next) choices.now }
+    ensures held { IfSome result (λ c. HoldsThere rings.now c.station c.place c.position) }
+{
+    let mut best = None;
+    for choice in choices {
+        if let Some(found) = candidate(choice, rings) {
+            if comes_before(found.position, &best) {
+                best = Some(found);
+            }
+        }
+    }
+    best
+}
+
+/// Whether nothing more can come for a named station whose request has passed all: it is asked for nothing, by FETCH, or by TIME
+/// with an end after which a held record of the station starts.
+fn is_over(choice: &Choice, rings: &Rings) -> bool
+    ensures more { (next : ℕ) → RestsIn rings.now next choice.now → IsReached rings.now choice.now → result ≡ false → MayCome rings.now choice.now }
+    ensures over { (next : ℕ) → RestsIn rings.now next choice.now → IsReached rings.now choice.now → (config : ProtocolConfig) (h : List Arrival) → rings.now ≡ holdings_of config h →
+        result ≡ is_over_of h (station_at config.entries choice.now.place) choice.now.action }
+{
+    match choice.action {
+        None => true,
+        Some(
+            Action::Data {
+                number: _number,
+                begin: _begin,
+            },
+        ) => false,
+        Some(
+            Action::Fetch {
+                number: _number,
+                begin: _begin,
+            },
+        ) => true,
+        Some(
+            Action::Time {
+                begin: _begin,
+                last: None,
+            },
+        ) => false,
+        Some(
+            Action::Time {
+                begin: _begin,
+                last: Some(_last),
+            },
+        ) => is_past_its_end(choice, rings),
+    }
+}
+
+/// Whether a record of a named station is held that starts after the end of TIME, where its request has passed all.
+fn is_past_its_end(choice: &Choice, rings: &Rings) -> bool
+    ensures ring { (next : ℕ) (begin : Option ℤ) (last : ℤ) → choice.now.action ≡ Some (Time begin (Some last)) → RestsIn rings.now next choice.now → IsReached rings.now choice.now →
+        result ≡ starts_after (slice_get rings.now.rings choice.now.place) begin last }
+    ensures history { (next : ℕ) (begin : Option ℤ) (last : ℤ) → choice.now.action ≡ Some (Time begin (Some last)) → RestsIn rings.now next choice.now → IsReached rings.now choice.now → (config : ProtocolConfig) (h : List Arrival) → rings.now ≡ holdings_of config h →
+        result ≡ holds_after (station_at config.entries choice.now.place) last h }
+{
+    match rings.ring(choice.place) {
+        Some(ring) => has_passed_its_end(ring, choice),
+        None => false,
+    }
+}
+
+/// Whether nothing more can come for any request, where all have passed all.
+fn is_complete(choices: &[Choice], rings: &Rings) -> bool
+    ensures more { (next : ℕ) → OfAll (RestsIn rings.now next) choices.now → OfAll (IsReached rings.now) choices.now → result ≡ false → MoreMayCome rings.now choices.now }
+    ensures complete { (next : ℕ) → OfAll (RestsIn rings.now next) choices.now → OfAll (IsReached rings.now) choices.now → (config : ProtocolConfig) (h : List Arrival) → rings.now ≡ holdings_of config h →
+        result ≡ list_all (is_over h) (filter_map (request_in config) choices.now) }
+{
+    for choice in choices {
+        if !is_over(choice, rings) {
+            return false;
+        }
+    }
+    true
+}
+
+/// The packet of a held record is made to wait.
+fn put_packet(session: &mut Session, rings: &Rings, found: Candidate)
+    requires { HoldsThere rings.now found.station found.place found.position }
+    ensures session { (r : Holding) (x : Held) → slice_get rings.now.rings found.station ≡ Some r → held_at r found.place ≡ Some x →
+        session.new ≡ record session.old { state = Transfer (found.position + 1); waiting = packet (number_at r found.place) x.bytes } }
+    ensures capacity { (r : Holding) → slice_get rings.now.rings found.station ≡ Some r → 1 ≤ r.capacity }
+{
+    let _arrivals = rings.arrivals();
+    let Some(ring) = rings.ring(found.station) else {
+        return;
+    };
+    ring.holds_its_last();
+    let Some(held) = ring.get(found.place) else {
+        return;
+    };
+    let packet = frame(ring.number_at(found.place), &held.bytes);
+    session.put(&packet, found.position + 1);
+}
+
+/// In a transfer, while nothing waits: of all held records that some request wants, and that arrived after the last one that was
+/// sent, the packet of the one that arrived first is made to wait. Where there is none and nothing more can come, `END` is made to
+/// wait, and the session is in its end. Else, and in another state, nothing changes but how far the requests have come.
+///
+/// It looks at no record before a request's cursor, and moves each cursor up to the next record that is wanted. What was passed
+/// before has to be unwanted, as it is after `start` and after `choose`, and stays so while records arrive.
+pub fn choose(session: &mut Session, config: &Config, rings: &Rings) -> Chosen
+    requires { session.old.waiting ≡ [] }
+    ensures client { is_transfer session.old.state ≡ true → ArePassed rings.now session.old → (h : List Arrival) → rings.now ≡ holdings_of config.now h →
+        client_in config.now h session.new ≡ offered h (client_in config.now h session.old) }
+    ensures answer { (h : List Arrival) (q : ℕ) → rings.now ≡ holdings_of config.now h → session.old.state ≡ Transfer q → ArePassed rings.now session.old →
+        let requests = filter_map (request_in config.now) (chosen_of session.old.mode) in
+        result ≡ answer_of (next_position h requests q) (list_all (is_over h) requests) }
+    ensures elsewhere { is_transfer session.old.state ≡ false → result ≡ Nothing }
+    ensures unchanged { result ≡ Nothing → but_for_cursors session.new ≡ but_for_cursors session.old }
+    ensures passed { ArePassed rings.now session.old → ArePassed rings.now session.new }
+    ensures reached { is_transfer session.old.state ≡ true → ArePassed rings.now session.old → result ≡ Nothing → OfAll (IsReached rings.now) (chosen_of session.new.mode) }
+    ensures sleeps { is_transfer session.old.state ≡ true → ArePassed rings.now session.old → result ≡ Nothing → Sleeps rings.now session.new }
+    ensures requests { all_at_start session.new.mode ≡ all_at_start session.old.mode }
+    ensures settled { session.old.state ≢ Starting → session.new.state ≢ Starting }
+    ensures places { session.new.places ≡ session.old.places }
+{
+    let State::Transfer(next) = session.state() else {
+        return Chosen::Nothing;
+    };
+    config.codes_are_distinct();
+    arrivals_by_place();
+    pass_unwanted(session, rings, next);
+    match earliest(session.choices(), rings) {
+        Some(found) => {
+            put_packet(session, rings, found);
+            Chosen::Packet
+        }
+        None => end_if_complete(session, rings),
+    }
+}
+
+/// Whether `choose` would find something, in a transfer while nothing waits: a packet, or the end. Nothing changes but how far the
+/// requests have come.
+pub fn finds(session: &mut Session, rings: &Rings) -> bool
+    requires { session.old.waiting ≡ [] }
+    ensures answer { is_transfer session.old.state ≡ true → ArePassed rings.now session.old → (config : ProtocolConfig) (h : List Arrival) → rings.now ≡ holdings_of config h →
+        result ≡ not (is_nothing (offered h (client_in config h session.old)).waiting) }
+    ensures elsewhere { is_transfer session.old.state ≡ false → result ≡ false }
+    ensures same { but_for_cursors session.new ≡ but_for_cursors session.old }
+    ensures passed { ArePassed rings.now session.old → ArePassed rings.now session.new }
+    ensures sleeps { is_transfer session.old.state ≡ true → ArePassed rings.now session.old → result ≡ false → Sleeps rings.now session.new }
+{
+    let State::Transfer(next) = session.state() else {
+        return false;
+    };
+    pass_unwanted(session, rings, next);
+    let found = earliest(session.choices(), rings);
+    match found {
+        Some(_found) => true,
+        None => is_complete(session.choices(), rings),
+    }
+}
+
+/// Where nothing more can come, a transfer ends.
+fn end_if_complete(session: &mut Session, rings: &Rings) -> Chosen
+    ensures complete { (next : ℕ) → OfAll (RestsIn rings.now next) (chosen_of session.old.mode) → OfAll (IsReached rings.now) (chosen_of session.old.mode) → (config : ProtocolConfig) (h : List Arrival) → rings.now ≡ holdings_of config h →
+        result ≡ answer_of None (list_all (is_over h) (filter_map (request_in config) (chosen_of session.old.mode))) }
+    ensures ended { result ≡ Complete → session.new ≡ record session.old { state = Ending; unread = []; waiting = codes "END" } }
+    ensures unchanged { result ≡ Nothing → session.new ≡ session.old }
+    ensures nothing_chosen { result ≢ Packet }
+    ensures more { (next : ℕ) → OfAll (RestsIn rings.now next) (chosen_of session.old.mode) → OfAll (IsReached rings.now) (chosen_of session.old.mode) → result ≡ Nothing →
+        MoreMayCome rings.now (chosen_of session.old.mode) }
+    ensures mode { session.new.mode ≡ session.old.mode }
+{
+    if is_complete(session.choices(), rings) {
+        session.finish();
+        Chosen::Complete
+    } else {
+        Chosen::Nothing
+    }
+}

@@ -1,0 +1,33 @@
+//! How far the requests of a transfer have come.
+ghost use Rattle.std.specs.Prelude.{◌≡◌, ◌<◌, Some, is_some, length, slice_get};
+ghost use Rattle.transfer.specs.Cursors.{cursors_of};
+
+use session_state::{Choice, Session};
+
+/// The cursor of the i-th request of a session in a transfer: the place in its station's ring before which it wants nothing more.
+/// A named station that is asked for nothing is no request.
+///
+/// `start` puts it to the place at which the request begins. After `choose` no record of the station that is held before it is
+/// wanted any more, and where that answered Nothing it is the ring's count of pushes.
+pub fn cursor(session: &Session, i: usize) -> u64
+    requires { i < length (cursors_of session.now.mode) }
+    ensures { Some result ≡ slice_get (cursors_of session.now.mode) i }
+{
+    let mut left = i;
+    for choice in session.choices() {
+        if is_request(choice) {
+            if left == 0 {
+                return choice.cursor.place;
+            }
+            left -= 1;
+        }
+    }
+    0
+}
+
+/// Whether something is asked of a named station.
+fn is_request(choice: &Choice) -> bool
+    ensures { result ≡ is_some choice.now.action }
+{
+    choice.action.is_some()
+}

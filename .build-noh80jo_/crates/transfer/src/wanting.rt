@@ -1,0 +1,201 @@
+//! Which held records a request wants.
+ghost use Rattle.std.specs.Prelude.{◌≡◌, ◌≤◌, ℕ, find, option_map, IfSome, Some, None, is_some};
+ghost use Rattle.std.specs.List.{list_any};
+ghost use Rattle.protocol.specs.History.{ends_from, starts_by};
+ghost use Rattle.station_ring.specs.declared.held.Held.{Held as HeldValue};
+ghost use Rattle.station_ring.specs.Rings.{held_at};
+ghost use Rattle.transfer.specs.Wanting.{facts_of, is_in_window_of, wants_held, HoldsRecord};
+ghost use Rattle.transfer.specs.Cursors.{is_after_end, HasPassed, RestsAt};
+ghost use Rattle.transfer.specs.Founds.{found_of};
+
+use session_state::{Action, Choice, Cursor};
+use sl_time::Tick;
+use station_ring::{Held, Ring, Summary};
+
+/// Whether a record's end is not before a moment, where one is given.
+fn ends_from(begin: Option<Tick>, summary: &Summary) -> bool
+    ensures { result ≡ ends_from begin (facts_of summary.now) }
+{
+    match begin {
+        Some(begin) => begin.value() <= summary.stop.value(),
+        None => true,
+    }
+}
+
+/// Whether a record's start is not after a moment, where one is given.
+fn starts_by(last: Option<Tick>, summary: &Summary) -> bool
+    ensures { result ≡ starts_by last (facts_of summary.now) }
+{
+    match last {
+        Some(last) => summary.start.value() <= last.value(),
+        None => true,
+    }
+}
+
+/// Whether a record lies within what is asked of its station; where nothing is asked none does.
+fn is_in_window(choice: &Choice, summary: &Summary) -> bool
+    ensures { result ≡ is_in_window_of choice.now.action (facts_of summary.now) }
+{
+    match choice.action {
+        None => false,
+        Some(
+            Action::Data {
+                number: _number,
+                begin,
+            },
+        ) => ends_from(begin, summary),
+        Some(
+            Action::Fetch {
+                number: _number,
+                begin,
+            },
+        ) => ends_from(begin, summary),
+        Some(Action::Time { begin, last }) => ends_from(begin, summary) && starts_by(last, summary),
+    }
+}
+
+/// Whether the request for a named station wants a held record, where `next` is the first arrival that may still be sent.
+fn wants(choice: &Choice, next: u64, held: &Held) -> bool
+    ensures { result ≡ wants_held choice.now next held.now }
+{
+    next <= held.stamp
+        && choice.first <= held.stamp
+        && choice.selectors.passes(
+            &held.summary.location,
+            &held.summary.channel,
+            held.summary.kind,
+        )
+        && is_in_window(choice, &held.summary)
+}
+
+/// A held record: the place of its station in the configuration, its own place in that station's ring, and its position in the
+/// history.
+#[derive(Clone, Copy, Debug, PartialEq, Eq)]
+pub struct Candidate {
+    pub station: usize,
+    pub place: u64,
+    pub position: u64,
+}
+
+/// Whether a record starts after the end of TIME, where one is asked.
+fn is_after_end(choice: &Choice, summary: &Summary) -> bool
+    ensures { (x : HeldValue) → x.summary ≡ summary.now → result ≡ is_after_end choice.now.action x }
+{
+    match choice.action {
+        None => false,
+        Some(
+            Action::Data {
+                number: _number,
+                begin: _begin,
+            },
+        ) => false,
+        Some(
+            Action::Fetch {
+                number: _number,
+                begin: _begin,
+            },
+        ) => false,
+        Some(
+            Action::Time {
+                begin: _begin,
+                last: None,
+            },
+        ) => false,
+        Some(
+            Action::Time {
+                begin: _begin,
+                last: Some(last),
+            },
+        ) => last.value() < summary.start.value(),
+    }
+}
+
+/// What a request finds at a place of its ring.
+#[derive(Clone, Copy, Debug, PartialEq, Eq)]
+enum Found {
+    /// A record that it wants.
+    Wanted,
+    /// A record that it doesn't want, and that starts after the end of TIME.
+    AfterEnd,
+    /// Another record that it doesn't want.
+    Unwanted,
+}
+
+fn found_at(ring: &Ring, place: u64, choice: &Choice, next: u64) -> Found
+    ensures { (x : HeldValue) → held_at ring.now place ≡ Some x → result ≡ found_of choice.now next x }
+{
+    let Some(held) = ring.get(place) else {
+        return Found::Unwanted;
+    };
+    if wants(choice, next, held) {
+        Found::Wanted
+    } else if is_after_end(choice, &held.summary) {
+        Found::AfterEnd
+    } else {
+        Found::Unwanted
+    }
+}
+
+/// How far a request comes that passes what it doesn't want: to the first record from its cursor on that it wants, else to the
+/// end. A cursor that was overrun goes on at the oldest record.
+pub fn cursor_in(ring: &Ring, choice: &Choice, next: u64) -> Cursor
+    ensures { HasPassed ring.now next choice.now choice.now.cursor → RestsAt ring.now next choice.now result }
+{
+    ring.holds_its_last();
+    let Some(oldest) = ring.oldest() else {
+        return choice.cursor;
+    };
+    let mut after_end = choice.cursor.after_end;
+    let start = choice.cursor.place.max(oldest);
+    for place in start..ring.pushes() {
+        match found_at(ring, place, choice, next) {
+            Found::Wanted => return Cursor { place, after_end },
+            Found::AfterEnd => after_end = Some(place),
+            Found::Unwanted => {}
+        }
+    }
+    Cursor {
+        place: ring.pushes(),
+        after_end,
+    }
+}
+
+/// The record at a request's cursor, where one is there.
+pub fn at_cursor(ring: &Ring, choice: &Choice) -> Option<Candidate>
+    ensures position { (next : ℕ) → RestsAt ring.now next choice.now choice.now.cursor →
+        option_map (λ c. c.position) result ≡ option_map (λ x. x.stamp) (find (wants_held choice.now next) ring.now.held) }
+    ensures late { (next : ℕ) → RestsAt ring.now next choice.now choice.now.cursor → IfSome result (λ c. next ≤ c.position) }
+    ensures none { (next : ℕ) → RestsAt ring.now next choice.now choice.now.cursor → result ≡ None →
+        choice.now.cursor.place ≡ ring.now.pushes }
+    ensures held { IfSome result (λ c. HoldsRecord ring.now c.place c.position) }
+    ensures station { IfSome result (λ c. c.station ≡ choice.now.place) }
+{
+    ring.holds_its_last();
+    let held = ring.get(choice.cursor.place)?;
+    Some(Candidate {
+        station: choice.place,
+        place: choice.cursor.place,
+        position: held.stamp,
+    })
+}
+
+/// Whether a record is held that starts after the end of TIME, of a request that has passed all.
+pub fn has_passed_its_end(ring: &Ring, choice: &Choice) -> bool
+    ensures { (next : ℕ) → HasPassed ring.now next choice.now choice.now.cursor → choice.now.cursor.place ≡ ring.now.pushes →
+        result ≡ list_any (is_after_end choice.now.action) ring.now.held }
+{
+    ring.holds_its_last();
+    match choice.cursor.after_end {
+        Some(place) => is_held(ring, place),
+        None => false,
+    }
+}
+
+fn is_held(ring: &Ring, place: u64) -> bool
+    ensures { result ≡ is_some (held_at ring.now place) }
+{
+    match ring.get(place) {
+        Some(_held) => true,
+        None => false,
+    }
+}
