@@ -1,3 +1,0 @@
-mod Dots
-mod MaskBits
-mod Walks

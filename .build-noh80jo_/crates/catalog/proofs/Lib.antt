@@ -1,6 +1,0 @@
-mod Distinct
-mod Elements
-mod Finds
-mod Indexing
-mod ReadOn
-mod Views

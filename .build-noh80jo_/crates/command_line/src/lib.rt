@@ -1,9 +1,0 @@
-//! The command line of `seedlinkd`: which job its words ask for, or why they ask for none.
-#![tactic(auto)]
-
-mod commands;
-mod job;
-mod words;
-
-pub use job::{Job, WordsFault};
-pub use words::read_words;

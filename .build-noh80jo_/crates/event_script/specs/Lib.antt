@@ -1,6 +1,0 @@
-pub mod Faults
-pub mod Fitting
-pub mod Output
-pub mod Rows
-pub mod Script
-pub mod ScriptValues

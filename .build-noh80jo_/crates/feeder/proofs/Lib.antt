@@ -1,2 +1,0 @@
-mod Whole
-pub mod Cutting

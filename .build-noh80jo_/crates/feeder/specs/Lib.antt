@@ -1,2 +1,0 @@
-pub mod Feedings
-pub mod Sending

@@ -1,5 +1,0 @@
-pub mod Endpoints
-pub mod Faults
-pub mod Feeding
-pub mod Output
-pub mod Replaying

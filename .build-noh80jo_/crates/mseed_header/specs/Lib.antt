@@ -1,4 +1,0 @@
-pub mod Chain
-pub mod Header
-pub mod Fields
-pub mod Layout

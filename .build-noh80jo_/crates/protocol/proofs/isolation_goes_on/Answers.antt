@@ -1,5 +1,0 @@
-use Rattle.protocol.proofs.Alone.{goes-on}
-use Rattle.protocol.proofs.isolation_goes_on.Goals as goal
-
-pub returns : goal.returns
-returns c = goes-on

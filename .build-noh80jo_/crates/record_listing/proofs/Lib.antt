@@ -1,4 +1,0 @@
-mod Checking
-mod Joining
-mod Pieces
-mod Readings

@@ -1,8 +1,0 @@
-//! Selectors: patterns over the location, the channel and the type of records (SeedLink 3, SELECT).
-#![tactic(auto)]
-
-pub mod list;
-pub mod pattern;
-
-pub use list::{Full, Selectors};
-pub use pattern::Selector;

@@ -1,8 +1,0 @@
-pub mod Offering
-pub mod Standings
-pub mod Running
-pub mod Arriving
-pub mod Numbers
-pub mod Slots
-pub mod GoingOn
-pub mod Taking

@@ -1,5 +1,0 @@
-pub mod Standing
-pub mod Runs
-pub mod Refusals
-pub mod Arrivals
-pub mod Clients

@@ -1,3 +1,0 @@
-pub mod LineValues
-pub mod OrderValues
-pub mod WordValues

@@ -1,5 +1,0 @@
-mod Reading
-mod Judging
-mod Pieces
-mod EndPieces
-mod Feeding

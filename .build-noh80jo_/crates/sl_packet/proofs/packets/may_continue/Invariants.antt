@@ -1,6 +1,0 @@
-use Rattle.std.proofs.Common.{◌≡◌, ◌+◌, drop}
-use Rattle.protocol.specs.Streams.{may_continue}
-use Rattle.sl_packet.proofs.packets.may_continue.Given as goal
-
-abbrev pub invariant-loop-index : goal.invariant-loop-index
-invariant-loop-index l = may_continue (l.place + l.index) (drop l.index l.bytes) ≡ may_continue l.place l.bytes

@@ -1,2 +1,0 @@
-mod Days
-mod Splitting

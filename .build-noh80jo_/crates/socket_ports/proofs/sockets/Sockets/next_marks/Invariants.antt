@@ -1,5 +1,0 @@
-use Rattle.std.proofs.Common.{◌≡◌}
-use Rattle.socket_ports.proofs.sockets.Sockets.next_marks.Given as goal
-
-abbrev pub invariant-events : goal.invariant-events
-invariant-events l = l.self.joined ≡ l.fn.self.joined

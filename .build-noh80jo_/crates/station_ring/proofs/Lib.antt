@@ -1,4 +1,0 @@
-pub mod Holdings
-pub mod Numbers
-pub mod Reaching
-pub mod Growing

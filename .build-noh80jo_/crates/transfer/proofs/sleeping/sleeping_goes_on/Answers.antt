@@ -1,5 +1,0 @@
-use Rattle.transfer.proofs.Waits.{sleeps-on}
-use Rattle.transfer.proofs.sleeping.sleeping_goes_on.Goals as goal
-
-pub returns : goal.returns
-returns c = sleeps-on

@@ -1,5 +1,0 @@
-use Rattle.transfer.proofs.Waits.{sleeps-idle}
-use Rattle.transfer.proofs.sleeping.sleeping_is_idle.Goals as goal
-
-pub returns : goal.returns
-returns c = sleeps-idle

@@ -1,5 +1,0 @@
-pub mod Wanting
-pub mod Choosing
-pub mod Cursors
-pub mod Founds
-pub mod Sleeping
