@@ -1,6 +1,8 @@
 -- What a session does when bytes are handed, and with the lines of a listing.
-use Rattle.std.proofs.Common.{◌≡◌, ℕ, ◌+◌, ◌<◌, ◌≤◌, true, false, List, [], ◌∷◌, ◌++◌, length, take, drop, map, Some, None, Option, refl, sym, ap, subst, ◌∙◌, arith, length-append, nat_lt, zero, suc, slice_get, slice_index_or, add-one}
+use Rattle.std.proofs.Common.{◌≡◌, ℕ, ◌+◌, ◌<◌, ◌≤◌, true, false, List, [], ◌∷◌, ◌++◌, length, take, drop, map, Some, None, Option, refl, sym, ap, subst, ◌∙◌, arith, length-append, Bool, nat_lt, nat_le, zero, suc, slice_get, slice_index_or, add-one}
+use Rattle.std.specs.Prelude.{is_some}
 use Rattle.std.proofs.lemmas.List.{length-map}
+use Rattle.protocol.specs.Record.{padded}
 use Rattle.protocol.specs.Catalog.{View, Config, Entry, Station, listing, station_line, end_line}
 use Rattle.protocol.specs.Lines.{Line}
 use Rattle.protocol.specs.History.{Arrival}
@@ -148,3 +150,42 @@ fill-listing config h a made state empty =
     ∙ ap (λ (x : Sitting). offered h (client_in config h x)) (sym a_is)
 
 pub ruleset line_lemmas = (line-end, line-past, line-station, made-some, made-none)
+
+-- ---- a further line
+
+pub same-listing : (a b : ℕ) → Lists a ≡ Lists b → a ≡ b
+same-listing a b e = cc
+
+line-there : (xs : List (List ℕ)) (k last : ℕ) → length xs ≡ last + 1 → k ≤ last → is_some (slice_get xs k) ≡ true
+line-there [] k last e le = absurd (omega (arith, e))
+line-there (x ∷ xs) zero last e le = refl
+line-there (x ∷ xs) (suc k) zero e le = absurd (omega (arith, le))
+line-there (x ∷ xs) (suc k) (suc last) e le = line-there xs k last (omega (arith, e)) (omega (arith, le))
+
+line-lacks : (xs : List (List ℕ)) (k : ℕ) → length xs ≤ k → is_some (slice_get xs k) ≡ false
+line-lacks xs k le = ap is_some (slice_get-past xs k le)
+
+listing-long : (config : Config) (places : List ℕ) → length (listing (view_in config places)) ≡ length places + 1
+listing-long config places = length-listing (view_in config places) ∙ ap (λ n. n + 1) (length-map places (station_at config.entries))
+
+-- A line is there exactly while no more than the stations' were made.
+pub line-further : (config : Config) (places : List ℕ) (made : ℕ) (t : Bool) → (t ≡ true → made ≤ length places) → (t ≡ false → length places < made) → t ≡ is_some (slice_get (listing (view_in config places)) made)
+line-further config places made true le lt = sym (line-there (listing (view_in config places)) made (length places) (listing-long config places) (le refl))
+line-further config places made false le lt = sym (line-lacks (listing (view_in config places)) made (omega (arith, listing-long config places, lt refl)))
+
+-- No line is empty.
+ends-in-some : (xs : List ℕ) (y : ℕ) (ys : List ℕ) → is_nothing (xs ++ y ∷ ys) ≡ false
+ends-in-some [] y ys = refl
+ends-in-some (x ∷ xs) y ys = refl
+
+station-some : (s : Station) → is_nothing (station_line s) ≡ false
+station-some s = ends-in-some (padded 2 s.network ++ 32 ∷ padded 5 s.code ++ 32 ∷ s.description) 13 (10 ∷ [])
+
+line-some-in : (stations : List Station) (made : ℕ) (line : List ℕ) → slice_get (map station_line stations ++ end_line ∷ []) made ≡ Some line → is_nothing line ≡ false
+line-some-in [] zero line e = let q : end_line ≡ line = cc in sym (ap is_nothing q)
+line-some-in [] (suc made) line e = absurd cc
+line-some-in (s ∷ stations) zero line e = let q : station_line s ≡ line = cc in subst (λ l. is_nothing l ≡ false) q (station-some s)
+line-some-in (s ∷ stations) (suc made) line e = line-some-in stations made line e
+
+pub line-some : (v : View) (made : ℕ) (line : List ℕ) → slice_get (listing v) made ≡ Some line → is_nothing line ≡ false
+line-some v made line e = line-some-in v.stations made line e

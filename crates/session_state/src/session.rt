@@ -1,5 +1,5 @@
 //! One client's side of the server.
-ghost use Rattle.std.specs.Prelude.{◌≡◌, ◌≢◌, ◌≤◌, ◌<◌, ◌+◌, ◌-◌, ◌&&◌, IfOk, OnErr, List, [], ◌∷◌, ◌++◌, length, drop, nat_lt, not, is_ok, true, false, codes, ℕ, Some, slice_get};
+ghost use Rattle.std.specs.Prelude.{◌≡◌, ◌≢◌, ◌≤◌, ◌<◌, ◌+◌, ◌-◌, ◌&&◌, IfOk, OnErr, List, [], ◌∷◌, ◌++◌, length, drop, nat_lt, not, is_ok, is_some, true, false, codes, ℕ, Some, slice_get};
 ghost use Rattle.protocol.specs.History.{Arrival};
 ghost use Rattle.protocol.specs.Client.{read_on, received, offered, after_take, new_client, is_ending, is_nothing};
 
@@ -158,10 +158,10 @@ impl Session {
 
 /// What others do with a session.
 impl Session {
-    ghost use Rattle.protocol.specs.Catalog.{Config as ProtocolConfig};
+    ghost use Rattle.protocol.specs.Catalog.{Config as ProtocolConfig, listing};
     ghost use Rattle.session_state.specs.declared.choices.Choice.{Choice as ChoiceValue};
     ghost use Rattle.session_state.specs.Choices.{chosen_of, kept_in};
-    ghost use Rattle.session_state.specs.Sessions.{client_in, sitting_view, is_listing, HasPlaces, HasFirsts, Comes, KeepsTransfer, but_for_cursors, never_starts};
+    ghost use Rattle.session_state.specs.Sessions.{client_in, sitting_view, line_made, is_listing, HasPlaces, HasFirsts, Comes, KeepsTransfer, but_for_cursors, never_starts};
     ghost use Rattle.session_state.specs.declared.session.State.TheVariants.{Negotiating, Listing, Starting, Transfer, Ending};
     ghost use Rattle.session_state.specs.declared.session.Settled.TheVariants.{Rest, Start};
 
@@ -261,6 +261,7 @@ impl Session {
         requires places { HasPlaces config.now self.old }
         requires nothing_waits { self.old.waiting ≡ [] }
         ensures client { is_listing self.old.state ≡ true → (h : List Arrival) → client_in config.now h self.new ≡ offered h (client_in config.now h self.old) }
+        ensures line { (made : ℕ) → self.old.state ≡ Listing made → self.new ≡ line_made config.now made self.old }
         ensures unchanged { is_listing self.old.state ≡ false → self.new ≡ self.old }
         ensures settled { self.old.state ≢ Starting → self.new.state ≢ Starting }
         ensures kept { KeepsTransfer self.old self.new }
@@ -268,6 +269,22 @@ impl Session {
     {
         if let State::Listing(made) = self.state {
             self.make_line(config, made);
+        }
+    }
+
+    /// Whether a listing has a line more than were made to wait. In another state there is none.
+    pub fn has_line(&self) -> bool
+        ensures line { (config : ProtocolConfig) (made : ℕ) → self.now.state ≡ Listing made →
+            result ≡ is_some (slice_get (listing (sitting_view config self.now)) made) }
+        ensures elsewhere { is_listing self.now.state ≡ false → result ≡ false }
+    {
+        let all = self.view.places().len();
+        match self.state {
+            State::Listing(made) => made <= all,
+            State::Negotiating => false,
+            State::Starting => false,
+            State::Transfer(_) => false,
+            State::Ending => false,
         }
     }
 

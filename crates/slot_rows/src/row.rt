@@ -73,6 +73,20 @@ impl Row {
         }
     }
 
+    /// Makes a slot's bit say yes or no. There is room for it.
+    pub fn put(&mut self, slot: usize, yes: bool)
+        requires { HasRoom self.old slot }
+        ensures here { bit_of self.new slot ≡ yes }
+        ensures others { (other : ℕ) → other ≢ slot → bit_of self.new other ≡ bit_of self.old other }
+        ensures room { length self.new.words.items ≡ length self.old.words.items }
+    {
+        if yes {
+            self.set(slot);
+        } else {
+            self.clear(slot);
+        }
+    }
+
     /// Sets each bit that is set in both of two other rows, where there is room for it.
     pub fn add_common(&mut self, one: &Row, other: &Row)
         ensures bits { (slot : ℕ) → HasRoom self.old slot → bit_of self.new slot ≡ (bit_of self.old slot || (bit_of one.now slot && bit_of other.now slot)) }

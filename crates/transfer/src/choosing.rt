@@ -206,6 +206,7 @@ pub fn choose(session: &mut Session, config: &Config, rings: &Rings) -> Chosen
     ensures passed { ArePassed rings.now session.old → ArePassed rings.now session.new }
     ensures reached { is_transfer session.old.state ≡ true → ArePassed rings.now session.old → result ≡ Nothing → OfAll (IsReached rings.now) (chosen_of session.new.mode) }
     ensures sleeps { is_transfer session.old.state ≡ true → ArePassed rings.now session.old → result ≡ Nothing → Sleeps rings.now session.new }
+    ensures something { result ≢ Nothing → is_nothing session.new.waiting ≡ false }
     ensures requests { all_at_start session.new.mode ≡ all_at_start session.old.mode }
     ensures settled { session.old.state ≢ Starting → session.new.state ≢ Starting }
     ensures places { session.new.places ≡ session.old.places }
