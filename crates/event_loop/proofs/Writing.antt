@@ -1,12 +1,12 @@
 -- One write to a client's port.
-use Rattle.std.proofs.Common.{◌≡◌, ℕ, ◌<◌, ◌≤◌, true, false, Bool, ◌&&◌, List, [], ◌∷◌, length, refl, sym, ap, ap₂, subst, ◌∙◌, Option, Some, None, Ok, Err, option_map, unwrap_or, arith}
+use Rattle.std.proofs.Common.{◌≡◌, ℕ, zero, suc, ◌<◌, ◌≤◌, true, false, not, Bool, ◌&&◌, List, [], ◌∷◌, length, refl, sym, ap, ap₂, subst, ◌∙◌, Option, Some, None, Ok, Err, option_map, unwrap_or, arith}
 use Rattle.protocol.specs.Catalog.{Config}
 use Rattle.protocol.specs.Client.{Client, offered, is_nothing}
 use Rattle.protocol.specs.World.{World, step, taken_by}
 use Rattle.protocol.specs.World.Event.{Take, Close}
 use Rattle.server_core.specs.declared.client.Offer.{Offer}
 use Rattle.server_core.specs.declared.client.Offer.TheVariants.{Bytes, Ended, Idle}
-use Rattle.server_core.specs.Refusals.{offer_when, offer_of}
+use Rattle.server_core.specs.Refusals.{is_idle as finds_none, offer_when, offer_of}
 use Rattle.server_core.specs.Standing.{Serving, StandsAt}
 use Rattle.event_loop.specs.declared.seat.Seat.{Seat}
 use Rattle.ports.specs.declared.answers.Put.TheVariants.{Took, Later}
@@ -17,8 +17,8 @@ use Rattle.ports.specs.Calls.Call.{Write, Shut}
 use Rattle.event_loop.specs.Deeds.{Tally}
 use Rattle.event_loop.specs.Deeds.Deed.{Writes, Offers, Closes}
 use Rattle.event_loop.specs.Passes.{ClientWrites, MayWrite, client_at, lent_to, is_over_in, unwritable}
-use Rattle.event_loop.specs.Passes.ClientWrites.{not_writable, idle, ended, took, took_none, later, failed}
-use Rattle.event_loop.specs.Going.{Once}
+use Rattle.event_loop.specs.Passes.ClientWrites.{enough, not_writable, idle, ended, took, took_none, later, failed}
+use Rattle.event_loop.specs.Going.{Once, Whole}
 use Rattle.event_loop.proofs.Going.{Tells-nil, Tells-trans}
 use Rattle.server_core.proofs.Taking.{offered-there, offer-then-take}
 
@@ -135,6 +135,40 @@ write-failed config w k bytes fault a b c mid server' t s may tells shut there s
       does = record { tells = Tells-trans a b c _ _ tells shut; stands = stands config (step config w (Take k 0)) there; counted = refl; faithful = (may.all, (tt, tt)) };
       how = λ n. failed bytes fault may;
     }
+
+pub write-unwritable : (config : Config) (w : World) (k limit : ℕ) (calls : Option (List Call)) (server' : Serving) (t : Tally) (s : Seat) → s.writable ≡ false → StandsAt server' config w → Whole (ClientWrites config k) limit config w calls calls server' t t s (Some s)
+write-unwritable config w k zero calls server' t s shown stands =
+    record { deeds = []; does = record { tells = Tells-nil calls; stands = stands; counted = refl; faithful = tt }; how = enough }
+write-unwritable config w k (suc n) calls server' t s shown stands =
+    record { deeds = []; does = record { tells = Tells-nil calls; stands = stands; counted = refl; faithful = tt }; how = not_writable shown }
+
+-- An offer that would find nothing is as good as made.
+pub write-spared : (config : Config) (w : World) (k limit : ℕ) (calls : Option (List Call)) (server' : Serving) (t : Tally) (s : Seat) → s.writable ≡ true → Found w k (Some Idle) → step config w (Take k 0) ≡ w → StandsAt server' config w → Whole (ClientWrites config k) limit config w calls calls server' t t s (Some s)
+write-spared config w k zero calls server' t s may found nothing stands =
+    record { deeds = []; does = record { tells = Tells-nil calls; stands = stands; counted = refl; faithful = tt }; how = enough }
+write-spared config w k (suc n) calls server' t s may found nothing stands =
+    record {
+      deeds = Offers k ∷ [];
+      does = record { tells = Tells-nil calls; stands = subst (StandsAt server' config) (sym nothing) stands; counted = refl; faithful = (tt, tt) };
+      how = idle may (idle-lent w k found) (idle-goes-on w k found);
+    }
+
+pub not-set : (b : Bool) → not b ≡ true → b ≡ false
+not-set true e = sym e
+not-set false e = refl
+
+-- A client that is not ready is open, and offered nothing.
+pub unready-found : (w : World) (k : ℕ) (ready : Bool) → Some ready ≡ option_map (λ c. not (finds_none (offer_of (offered w.history c)))) (client_at w k) → not ready ≡ true → Found w k (Some Idle)
+unready-found w k ready answer unready = by (client_at w k) answer
+  where
+    is-it : (o : Offer) → not (finds_none o) ≡ false → Idle ≡ o
+    is-it Idle e = refl
+    is-it Bytes e = absurd cc
+    is-it Ended e = absurd cc
+
+    by : (o : Option Client) → Some ready ≡ option_map (λ c. not (finds_none (offer_of (offered w.history c)))) o → Some Idle ≡ option_map (λ c. offer_of (offered w.history c)) o
+    by None e = absurd cc
+    by (Some c) e = ap Some (is-it (offer_of (offered w.history c)) (sym (some_inside ready _ e) ∙ not-set ready unready))
 
 -- ---- what can't be
 

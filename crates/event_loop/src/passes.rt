@@ -1,13 +1,16 @@
 //! The pass over a client's port.
-ghost use Rattle.std.specs.Prelude.{◌≡◌, ◌<◌, ◌≤◌, true, [], ◌∷◌, length};
+ghost use Rattle.std.specs.Prelude.{◌≡◌, ◌<◌, ◌≤◌, true, [], ◌∷◌, length, Some, option_map};
+ghost use Rattle.protocol.specs.Client.{offered};
 ghost use Rattle.protocol.specs.Catalog.{Config};
 ghost use Rattle.protocol.specs.World.{World, step};
-ghost use Rattle.protocol.specs.World.Event.{Close};
+ghost use Rattle.protocol.specs.World.Event.{Close, Take};
 ghost use Rattle.ports.specs.Calls.{Tells};
 ghost use Rattle.ports.specs.Calls.Call.{Shut};
+ghost use Rattle.server_core.specs.Refusals.{offer_of};
 ghost use Rattle.server_core.specs.Standing.{StandsAt};
+ghost use Rattle.server_core.specs.declared.client.Offer.TheVariants.{Idle};
 ghost use Rattle.event_loop.specs.Deeds.{Tally};
-ghost use Rattle.event_loop.specs.Passes.{ClientReads, ClientWrites, room_in};
+ghost use Rattle.event_loop.specs.Passes.{ClientReads, ClientWrites, client_at, room_in};
 ghost use Rattle.event_loop.specs.Going.{Once, Whole, if_open};
 
 use crate::seat::{Role, Seat};
@@ -174,7 +177,21 @@ fn write_once<P: Ports>(server: &mut Server, ports: &mut P, client: Client, seat
     }
 }
 
-// The writes of a pass over a client's port, up to so many; whether the port stays open.
+// Whether an offer to a client would find nothing, so that it may be spared.
+fn finds_nothing(server: &mut Server, client: Client) -> bool
+    ensures stands { (config : Config) (w : World) → StandsAt server.old config w → StandsAt server.new config w }
+    ensures idle { result ≡ true → (config : Config) (w : World) → StandsAt server.old config w →
+        Some Idle ≡ option_map (λ c. offer_of (offered w.history c)) (client_at w client) }
+    ensures nothing { result ≡ true → (config : Config) (w : World) → StandsAt server.old config w → step config w (Take client 0) ≡ w }
+{
+    match server.ready(client) {
+        Ok(ready) => !ready,
+        Err(_) => false,
+    }
+}
+
+// The writes of a pass over a client's port, up to so many; whether the port stays open. A client for which nothing would be found
+// is offered nothing. One that is offered something is offered more until nothing is found, which takes its mark away.
 pub fn write_client<P: Ports>(
     server: &mut Server,
     ports: &mut P,
@@ -189,6 +206,12 @@ pub fn write_client<P: Ports>(
     ensures role { seat.new.role ≡ Role.Client client }
     ensures port { seat.new.port ≡ seat.old.port }
 {
+    if !seat.writable {
+        return true;
+    }
+    if finds_nothing(server, client) {
+        return true;
+    }
     let mut left = limit;
     'writes: while left > 0 {
         match write_once(server, ports, client, seat) {

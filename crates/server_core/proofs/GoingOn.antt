@@ -1,9 +1,9 @@
 -- What a server stands for while one of its clients goes on in its slot.
-use Rattle.std.proofs.Common.{◌≡◌, ℕ, ◌∙◌, zero, suc, Some, None, Option, option_map, is_some, List, [], ◌∷◌, slice_get, slice_index_or, refl, sym, ap, subst}
+use Rattle.std.proofs.Common.{◌≡◌, ℕ, ◌∙◌, zero, suc, Some, None, Option, option_map, is_some, Bool, List, [], ◌∷◌, slice_get, slice_index_or, refl, sym, ap, subst}
 use Rattle.slab.specs.Slab.{Slab, get}
 use Rattle.protocol.specs.Catalog.{View, Config}
 use Rattle.protocol.specs.Client.{Client}
-use Rattle.protocol.specs.World.{World, at, changed, client_of, step}
+use Rattle.protocol.specs.World.{Connection, World, at, changed, client_of, step}
 use Rattle.protocol.specs.World.Event.{Take}
 use Rattle.held_records.specs.Holdings.{Holdings}
 use Rattle.protocol.specs.History.{Arrival}
@@ -14,15 +14,21 @@ use Rattle.server_core.specs.Standing.{Serving, SlotGoesOn, StandsAt, seat_clien
 use Rattle.server_core.proofs.Numbers.{slot_in-below}
 use Rattle.server_core.proofs.Slots.{goes-by-number, nowhere-goes, session-is, session-nowhere, session-there, sessions-counted}
 use Rattle.server_core.proofs.Standings.{client-stands, seat_seen}
+use Rattle.server_core.proofs.Taking.{same-at}
 
--- a server of these clients
+-- a server of these clients, with no marks
 abbrev pub serving : Config → Holdings → Clients → Serving
-serving g rings c = record { config = g; rings = rings; sessions = sessions_of c }
+serving g rings c = record { config = g; rings = rings; sessions = sessions_of c; marks = [] }
+
+-- What a server stands for is the same with whatever marks.
+pub with-marks : (server : Serving) (marks : List Bool) (config : Config) (w : World) → StandsAt server config w → StandsAt (record server { marks = marks }) config w
+with-marks server marks config w stands = record { config_is = stands.config_is; holds = stands.holds; count = stands.count; clients = stands.clients }
 
 -- Where a client was looked for, a server stands for what it stood for before.
-pub found : (g : Config) (rings : Holdings) (before after : Clients) (server : Serving) (config : Config) (w : World) → serving g rings before ≡ server → sessions_of after ≡ sessions_of before → StandsAt server config w → StandsAt (serving g rings after) config w
-found g rings before after server config w is same stands =
-    subst (λ (xs : List (Option Sitting)). StandsAt (record { config = g; rings = rings; sessions = xs }) config w) (sym same) (subst (λ s. StandsAt s config w) (sym is) stands)
+pub found : (g : Config) (rings : Holdings) (before after : Clients) (marks : List Bool) (server : Serving) (config : Config) (w : World) → record (serving g rings before) { marks = marks } ≡ server → sessions_of after ≡ sessions_of before → StandsAt server config w → StandsAt (serving g rings after) config w
+found g rings before after marks server config w is same stands =
+    subst (λ (xs : List (Option Sitting)). StandsAt (record { config = g; rings = rings; sessions = xs; marks = [] }) config w) (sym same)
+    (with-marks (record (serving g rings before) { marks = marks }) [] config w (subst (λ s. StandsAt s config w) (sym is) stands))
 
 -- The client of a number is that of its session.
 as-client : (g : Config) (h : List Arrival) (xs : List (Option Sitting)) (k : ℕ) → option_map (client_in g h) (slice_index_or xs k None) ≡ seat_client (seated g h (slice_get xs k))
@@ -41,6 +47,10 @@ module _ (g : Config) (rings : Holdings) (c : Clients) (number : ℕ) (config : 
       client-stands f (serving g rings c) (serving g rings (record c { slots = new })) number refl refl (sessions-counted (record c { slots = new }) ∙ sym (sessions-counted c)) config w
       (goes-by-number g w.history c.opened.items c.slots new c.opens number slot f table.apart there (slot_in-below c.opens c.opened.items number slot table.below there) goes)
       stands
+
+  pub looked-there : (new : Slab Sitting) (slot : ℕ) → IsTable c → slot_in c.opened.items number ≡ Some slot → SlotGoesOn g w.history c.slots new slot (λ v x. x) → StandsAt (serving g rings c) config w → StandsAt (serving g rings (record c { slots = new })) config w
+  looked-there new slot table there goes stands =
+      subst (λ (cs : List Connection). StandsAt (serving g rings (record c { slots = new })) config (record w { connections = cs })) (same-at w.connections number (λ v x. x) (λ k x at is. refl)) (goes-there (λ v x. x) new slot table there goes stands)
 
   pub goes-nowhere : (f : View → Client → Client) → slot_in c.opened.items number ≡ None → StandsAt (serving g rings c) config w → StandsAt (serving g rings c) config (record w { connections = at w.connections number (changed f) })
   goes-nowhere f none stands =

@@ -6,3 +6,6 @@ pub mod Numbers
 pub mod Slots
 pub mod GoingOn
 pub mod Taking
+pub mod Rows
+pub mod Marking
+pub mod Sparing

@@ -9,6 +9,7 @@ use Rattle.std.specs.declared.result.Result.{Result}
 use Rattle.std.specs.declared.result.Result.TheVariants.{Ok, Err}
 use Rattle.std.proofs.lemmas.Cmp.{ranked}
 use Rattle.std.proofs.lemmas.Bool.Decides.{nat_tests}
+use Rattle.std.proofs.lemmas.List.{get_or_default}
 use Rattle.std.proofs.lemmas.List.Sorted.{IsNonDecreasingBy-from_default}
 use Rattle.protocol.proofs.Found.{both}
 use Rattle.server_core.specs.declared.clients.Opened.{Opened}
@@ -76,6 +77,10 @@ slot-at (o ∷ os) n zero h is = rw (is-same o.number n is.has_number) refl
 slot-at (o ∷ os) n (suc at) h is =
     let later = tail-at o os n at is in
     rw (is-not o.number n (lower-than-later o os n at h.0 later)) (slot-at os n at h.1 later)
+
+-- the slot of what is found there
+pub its-slot-at : (os : List Opened) (n at : ℕ) (there : Opened) → AreRising os → IsNumberAt os n at → there ≡ slice_index_or os at there → slot_in os n ≡ Some there.slot
+its-slot-at os n at there rising is e = slot-at os n at rising is ∙ sym (ap (λ (o : Opened). Some o.slot) (e ∙ get_or_default os at there no_one is.inside))
 
 -- ---- where a number is found by halving
 

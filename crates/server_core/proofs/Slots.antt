@@ -178,6 +178,13 @@ stays-open old new slot r updates k some =
     (λ yes. subst IsSome (sym (ap (get new) (eqb-true k slot yes) ∙ updates.changed)) refl)
     (λ no. subst IsSome (sym (updates.others k (eqb-false k slot no))) some)
 
+-- One that is written as it was changes no slot.
+pub written-same : (old new : Slab Sitting) (slot : ℕ) (a r : Sitting) → get old slot ≡ Some a → Updates old new slot (Some r) → r ≡ a → (k : ℕ) → get new k ≡ get old k
+written-same old new slot a r there updates same k =
+    both (k == slot)
+    (λ here. ap (get new) (eqb-true k slot here) ∙ updates.changed ∙ ap Some same ∙ sym there ∙ ap (get old) (sym (eqb-true k slot here)))
+    (λ elsewhere. updates.others k (eqb-false k slot elsewhere))
+
 pub written-table : (c : Clients) (new : Slab Sitting) → IsTable c → StayOpen c.slots new → IsTable (record c { slots = new })
 written-table c new table kept = record { rising = table.rising; below = table.below; apart = table.apart; there = λ k slot e. kept slot (table.there k slot e) }
 

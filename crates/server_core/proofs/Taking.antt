@@ -54,6 +54,20 @@ offer-then-take config w k n some =
     (at-twice w.connections k (offer w.history) (λ v c. after_take v w.history (offered w.history c) n)
     (λ x c there client. ap (λ y. after_take x.view w.history y n) (sym (offered-waiting w.history (offered w.history c) (some c (ap client_of there ∙ client))))))
 
+-- What changes the k-th client in nothing changes nothing.
+pub same-at : (cs : List Connection) (k : ℕ) (f : View → Client → Client) → ((x : Connection) (c : Client) → slice_get cs k ≡ Some x → x.client ≡ Some c → f x.view c ≡ c) → at cs k (changed f) ≡ cs
+same-at [] k f same = refl
+same-at (x ∷ cs) zero f same = ap (λ y. y ∷ cs) (ap (λ o. record x { client = o }) (by x.client refl))
+  where
+    by : (o : Option Client) → x.client ≡ o → option_map (f x.view) o ≡ x.client
+    by None e = sym e
+    by (Some c) e = ap Some (same x c refl e) ∙ sym e
+same-at (x ∷ cs) (suc k) f same = ap (λ ys. x ∷ ys) (same-at cs k f same)
+
+-- Where an offer changes the client in nothing, it changes nothing.
+pub idle-offer : (config : Config) (w : World) (k : ℕ) → ((c : Client) → client_of (slice_get w.connections k) ≡ Some c → offered w.history c ≡ c) → step config w (Take k 0) ≡ w
+idle-offer config w k same = ap (λ cs. record w { connections = cs }) (same-at w.connections k (offer w.history) (λ x c there client. same c (ap client_of there ∙ client)))
+
 -- ---- so many bytes, or all that wait
 
 taken-length : (n : ℕ) (xs : List ℕ) → take (length (take n xs)) xs ≡ take n xs

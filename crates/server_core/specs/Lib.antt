@@ -3,3 +3,4 @@ pub mod Runs
 pub mod Refusals
 pub mod Arrivals
 pub mod Clients
+pub mod Marks

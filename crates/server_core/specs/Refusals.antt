@@ -1,5 +1,5 @@
 -- Why bytes are not taken, and what a server answers.
-use Rattle.std.specs.Prelude.{ℕ, nat_lt, ◌-◌, Bool, if◌then◌else◌, List, length, Option, Some, None, Result, Ok, Err, codes}
+use Rattle.std.specs.Prelude.{ℕ, nat_lt, ◌-◌, Bool, true, false, if◌then◌else◌, List, length, Option, Some, None, Result, Ok, Err, codes}
 use Rattle.protocol.specs.Client.{Client, inbox, is_nothing, is_ending}
 use Rattle.server_core.specs.declared.client.Refusal.{Refusal}
 use Rattle.server_core.specs.declared.client.Refusal.TheVariants.{Gone, NoRoom}
@@ -26,6 +26,17 @@ receipt n (Some c) = if nat_lt (room_of c) n then Err NoRoom else Ok tt
 -- what an offer is, by what waits after it
 abbrev pub offer_when : (nothing_waits : Bool) → (ends : Bool) → Offer
 offer_when nothing_waits ends = if nothing_waits then (if ends then Ended else Idle) else Bytes
+
+-- An offer finds nothing.
+abbrev pub is_idle : Offer → Bool
+is_idle Idle = true
+is_idle Bytes = false
+is_idle Ended = false
+
+-- what bytes are answered, whatever else is told of them
+abbrev pub receipt_in : {A : Type 0} → Result A Refusal → Result (Unit {0}) Refusal
+receipt_in (Ok x) = Ok tt
+receipt_in (Err refusal) = Err refusal
 
 abbrev pub offer_of : Client → Offer
 offer_of c = offer_when (is_nothing c.waiting) (is_ending c.state)

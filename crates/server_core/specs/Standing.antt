@@ -1,5 +1,5 @@
 -- What a server stands for: a world of clients over one history.
-use Rattle.std.specs.Prelude.{◌≡◌, ◌≢◌, ℕ, List, length, slice_get, Option, Some, None, IsSome, option_map}
+use Rattle.std.specs.Prelude.{◌≡◌, ◌≢◌, ℕ, Bool, false, List, length, slice_get, slice_index_or, Option, Some, None, IsSome, option_map}
 use Rattle.slab.specs.Slab.{Slab, get}
 use Rattle.protocol.specs.Catalog.{Config, View}
 use Rattle.protocol.specs.Client.{Client, after_take, offered}
@@ -10,11 +10,17 @@ use Rattle.session_state.specs.declared.session.State.TheVariants.{Starting}
 use Rattle.session_state.specs.Sessions.{Sitting, HasPlaces, client_in, sitting_view}
 use Rattle.transfer.specs.Cursors.{ArePassed}
 
--- a server: its configuration, what it holds of all stations, and the session of the k-th client while that is open
+-- a server: its configuration, what it holds of all stations, and for the k-th client its session, while that is open, and whether
+-- an offer may find something for it
 pub record Serving : Type 0 where
   pub config : Config
   pub rings : Holdings
   pub sessions : List (Option Sitting)
+  pub marks : List Bool
+
+-- the mark of the k-th client, while that is open
+abbrev pub mark_at : Serving → ℕ → Option Bool
+mark_at server k = option_map (λ s. slice_index_or server.marks k false) (slice_index_or server.sessions k None)
 
 -- an open connection's view and client
 pub record Seat : Type 0 where

@@ -1,5 +1,6 @@
 //! The open clients of a server: their numbers, and the slots in which their sessions are.
-ghost use Rattle.std.specs.Prelude.{◌≡◌, ◌∷◌, ◌++◌, [], IfOk, OnOk, OnErr, IfSome, Some, None, true, is_some, slice_set};
+ghost use Rattle.std.specs.Prelude.{◌≡◌, ℕ, ◌∷◌, ◌++◌, [], IfOk, OnOk, OnErr, IfSome, Some, None, true, is_some, slice_set};
+ghost use Rattle.slab.specs.Slab.{get, Updates};
 ghost use Rattle.protocol.specs.Catalog.{Config as ProtocolConfig};
 ghost use Rattle.held_records.specs.Holdings.{Holdings};
 
@@ -37,6 +38,7 @@ impl Clients {
     pub fn new(alloc: Global) -> Clients
         ensures table { IsTable result }
         ensures sessions { sessions_of result ≡ [] }
+        ensures free { (slot : ℕ) → get result.slots slot ≡ None }
         ensures settled { (config : ProtocolConfig) (rings : Holdings) → AreSettled config rings result.slots }
     {
         Clients {
@@ -63,10 +65,19 @@ impl Clients {
         ensures slot { result ≡ slot_in self.new.opened.items number }
         ensures sessions { sessions_of self.new ≡ sessions_of self.old }
         ensures slots { self.new.slots ≡ self.old.slots }
+        ensures numbers { (self.new.opens ≡ self.old.opens) × (self.new.opened.items ≡ self.old.opened.items) }
     {
         let at = finding::place_of(self.opened.as_slice(), self.near, number)?;
         self.near = at;
         Some(self.opened[at].slot)
+    }
+
+    /// The slot that the next client will have.
+    pub fn next_slot(&self) -> usize
+        ensures { result ≡ self.now.slots.vacant_key }
+    {
+        let _ = &self.opened;
+        self.slots.vacant_key()
     }
 
     /// One more client opens with its session, and has the next number. It fails where memory lacks, or once 2^64 - 1 clients
@@ -77,6 +88,10 @@ impl Clients {
         ensures number { IfOk result (λ number. number ≡ self.old.opens) }
         ensures opened { OnOk result (sessions_of self.new ≡ sessions_of self.old ++ Some session ∷ []) }
         ensures err { OnErr result (sessions_of self.new ≡ sessions_of self.old) }
+        ensures slots { OnOk result (Updates self.old.slots self.new.slots self.old.slots.vacant_key (Some session)) }
+        ensures vacant { OnOk result (get self.old.slots self.old.slots.vacant_key ≡ None) }
+        ensures refused { OnErr result ((slot : ℕ) → get self.new.slots slot ≡ get self.old.slots slot) }
+        ensures numbers { OnErr result ((self.new.opens ≡ self.old.opens) × (self.new.opened.items ≡ self.old.opened.items)) }
         ensures settled { (config : ProtocolConfig) (rings : Holdings) → AreSettled config rings self.old.slots →
             IsSettled config rings session → AreSettled config rings self.new.slots }
     {
@@ -92,19 +107,20 @@ impl Clients {
         Ok(number)
     }
 
-    /// A client is gone, and its slot is free; whether it was open.
-    pub fn close(&mut self, number: usize) -> bool
+    /// A client is gone, and its slot is free. It answers the slot, where the client was open.
+    pub fn close(&mut self, number: usize) -> Option<usize>
         requires { IsTable self.old }
         ensures table { IsTable self.new }
         ensures closed { sessions_of self.new ≡ slice_set (sessions_of self.old) number None }
-        ensures answer { result ≡ is_some (session_of self.old.opened.items self.old.slots number) }
+        ensures answer { is_some result ≡ is_some (session_of self.old.opened.items self.old.slots number) }
+        ensures freed { IfSome result (λ slot. Updates self.old.slots self.new.slots slot None) }
+        ensures absent { result ≡ None → self.new.slots ≡ self.old.slots }
         ensures settled { (config : ProtocolConfig) (rings : Holdings) → AreSettled config rings self.old.slots →
             AreSettled config rings self.new.slots }
     {
-        let Some(at) = finding::place_of(self.opened.as_slice(), self.near, number) else {
-            return false;
-        };
+        let at = finding::place_of(self.opened.as_slice(), self.near, number)?;
         let gone = self.opened.remove(at);
-        self.slots.try_remove(gone.slot).is_some()
+        let _session = self.slots.try_remove(gone.slot);
+        Some(gone.slot)
     }
 }

@@ -5,6 +5,7 @@ mod arrivals;
 pub mod client;
 mod clients;
 pub mod events;
+mod marks;
 mod seats;
 pub mod server;
 mod serving;

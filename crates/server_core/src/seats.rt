@@ -1,14 +1,18 @@
 //! What the server does with the session in a slot.
-ghost use Rattle.std.specs.Prelude.{◌≡◌, ◌<◌, ◌≤◌, List, length, Some, is_ok, is_some, option_map};
+ghost use Rattle.std.specs.Prelude.{◌≡◌, ◌<◌, ◌≤◌, List, length, not, Ok, Some, false, is_ok, is_some, IsSome, option_map};
 ghost use Rattle.std.specs.Result.{result_ok};
 ghost use Rattle.protocol.specs.History.{Arrival};
-ghost use Rattle.protocol.specs.Client.{received, offered};
+ghost use Rattle.protocol.specs.Client.{Client as ProtocolClient, received, offered};
 ghost use Rattle.slab.specs.Slab.{get};
 ghost use Rattle.session_state.specs.Sessions.{Sitting};
 ghost use Rattle.server_core.specs.Standing.{HoldsOf, SlotGoesOn, StayOpen, AreSettled, seated, seat_client, taking};
-ghost use Rattle.server_core.specs.Refusals.{receipt, offer_of};
+ghost use Rattle.slot_rows.specs.Rows.{bit_of};
+ghost use Rattle.server_core.specs.Marks.{AreMarked};
+ghost use Rattle.server_core.specs.Refusals.{is_idle, receipt, offer_of};
+ghost use Rattle.server_core.specs.declared.client.Offer.TheVariants.{Idle};
 
 use crate::client::{Gone, Offer, Refusal};
+use crate::marks::Marks;
 use crate::serving;
 use catalog::Config;
 use held_records::Rings;
@@ -20,17 +24,25 @@ pub fn receive_in(
     config: &Config,
     rings: &Rings,
     slots: &mut Slab<Session>,
+    marks: &mut Marks,
     slot: usize,
     bytes: &[u8],
 ) -> Result<(), Refusal>
-    requires { AreSettled config.now rings.now slots.old }
+    requires settled { AreSettled config.now rings.now slots.old }
+    requires marked { AreMarked config.now rings.now marks.old slots.old }
     ensures changed { (h : List Arrival) → HoldsOf config.now rings.now h → SlotGoesOn config.now h slots.old slots.new slot (λ v c. received v h bytes.now c) }
     ensures settled { AreSettled config.now rings.now slots.new }
+    ensures marked { AreMarked config.now rings.now marks.new slots.new }
+    ensures stations { length marks.new.rows.items ≡ length marks.old.rows.items }
     ensures kept { StayOpen slots.old slots.new }
     ensures answer { (h : List Arrival) → result ≡ receipt (length bytes.now) (seat_client (seated config.now h (Some (get slots.old slot)))) }
 {
     match slots.get_mut(slot) {
-        Some(session) => serving::receive(config, rings, session, bytes),
+        Some(session) => {
+            let settled = serving::receive(config, rings, session, bytes)?;
+            marks.heard(slot, session, settled);
+            Ok(())
+        }
         None => Err(Refusal::Gone),
     }
 }
@@ -40,16 +52,55 @@ pub fn offer_in(
     config: &Config,
     rings: &Rings,
     slots: &mut Slab<Session>,
+    marks: &mut Marks,
     slot: usize,
 ) -> Result<Offer, Gone>
-    requires { AreSettled config.now rings.now slots.old }
+    requires settled { AreSettled config.now rings.now slots.old }
+    requires marked { AreMarked config.now rings.now marks.old slots.old }
     ensures changed { (h : List Arrival) → HoldsOf config.now rings.now h → SlotGoesOn config.now h slots.old slots.new slot (λ v c. offered h c) }
     ensures settled { AreSettled config.now rings.now slots.new }
+    ensures marked { AreMarked config.now rings.now marks.new slots.new }
+    ensures stations { length marks.new.rows.items ≡ length marks.old.rows.items }
     ensures kept { StayOpen slots.old slots.new }
     ensures answer { (h : List Arrival) → HoldsOf config.now rings.now h → result_ok result ≡ option_map (λ c. offer_of (offered h c)) (seat_client (seated config.now h (Some (get slots.old slot)))) }
+    ensures idle { result ≡ Ok Idle → bit_of marks.new.marked slot ≡ false }
 {
     match slots.get_mut(slot) {
-        Some(session) => Ok(serving::offer(config, rings, session)),
+        Some(session) => {
+            let found = serving::offer(config, rings, session);
+            marks.offered(slot, session, found);
+            Ok(found)
+        }
+        None => Err(Gone),
+    }
+}
+
+/// Whether an offer to a client would find something. Nothing changes but how far its requests have come.
+pub fn is_ready_in(
+    config: &Config,
+    rings: &Rings,
+    slots: &mut Slab<Session>,
+    marks: &Marks,
+    slot: usize,
+) -> Result<bool, Gone>
+    requires settled { AreSettled config.now rings.now slots.old }
+    requires marked { AreMarked config.now rings.now marks.now slots.old }
+    requires there { IsSome (get slots.old slot) }
+    ensures changed { (h : List Arrival) → HoldsOf config.now rings.now h → SlotGoesOn config.now h slots.old slots.new slot (λ v c. c) }
+    ensures settled { AreSettled config.now rings.now slots.new }
+    ensures marked { AreMarked config.now rings.now marks.now slots.new }
+    ensures kept { StayOpen slots.old slots.new }
+    ensures answer { (h : List Arrival) → HoldsOf config.now rings.now h → result_ok result
+        ≡ option_map (λ c. not (is_idle (offer_of (offered h c)))) (seat_client (seated config.now h (Some (get slots.old slot)))) }
+    ensures spared { (h : List Arrival) → HoldsOf config.now rings.now h → result ≡ Ok false → (c : ProtocolClient) →
+        seat_client (seated config.now h (Some (get slots.old slot))) ≡ Some c → offered h c ≡ c }
+{
+    let _ = config;
+    if !marks.is_marked(slot) {
+        return Ok(false);
+    }
+    match slots.get_mut(slot) {
+        Some(session) => Ok(serving::is_ready(rings, session)),
         None => Err(Gone),
     }
 }
@@ -59,19 +110,24 @@ pub fn took_in(
     config: &Config,
     rings: &Rings,
     slots: &mut Slab<Session>,
+    marks: &mut Marks,
     slot: usize,
     count: usize,
 ) -> Result<(), Gone>
     requires settled { AreSettled config.now rings.now slots.old }
+    requires marked { AreMarked config.now rings.now marks.old slots.old }
     requires count { (s : Sitting) → get slots.old slot ≡ Some s → (0 < count) × (count ≤ length s.waiting) }
     ensures changed { (h : List Arrival) → HoldsOf config.now rings.now h → SlotGoesOn config.now h slots.old slots.new slot (taking h count) }
     ensures settled { AreSettled config.now rings.now slots.new }
+    ensures marked { AreMarked config.now rings.now marks.new slots.new }
+    ensures stations { length marks.new.rows.items ≡ length marks.old.rows.items }
     ensures kept { StayOpen slots.old slots.new }
     ensures answer { (h : List Arrival) → is_ok result ≡ is_some (seat_client (seated config.now h (Some (get slots.old slot)))) }
 {
     match slots.get_mut(slot) {
         Some(session) => {
-            serving::took(config, rings, session, count);
+            let settled = serving::took(config, rings, session, count);
+            marks.heard(slot, session, settled);
             Ok(())
         }
         None => Err(Gone),

@@ -1,5 +1,5 @@
 //! All clients of a server.
-ghost use Rattle.std.specs.Prelude.{OnErr, option_map, ◌≡◌, ◌≢◌, ◌-◌, ◌^◌, Err, ◌<◌, ◌≤◌, [], ◌∷◌, ◌++◌, length, slice_get, slice_index_or, IfOk, OnOk, Some, None, is_some, is_ok};
+ghost use Rattle.std.specs.Prelude.{OnErr, option_map, ◌≡◌, ◌≢◌, ◌-◌, ◌^◌, Err, ◌<◌, ◌≤◌, [], ◌∷◌, ◌++◌, length, slice_get, slice_index_or, IfOk, OnOk, Ok, Some, None, ℕ, not, false, is_some, is_ok};
 ghost use Rattle.std.specs.Result.{result_ok};
 ghost use Rattle.std.specs.Net.Addr.{ipv4_bits};
 ghost use Rattle.protocol.specs.Catalog.{Config as ProtocolConfig};
@@ -10,6 +10,7 @@ ghost use Rattle.protocol.specs.World.Event.{Open, Bytes, Take, Close, Arrive};
 use crate::arrivals::{ArriveFault, Placing, placed};
 use crate::client::{Client, Gone, Offer, Refusal};
 use crate::clients::Clients;
+use crate::marks::Marks;
 use crate::seats;
 use catalog::Config;
 use held_records::Rings;
@@ -25,24 +26,30 @@ pub struct Server {
     config: Config,
     rings: Rings,
     clients: Clients,
+    marks: Marks,
 }
 
 impl Model for Server {
     ghost use Rattle.std.specs.Prelude.{◌≡◌, length};
     ghost use Rattle.server_core.specs.Clients.{IsTable, sessions_of};
+    ghost use Rattle.server_core.specs.Marks.{AreMarked, marks_of};
     ghost use Rattle.server_core.specs.Standing.{Serving, AreSettled};
 
     ghost Value = { Serving };
 
-    ghost view = { λ s. record { config = s.config; rings = s.rings; sessions = sessions_of s.clients } };
+    ghost view = { λ s. record { config = s.config; rings = s.rings; sessions = sessions_of s.clients; marks = marks_of s.clients s.marks } };
 
-    ghost invariant = { λ s. IsTable s.clients × AreSettled s.config s.rings s.clients.slots × (length s.rings.rings ≡ length s.config.entries) };
+    ghost invariant = { λ s. IsTable s.clients × AreSettled s.config s.rings s.clients.slots × (length s.rings.rings ≡ length s.config.entries)
+        × AreMarked s.config s.rings s.marks s.clients.slots × (length s.marks.rows.items ≡ length s.config.entries) };
 }
 
 impl Server {
     ghost use Rattle.session_state.specs.Sessions.{Sitting};
-    ghost use Rattle.server_core.specs.Standing.{StandsAt};
-    ghost use Rattle.server_core.specs.Refusals.{room_of, receipt, offer_of};
+    ghost use Rattle.station_ring.specs.declared.held.Summary.{Summary};
+    ghost use Rattle.server_core.specs.Standing.{StandsAt, mark_at};
+    ghost use Rattle.server_core.specs.Marks.{IsSpared, MarksThose};
+    ghost use Rattle.server_core.specs.Refusals.{is_idle, room_of, receipt, offer_of};
+    ghost use Rattle.server_core.specs.declared.client.Offer.TheVariants.{Idle};
     ghost use Rattle.server_core.specs.Arrivals.{answer_to, IsExhausted, IsPlaced};
     ghost use Rattle.server_core.specs.declared.arrivals.ArriveFault.TheVariants.{Exhausted};
 
@@ -51,10 +58,12 @@ impl Server {
         ensures { IfOk result (λ server. StandsAt server config empty_world) }
     {
         let rings = Rings::new(alloc, &config)?;
+        let marks = Marks::new(alloc, config.stations().len())?;
         Ok(Server {
             config,
             rings,
             clients: Clients::new(alloc),
+            marks,
         })
     }
 
@@ -66,6 +75,7 @@ impl Server {
         ensures err { OnErr result (self.new ≡ self.old) }
     {
         let view = self.config.view(alloc, address)?;
+        self.marks.reserve(self.clients.next_slot())?;
         let number = self.clients.open(Session::new(view))?;
         Ok(Client::new(number))
     }
@@ -91,6 +101,7 @@ impl Server {
                 &self.config,
                 &self.rings,
                 &mut self.clients.slots,
+                &mut self.marks,
                 slot,
                 bytes,
             ),
@@ -103,9 +114,53 @@ impl Server {
     pub fn offer(&mut self, client: Client) -> Result<Offer, Gone>
         ensures stands { (config : ProtocolConfig) (w : World) → StandsAt self.old config w → StandsAt self.new config (step config w (Take client 0)) }
         ensures answer { (config : ProtocolConfig) (w : World) → StandsAt self.old config w → result_ok result ≡ option_map (λ c. offer_of (offered w.history c)) (client_of (slice_get w.connections client)) }
+        ensures unmarked { result ≡ Ok Idle → mark_at self.new client ≡ Some false }
     {
         match self.clients.seek(client.number()) {
-            Some(slot) => seats::offer_in(&self.config, &self.rings, &mut self.clients.slots, slot),
+            Some(slot) => seats::offer_in(
+                &self.config,
+                &self.rings,
+                &mut self.clients.slots,
+                &mut self.marks,
+                slot,
+            ),
+            None => Err(Gone),
+        }
+    }
+
+    /// Whether an offer to a client may find something. Where it says no, an offer finds nothing and changes nothing. A record that
+    /// arrives marks the clients in a transfer with a request for its station, what a client sends and what it was handed marks
+    /// that client, and an offer that finds nothing takes the mark away.
+    pub fn marked(&self, client: Client) -> Result<bool, Gone>
+        ensures value { result_ok result ≡ mark_at self.now client }
+        ensures open { (config : ProtocolConfig) (w : World) → StandsAt self.now config w →
+            is_ok result ≡ is_some (client_of (slice_get w.connections client)) }
+        ensures spared { result ≡ Ok false → (config : ProtocolConfig) (w : World) → StandsAt self.now config w → IsSpared config w client }
+    {
+        match self.clients.slot_of(client.number()) {
+            Some(slot) => Ok(self.marks.is_marked(slot)),
+            None => Err(Gone),
+        }
+    }
+
+    /// Whether an offer to a client would find something: bytes, or that the connection is over. It is no event: the server stands
+    /// for what it stood for, with the same marks. A client that is not marked is answered without a look at what is held, and for
+    /// another no record is looked at twice that it doesn't want.
+    pub fn ready(&mut self, client: Client) -> Result<bool, Gone>
+        ensures stands { (config : ProtocolConfig) (w : World) → StandsAt self.old config w → StandsAt self.new config w }
+        ensures answer { (config : ProtocolConfig) (w : World) → StandsAt self.old config w → result_ok result
+            ≡ option_map (λ c. not (is_idle (offer_of (offered w.history c)))) (client_of (slice_get w.connections client)) }
+        ensures spared { result ≡ Ok false → (config : ProtocolConfig) (w : World) → StandsAt self.old config w → IsSpared config w client }
+        ensures marks { self.new.marks ≡ self.old.marks }
+    {
+        match self.clients.seek(client.number()) {
+            Some(slot) => seats::is_ready_in(
+                &self.config,
+                &self.rings,
+                &mut self.clients.slots,
+                &self.marks,
+                slot,
+            ),
             None => Err(Gone),
         }
     }
@@ -132,6 +187,7 @@ impl Server {
                 &self.config,
                 &self.rings,
                 &mut self.clients.slots,
+                &mut self.marks,
                 slot,
                 count,
             ),
@@ -149,6 +205,8 @@ impl Server {
             IsExhausted config w.history bytes.now }
         ensures counted { OnOk result ((config : ProtocolConfig) (w : World) → StandsAt self.old config w →
             length w.history < 2 ^ 64 - 1) }
+        ensures marks { OnOk result ((place : ℕ) (summary : Summary) → IsPlaced self.old.config bytes.now place summary →
+            MarksThose place self.old self.new) }
         ensures unchanged { OnErr result (self.new ≡ self.old) }
     {
         match placed(&self.config, bytes) {
@@ -166,13 +224,16 @@ impl Server {
             IsExhausted config w.history bytes.now }
         ensures counted { OnOk result ((config : ProtocolConfig) (w : World) → StandsAt self.old config w →
             length w.history < 2 ^ 64 - 1) }
+        ensures marks { OnOk result (MarksThose placing.place self.old self.new) }
         ensures unchanged { OnErr result (self.new ≡ self.old) }
     {
         self.config.codes_are_distinct();
         if self.rings.arrivals() == u64::MAX {
             return Err(ArriveFault::Exhausted);
         }
-        Ok(self.rings.arrive(placing.place, bytes, placing.summary))
+        let number = self.rings.arrive(placing.place, bytes, placing.summary);
+        self.marks.arrived(placing.place);
+        Ok(number)
     }
 
     /// A client's connection ends, and the client is gone for good.
@@ -180,12 +241,15 @@ impl Server {
         ensures stands { (config : ProtocolConfig) (w : World) → StandsAt self.old config w → StandsAt self.new config (step config w (Close client)) }
         ensures answer { (config : ProtocolConfig) (w : World) → StandsAt self.old config w → is_ok result ≡ is_some (client_of (slice_get w.connections client)) }
     {
-        if self.clients.close(client.number()) {
-            Ok(())
-        } else {
-            Err(Gone)
+        match self.clients.close(client.number()) {
+            Some(slot) => {
+                self.marks.leave(slot);
+                Ok(())
+            }
+            None => Err(Gone),
         }
     }
+
     /// The session of a client, while it is open.
     fn session(&self, client: Client) -> Option<&Session>
         ensures { option_map (λ session. session.now) result ≡ slice_index_or self.now.sessions client None }

@@ -1,26 +1,30 @@
-use Rattle.std.proofs.Common.{◌∙◌, ap, arith, refl, sym, subst, is_some}
+use Rattle.std.proofs.Common.{◌∙◌, ◌<◌, [], ap, arith, refl, sym, subst, is_some, length}
 use Rattle.held_records.specs.Holdings.{holdings_of}
 use Rattle.protocol.specs.Catalog.{Config}
 use Rattle.server_core.specs.Arrivals.{IsPlaced}
 use Rattle.server_core.specs.Standing.{Serving, StandsAt}
-use Rattle.server_core.proofs.GoingOn.{serving}
+use Rattle.server_core.specs.Marks.{MarksThose, marks_of}
+use Rattle.server_core.proofs.GoingOn.{serving, with-marks}
+use Rattle.server_core.proofs.Marking.{marked-arrives}
+use Rattle.server_core.proofs.Sparing.{marks-those, serving-with}
 use Rattle.server_core.proofs.Slots.{sessions-settled}
-use Rattle.server_core.proofs.Arriving.{accepted-there, answers-number, arrive-settled, arrive-stands}
+use Rattle.server_core.proofs.Arriving.{accepted-there, answers-number, arrive-settled, arrive-stands, place-there}
 use Rattle.server_core.proofs.server.Server.hold.Goals as goal
 
 pub returns-clause-stands : goal.returns-clause-stands
 returns-clause-stands c = λ differs config w stands.
-    arrive-stands (serving c.self.inside.config c.self.inside.rings c.self.inside.clients) (serving c.self.inside.config c.arrive.new.self c.self.inside.clients) c.args.bytes.now c.args.placing.place c.args.placing.summary
+    with-marks _ (marks_of c.self.inside.clients c.arrived.new.self) config _
+    (arrive-stands (serving c.self.inside.config c.self.inside.rings c.self.inside.clients) (serving c.self.inside.config c.arrive-number.new.self c.self.inside.clients) c.args.bytes.now c.args.placing.place c.args.placing.summary
     (subst (λ (s : Serving). IsPlaced s.config c.args.bytes.now c.args.placing.place c.args.placing.summary) (sym c.self.view_is) c.requires)
-    refl refl c.codes_are_distinct.ensures (sessions-settled c.self.inside.config c.self.inside.rings c.self.inside.clients c.self.invariant.1) c.arrive.ensures.holds config w (subst (λ s. StandsAt s config w) (sym c.self.view_is) stands)
+    refl refl c.codes_are_distinct.ensures (sessions-settled c.self.inside.config c.self.inside.rings c.self.inside.clients c.self.invariant.1) c.arrive-number.ensures.holds config w (with-marks _ [] config w (subst (λ s. StandsAt s config w) (sym c.self.view_is) stands)))
 
 pub returns-clause-answer : goal.returns-clause-answer
 returns-clause-answer c = λ differs config w stands.
     let here = subst (λ s. StandsAt s config w) (sym c.self.view_is) stands in
     let placed = subst (λ (s : Serving). IsPlaced s.config c.args.bytes.now c.args.placing.place c.args.placing.summary) (sym c.self.view_is) c.requires in
-    answers-number config w.history c.args.bytes.now c.args.placing.place c.arrive.result c.args.placing.summary
+    answers-number config w.history c.args.bytes.now c.args.placing.place c.arrive-number.result c.args.placing.summary
     (subst (λ (g : Config). IsPlaced g c.args.bytes.now c.args.placing.place c.args.placing.summary) here.config_is placed)
-    (c.arrive.ensures.number config w.history (here.holds ∙ ap (λ g. holdings_of g w.history) here.config_is))
+    (c.arrive-number.ensures.number config w.history (here.holds ∙ ap (λ g. holdings_of g w.history) here.config_is))
 
 pub returns-then-arrivals-clause-exhausted : goal.returns-then-arrivals-clause-exhausted
 returns-then-arrivals-clause-exhausted c = λ fails config w stands.
@@ -32,6 +36,23 @@ returns-then-arrivals-clause-exhausted c = λ fails config w stands.
       full = sym count ∙ c.if-arrivals.true;
     }
 
+inside : (c : goal.After-arrived) → c.args.placing.place < length c.self.inside.marks.rows.items
+inside c =
+    let placed = subst (λ (s : Serving). IsPlaced s.config c.args.bytes.now c.args.placing.place c.args.placing.summary) (sym c.self.view_is) c.requires in
+    let within = (place-there c.self.inside.config placed.facts c.args.placing.place placed.at).0 in
+    omega (arith, within, c.self.invariant.4)
+
 pub invariant_of-self : goal.invariant_of-self
-invariant_of-self c =
-    (c.self.invariant.0, arrive-settled c.self.inside.config c.self.inside.rings c.arrive.new.self c.self.inside.clients.slots c.arrive.ensures.grow c.self.invariant.1, omega (arith, c.arrive.ensures.count, c.self.invariant.2))
+invariant_of-self c = (
+  c.self.invariant.0,
+  arrive-settled c.self.inside.config c.self.inside.rings c.arrive-number.new.self c.self.inside.clients.slots c.arrive-number.ensures.grow c.self.invariant.1,
+  omega (arith, c.arrive-number.ensures.count, c.self.invariant.2),
+  marked-arrives c.self.inside.config c.self.inside.rings c.arrive-number.new.self c.self.inside.marks c.arrived.new.self c.args.placing.place c.self.inside.clients.slots c.arrive-number.ensures.others
+      (inside c) c.arrived.ensures.marked c.arrived.ensures.room c.arrived.ensures.sending c.arrived.ensures.rows c.self.invariant.3,
+  ap length c.arrived.ensures.rows ∙ c.self.invariant.4,
+)
+
+pub returns-clause-marks : goal.returns-clause-marks
+returns-clause-marks c =
+    subst (λ s. MarksThose c.args.placing.place s (serving-with c.self.inside.config c.arrive-number.new.self c.self.inside.clients c.arrived.new.self)) c.self.view_is
+    (marks-those c.self.inside.config c.self.inside.rings c.arrive-number.new.self c.self.inside.clients c.self.inside.marks c.arrived.new.self c.args.placing.place c.self.invariant.0 c.self.invariant.3 (inside c) c.arrived.ensures.marked)

@@ -1,7 +1,13 @@
-use Rattle.std.proofs.Common.{[]}
+use Rattle.std.proofs.Common.{◌∙◌, [], ap, length}
 use Rattle.held_records.proofs.Stations.{rings_count}
+use Rattle.server_core.proofs.Marking.{marked-none}
 use Rattle.server_core.proofs.server.Server.new.Goals as goal
 
 pub invariant_of-result : goal.invariant_of-result
-invariant_of-result c =
-    (c.new-2.ensures.table, c.new-2.ensures.settled c.args.config c.in_ok-rings.rings, rings_count c.args.config [] c.in_ok-rings.rings c.in_ok-rings.ensures)
+invariant_of-result c = (
+  c.new-3.ensures.table,
+  c.new-3.ensures.settled c.args.config c.in_ok-rings.rings,
+  rings_count c.args.config [] c.in_ok-rings.rings c.in_ok-rings.ensures,
+  marked-none c.args.config c.in_ok-rings.rings c.in_ok-marks.marks c.new-3.result.slots c.new-3.ensures.free c.in_ok-marks.ensures.sending,
+  c.in_ok-marks.ensures.stations ∙ ap length c.stations.ensures,
+)

@@ -1,29 +1,70 @@
-use Rattle.std.proofs.Common.{◌≡◌, ◌∙◌, ap, sym, refl, subst, length, List, ℕ, All}
+use Rattle.std.proofs.Common.{rules, ◌≡◌, ◌∙◌, [], ap, ap₂, sym, refl, subst, length, List, ℕ, Bool, All, Option}
 use Rattle.std.specs.Net.Addr.{ipv4_bits}
 use Rattle.catalog.specs.Places.{view_in, IsPlace}
+use Rattle.protocol.specs.Client.{Client}
 use Rattle.session_state.specs.declared.session.State.TheVariants.{Negotiating, Transfer}
+use Rattle.session_state.specs.Sessions.{Sitting}
 use Rattle.transfer.proofs.Going.{none-passed}
+use Rattle.server_core.specs.Marks.{HasRooms, marks_of}
 use Rattle.server_core.specs.Standing.{IsSettled, Serving}
-use Rattle.server_core.proofs.GoingOn.{found, serving}
+use Rattle.server_core.proofs.GoingOn.{found, serving, with-marks}
+use Rattle.server_core.proofs.Marking.{marked-opens, marked-roomier, marked-same}
 use Rattle.server_core.proofs.Slots.{sessions-counted}
+use Rattle.server_core.proofs.Sparing.{marks-same}
 use Rattle.server_core.proofs.Standings.{open-stands}
 use Rattle.server_core.proofs.server.Server.open.Goals as goal
 
 pub invariant_of-self : goal.invariant_of-self
-invariant_of-self c =
-    let settled : IsSettled c.self.inside.config c.self.inside.rings c.new.result = record { places = subst (λ (p : List ℕ). All (IsPlace c.self.inside.config) p) (sym c.new.ensures.places) c.in_ok-view.ensures.places; started = c.new.ensures.settled; passed = none-passed c.self.inside.rings c.new.result (λ next e. absurd (let t : Negotiating ≡ Transfer next = sym c.new.ensures.negotiates ∙ e in cc)) } in
-    (c.open.ensures.table, c.open.ensures.settled c.self.inside.config c.self.inside.rings c.self.invariant.1 settled, c.self.invariant.2)
+invariant_of-self c = (
+  c.self.invariant.0,
+  c.self.invariant.1,
+  c.self.invariant.2,
+  marked-roomier c.self.inside.config c.self.inside.rings c.self.inside.marks c.reserve.new.self c.self.inside.clients.slots c.reserve.ensures.kept c.self.invariant.3,
+  c.reserve.ensures.kept.rows.count ∙ c.self.invariant.4,
+)
+
+pub returns-in_err-reserve-clause-err : goal.returns-in_err-reserve-clause-err
+returns-in_err-reserve-clause-err c =
+    let is = ap (λ (ms : List Bool). record (serving c.self.inside.config c.self.inside.rings c.self.inside.clients) { marks = ms })
+    (marks-same c.self.inside.clients c.self.inside.clients c.self.inside.marks c.reserve.new.self refl refl (λ slot. c.reserve.ensures.kept.marked slot tt)) ∙ c.self.view_is in
+    search rules
+
+pub invariant_of-self-in_err-number : goal.invariant_of-self-in_err-number
+invariant_of-self-in_err-number c =
+    let settled : IsSettled c.self.inside.config c.self.inside.rings c.new.result = record { places = subst (λ (p : List ℕ). All (IsPlace c.self.inside.config) p) (sym c.new.ensures.places) c.in_ok-view.ensures.places; started = c.new.ensures.settled; passed = none-passed c.self.inside.rings c.new.result (λ next e. absurd (let t : Negotiating ≡ Transfer next = sym c.new.ensures.negotiates ∙ e in cc)) } in (
+      c.open.ensures.table,
+      c.open.ensures.settled c.self.inside.config c.self.inside.rings c.self.invariant.1 settled,
+      c.self.invariant.2,
+      marked-same c.self.inside.config c.self.inside.rings c.reserve.new.self c.self.inside.clients.slots c.open.new.self.slots c.in_err-number.ensures.refused
+          (marked-roomier c.self.inside.config c.self.inside.rings c.self.inside.marks c.reserve.new.self c.self.inside.clients.slots c.reserve.ensures.kept c.self.invariant.3),
+      c.reserve.ensures.kept.rows.count ∙ c.self.invariant.4,
+    )
+
+pub returns-in_err-number-clause-err : goal.returns-in_err-number-clause-err
+returns-in_err-number-clause-err c =
+    let is = ap₂ (λ (xs : List (Option Sitting)) (ms : List Bool). let s : Serving = record { config = c.self.inside.config; rings = c.self.inside.rings; sessions = xs; marks = ms } in s) c.in_err-number.ensures.err
+    (marks-same c.self.inside.clients c.open.new.self c.self.inside.marks c.reserve.new.self c.in_err-number.ensures.numbers.0 c.in_err-number.ensures.numbers.1 (λ slot. c.reserve.ensures.kept.marked slot tt)) ∙ c.self.view_is in
+    search rules
 
 pub invariant_of-self-2 : goal.invariant_of-self-2
 invariant_of-self-2 c =
-    let settled : IsSettled c.self.inside.config c.self.inside.rings c.new.result = record { places = subst (λ (p : List ℕ). All (IsPlace c.self.inside.config) p) (sym c.new.ensures.places) c.in_ok-view.ensures.places; started = c.new.ensures.settled; passed = none-passed c.self.inside.rings c.new.result (λ next e. absurd (let t : Negotiating ≡ Transfer next = sym c.new.ensures.negotiates ∙ e in cc)) } in
-    (c.open.ensures.table, c.open.ensures.settled c.self.inside.config c.self.inside.rings c.self.invariant.1 settled, c.self.invariant.2)
+    let settled : IsSettled c.self.inside.config c.self.inside.rings c.new.result = record { places = subst (λ (p : List ℕ). All (IsPlace c.self.inside.config) p) (sym c.new.ensures.places) c.in_ok-view.ensures.places; started = c.new.ensures.settled; passed = none-passed c.self.inside.rings c.new.result (λ next e. absurd (let t : Negotiating ≡ Transfer next = sym c.new.ensures.negotiates ∙ e in cc)) } in (
+      c.open.ensures.table,
+      c.open.ensures.settled c.self.inside.config c.self.inside.rings c.self.invariant.1 settled,
+      c.self.invariant.2,
+      marked-opens c.self.inside.config c.self.inside.rings c.reserve.new.self c.self.inside.clients.slots c.open.new.self.slots c.self.inside.clients.slots.vacant_key c.new.result
+          (marked-roomier c.self.inside.config c.self.inside.rings c.self.inside.marks c.reserve.new.self c.self.inside.clients.slots c.reserve.ensures.kept c.self.invariant.3)
+          c.in_ok-number.ensures.vacant (subst (HasRooms c.reserve.new.self) c.next_slot.ensures c.in_ok-reserve.ensures.room) c.new.ensures.negotiates
+          (ap (λ (x : Client). x.waiting) (c.new.ensures.client c.self.inside.config [])) c.in_ok-number.ensures.slots,
+      c.reserve.ensures.kept.rows.count ∙ c.self.invariant.4,
+    )
 
 pub returns-clause-ok : goal.returns-clause-ok
 returns-clause-ok c = λ config w stands.
-    open-stands (serving c.self.inside.config c.self.inside.rings c.self.inside.clients) (serving c.self.inside.config c.self.inside.rings c.open.new.self) c.new.result (ipv4_bits c.args.address) refl refl c.in_ok-number.ensures.opened
+    with-marks _ (marks_of c.open.new.self c.reserve.new.self) config _
+    (open-stands (serving c.self.inside.config c.self.inside.rings c.self.inside.clients) (serving c.self.inside.config c.self.inside.rings c.open.new.self) c.new.result (ipv4_bits c.args.address) refl refl c.in_ok-number.ensures.opened
     (ap (λ p. view_in c.self.inside.config p) c.new.ensures.places ∙ c.in_ok-view.ensures.view) (c.new.ensures.client c.self.inside.config) config w
-    (found c.self.inside.config c.self.inside.rings c.self.inside.clients c.self.inside.clients c.args.self.now config w c.self.view_is refl stands)
+    (found c.self.inside.config c.self.inside.rings c.self.inside.clients c.self.inside.clients (marks_of c.self.inside.clients c.self.inside.marks) c.args.self.now config w c.self.view_is refl stands))
 
 pub returns-clause-number : goal.returns-clause-number
 returns-clause-number c =

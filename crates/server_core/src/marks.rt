@@ -1,0 +1,140 @@
+//! Which clients an offer may find something for, by the slots of their sessions.
+ghost use Rattle.std.specs.Prelude.{◌≡◌, ◌<◌, ◌||◌, ◌&&◌, ℕ, length, not, slice_get, true, false, IfOk, OnOk};
+ghost use Rattle.slot_rows.specs.Rows.{bit_of, HasRoom};
+ghost use Rattle.session_state.specs.Choices.{chosen_of};
+ghost use Rattle.session_state.specs.declared.session.Settled.TheVariants.{Rest, Start};
+ghost use Rattle.transfer.specs.Choosing.{is_transfer};
+ghost use Rattle.server_core.specs.Refusals.{is_idle};
+ghost use Rattle.server_core.specs.Marks.{Anywhere, Elsewhere, HasRooms, Keeps, asked, bit_by};
+
+use crate::client::Offer;
+use session_state::{Session, Settled, State};
+use slot_rows::Row;
+use std::alloc::{AllocError, Global};
+
+mod requests;
+
+/// A bit for each slot, of each kind.
+#[derive(Drop)]
+pub struct Marks {
+    /// The clients for which an offer may find something. For all others it finds nothing.
+    pub marked: Row,
+    /// Those in a transfer.
+    pub sending: Row,
+    /// For each station, at its place, those with a request there. It is kept for those in a transfer, and says nothing of others.
+    pub rows: Vec<Row>,
+}
+
+/// Whether a session is in a transfer.
+fn is_sending(session: &Session) -> bool
+    ensures { result ≡ is_transfer session.now.state }
+{
+    match session.state() {
+        State::Transfer(_) => true,
+        State::Negotiating => false,
+        State::Listing(_) => false,
+        State::Starting => false,
+        State::Ending => false,
+    }
+}
+
+/// Whether an offer finds nothing.
+fn is_nothing_found(found: Offer) -> bool
+    ensures { result ≡ is_idle found }
+{
+    match found {
+        Offer::Idle => true,
+        Offer::Bytes => false,
+        Offer::Ended => false,
+    }
+}
+
+impl Marks {
+    /// No client, and so many stations. Only memory can lack.
+    pub fn new(alloc: Global, stations: usize) -> Result<Marks, AllocError>
+        ensures marked { IfOk result (λ marks. (slot : ℕ) → bit_of marks.marked slot ≡ false) }
+        ensures sending { IfOk result (λ marks. (slot : ℕ) → bit_of marks.sending slot ≡ false) }
+        ensures stations { IfOk result (λ marks. length marks.rows.items ≡ stations) }
+    {
+        let rows = requests::no_rows(alloc, stations)?;
+        Ok(Marks {
+            marked: Row::new(alloc),
+            sending: Row::new(alloc),
+            rows,
+        })
+    }
+
+    /// Makes room for a slot's bits. All bits stay. It fails only where there is no memory.
+    pub fn reserve(&mut self, slot: usize) -> Result<(), AllocError>
+        ensures room { OnOk result (HasRooms self.new slot) }
+        ensures kept { Keeps Anywhere self.old self.new }
+    {
+        requests::reserve_all(self.rows.as_mut_slice(), slot)?;
+        self.sending.reserve(slot)?;
+        self.marked.reserve(slot)
+    }
+
+    /// Whether an offer may find something.
+    pub fn is_marked(&self, slot: usize) -> bool
+        ensures { result ≡ bit_of self.now.marked slot }
+    {
+        let _ = &self.rows;
+        self.marked.is_set(slot)
+    }
+
+    /// The client in a slot was heard, or bytes of it were handed: an offer may find something. Where a transfer was to start, its
+    /// requests are kept.
+    pub fn heard(&mut self, slot: usize, session: &Session, settled: Settled)
+        requires { HasRooms self.old slot }
+        ensures marked { bit_of self.new.marked slot ≡ true }
+        ensures sends { bit_of self.new.sending slot ≡ is_transfer session.now.state }
+        ensures started { settled ≡ Start → (place : ℕ) → place < length self.new.rows.items →
+            bit_by (slice_get self.new.rows.items place) slot ≡ asked place (chosen_of session.now.mode) }
+        ensures rest { settled ≡ Rest → self.new.rows.items ≡ self.old.rows.items }
+        ensures kept { Keeps (Elsewhere slot) self.old self.new }
+    {
+        match settled {
+            Settled::Rest => {}
+            Settled::Start => requests::keep(self.rows.as_mut_slice(), slot, session.choices()),
+        }
+        self.sending.put(slot, is_sending(session));
+        self.marked.set(slot);
+    }
+
+    /// The client in a slot was offered what comes next. Where nothing was found, none will be before something comes.
+    pub fn offered(&mut self, slot: usize, session: &Session, found: Offer)
+        requires { HasRooms self.old slot }
+        ensures marked { bit_of self.new.marked slot ≡ not (is_idle found) }
+        ensures sends { bit_of self.new.sending slot ≡ is_transfer session.now.state }
+        ensures rest { self.new.rows.items ≡ self.old.rows.items }
+        ensures kept { Keeps (Elsewhere slot) self.old self.new }
+    {
+        let _ = &self.rows;
+        self.sending.put(slot, is_sending(session));
+        self.marked.put(slot, !is_nothing_found(found));
+    }
+
+    /// The client in a slot is gone.
+    pub fn leave(&mut self, slot: usize)
+        ensures marked { bit_of self.new.marked slot ≡ false }
+        ensures sending { bit_of self.new.sending slot ≡ false }
+        ensures kept { Keeps (Elsewhere slot) self.old self.new }
+    {
+        let _ = &self.rows;
+        self.sending.clear(slot);
+        self.marked.clear(slot);
+    }
+
+    /// A record of the station at a place arrived: an offer may find something for each client in a transfer with a request there.
+    pub fn arrived(&mut self, place: usize)
+        ensures marked { (slot : ℕ) → HasRoom self.old.marked slot → bit_of self.new.marked slot
+            ≡ (bit_of self.old.marked slot || (bit_by (slice_get self.old.rows.items place) slot && bit_of self.old.sending slot)) }
+        ensures room { length self.new.marked.words.items ≡ length self.old.marked.words.items }
+        ensures sending { self.new.sending ≡ self.old.sending }
+        ensures rows { self.new.rows.items ≡ self.old.rows.items }
+    {
+        if let Some(row) = self.rows.get(place) {
+            self.marked.add_common(row, &self.sending);
+        }
+    }
+}

@@ -1,0 +1,63 @@
+//! The rows of the stations: who asks for which.
+ghost use Rattle.std.specs.Prelude.{◌≡◌, ◌<◌, ◌||◌, ℕ, length, slice_get, false, IfOk, OnOk};
+ghost use Rattle.server_core.specs.Marks.{Anywhere, Elsewhere, KeepsRows, RoomBy, asked, bit_by};
+
+use session_state::Choice;
+use slot_rows::Row;
+use std::alloc::{AllocError, Global};
+
+/// So many rows with no bit. It fails only where there is no memory.
+pub fn no_rows(alloc: Global, count: usize) -> Result<Vec<Row>, AllocError>
+    ensures { IfOk result (λ rows. length rows.items ≡ count) }
+{
+    let mut rows = Vec::new(alloc);
+    for _place in 0..count {
+        rows.push(Row::new(alloc))?;
+    }
+    Ok(rows)
+}
+
+/// Makes room for a slot's bit in all rows.
+pub fn reserve_all(rows: &mut [Row], slot: usize) -> Result<(), AllocError>
+    ensures room { OnOk result ((place : ℕ) → RoomBy (slice_get rows.new place) slot) }
+    ensures kept { KeepsRows Anywhere rows.old rows.new }
+{
+    for place in 0..rows.len() {
+        rows[place].reserve(slot)?;
+    }
+    Ok(())
+}
+
+/// Clears a slot's bit in all rows.
+fn clear(rows: &mut [Row], slot: usize)
+    ensures cleared { (place : ℕ) → bit_by (slice_get rows.new place) slot ≡ false }
+    ensures kept { KeepsRows (Elsewhere slot) rows.old rows.new }
+{
+    for place in 0..rows.len() {
+        rows[place].clear(slot);
+    }
+}
+
+/// Sets a slot's bit in the row of each station for which something is asked.
+fn add(rows: &mut [Row], slot: usize, choices: &[Choice])
+    requires { (place : ℕ) → RoomBy (slice_get rows.old place) slot }
+    ensures added { (place : ℕ) → place < length rows.new → bit_by (slice_get rows.new place) slot
+        ≡ (bit_by (slice_get rows.old place) slot || asked place choices.now) }
+    ensures kept { KeepsRows (Elsewhere slot) rows.old rows.new }
+{
+    for choice in choices {
+        if choice.action.is_some() && choice.place < rows.len() {
+            rows[choice.place].set(slot);
+        }
+    }
+}
+
+/// A slot's bit is set in the rows of the stations for which something is asked, and in no other row.
+pub fn keep(rows: &mut [Row], slot: usize, choices: &[Choice])
+    requires { (place : ℕ) → RoomBy (slice_get rows.old place) slot }
+    ensures asked { (place : ℕ) → place < length rows.new → bit_by (slice_get rows.new place) slot ≡ asked place choices.now }
+    ensures kept { KeepsRows (Elsewhere slot) rows.old rows.new }
+{
+    clear(rows, slot);
+    add(rows, slot, choices);
+}
