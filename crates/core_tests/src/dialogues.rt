@@ -8,6 +8,7 @@ use test_centre::CENTRE;
 
 mod arrivals;
 mod commands;
+mod marks;
 mod stations;
 mod steps;
 mod transfers;

@@ -32,6 +32,8 @@ fn is_gone(server: &mut Server, client: Client) -> bool {
     server.room(client) == Err(Gone)
         && server.receive(client, b"HELLO\r") == Err(Refusal::Gone)
         && server.offer(client) == Err(Gone)
+        && server.marked(client) == Err(Gone)
+        && server.ready(client) == Err(Gone)
         && hands_nothing(server, client)
         && server.close(client) == Err(Gone)
 }

@@ -42,8 +42,8 @@ pub fn records_of(alloc: Global, places: u32) -> anyhow::Result<Vec<[u8; 512]>> 
 }
 
 /// A configuration of stations that hold one record each, but for the last ones, which hold so many.
-fn config_of(alloc: Global, small: u32, large: u32, capacity: u32) -> anyhow::Result<Config> {
-    let mut text = format!(in alloc; "title = \"Bench\"\nmax_connections = 1\n")?;
+pub fn config_of(alloc: Global, small: u32, large: u32, capacity: u32) -> anyhow::Result<Config> {
+    let mut text = format!(in alloc; "title = \"Bench\"\nmax_connections = 10000\n")?;
     for place in 0..small.saturating_add(large) {
         let held = if place < small { 1 } else { capacity };
         let station = format!(in alloc;

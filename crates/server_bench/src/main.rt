@@ -5,12 +5,15 @@
 //! offered a packet and takes it. `server_bench idle REQUESTS CAPACITY ROUNDS`: a client that asks for them by DATA is offered
 //! something, and nothing arrived. `server_bench passed OFFERS ROUNDS`: 1,000 records arrive that no pattern of a client lets
 //! pass, and the client is offered something so many times. `server_bench visits ROUNDS`: clients come and go, one after the
-//! other. `server_bench crowd CLIENTS`: so many are open at the end.
+//! other. `server_bench crowd CLIENTS`: so many are open at the end. `server_bench ready ROUNDS`: a client that waits is asked
+//! whether it is ready. `server_bench apart CLIENTS ROUNDS`: a record arrives while so many clients wait at another station.
+//! `server_bench sleepers CLIENTS ROUNDS`: a turn of a loop hands one client a packet while so many others wait.
 //!
 //! It prints a sum of what was answered, so that no work can be left out.
 #![tactic(auto)]
 
 mod centre;
+mod turns;
 mod works;
 
 use std::env;
@@ -37,8 +40,13 @@ fn main(rt: HostRuntime) -> anyhow::Result<()> {
         ("passed", [offers, rounds]) => works::passed(alloc, *offers, *rounds)?,
         ("visits", [rounds]) => works::visits(alloc, *rounds)?,
         ("crowd", [clients]) => works::crowd(alloc, *clients)?,
+        ("ready", [rounds]) => works::ready(alloc, *rounds)?,
+        ("apart", [clients, rounds]) => works::apart(alloc, *clients, *rounds)?,
+        ("sleepers", [clients, rounds]) => turns::sleepers(alloc, *clients, *rounds)?,
         _ => {
-            println!(rt; "server_bench arrive|packets|idle|passed|visits|crowd NUMBER.. ROUNDS")?;
+            println!(rt;
+                "server_bench arrive|packets|idle|passed|visits|crowd|ready|apart|sleepers NUMBER.. ROUNDS"
+            )?;
             return Ok(());
         }
     };

@@ -74,3 +74,27 @@ pub fn crowd(alloc: Global, clients: u32) -> anyhow::Result<u64> {
     }
     Ok(last as u64)
 }
+
+/// A client that waits is asked whether it is ready.
+pub fn ready(alloc: Global, rounds: u32) -> anyhow::Result<u64> {
+    let mut server = full_server(alloc, 0, 1, 4096)?;
+    let client = asking(alloc, &mut server, 1, b"DATA\r")?;
+    let mut sum = offers(&mut server, client, 1);
+    for _ in 0..rounds {
+        if server.ready(client) == Ok(false) {
+            sum = sum.wrapping_add(1);
+        }
+    }
+    Ok(sum)
+}
+
+/// Records arrive at a station while so many clients wait for those of another one.
+pub fn apart(alloc: Global, clients: u32, rounds: u32) -> anyhow::Result<u64> {
+    let mut server = full_server(alloc, 1, 1, 4096)?;
+    for _ in 0..clients {
+        let client = asking(alloc, &mut server, 1, b"DATA\r")?;
+        offers(&mut server, client, 1);
+    }
+    let record = record_of(alloc, 1, b"BHZ")?;
+    Ok(arrive_by_turns(&mut server, &[record], rounds))
+}

@@ -110,7 +110,9 @@ pub fn offer(config: &Config, rings: &Rings, session: &mut Session) -> Offer
     }
 }
 
-/// Whether an offer would find something. Nothing changes but how far the requests have come.
+/// Whether an offer would find something. Nothing changes but how far the requests have come. It is kept out of its caller, which
+/// mostly finds that a client is not marked.
+#[inline(never)]
 pub fn is_ready(rings: &Rings, session: &mut Session) -> bool
     ensures client { (config : ProtocolConfig) (h : List Arrival) → IsSettled config rings.now session.old → HoldsOf config rings.now h →
         client_in config h session.new ≡ client_in config h session.old }
