@@ -53,6 +53,15 @@ calls() {
     row "$(((two - one) / 10))" 300 'the offer after that' ''
 }
 
+# Clients that wait: what one costs that is asked for, that a record does not wake, and that a turn passes by.
+sleepers() {
+    row "$(round 1000 ready)" 120 'whether a client is ready that is not marked' ''
+    alone=$(round 1000 apart 0)
+    row "$(($(round 1000 apart 10000) - alone))" 1500 'more for an arrival while 10,000 clients wait at another station' "than with none: $alone"
+    awake=$(round 100 sleepers 0)
+    row "$((($(round 100 sleepers 9999) - awake) / 9999))" 60 'a client that sleeps, of 9,999, in a turn that hands another one a packet' "a turn with none: $awake"
+}
+
 # peak WORK NUMBER : the most memory, in KiB, that a work of the program `server_bench` had at once.
 peak() {
     python3 -c 'import resource, subprocess, sys
@@ -131,6 +140,7 @@ small 200 number '' 'a sequence number read, counted on and written' ''
 small 1500 selectors '' 'sixteen selectors over a record' ''
 small 2500 packets '' 'a packet read, cut out and listed by the reader' ''
 calls
+sleepers
 memory
 check
 replay
