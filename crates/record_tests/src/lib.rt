@@ -5,6 +5,8 @@
 #[cfg(test)]
 mod devices;
 #[cfg(test)]
+mod failures;
+#[cfg(test)]
 mod feeds;
 #[cfg(test)]
 mod headers;

@@ -10,6 +10,7 @@ ghost use Rattle.std.specs.Io.KnownBytes.{ReadConsumes, WriteAppends};
 ghost use Rattle.sl_io.specs.Counts.{IsMore, CountsFailure, CountsEmptyWrite};
 
 mod counts;
+mod failing;
 mod faults;
 mod memory_sink;
 mod memory_source;
@@ -17,6 +18,7 @@ mod outer;
 mod whole;
 
 pub use counts::Counts;
+pub use failing::Failing;
 pub use faults::{DeviceFault, ReadFault, WriteFault};
 pub use memory_sink::MemorySink;
 pub use memory_source::MemorySource;
