@@ -70,7 +70,8 @@ fn happening(row: Row) -> Happening {
     }
 }
 
-fn happenings(alloc: Global, rows: &[Row]) -> Result<Vec<Happening>, Fail> {
+/// What happens, row by row.
+pub fn happenings(alloc: Global, rows: &[Row]) -> Result<Vec<Happening>, Fail> {
     let mut all = Vec::new(alloc);
     for row in rows {
         all.push(happening(*row))?;

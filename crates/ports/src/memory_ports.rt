@@ -5,7 +5,6 @@ ghost use Rattle.ports.specs.Made.{told, made_value};
 ghost use Rattle.ports.specs.Records.{port_record, record_value};
 
 use crate::{Got, Happening, PortFault, Ports, Put};
-use port_record::record_of;
 use std::alloc::{AllocError, Global};
 
 mod log;
@@ -14,6 +13,7 @@ mod script;
 
 pub use log::{Gave, Log, Made};
 pub use port_record::PortRecord;
+pub(crate) use port_record::record_of;
 pub use script::{PortScript, ReadAnswer, Script, WriteAnswer};
 
 /// Ports in memory. They answer by a script, and keep each call with its answer. Once there was no memory to keep one, which
@@ -57,7 +57,7 @@ impl Ports for MemoryPorts {
 
     fn next(&mut self) -> Result<Happening, PortFault> {
         let happening = self.script.next();
-        self.log.next(happening)
+        self.log.next(Ok(happening))
     }
 
     fn read(&mut self, port: u64, buffer: &mut [u8]) -> Result<Got, PortFault> {

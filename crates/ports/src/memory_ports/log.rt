@@ -1,5 +1,5 @@
 //! Calls that were made.
-ghost use Rattle.std.specs.Prelude.{◌≡◌, IfOk, Some, None, [], ◌∷◌, length};
+ghost use Rattle.std.specs.Prelude.{◌≡◌, IfOk, IsErr, Some, None, [], ◌∷◌, length};
 ghost use Rattle.sl_io.specs.Counts.{CountsFailure, IsMore};
 ghost use Rattle.ports.specs.Calls.{Tells, given, IsGiven, IsTaken};
 ghost use Rattle.ports.specs.Calls.Call.{Next, Read, Write, Shut};
@@ -89,15 +89,19 @@ impl Log {
         self.failures = self.failures.wrapping_add(1);
     }
 
-    pub fn next(&mut self, happening: Happening) -> Result<Happening, PortFault>
+    pub fn next(&mut self, answer: Result<Happening, PortFault>) -> Result<Happening, PortFault>
         ensures call { Tells (told self.old) (told self.new) (Next result ∷ []) }
         ensures failure { CountsFailure self.old.failures self.new.failures result }
+        ensures failed { IsErr answer → IsErr result }
     {
-        if self.made.push(Made::Next(Ok(happening))).is_err() {
+        if self.made.push(Made::Next(answer)).is_err() {
             self.lose();
             return Err(PortFault);
         }
-        Ok(happening)
+        if answer.is_err() {
+            self.fail();
+        }
+        answer
     }
 
     pub fn read(
@@ -110,6 +114,7 @@ impl Log {
         ensures bound { IsGiven result (length buffer.now) }
         ensures call { Tells (told self.old) (told self.new) (Read port (length buffer.now) (given result buffer.now) ∷ []) }
         ensures failure { CountsFailure self.old.failures self.new.failures result }
+        ensures failed { IsErr answer → IsErr result }
     {
         let Ok(gave) = kept_answer(self.alloc, buffer, answer) else {
             self.lose();
@@ -139,6 +144,7 @@ impl Log {
         ensures bound { IsTaken result (length bytes.now) }
         ensures call { Tells (told self.old) (told self.new) (Write port bytes.now result ∷ []) }
         ensures failure { CountsFailure self.old.failures self.new.failures result }
+        ensures failed { IsErr answer → IsErr result }
     {
         let Ok(copy) = bytes.to_vec(self.alloc) else {
             self.lose();

@@ -1,0 +1,121 @@
+//! Ports of which one call fails.
+ghost use Rattle.std.specs.Prelude.{◌≡◌, ◌<◌, ◌==◌, ◌-◌, List, [], ◌∷◌, Some, IsErr, IfOk, length};
+ghost use Rattle.sl_io.specs.Counts.{CountsFailure};
+ghost use Rattle.ports.specs.Calls.{Call, Tells, given, IsGiven, IsTaken};
+ghost use Rattle.ports.specs.Calls.Call.{Next, Read, Write, Shut};
+ghost use Rattle.ports.specs.Made.{told};
+ghost use Rattle.ports.specs.Records.{port_record, record_value};
+
+use crate::memory_ports::{Log, PortRecord, record_of};
+use crate::{Got, Happening, PortFault, Ports, Put};
+use std::alloc::{AllocError, Global};
+
+/// Ports of which one call of `next`, `read` or `write` fails and reaches nothing. All others are passed on. They keep each call with
+/// its answer, as ports in memory do, and serve to try what comes of a failure at each place.
+#[derive(Drop)]
+pub struct FailingPorts<P> {
+    inner: P,
+    /// How many such calls there are up to the one that fails, with it; 0 once it was made, or where none fails.
+    due: u64,
+    log: Log,
+}
+
+impl<P> FailingPorts<P> {
+    /// Ports over others, with the `due`-th call failing, from 1 on. With 0 none fails for that.
+    pub fn new(alloc: Global, inner: P, due: u64) -> FailingPorts<P>
+        ensures inner { result.inner ≡ inner }
+        ensures due { result.due ≡ due }
+        ensures calls { told result.log ≡ Some [] }
+    {
+        FailingPorts {
+            inner,
+            due,
+            log: Log::new(alloc),
+        }
+    }
+
+    /// Whether the call that is to fail was made, or none is to.
+    pub fn has_failed(&self) -> bool
+        ensures { result ≡ (self.now.due == 0) }
+    {
+        self.due == 0
+    }
+
+    /// The bytes that a port gave, the bytes that it took, and whether it was shut. It fails only for want of memory.
+    pub fn record(&self, alloc: Global, port: u64) -> Result<PortRecord, AllocError>
+        ensures { IfOk result (λ r. (calls : List Call) → told self.now.log ≡ Some calls → record_value r ≡ port_record port calls) }
+    {
+        record_of(alloc, self.log.made(), port)
+    }
+
+    // One call more. Whether it is the one that fails.
+    fn is_due(&mut self) -> bool
+        ensures fails { result ≡ (self.old.due == 1) }
+        ensures counted { self.new ≡ record self.old { due = self.old.due - 1 } }
+    {
+        let fails = self.due == 1;
+        self.due = self.due.saturating_sub(1);
+        fails
+    }
+}
+
+impl<P: Ports> Ports for FailingPorts<P> {
+    ghost calls = { λ s. told s.log };
+
+    ghost failures = { λ s. s.log.failures };
+
+    fn next(&mut self) -> Result<Happening, PortFault>
+        ensures call { Tells (told self.old.log) (told self.new.log) (Next result ∷ []) }
+        ensures failure { CountsFailure self.old.log.failures self.new.log.failures result }
+        ensures fails { self.old.due ≡ 1 → IsErr result }
+        ensures reaches_nothing { self.old.due ≡ 1 → self.new.inner ≡ self.old.inner }
+        ensures due { self.new.due ≡ self.old.due - 1 }
+    {
+        if self.is_due() {
+            return self.log.next(Err(PortFault));
+        }
+        let answer = self.inner.next();
+        self.log.next(answer)
+    }
+
+    fn read(&mut self, port: u64, buffer: &mut [u8]) -> Result<Got, PortFault>
+        requires { 0 < length buffer.old }
+        ensures bound { IsGiven result (length buffer.new) }
+        ensures call { Tells (told self.old.log) (told self.new.log) (Read port (length buffer.new) (given result buffer.new) ∷ []) }
+        ensures failure { CountsFailure self.old.log.failures self.new.log.failures result }
+        ensures fails { self.old.due ≡ 1 → IsErr result }
+        ensures reaches_nothing { self.old.due ≡ 1 → self.new.inner ≡ self.old.inner }
+        ensures due { self.new.due ≡ self.old.due - 1 }
+    {
+        if self.is_due() {
+            return self.log.read(port, buffer, Err(PortFault));
+        }
+        let answer = self.inner.read(port, buffer);
+        self.log.read(port, buffer, answer)
+    }
+
+    fn write(&mut self, port: u64, bytes: &[u8]) -> Result<Put, PortFault>
+        requires { 0 < length bytes.now }
+        ensures bound { IsTaken result (length bytes.now) }
+        ensures call { Tells (told self.old.log) (told self.new.log) (Write port bytes.now result ∷ []) }
+        ensures failure { CountsFailure self.old.log.failures self.new.log.failures result }
+        ensures fails { self.old.due ≡ 1 → IsErr result }
+        ensures reaches_nothing { self.old.due ≡ 1 → self.new.inner ≡ self.old.inner }
+        ensures due { self.new.due ≡ self.old.due - 1 }
+    {
+        if self.is_due() {
+            return self.log.write(port, bytes, Err(PortFault));
+        }
+        let answer = self.inner.write(port, bytes);
+        self.log.write(port, bytes, answer)
+    }
+
+    fn shut(&mut self, port: u64)
+        ensures call { Tells (told self.old.log) (told self.new.log) (Shut port ∷ []) }
+        ensures failures { self.new.log.failures ≡ self.old.log.failures }
+        ensures due { self.new.due ≡ self.old.due }
+    {
+        self.inner.shut(port);
+        self.log.shut(port);
+    }
+}
