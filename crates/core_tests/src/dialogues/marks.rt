@@ -35,8 +35,10 @@ fn settled(
 ) -> Result<Client, Fail> {
     let client = server.open(alloc, address)?;
     server.receive(client, text)?;
-    while server.offer(client)? == Offer::Bytes {
-        take_waiting(server, client);
+    for _ in 0..20 {
+        if server.offer(client)? == Offer::Bytes {
+            take_waiting(server, client);
+        }
     }
     Ok(client)
 }
