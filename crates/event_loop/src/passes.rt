@@ -182,7 +182,8 @@ fn finds_nothing(server: &mut Server, client: Client) -> bool
     ensures stands { (config : Config) (w : World) → StandsAt server.old config w → StandsAt server.new config w }
     ensures idle { result ≡ true → (config : Config) (w : World) → StandsAt server.old config w →
         Some Idle ≡ option_map (λ c. offer_of (offered w.history c)) (client_at w client) }
-    ensures nothing { result ≡ true → (config : Config) (w : World) → StandsAt server.old config w → step config w (Take client 0) ≡ w }
+    ensures nothing { result ≡ true → (config : Config) (w : World) → StandsAt server.old config w →
+        step config w (Take client 0) ≡ w }
 {
     match server.ready(client) {
         Ok(ready) => !ready,
@@ -190,8 +191,9 @@ fn finds_nothing(server: &mut Server, client: Client) -> bool
     }
 }
 
-// The writes of a pass over a client's port, up to so many; whether the port stays open. A client for which nothing would be found
-// is offered nothing. One that is offered something is offered more until nothing is found, which takes its mark away.
+// The writes of a pass over a client's port, up to so many; whether the port stays open. A client for which nothing
+// would be found is offered nothing. One that is offered something is offered more until nothing is found, which takes
+// its mark away.
 pub fn write_client<P: Ports>(
     server: &mut Server,
     ports: &mut P,

@@ -122,7 +122,8 @@ fn cut_off(outcome: &Outcome, whole: &Outcome) -> Option<usize> {
     Some(count)
 }
 
-/// Whether a feed's port was shut, so that its records came no further, and each client has a beginning of what it was to have.
+/// Whether a feed's port was shut, so that its records came no further, and each client has a beginning of what it was
+/// to have.
 fn lost_its_feed(outcome: &Outcome, whole: &Outcome) -> bool {
     let feed_is_shut = outcome.endings.last().is_some_and(|feed| feed.is_shut);
     feed_is_shut

@@ -10,8 +10,8 @@ use crate::memory_ports::{Log, PortRecord, record_of};
 use crate::{Got, Happening, PortFault, Ports, Put};
 use std::alloc::{AllocError, Global};
 
-/// Ports of which one call of `next`, `read` or `write` fails and reaches nothing. All others are passed on. They keep each call with
-/// its answer, as ports in memory do, and serve to try what comes of a failure at each place.
+/// Ports of which one call of `next`, `read` or `write` fails and reaches nothing. All others are passed on. They keep
+/// each call with its answer, as ports in memory do, and serve to try what comes of a failure at each place.
 #[derive(Drop)]
 pub struct FailingPorts<P> {
     inner: P,
@@ -43,7 +43,8 @@ impl<P> FailingPorts<P> {
 
     /// The bytes that a port gave, the bytes that it took, and whether it was shut. It fails only for want of memory.
     pub fn record(&self, alloc: Global, port: u64) -> Result<PortRecord, AllocError>
-        ensures { IfOk result (λ r. (calls : List Call) → told self.now.log ≡ Some calls → record_value r ≡ port_record port calls) }
+        ensures { IfOk result (λ r. (calls : List Call) → told self.now.log ≡ Some calls →
+            record_value r ≡ port_record port calls) }
     {
         record_of(alloc, self.log.made(), port)
     }

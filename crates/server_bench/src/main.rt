@@ -1,13 +1,14 @@
 //! Makes calls of a server many times, so that their instructions can be counted.
 //!
-//! `server_bench arrive CAPACITY ROUNDS`: a record arrives at one of 1,024 stations, whose ring holds so many and is full.
-//! `server_bench packets REQUESTS CAPACITY ROUNDS`: a client that asks by FETCH for so many stations, whose rings are full, is
-//! offered a packet and takes it. `server_bench idle REQUESTS CAPACITY ROUNDS`: a client that asks for them by DATA is offered
-//! something, and nothing arrived. `server_bench passed OFFERS ROUNDS`: 1,000 records arrive that no pattern of a client lets
-//! pass, and the client is offered something so many times. `server_bench visits ROUNDS`: clients come and go, one after the
-//! other. `server_bench crowd CLIENTS`: so many are open at the end. `server_bench ready ROUNDS`: a client that waits is asked
-//! whether it is ready. `server_bench apart CLIENTS ROUNDS`: a record arrives while so many clients wait at another station.
-//! `server_bench sleepers CLIENTS ROUNDS`: a turn of a loop hands one client a packet while so many others wait.
+//! `server_bench arrive CAPACITY ROUNDS`: a record arrives at one of 1,024 stations, whose ring holds so many and is
+//! full. `server_bench packets REQUESTS CAPACITY ROUNDS`: a client that asks by FETCH for so many stations, whose rings
+//! are full, is offered a packet and takes it. `server_bench idle REQUESTS CAPACITY ROUNDS`: a client that asks for
+//! them by DATA is offered something, and nothing arrived. `server_bench passed OFFERS ROUNDS`: 1,000 records arrive
+//! that no pattern of a client lets pass, and the client is offered something so many times. `server_bench visits
+//! ROUNDS`: clients come and go, one after the other. `server_bench crowd CLIENTS`: so many are open at the end.
+//! `server_bench ready ROUNDS`: a client that waits is asked whether it is ready. `server_bench apart CLIENTS ROUNDS`:
+//! a record arrives while so many clients wait at another station. `server_bench sleepers CLIENTS ROUNDS`: a turn of a
+//! loop hands one client a packet while so many others wait.
 //!
 //! It prints a sum of what was answered, so that no work can be left out.
 #![tactic(auto)]

@@ -34,7 +34,8 @@ fn feed(alloc: Global, records: u32) -> anyhow::Result<PortScript> {
     Ok(PortScript::new(FEED, reads, Vec::new(alloc)))
 }
 
-/// Ports of a client that is awake and of so many that sleep, which join in one turn, and of a feed, which joins in the next.
+/// Ports of a client that is awake and of so many that sleep, which join in one turn, and of a feed, which joins in the
+/// next.
 fn ports(alloc: Global, sleepers: u32, records: u32) -> anyhow::Result<MemoryPorts> {
     let mut happenings = Vec::new(alloc);
     let mut scripts = Vec::new(alloc);
@@ -51,8 +52,8 @@ fn ports(alloc: Global, sleepers: u32, records: u32) -> anyhow::Result<MemoryPor
     Ok(MemoryPorts::new(alloc, Script::new(happenings, scripts)))
 }
 
-/// Turns in each of which a client is handed the packet of a record that was just fed, while so many clients sleep. Answers how
-/// many bytes it was handed in all: 8 for its lines, and 520 a turn.
+/// Turns in each of which a client is handed the packet of a record that was just fed, while so many clients sleep.
+/// Answers how many bytes it was handed in all: 8 for its lines, and 520 a turn.
 pub fn sleepers(alloc: Global, sleepers: u32, rounds: u32) -> anyhow::Result<u64> {
     let ports = ports(alloc, sleepers, rounds)?;
     let mut all = Loop::new(alloc, config_of(alloc, 1, 1, 4096)?, ports)?;

@@ -96,7 +96,8 @@ pub record AreMarked (config : Config) (rings : Holdings) (marks : Marks) (slots
 
 -- A session in a transfer after a call was in one before, with the same requests.
 pub record KeepsRequests (before after : Sitting) : Type 0 where
-  pub kept : is_transfer after.state ≡ true → (is_transfer before.state ≡ true) × (all_at_start after.mode ≡ all_at_start before.mode)
+  pub kept : is_transfer after.state ≡ true →
+      (is_transfer before.state ≡ true) × (all_at_start after.mode ≡ all_at_start before.mode)
 
 -- the mark of the client in a slot, where there is one
 abbrev pub mark_in : Row → Option ℕ → Bool
@@ -113,10 +114,12 @@ marks_of c marks = map (mark_of c.opened.items marks.marked) (range_with_len 0 c
 
 -- The client's offers find nothing, and may be spared.
 pub record IsSpared (config : Config) (w : World) (k : ℕ) : Type 0 where
-  pub idle : (c : Client) → client_of (slice_get w.connections k) ≡ Some c → is_idle (offer_of (offered w.history c)) ≡ true
+  pub idle : (c : Client) → client_of (slice_get w.connections k) ≡ Some c →
+      is_idle (offer_of (offered w.history c)) ≡ true
   pub nothing : step config w (Take k 0) ≡ w
 
 -- A record of the station at a place marks the clients in a transfer with a request there, and no others.
 pub record MarksThose (place : ℕ) (old new : Serving) : Type 0 where
-  pub marks : (k : ℕ) (s : Sitting) (mark : Bool) → slice_index_or old.sessions k None ≡ Some s → mark_at old k ≡ Some mark →
+  pub marks : (k : ℕ) (s : Sitting) (mark : Bool) → slice_index_or old.sessions k None ≡ Some s →
+      mark_at old k ≡ Some mark →
       mark_at new k ≡ Some (mark || asks place s)

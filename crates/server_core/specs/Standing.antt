@@ -10,8 +10,8 @@ use Rattle.session_state.specs.declared.session.State.TheVariants.{Starting}
 use Rattle.session_state.specs.Sessions.{Sitting, HasPlaces, client_in, sitting_view}
 use Rattle.transfer.specs.Cursors.{ArePassed}
 
--- a server: its configuration, what it holds of all stations, and for the k-th client its session, while that is open, and whether
--- an offer may find something for it
+-- a server: its configuration, what it holds of all stations, and for the k-th client its session, while that is open,
+-- and whether an offer may find something for it
 pub record Serving : Type 0 where
   pub config : Config
   pub rings : Holdings

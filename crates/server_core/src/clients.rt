@@ -91,7 +91,8 @@ impl Clients {
         ensures slots { OnOk result (Updates self.old.slots self.new.slots self.old.slots.vacant_key (Some session)) }
         ensures vacant { OnOk result (get self.old.slots self.old.slots.vacant_key ≡ None) }
         ensures refused { OnErr result ((slot : ℕ) → get self.new.slots slot ≡ get self.old.slots slot) }
-        ensures numbers { OnErr result ((self.new.opens ≡ self.old.opens) × (self.new.opened.items ≡ self.old.opened.items)) }
+        ensures numbers { OnErr result ((self.new.opens ≡ self.old.opens)
+            × (self.new.opened.items ≡ self.old.opened.items)) }
         ensures settled { (config : ProtocolConfig) (rings : Holdings) → AreSettled config rings self.old.slots →
             IsSettled config rings session → AreSettled config rings self.new.slots }
     {

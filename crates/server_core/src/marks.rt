@@ -21,7 +21,8 @@ pub struct Marks {
     pub marked: Row,
     /// Those in a transfer.
     pub sending: Row,
-    /// For each station, at its place, those with a request there. It is kept for those in a transfer, and says nothing of others.
+    /// For each station, at its place, those with a request there. It is kept for those in a transfer, and says nothing
+    /// of others.
     pub rows: Vec<Row>,
 }
 
@@ -82,8 +83,8 @@ impl Marks {
         self.marked.is_set(slot)
     }
 
-    /// The client in a slot was heard, or bytes of it were handed: an offer may find something. Where a transfer was to start, its
-    /// requests are kept.
+    /// The client in a slot was heard, or bytes of it were handed: an offer may find something. Where a transfer was to
+    /// start, its requests are kept.
     pub fn heard(&mut self, slot: usize, session: &Session, settled: Settled)
         requires { HasRooms self.old slot }
         ensures marked { bit_of self.new.marked slot ≡ true }
@@ -125,10 +126,12 @@ impl Marks {
         self.marked.clear(slot);
     }
 
-    /// A record of the station at a place arrived: an offer may find something for each client in a transfer with a request there.
+    /// A record of the station at a place arrived: an offer may find something for each client in a transfer with a
+    /// request there.
     pub fn arrived(&mut self, place: usize)
         ensures marked { (slot : ℕ) → HasRoom self.old.marked slot → bit_of self.new.marked slot
-            ≡ (bit_of self.old.marked slot || (bit_by (slice_get self.old.rows.items place) slot && bit_of self.old.sending slot)) }
+            ≡ (bit_of self.old.marked slot
+            || (bit_by (slice_get self.old.rows.items place) slot && bit_of self.old.sending slot)) }
         ensures room { length self.new.marked.words.items ≡ length self.old.marked.words.items }
         ensures sending { self.new.sending ≡ self.old.sending }
         ensures rows { self.new.rows.items ≡ self.old.rows.items }

@@ -86,7 +86,8 @@ pub fn is_ready_in(
     requires settled { AreSettled config.now rings.now slots.old }
     requires marked { AreMarked config.now rings.now marks.now slots.old }
     requires there { IsSome (get slots.old slot) }
-    ensures changed { (h : List Arrival) → HoldsOf config.now rings.now h → SlotGoesOn config.now h slots.old slots.new slot (λ v c. c) }
+    ensures changed { (h : List Arrival) → HoldsOf config.now rings.now h →
+        SlotGoesOn config.now h slots.old slots.new slot (λ v c. c) }
     ensures settled { AreSettled config.now rings.now slots.new }
     ensures marked { AreMarked config.now rings.now marks.now slots.new }
     ensures kept { StayOpen slots.old slots.new }

@@ -39,7 +39,8 @@ impl Model for Server {
 
     ghost view = { λ s. record { config = s.config; rings = s.rings; sessions = sessions_of s.clients; marks = marks_of s.clients s.marks } };
 
-    ghost invariant = { λ s. IsTable s.clients × AreSettled s.config s.rings s.clients.slots × (length s.rings.rings ≡ length s.config.entries)
+    ghost invariant = { λ s. IsTable s.clients × AreSettled s.config s.rings s.clients.slots
+        × (length s.rings.rings ≡ length s.config.entries)
         × AreMarked s.config s.rings s.marks s.clients.slots × (length s.marks.rows.items ≡ length s.config.entries) };
 }
 
@@ -128,14 +129,15 @@ impl Server {
         }
     }
 
-    /// Whether an offer to a client may find something. Where it says no, an offer finds nothing and changes nothing. A record that
-    /// arrives marks the clients in a transfer with a request for its station, what a client sends and what it was handed marks
-    /// that client, and an offer that finds nothing takes the mark away.
+    /// Whether an offer to a client may find something. Where it says no, an offer finds nothing and changes nothing. A
+    /// record that arrives marks the clients in a transfer with a request for its station, what a client sends and what
+    /// it was handed marks that client, and an offer that finds nothing takes the mark away.
     pub fn marked(&self, client: Client) -> Result<bool, Gone>
         ensures value { result_ok result ≡ mark_at self.now client }
         ensures open { (config : ProtocolConfig) (w : World) → StandsAt self.now config w →
             is_ok result ≡ is_some (client_of (slice_get w.connections client)) }
-        ensures spared { result ≡ Ok false → (config : ProtocolConfig) (w : World) → StandsAt self.now config w → IsSpared config w client }
+        ensures spared { result ≡ Ok false → (config : ProtocolConfig) (w : World) → StandsAt self.now config w →
+            IsSpared config w client }
     {
         match self.clients.slot_of(client.number()) {
             Some(slot) => Ok(self.marks.is_marked(slot)),
@@ -143,14 +145,16 @@ impl Server {
         }
     }
 
-    /// Whether an offer to a client would find something: bytes, or that the connection is over. It is no event: the server stands
-    /// for what it stood for, with the same marks. A client that is not marked is answered without a look at what is held, and for
-    /// another no record is looked at twice that it doesn't want.
+    /// Whether an offer to a client would find something: bytes, or that the connection is over. It is no event: the
+    /// server stands for what it stood for, with the same marks. A client that is not marked is answered without a look
+    /// at what is held, and for another no record is looked at twice that it doesn't want.
     pub fn ready(&mut self, client: Client) -> Result<bool, Gone>
-        ensures stands { (config : ProtocolConfig) (w : World) → StandsAt self.old config w → StandsAt self.new config w }
+        ensures stands { (config : ProtocolConfig) (w : World) → StandsAt self.old config w →
+            StandsAt self.new config w }
         ensures answer { (config : ProtocolConfig) (w : World) → StandsAt self.old config w → result_ok result
             ≡ option_map (λ c. not (is_idle (offer_of (offered w.history c)))) (client_of (slice_get w.connections client)) }
-        ensures spared { result ≡ Ok false → (config : ProtocolConfig) (w : World) → StandsAt self.old config w → IsSpared config w client }
+        ensures spared { result ≡ Ok false → (config : ProtocolConfig) (w : World) → StandsAt self.old config w →
+            IsSpared config w client }
         ensures marks { self.new.marks ≡ self.old.marks }
     {
         match self.clients.seek(client.number()) {
@@ -205,7 +209,8 @@ impl Server {
             IsExhausted config w.history bytes.now }
         ensures counted { OnOk result ((config : ProtocolConfig) (w : World) → StandsAt self.old config w →
             length w.history < 2 ^ 64 - 1) }
-        ensures marks { OnOk result ((place : ℕ) (summary : Summary) → IsPlaced self.old.config bytes.now place summary →
+        ensures marks { OnOk result ((place : ℕ) (summary : Summary) →
+            IsPlaced self.old.config bytes.now place summary →
             MarksThose place self.old self.new) }
         ensures unchanged { OnErr result (self.new ≡ self.old) }
     {

@@ -39,8 +39,8 @@ fn proceed(config: &Config, rings: &Rings, session: &mut Session, settled: Settl
     }
 }
 
-/// Bytes come; where there is no room for all of them they are refused as a whole, and nothing changes. It answers whether a
-/// transfer started.
+/// Bytes come; where there is no room for all of them they are refused as a whole, and nothing changes. It answers
+/// whether a transfer started.
 #[tactic(auto, using(crate::proofs::Offering::receive_lemmas))]
 pub fn receive(
     config: &Config,
@@ -51,7 +51,8 @@ pub fn receive(
     requires { IsSettled config.now rings.now session.old }
     ensures client { (h : List Arrival) → HoldsOf config.now rings.now h → client_in config.now h session.new
         ≡ received (sitting_view config.now session.old) h bytes.now (client_in config.now h session.old) }
-    ensures answer { (h : List Arrival) → receipt_in result ≡ receipt (length bytes.now) (Some (client_in config.now h session.old)) }
+    ensures answer { (h : List Arrival) →
+        receipt_in result ≡ receipt (length bytes.now) (Some (client_in config.now h session.old)) }
     ensures kept { IfOk result (λ settled. settled ≡ Rest → KeepsRequests session.old session.new) }
     ensures refused { OnErr result (session.new ≡ session.old) }
     ensures places { session.new.places ≡ session.old.places }
@@ -71,7 +72,8 @@ pub fn receive(
 fn fill(config: &Config, rings: &Rings, session: &mut Session)
     requires { IsSettled config.now rings.now session.old }
     ensures client { (h : List Arrival) → HoldsOf config.now rings.now h → client_in config.now h session.new ≡ offered h (client_in config.now h session.old) }
-    ensures idle { is_nothing session.new.waiting ≡ true → session.new.state ≢ Ending → IsIdle config.now rings.now session.new }
+    ensures idle { is_nothing session.new.waiting ≡ true → session.new.state ≢ Ending →
+        IsIdle config.now rings.now session.new }
     ensures kept { KeepsRequests session.old session.new }
     ensures places { session.new.places ≡ session.old.places }
     ensures settled { IsSettled config.now rings.now session.new }
@@ -110,20 +112,24 @@ pub fn offer(config: &Config, rings: &Rings, session: &mut Session) -> Offer
     }
 }
 
-/// Whether an offer would find something. Nothing changes but how far the requests have come. It is kept out of its caller, which
-/// mostly finds that a client is not marked.
+/// Whether an offer would find something. Nothing changes but how far the requests have come. It is kept out of its
+/// caller, which mostly finds that a client is not marked.
 #[inline(never)]
 pub fn is_ready(rings: &Rings, session: &mut Session) -> bool
-    ensures client { (config : ProtocolConfig) (h : List Arrival) → IsSettled config rings.now session.old → HoldsOf config rings.now h →
+    ensures client { (config : ProtocolConfig) (h : List Arrival) → IsSettled config rings.now session.old →
+        HoldsOf config rings.now h →
         client_in config h session.new ≡ client_in config h session.old }
-    ensures answer { (config : ProtocolConfig) (h : List Arrival) → IsSettled config rings.now session.old → HoldsOf config rings.now h →
+    ensures answer { (config : ProtocolConfig) (h : List Arrival) → IsSettled config rings.now session.old →
+        HoldsOf config rings.now h →
         result ≡ not (is_idle (offer_of (offered h (client_in config h session.old)))) }
-    ensures spared { (config : ProtocolConfig) (h : List Arrival) → IsSettled config rings.now session.old → HoldsOf config rings.now h →
+    ensures spared { (config : ProtocolConfig) (h : List Arrival) → IsSettled config rings.now session.old →
+        HoldsOf config rings.now h →
         result ≡ false → offered h (client_in config h session.old) ≡ client_in config h session.old }
     ensures kept { KeepsRequests session.old session.new }
     ensures state { session.new.state ≡ session.old.state }
     ensures places { session.new.places ≡ session.old.places }
-    ensures settled { (config : ProtocolConfig) → IsSettled config rings.now session.old → IsSettled config rings.now session.new }
+    ensures settled { (config : ProtocolConfig) → IsSettled config rings.now session.old →
+        IsSettled config rings.now session.new }
 {
     if !session.is_empty() {
         return true;

@@ -6,8 +6,8 @@ use crate::Counts;
 mod reading;
 mod writing;
 
-/// A reader or writer of which one call fails and reaches nothing. All others are passed on. Its counts are its own, and its bytes
-/// those that the inner value tells. It serves to try what comes of a failure at each place.
+/// A reader or writer of which one call fails and reaches nothing. All others are passed on. Its counts are its own,
+/// and its bytes those that the inner value tells. It serves to try what comes of a failure at each place.
 #[derive(Drop)]
 pub struct Failing<T> {
     inner: T,

@@ -14,8 +14,9 @@ fn is_at(opened: &[Opened], at: usize, number: usize) -> bool
     }
 }
 
-/// The place of an open client by its number: the one after a place that is near, or that one itself, or else found by halving. The
-/// one after it comes first, since a loop that asks for all clients, of whom most sleep, asks for each of those once.
+/// The place of an open client by its number: the one after a place that is near, or that one itself, or else found by
+/// halving. The one after it comes first, since a loop that asks for all clients, of whom most sleep, asks for each of
+/// those once.
 pub fn place_of(opened: &[Opened], near: usize, number: usize) -> Option<usize>
     requires { AreRising opened.now }
     ensures found { IfSome result (λ at. IsNumberAt opened.now number at) }

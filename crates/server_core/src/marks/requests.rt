@@ -55,7 +55,8 @@ fn add(rows: &mut [Row], slot: usize, choices: &[Choice])
 /// A slot's bit is set in the rows of the stations for which something is asked, and in no other row.
 pub fn keep(rows: &mut [Row], slot: usize, choices: &[Choice])
     requires { (place : ℕ) → RoomBy (slice_get rows.old place) slot }
-    ensures asked { (place : ℕ) → place < length rows.new → bit_by (slice_get rows.new place) slot ≡ asked place choices.now }
+    ensures asked { (place : ℕ) → place < length rows.new →
+        bit_by (slice_get rows.new place) slot ≡ asked place choices.now }
     ensures kept { KeepsRows (Elsewhere slot) rows.old rows.new }
 {
     clear(rows, slot);
