@@ -61,7 +61,8 @@ module _ (r : List ℕ) where
         stop = x.stop;
         kind = x.kind;
         samples = x.samples;
-      } = rw (stop, network, station, kind, h.location, h.channel, h.start, h.samples) in
+        links = x.links;
+      } = rw (stop, network, station, kind, h.location, h.channel, h.start, h.samples, h.links) in
       same
 
   pub facts_read : (x : Facts) → HasFacts r x → header_of r ≡ Ok x
@@ -208,6 +209,7 @@ module _ (r : List ℕ) where
                 stop = refl;
                 kind = kind_is o r offsets;
                 samples = refl;
+                links = refl;
               }))
               (λ n. rw n (says_fault Length (o, offsets, at, is, chain, first, eqb-false (slice_index r (at + 6)) 9 n) before_length))
 

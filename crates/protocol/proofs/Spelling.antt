@@ -247,6 +247,7 @@ module _ (f : Fields) (h : IsInRange f) where
     stop = start_asked f +ℤ pos (quotient (ticks_of f.order (layout_of f)));
     kind = kind_of f.order (layout_of f) (offsets_with f.extra);
     samples = f.samples;
+    links = length (offsets_with f.extra);
   }
 
   facts_in_layout : Not (IsAmbiguous f) → HasFacts (layout_of f) spelled_facts
@@ -271,6 +272,7 @@ module _ (f : Fields) (h : IsInRange f) where
     stop = refl;
     kind = kind_is f.order (layout_of f) (offsets_with f.extra);
     samples = sym (own_word f h 10 f.samples (samples-at f));
+    links = refl;
   }
 
   pub spelled : Not (IsAmbiguous f) → made f ≡ Some (layout_of f)

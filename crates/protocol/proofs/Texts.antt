@@ -66,7 +66,7 @@ pattern-none = refl
 -- the positive ones. `-` is a space and not itself.
 abbrev pub of_type : List ℕ → Kind → Facts
 of_type location kind =
-    record { network = codes "GE"; station = codes "APE"; location = location; channel = codes "BHZ"; start = pos 0; stop = pos 0; kind = kind; samples = 0 }
+    record { network = codes "GE"; station = codes "APE"; location = location; channel = codes "BHZ"; start = pos 0; stop = pos 0; kind = kind; samples = 0; links = 0 }
 
 abbrev pub let_pass : List (List ℕ) → List Kind
 let_pass texts = filter (λ k. passes (filter_map pattern_of texts) (of_type (codes "  ") k)) (D ∷ E ∷ C ∷ O ∷ T ∷ L ∷ [])

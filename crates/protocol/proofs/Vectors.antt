@@ -1,7 +1,7 @@
 -- Records as vectors: the first one, changes of it, and what each is read as.
-use Rattle.std.specs.Prelude.{◌≡◌, refl, ℕ, ◌+◌, suc, zero, List, [], ◌∷◌, ◌++◌, length, take, drop, codes, replicate, pos, Option, Some, None, option_map, Result, Ok, Err, filter, is_none}
+use Rattle.std.specs.Prelude.{◌≡◌, refl, ℕ, ◌+◌, suc, zero, List, [], ◌∷◌, ◌++◌, length, take, drop, codes, replicate, pos, Option, Some, None, Result, Ok, Err, filter, is_none}
 use Rattle.protocol.specs.declared.record.Kind.{Kind}
-use Rattle.protocol.specs.Record.{Facts, header_of, chain_of}
+use Rattle.protocol.specs.Record.{Facts, header_of}
 use Rattle.protocol.specs.declared.record.RecordFault.{RecordFault}
 use Rattle.protocol.specs.declared.record.ByteOrder.{ByteOrder}
 use Rattle.protocol.specs.declared.record.Kind.TheVariants.{D, E, L}
@@ -43,9 +43,9 @@ sample_fields = record {
 abbrev pub with_at : ℕ → List ℕ → List ℕ → List ℕ
 with_at i bs r = take i r ++ bs ++ drop (i + length bs) r
 
--- what is read of a record like the first, but for its start, end, type and samples
-abbrev pub reads_as : ℕ → ℕ → Kind → ℕ → Result Facts RecordFault
-reads_as start stop kind samples =
+-- what is read of a record like the first, but for its count of blockettes, start, end, type and samples
+abbrev pub reads_linked : ℕ → ℕ → ℕ → Kind → ℕ → Result Facts RecordFault
+reads_linked links start stop kind samples =
     Ok (record {
       network = codes "GE";
       station = codes "APE";
@@ -55,11 +55,12 @@ reads_as start stop kind samples =
       stop = pos stop;
       kind = kind;
       samples = samples;
+      links = links;
     })
 
--- how many blockettes the record has
-abbrev pub links_of : ByteOrder → List ℕ → Option ℕ
-links_of o r = option_map (λ offsets. length offsets) (chain_of o r)
+-- the same with one blockette
+abbrev pub reads_as : ℕ → ℕ → Kind → ℕ → Result Facts RecordFault
+reads_as = reads_linked 1
 
 -- The first record is the layout of its fields, and is made of them.
 pub made-sample : made sample_fields ≡ Some sample
@@ -68,10 +69,6 @@ made-sample = refl
 -- what the first record says
 pub read-sample : header_of sample ≡ reads_as 17091648000000 17091648010000 D 100
 read-sample = refl
-
--- with one blockette
-pub links-sample : links_of Big sample ≡ Some 1
-links-sample = refl
 
 -- in little order
 pub read-little : header_of (with_at 20 (0xe8 ∷ 0x07 ∷ 0x3c ∷ 0x00 ∷ 0x00 ∷ 0x00 ∷ 0x00 ∷ 0x00 ∷ 0x00 ∷ 0x00 ∷ 0x64 ∷ 0x00 ∷ 0x64 ∷ 0x00 ∷ 0x01 ∷ 0x00 ∷ 0x00 ∷ 0x00 ∷ 0x00 ∷ 0x01 ∷ 0x00 ∷ 0x00 ∷ 0x00 ∷ 0x00 ∷ 0x40 ∷ 0x00 ∷ 0x30 ∷ 0x00 ∷ 0xe8 ∷ 0x03 ∷ 0x00 ∷ 0x00 ∷ 0x0b ∷ 0x00 ∷ 0x09 ∷ 0x00 ∷ []) sample) ≡ reads_as 17091648000000 17091648010000 D 100
@@ -110,12 +107,8 @@ pub read-year_0 : header_of (with_at 20 (0x00 ∷ 0x00 ∷ []) sample) ≡ Err T
 read-year_0 = refl
 
 -- a detection blockette and no samples
-pub read-detection : header_of (with_at 56 (0x00 ∷ 0xc9 ∷ []) (with_at 50 (0x00 ∷ 0x38 ∷ []) (with_at 30 (0x00 ∷ 0x00 ∷ 0x00 ∷ 0x00 ∷ []) sample))) ≡ reads_as 17091648000000 17091648000000 E 0
+pub read-detection : header_of (with_at 56 (0x00 ∷ 0xc9 ∷ []) (with_at 50 (0x00 ∷ 0x38 ∷ []) (with_at 30 (0x00 ∷ 0x00 ∷ 0x00 ∷ 0x00 ∷ []) sample))) ≡ reads_linked 2 17091648000000 17091648000000 E 0
 read-detection = refl
-
--- with two blockettes
-pub links-detection : links_of Big (with_at 56 (0x00 ∷ 0xc9 ∷ []) (with_at 50 (0x00 ∷ 0x38 ∷ []) (with_at 30 (0x00 ∷ 0x00 ∷ 0x00 ∷ 0x00 ∷ []) sample))) ≡ Some 2
-links-detection = refl
 
 -- factor 0
 pub read-log : header_of (with_at 32 (0x00 ∷ 0x00 ∷ []) sample) ≡ reads_as 17091648000000 17091648000000 L 100
@@ -148,10 +141,6 @@ read-first_508 = refl
 -- a blockette 1000 in the last eight bytes
 pub read-first_504 : header_of (with_at 504 (0x03 ∷ 0xe8 ∷ 0x00 ∷ 0x00 ∷ 0x0b ∷ 0x01 ∷ 0x09 ∷ 0x00 ∷ []) (with_at 46 (0x01 ∷ 0xf8 ∷ []) sample)) ≡ reads_as 17091648000000 17091648010000 D 100
 read-first_504 = refl
-
--- and no other blockette
-pub links-first_504 : links_of Big (with_at 504 (0x03 ∷ 0xe8 ∷ 0x00 ∷ 0x00 ∷ 0x0b ∷ 0x01 ∷ 0x09 ∷ 0x00 ∷ []) (with_at 46 (0x01 ∷ 0xf8 ∷ []) sample)) ≡ Some 1
-links-first_504 = refl
 
 -- a blockette 1000 in the last seven bytes
 pub read-first_505 : header_of (with_at 505 (0x03 ∷ 0xe8 ∷ 0x00 ∷ 0x00 ∷ 0x0b ∷ 0x01 ∷ 0x09 ∷ []) (with_at 46 (0x01 ∷ 0xf9 ∷ []) sample)) ≡ Err Blockettes

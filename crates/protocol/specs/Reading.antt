@@ -1,7 +1,7 @@
 -- What a record says, in the words of the standard: its facts, and the faults that it has. A law says that the record is read so.
 -- SEED Reference Manual 2.4, chapter 8: the fixed section of data header, the chain of blockettes, blockette 1000.
 -- Left out: what Record leaves out too.
-use Rattle.std.specs.Prelude.{◌≡◌, ◌≢◌, ℕ, ◌+◌, ◌*◌, ◌<◌, ◌≤◌, ◌⊎◌, ⊤, List, [], ◌∷◌, ◌++◌, take, replicate, slice_index, slice_range, pos, ◌+ℤ◌, All, Any}
+use Rattle.std.specs.Prelude.{◌≡◌, ◌≢◌, ℕ, ◌+◌, ◌*◌, ◌<◌, ◌≤◌, ◌⊎◌, ⊤, List, [], ◌∷◌, ◌++◌, length, take, replicate, slice_index, slice_range, pos, ◌+ℤ◌, All, Any}
 use Rattle.protocol.specs.declared.record.ByteOrder.{ByteOrder}
 use Rattle.protocol.specs.Record.{Facts, Ratio, start_of, ticks_of, word}
 use Rattle.protocol.specs.declared.record.RecordFault.{RecordFault}
@@ -125,6 +125,7 @@ pub record HasFacts (r : List ℕ) (x : Facts) : Type 0 where
   pub stop : x.stop ≡ x.start +ℤ pos ticks
   pub kind : IsKind order r offsets x.kind
   pub samples : x.samples ≡ word order r 30
+  pub links : x.links ≡ length offsets
 
 -- a fault, as a sentence on the record
 abbrev pub IsTrueOf : List ℕ → RecordFault → Type 0

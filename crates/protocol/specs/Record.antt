@@ -12,7 +12,7 @@ use Rattle.protocol.specs.declared.record.RecordFault.TheVariants.{Sequence, Qua
 use Rattle.protocol.specs.Time.{is_day, is_time_of_day, tick}
 
 -- What a server keeps of a record. Network and station have no spaces at their end; start and stop are ticks, and stop is
--- the end of the last sample; samples is their count.
+-- the end of the last sample; samples is their count, and links that of the blockettes in the chain.
 pub record Facts : Type 0 where
   pub network : List ℕ
   pub station : List ℕ
@@ -22,6 +22,7 @@ pub record Facts : Type 0 where
   pub stop : ℤ
   pub kind : Kind
   pub samples : ℕ
+  pub links : ℕ
 
 -- ---- numbers and codes
 
@@ -163,6 +164,7 @@ facts_in o r offsets =
       stop = start_of o r +ℤ pos (quotient (ticks_of o r));
       kind = kind_of o r offsets;
       samples = word o r 30;
+      links = length offsets;
     }
 
 -- a digit, a space or 0

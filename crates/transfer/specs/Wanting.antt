@@ -13,7 +13,7 @@ use Rattle.session_state.specs.Choices.{action_value}
 
 -- the facts of which so much is kept; what is not kept is empty
 abbrev pub facts_of : Summary → Facts
-facts_of x = record { network = []; station = []; location = x.location; channel = x.channel; start = x.start; stop = x.stop; kind = x.kind; samples = 0 }
+facts_of x = record { network = []; station = []; location = x.location; channel = x.channel; start = x.start; stop = x.stop; kind = x.kind; samples = 0; links = 0 }
 
 -- within what is asked, where something is
 abbrev pub is_in_window_of : Option Action → Facts → Bool
