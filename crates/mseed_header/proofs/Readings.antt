@@ -1,5 +1,5 @@
 -- What is read of a record is its header.
-use Rattle.std.proofs.Common.{◌≡◌, ℕ, ◌+◌, true, List, [], ◌∷◌, Option, Some, None, Err, unwrap_or, option_map, slice_index, ℤ, refl, sym, ap, ◌∙◌}
+use Rattle.std.proofs.Common.{◌≡◌, ℕ, ◌+◌, true, List, [], ◌∷◌, length, Option, Some, None, Err, unwrap_or, option_map, slice_index, ℤ, refl, sym, ap, ◌∙◌}
 use Rattle.std.specs.Option.{option_or}
 use Rattle.protocol.specs.declared.record.ByteOrder.{ByteOrder}
 use Rattle.protocol.specs.declared.record.Kind.{Kind}
@@ -24,7 +24,7 @@ module _ (o : ByteOrder) (r : List ℕ) where
   kind-with : (offsets : List ℕ) → kind_with o r (given_kind o r offsets) ≡ kind_of o r offsets
   kind-with offsets = rw (given-first_kind offsets)
 
-  facts-with : (offsets : List ℕ) → facts_with o r (start_of o r) (given_kind o r offsets) ≡ facts_in o r offsets
+  facts-with : (offsets : List ℕ) → facts_with o r (start_of o r) (given_kind o r offsets) (length offsets) ≡ facts_in o r offsets
   facts-with offsets = rw (kind-with offsets)
 
   -- what the time and the chain are, where they are read
@@ -39,7 +39,8 @@ module _ (o : ByteOrder) (r : List ℕ) where
       (λ y. (y, let same : Some (start_of o r) ≡ Some start = rw (date, y) at time in cc))
       (λ n. absurd (let none : None ≡ Some start = rw (date, n) at time in cc))
 
-  by_found : (offsets : List ℕ) (found : Option ℕ) → with_length o r (start_of o r) (option_map (λ at. slice_index r (at + 6)) found) (given_kind o r offsets) ≡ read_length o r offsets found
+  by_found : (offsets : List ℕ) (found : Option ℕ) → with_length o r (start_of o r) (option_map (λ at. slice_index r (at + 6)) found) (given_kind o r offsets) (length offsets)
+      ≡ read_length o r offsets found
   by_found offsets None = refl
   by_found offsets (Some at) = rw (facts-with offsets) refl
 
@@ -47,7 +48,7 @@ module _ (o : ByteOrder) (r : List ℕ) where
   by_chain start b None same e = absurd cc
   by_chain start b (Some offsets) same e =
       let is : told o r offsets ≡ b = cc in
-      ap (λ x. header_by o r start x) (sym is) ∙ ap (λ t. with_length o r t (length_byte o r offsets) (given_kind o r offsets)) (sym same) ∙ by_found offsets (first_of_type o r 1000 offsets)
+      ap (λ x. header_by o r start x) (sym is) ∙ ap (λ t. with_length o r t (length_byte o r offsets) (given_kind o r offsets) (length offsets)) (sym same) ∙ by_found offsets (first_of_type o r 1000 offsets)
 
   pub read_by : (start : ℤ) (b : Blockettes) → IsRead start b → header_by o r start b ≡ read_in r (Some o)
   unfolding told_of

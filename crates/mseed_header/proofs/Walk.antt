@@ -1,12 +1,12 @@
 -- The chain is read by one walk over it.
-use Rattle.std.proofs.Common.{◌≡◌, ◌≢◌, ℕ, zero, suc, ◌+◌, ◌-◌, ◌<◌, ◌≤◌, ◌==◌, ◌&&◌, nat_le, true, false, List, [], ◌∷◌, Option, Some, None, option_map, refl, sym, ap, ◌∙◌, arith, ne_eqb, leb-true, le-leb}
+use Rattle.std.proofs.Common.{◌≡◌, ◌≢◌, ℕ, zero, suc, ◌+◌, ◌-◌, ◌<◌, ◌≤◌, ◌==◌, ◌&&◌, nat_le, true, false, List, [], ◌∷◌, length, Option, Some, None, option_map, add-zero, zero-add, refl, sym, ap, ◌∙◌, arith, ne_eqb, leb-true, le-leb}
 use Rattle.std.proofs.lemmas.Bool.{and_parts, lt-leb}
 use Rattle.protocol.proofs.Decisions.{decides-fits}
 use Rattle.std.specs.Option.{option_or}
 use Rattle.protocol.specs.declared.record.ByteOrder.{ByteOrder}
-use Rattle.protocol.specs.Record.{word, fits, chain_from, kind_of_type}
+use Rattle.protocol.specs.Record.{word, fits, chain_from, chain_of, kind_of_type}
 use Rattle.protocol.proofs.Found.{both}
-use Rattle.mseed_header.specs.Chain.{told_after, told_with, told_of, given_kind, length_byte}
+use Rattle.mseed_header.specs.Chain.{told, told_after, told_with, told_of, given_kind, length_byte}
 use Rattle.mseed_header.specs.declared.chain.Blockettes.{Blockettes}
 
 -- what the walk will have found, from an offset on, where none is below `least`
@@ -17,6 +17,7 @@ found_from o r b least at = option_map (told_after o r b) (chain_from (560 - lea
 pub record Walks (o : ByteOrder) (r : List ℕ) (b : Blockettes) (least at : ℕ) : Type 0 where
   pub low : 48 ≤ least
   pub high : least ≤ 509
+  pub few : b.links + 48 ≤ least
   pub finds : found_from o r b least at ≡ told_of o r
 
 option_or-none : {A : Type 0} (x : Option A) → option_or x None ≡ x
@@ -28,8 +29,16 @@ option_or-assoc None y z = refl
 option_or-assoc (Some a) y z = refl
 
 -- what stands in `Blockettes`, part by part
-same_found : (b c : Blockettes) → b.length ≡ c.length → b.kind ≡ c.kind → b ≡ c
-same_found b c e k = let same : record { length = b.length; kind = b.kind } ≡ record { length = c.length; kind = c.kind } = rw (e, k) in same
+same_found : (b c : Blockettes) → b.length ≡ c.length → b.kind ≡ c.kind → b.links ≡ c.links → b ≡ c
+same_found b c e k n =
+    let same :
+    record { length = b.length; kind = b.kind; links = b.links } ≡ record { length = c.length; kind = c.kind; links = c.links } =
+    rw (e, k, n) in
+    same
+
+-- before the walk nothing was found
+abbrev pub nothing_found : Blockettes
+nothing_found = record { length = None; kind = None; links = 0 }
 
 module _ (o : ByteOrder) (r : List ℕ) where
   -- a blockette that lies within the record
@@ -58,11 +67,21 @@ module _ (o : ByteOrder) (r : List ℕ) where
 
   -- what is found of a blockette and of those behind it
   told-with : (b : Blockettes) (at : ℕ) (offsets : List ℕ) → told_after o r (told_with o r b at) offsets ≡ told_after o r b (at ∷ offsets)
-  told-with b at offsets = same_found _ _ (option_or-assoc b.length (length_byte o r (at ∷ [])) (length_byte o r offsets) ∙ ap (option_or b.length) (first_length at offsets)) (option_or-assoc b.kind _ (given_kind o r offsets) ∙ ap (option_or b.kind) (option_or-assoc (kind_of_type (word o r at)) None (given_kind o r offsets)))
+  told-with b at offsets =
+      same_found _ _
+      (option_or-assoc b.length (length_byte o r (at ∷ [])) (length_byte o r offsets)
+      ∙ ap (option_or b.length) (first_length at offsets))
+      (option_or-assoc b.kind _ (given_kind o r offsets)
+      ∙ ap (option_or b.kind) (option_or-assoc (kind_of_type (word o r at)) None (given_kind o r offsets)))
+      (omega arith)
 
-  pub starts : Walks o r (record { length = None; kind = None }) 48 (word o r 46)
+  from_nothing : (found : Option (List ℕ)) → option_map (told_after o r nothing_found) found ≡ option_map (told o r) found
+  from_nothing None = refl
+  from_nothing (Some offsets) = ap Some (same_found _ _ refl refl (zero-add (length offsets)))
+
+  pub starts : Walks o r nothing_found 48 (word o r 46)
   unfolding found_from told_of
-  starts = record { low = omega arith; high = omega arith; finds = refl }
+  starts = record { low = omega arith; high = omega arith; few = omega arith; finds = from_nothing (chain_of o r) }
 
   pub too_low : (least at : ℕ) → at < least → (nat_le least at && fits o r at) ≡ false
   too_low least at low = rw (lt-leb least at low)
@@ -79,7 +98,7 @@ module _ (o : ByteOrder) (r : List ℕ) where
   pub ends : (b : Blockettes) (least at : ℕ) → at ≡ 0 → Walks o r b least at → Some b ≡ told_of o r
   unfolding found_from told_of
   ends b least at none w =
-      let whole : told_after o r b [] ≡ b = same_found _ _ (option_or-none b.length) (option_or-none b.kind) in
+      let whole : told_after o r b [] ≡ b = same_found _ _ (option_or-none b.length) (option_or-none b.kind) (add-zero b.links) in
       let here : option_map (told_after o r b) (chain_from (560 - least) o r least at) ≡ Some (told_after o r b []) = rw (steps_left least w.high, none) refl in
       sym (here ∙ ap Some whole) ∙ w.finds
 
@@ -104,6 +123,7 @@ module _ (o : ByteOrder) (r : List ℕ) where
       record {
         low = omega arith;
         high = omega arith;
+        few = omega (arith, w.few);
         finds =
             ap (option_map (told_after o r (told_with o r b at))) (enough (560 - (at + 1)) (559 - least) (at + 1) (word o r (at + 2)) (omega arith) (omega arith) (omega arith))
             ∙ step b at (chain_from (559 - least) o r (at + 1) (word o r (at + 2)))

@@ -1,5 +1,5 @@
 -- What a record's header takes from its blockettes.
-use Rattle.std.specs.Prelude.{ℕ, ◌+◌, List, [], ◌∷◌, slice_index, Option, None, option_map}
+use Rattle.std.specs.Prelude.{ℕ, ◌+◌, List, [], ◌∷◌, length, slice_index, Option, None, option_map}
 use Rattle.std.specs.Option.{option_or}
 use Rattle.protocol.specs.declared.record.ByteOrder.{ByteOrder}
 use Rattle.protocol.specs.declared.record.Kind.{Kind}
@@ -17,11 +17,16 @@ length_byte o r offsets = option_map (λ at. slice_index r (at + 6)) (first_of_t
 
 -- what the blockettes at these offsets say
 abbrev pub told : ByteOrder → List ℕ → List ℕ → Blockettes
-told o r offsets = record { length = length_byte o r offsets; kind = given_kind o r offsets }
+told o r offsets = record { length = length_byte o r offsets; kind = given_kind o r offsets; links = length offsets }
 
 -- what was said before, and else what the blockettes at these offsets say
 abbrev pub told_after : ByteOrder → List ℕ → Blockettes → List ℕ → Blockettes
-told_after o r b offsets = record { length = option_or b.length (length_byte o r offsets); kind = option_or b.kind (given_kind o r offsets) }
+told_after o r b offsets =
+    record {
+      length = option_or b.length (length_byte o r offsets);
+      kind = option_or b.kind (given_kind o r offsets);
+      links = b.links + length offsets;
+    }
 
 -- with what the blockette at an offset says
 abbrev pub told_with : ByteOrder → List ℕ → Blockettes → ℕ → Blockettes

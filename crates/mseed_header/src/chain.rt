@@ -1,5 +1,5 @@
 //! The chain of blockettes.
-ghost use Rattle.std.specs.Prelude.{◌≡◌, IsTrue};
+ghost use Rattle.std.specs.Prelude.{◌≡◌, ◌<◌, ◌≤◌, IfSome, IsTrue};
 ghost use Rattle.protocol.specs.Record.{fits as spec_fits, kind_of_type as spec_kind_of_type, word as spec_word};
 ghost use Rattle.mseed_header.specs.Chain.{told_of, told_with};
 
@@ -13,7 +13,12 @@ pub struct Blockettes {
     pub length: Option<u8>,
     // What the first blockette that gives a kind gives.
     pub kind: Option<Kind>,
+    // How many blockettes there are.
+    pub links: u16,
 }
+
+// The most blockettes that a chain has: their offsets rise from 48 to at most 508.
+pub const MOST_LINKS: u16 = 461;
 
 // The kind that a blockette of a type gives a record without samples.
 pub fn kind_of_type(blockette: u16) -> Option<Kind>
@@ -38,7 +43,8 @@ fn fits(order: ByteOrder, record: &[u8; 512], at: usize) -> bool
 impl Blockettes {
     // With what the blockette at an offset says.
     fn with(self, order: ByteOrder, record: &[u8; 512], at: usize) -> Self
-        requires { IsTrue (spec_fits order «record».now at) }
+        requires within { IsTrue (spec_fits order «record».now at) }
+        requires few { self.links < MOST_LINKS }
         ensures { result ≡ told_with order «record».now self at }
     {
         let blockette = word(order, record, at);
@@ -50,17 +56,20 @@ impl Blockettes {
         Blockettes {
             length: self.length.or(length),
             kind: self.kind.or(kind_of_type(blockette)),
+            links: self.links + 1,
         }
     }
 }
 
 // What the blockettes say, or None where the chain is not well formed.
 pub fn blockettes_of(order: ByteOrder, record: &[u8; 512]) -> Option<Blockettes>
-    ensures { result ≡ told_of order «record».now }
+    ensures value { result ≡ told_of order «record».now }
+    ensures few { IfSome result (λ found. found.links ≤ MOST_LINKS) }
 {
     let mut found = Blockettes {
         length: None,
         kind: None,
+        links: 0,
     };
     let mut least = 48;
     let mut at = usize::from(word(order, record, 46));

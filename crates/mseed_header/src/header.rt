@@ -24,6 +24,7 @@ pub struct Header<'a> {
     end: Tick,
     kind: Kind,
     samples: u16,
+    links: u16,
 }
 
 impl<'a> Model for Header<'a> {
@@ -33,9 +34,9 @@ impl<'a> Model for Header<'a> {
 
     ghost Value = { Facts };
 
-    ghost view = { λ h. facts h.network.now h.station.now h.location.now h.channel.now h.start h.end h.kind h.samples };
+    ghost view = { λ h. facts h.network.now h.station.now h.location.now h.channel.now h.start h.end h.kind h.samples h.links };
 
-    ghost invariant = { λ h. (length h.station.now ≤ 5) × (length h.network.now ≤ 2) };
+    ghost invariant = { λ h. (length h.station.now ≤ 5) × (length h.network.now ≤ 2) × (h.links ≤ 461) };
 }
 
 impl<'a> Header<'a> {
@@ -96,6 +97,14 @@ impl<'a> Header<'a> {
     {
         self.samples
     }
+
+    /// How many blockettes the chain has: at most 461, since their offsets rise from 48 to at most 508.
+    pub fn links(&self) -> u16
+        ensures count { result ≡ self.now.links }
+        ensures bound { result ≤ 461 }
+    {
+        self.links
+    }
 }
 
 // The time of the start, or None where it is none of a day.
@@ -147,9 +156,15 @@ fn multiplier_of(order: ByteOrder, record: &[u8; 512]) -> i16
     }
 }
 
-fn header_with(order: ByteOrder, record: &[u8; 512], start: Tick, given: Option<Kind>) -> Header<'_>
-    requires { start ≤ℤ pos (2 ^ 60) }
-    ensures { result ≡ facts_with order «record».now start given }
+fn header_with(
+    order: ByteOrder,
+    record: &[u8; 512],
+    start: Tick,
+    blockettes: Blockettes,
+) -> Header<'_>
+    requires early { start ≤ℤ pos (2 ^ 60) }
+    requires few { blockettes.links ≤ 461 }
+    ensures { result ≡ facts_with order «record».now start blockettes.kind blockettes.links }
 {
     let samples = word(order, record, 30);
     let ticks = ticks_for(
@@ -164,8 +179,9 @@ fn header_with(order: ByteOrder, record: &[u8; 512], start: Tick, given: Option<
         network: trimmed(&record[18..20]),
         start,
         end: end_of(start, ticks),
-        kind: kind_of(order, record, given),
+        kind: kind_of(order, record, blockettes.kind),
         samples,
+        links: blockettes.links,
     }
 }
 
@@ -182,11 +198,12 @@ fn header_by(
     start: Tick,
     blockettes: Blockettes,
 ) -> Result<Header<'_>, RecordFault>
-    requires { start ≤ℤ pos (2 ^ 60) }
+    requires early { start ≤ℤ pos (2 ^ 60) }
+    requires few { blockettes.links ≤ 461 }
     ensures { result ≡ spec_header_by order «record».now start blockettes }
 {
     match blockettes.length {
-        Some(9) => Ok(header_with(order, record, start, blockettes.kind)),
+        Some(9) => Ok(header_with(order, record, start, blockettes)),
         Some(_) => Err(RecordFault::Length),
         None => Err(RecordFault::No1000),
     }

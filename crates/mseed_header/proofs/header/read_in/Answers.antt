@@ -6,7 +6,7 @@ use Rattle.mseed_header.proofs.header.read_in.Goals as goal
 pub returns-in_err-blockettes : goal.returns-in_err-blockettes
 returns-in_err-blockettes c =
     let fault : c.from_residual-in_err-blockettes.result ≡ Err Blockettes = search rules in
-    fault ∙ no_chain c.args.order c.args.record.now c.in_ok-start.start c.requires (sym c.start_of.ensures.value ∙ c.in_ok-start.ensures.ok_part) (sym c.blockettes_of.ensures ∙ c.in_err-blockettes.ensures.ok_part)
+    fault ∙ no_chain c.args.order c.args.record.now c.in_ok-start.start c.requires (sym c.start_of.ensures.value ∙ c.in_ok-start.ensures.ok_part) (sym c.blockettes_of.ensures.value ∙ c.in_err-blockettes.ensures.ok_part)
 
 pub returns : goal.returns
 returns c =
@@ -14,5 +14,5 @@ returns c =
     ∙ read_by c.args.order c.args.record.now c.in_ok-start.start c.in_ok-blockettes.blockettes (record {
       date = c.requires;
       time = sym c.start_of.ensures.value ∙ c.in_ok-start.ensures.ok_part;
-      chain = sym c.blockettes_of.ensures ∙ c.in_ok-blockettes.ensures.ok_part;
+      chain = sym c.blockettes_of.ensures.value ∙ c.in_ok-blockettes.ensures.ok_part;
     })
