@@ -28,7 +28,7 @@ first = "FFFFFE"
 "#;
 
 /// A record of GE WLF that starts at a second.
-fn record(second: u8) -> Result<[u8; 512], Fail> {
+pub fn record(second: u8) -> Result<[u8; 512], Fail> {
     Ok(make(&Fields {
         sequence: 1,
         quality: b'D',
@@ -65,7 +65,7 @@ fn want<'a>(alloc: Global, station: &'a [u8], patterns: &[&'a [u8]]) -> Result<W
     })
 }
 
-fn plan(alloc: Global) -> Result<Plan<'static>, Fail> {
+pub fn plan(alloc: Global) -> Result<Plan<'static>, Fail> {
     let mut wants = Vec::new(alloc);
     wants.push(want(alloc, b"WLF", &[b"BH?", b"!E"])?)?;
     wants.push(want(alloc, b"NONE", &[])?)?;

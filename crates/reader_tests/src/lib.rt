@@ -7,6 +7,8 @@ mod beside_a_server;
 #[cfg(test)]
 mod dialogues;
 #[cfg(test)]
+mod failures;
+#[cfg(test)]
 mod packets;
 #[cfg(test)]
 mod words;

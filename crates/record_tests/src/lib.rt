@@ -15,4 +15,6 @@ mod listings;
 #[cfg(test)]
 mod made_records;
 #[cfg(test)]
+mod random_records;
+#[cfg(test)]
 mod worked;
