@@ -1,44 +1,16 @@
 //! A loop of whose ports one call fails, each call in turn: what it costs is that port alone.
-use super::runs::Row::{Feed, Inside, Outside, Quiet};
-use super::runs::{CENTRE, Row, feed, happenings, port, record};
+use super::runs::{CENTRE, Row, happenings, looped_over, pieces};
 use catalog::Config;
 use event_loop::Loop;
-use ports::{FailingPorts, MemoryPorts, PortScript, Script};
+use ports::{FailingPorts, MemoryPorts, PortScript, ReadAnswer, Script};
+use scenes::{SCENES, Scene};
 use std::alloc::Global;
 use std::test::Fail;
 
-/// Who joins: two clients at ports 1 and 2, and, once they were heard, a feed at port 3.
-static JOINING: [Row; 5] = [Inside(1), Outside(2), Quiet, Quiet, Feed(3)];
+mod scenes;
 
-/// How many ports there are.
-const PORTS: u64 = 3;
-
-/// The port of the feed.
-const FEED: u64 = 3;
-
-/// A transfer of GE APE and GE WLF from now on.
-const BOTH: &[u8] = b"STATION APE GE\rDATA\rSTATION WLF GE\rDATA\rEND\r";
-
-/// A greeting, and a transfer of GE WLF from now on.
-const FOREST: &[u8] = b"HELLO\rSTATION WLF GE\rDATA\rEND\r";
-
-/// Three records of two stations.
-fn arrivals(alloc: Global) -> Result<Vec<u8>, Fail> {
-    let mut bytes = Vec::new(alloc);
-    bytes.extend_from_slice(&record(b"GE", b"APE", 1)?)?;
-    bytes.extend_from_slice(&record(b"GE", b"WLF", 2)?)?;
-    bytes.extend_from_slice(&record(b"GE", b"WLF", 3)?)?;
-    Ok(bytes)
-}
-
-/// What the ports read, and that they take at most 300 bytes a write.
-fn scripts(alloc: Global) -> Result<Vec<PortScript>, Fail> {
-    let mut all = Vec::new(alloc);
-    all.push(port(alloc, 1, BOTH, 17, 300, 40)?)?;
-    all.push(port(alloc, 2, FOREST, 17, 300, 40)?)?;
-    all.push(feed(alloc, FEED, arrivals(alloc)?.as_slice(), 400)?)?;
-    Ok(all)
-}
+/// How many happenings are heard and how many calls are made in a pass at most.
+const LIMIT: usize = 3000;
 
 /// What became of a port.
 #[derive(Drop)]
@@ -57,9 +29,10 @@ struct Outcome {
     has_failed: bool,
 }
 
-/// The loop over the ports of which the `due`-th call fails.
-fn failing(alloc: Global, due: u64) -> Result<Loop<FailingPorts<MemoryPorts>>, Fail> {
-    let script = Script::new(happenings(alloc, &JOINING)?, scripts(alloc)?);
+/// The loop of a scene over ports of which the `due`-th call fails.
+fn failing(alloc: Global, scene: Scene, due: u64) -> Result<Loop<FailingPorts<MemoryPorts>>, Fail> {
+    let rows = scene.rows(alloc)?;
+    let script = Script::new(happenings(alloc, rows.as_slice())?, scene.scripts(alloc)?);
     let ports = FailingPorts::new(alloc, MemoryPorts::new(alloc, script), due);
     Ok(Loop::new(alloc, Config::read(alloc, CENTRE)?, ports)?)
 }
@@ -68,7 +41,7 @@ fn failing(alloc: Global, due: u64) -> Result<Loop<FailingPorts<MemoryPorts>>, F
 fn faults(all: &mut Loop<FailingPorts<MemoryPorts>>, turns: usize) -> usize {
     let mut count: usize = 0;
     for _ in 0..turns {
-        if all.turn(64).is_err() {
+        if all.turn(LIMIT).is_err() {
             count = count.saturating_add(1);
         }
     }
@@ -76,9 +49,13 @@ fn faults(all: &mut Loop<FailingPorts<MemoryPorts>>, turns: usize) -> usize {
 }
 
 /// What became of each port.
-fn endings(alloc: Global, all: &Loop<FailingPorts<MemoryPorts>>) -> Result<Vec<Ending>, Fail> {
+fn endings(
+    alloc: Global,
+    all: &Loop<FailingPorts<MemoryPorts>>,
+    ports: u64,
+) -> Result<Vec<Ending>, Fail> {
     let mut endings = Vec::new(alloc);
-    for port in 1..=PORTS {
+    for port in 1..=ports {
         let record = all.ports().record(alloc, port)?;
         endings.push(Ending {
             taken: record.taken,
@@ -88,12 +65,12 @@ fn endings(alloc: Global, all: &Loop<FailingPorts<MemoryPorts>>) -> Result<Vec<E
     Ok(endings)
 }
 
-/// What becomes of eight turns where the `due`-th call fails.
-fn run_with(alloc: Global, due: u64) -> Result<Outcome, Fail> {
-    let mut all = failing(alloc, due)?;
-    let faults = faults(&mut all, 8);
+/// What becomes of a scene where the `due`-th call fails.
+fn run_with(alloc: Global, scene: Scene, due: u64) -> Result<Outcome, Fail> {
+    let mut all = failing(alloc, scene, due)?;
+    let faults = faults(&mut all, scene.turns());
     Ok(Outcome {
-        endings: endings(alloc, &all)?,
+        endings: endings(alloc, &all, scene.ports())?,
         faults,
         has_failed: all.ports().has_failed(),
     })
@@ -134,44 +111,83 @@ fn lost_its_feed(outcome: &Outcome, whole: &Outcome) -> bool {
 }
 
 /// Whether a failure cost one turn its hearing and nothing else, or one client's port, or the feed's.
-fn costs_one_port(outcome: &Outcome, whole: &Outcome) -> bool {
+fn costs_one_port(scene: Scene, outcome: &Outcome, whole: &Outcome) -> bool {
     match (outcome.faults, cut_off(outcome, whole)) {
         (1, Some(0)) => true,
         (0, Some(1)) => true,
-        (0, None) => lost_its_feed(outcome, whole),
+        (0, None) => scene.has_feed() && lost_its_feed(outcome, whole),
         _ => false,
     }
 }
 
-/// The first call whose failure costs more than its port, and how many calls were tried.
-fn first_that_costs_more(alloc: Global) -> Result<(Option<u64>, u64), Fail> {
-    let whole = run_with(alloc, 0)?;
-    for due in 1..1000 {
-        let tried = run_with(alloc, due)?;
+/// The first call of a scene whose failure costs more than its port, and how many calls were tried.
+fn first_that_costs_more(alloc: Global, scene: Scene) -> Result<(Option<u64>, u64), Fail> {
+    let whole = run_with(alloc, scene, 0)?;
+    for due in 1..10_000 {
+        let tried = run_with(alloc, scene, due)?;
         if !tried.has_failed {
             return Ok((None, due));
         }
-        if !costs_one_port(&tried, &whole) {
+        if !costs_one_port(scene, &tried, &whole) {
             return Ok((Some(due), due));
         }
     }
     Ok((None, 0))
 }
 
+/// How many bytes the ports of a scene take without a failure.
+fn lengths(scene: Scene) -> &'static [usize] {
+    match scene {
+        Scene::Greetings => &[45, 45],
+        Scene::Bytes => &[2096, 0, 0],
+        _ => &[1576, 1093, 0],
+    }
+}
+
 #[test]
-fn without_a_failure_both_clients_are_handed_all(rt: HostRuntime) -> Result<(), Fail> {
-    let whole = run_with(rt.alloc(), 0)?;
-    let lengths = whole.endings.iter().map(|one| one.taken.len());
-    assert!(rt; lengths.eq([1576, 1093, 0].iter().copied()));
-    assert!(rt; whole.endings.iter().all(|one| !one.is_shut));
-    assert_eq!(rt; whole.faults, 0);
+fn without_a_failure_all_is_taken(rt: HostRuntime) -> Result<(), Fail> {
+    for scene in SCENES {
+        let whole = run_with(rt.alloc(), scene, 0)?;
+        let taken = whole.endings.iter().map(|one| one.taken.len());
+        assert!(rt; taken.eq(lengths(scene).iter().copied()), "{scene:?}");
+        assert!(rt; whole.endings.iter().all(|one| !one.is_shut), "{scene:?}");
+        assert_eq!(rt; whole.faults, 0);
+    }
     Ok(())
 }
 
 #[test]
 fn a_call_that_fails_costs_its_port_alone(rt: HostRuntime) -> Result<(), Fail> {
-    let (more, tried) = first_that_costs_more(rt.alloc())?;
+    for scene in [Scene::Pair, Scene::Slow, Scene::Waiting, Scene::Greetings] {
+        let (more, tried) = first_that_costs_more(rt.alloc(), scene)?;
+        assert_eq!(rt; more, None, "{scene:?}");
+        assert!(rt; tried > 12, "{scene:?}: {tried}");
+    }
+    Ok(())
+}
+
+#[test]
+fn so_it_is_where_each_write_takes_one_byte(rt: HostRuntime) -> Result<(), Fail> {
+    let (more, tried) = first_that_costs_more(rt.alloc(), Scene::Bytes)?;
     assert_eq!(rt; more, None);
-    assert!(rt; tried > 40, "{tried}");
+    assert!(rt; tried > 2100, "{tried}");
+    Ok(())
+}
+
+/// A client that says HELLO and shuts its sending half.
+fn half_shut(alloc: Global) -> Result<Loop<MemoryPorts>, Fail> {
+    let mut reads = pieces(alloc, b"HELLO\r", 520)?;
+    reads.push(ReadAnswer::Closed)?;
+    let mut scripts = Vec::new(alloc);
+    scripts.push(PortScript::new(1, reads, Vec::new(alloc)))?;
+    looped_over(alloc, CENTRE, &[Row::Inside(1)], scripts)
+}
+
+#[test]
+fn a_client_that_shuts_its_sending_half_is_closed(rt: HostRuntime) -> Result<(), Fail> {
+    let mut all = half_shut(rt.alloc())?;
+    let _turned = all.turn(64)?;
+    assert_eq!(rt; all.clients(), 0);
+    assert!(rt; all.ports().record(rt.alloc(), 1)?.is_shut);
     Ok(())
 }

@@ -88,8 +88,9 @@ fn count(counts: &mut Counts, records: &[[u8; 512]]) {
         match plain_records::read(record) {
             Ok(_) => counts.right = counts.right.saturating_add(1),
             Err(fault) => {
-                let slot = &mut counts.faults[place(fault)];
-                *slot = slot.saturating_add(1);
+                if let Some(slot) = counts.faults.get_mut(place(fault)) {
+                    *slot = slot.saturating_add(1);
+                }
             }
         }
     }

@@ -1,0 +1,104 @@
+//! A loop over ports.
+use crate::centre::{ARRIVALS, GREETING, is_packet, record};
+use crate::trial::{Fault, Trial};
+use crate::wires::{Wire, Wires};
+use catalog::Config;
+use event_loop::Loop;
+use std::alloc::Global;
+use test_centre::CENTRE;
+
+/// How the lines of a client that asks for two stations are answered.
+const REPLIES: &[u8] = b"OK\r\nOK\r\nOK\r\nOK\r\n";
+
+/// The first client asks for two stations, the second says HELLO, and the feed has four records.
+fn wires(alloc: Global) -> Result<Wires, Fault> {
+    let asking: &[u8] = b"STATION APE GE\rDATA\rSTATION WLF GE\rDATA\rEND\r";
+    let mut records = Vec::new(alloc);
+    for (station, second, _number) in ARRIVALS {
+        records.extend_from_slice(&record(station, second)?)?;
+    }
+    Ok(Wires::new(
+        Wire::new(alloc, asking)?,
+        Wire::new(alloc, b"HELLO\r")?,
+        Wire::new(alloc, records.as_slice())?,
+    ))
+}
+
+/// Whether the packets of all records were taken, behind the replies.
+fn has_all(taken: &[u8]) -> Result<bool, Fault> {
+    let Some((replies, packets)) = taken.split_at_checked(REPLIES.len()) else {
+        return Ok(false);
+    };
+    let mut is_right = replies == REPLIES && packets.len() == 2080;
+    for (packet, (station, second, number)) in packets.chunks(520).zip(ARRIVALS.iter()) {
+        is_right = is_right && is_packet(packet, station, *second, number)?;
+    }
+    Ok(is_right)
+}
+
+/// Whether the first client took all that it is to, or its port was shut before it took anything; without a feed it has the
+/// replies alone.
+fn is_first_right(wires: &Wires) -> Result<bool, Fault> {
+    let taken = wires.first.taken.as_slice();
+    if wires.first.is_shut {
+        Ok(taken.is_empty())
+    } else if wires.feed.is_shut {
+        Ok(taken == REPLIES)
+    } else {
+        has_all(taken)
+    }
+}
+
+fn is_second_right(wires: &Wires) -> bool {
+    let taken = wires.second.taken.as_slice();
+    if wires.second.is_shut {
+        taken.is_empty()
+    } else {
+        taken == GREETING
+    }
+}
+
+/// Whether at most one port was shut.
+fn is_one_shut(wires: &Wires) -> bool {
+    let shut = [
+        wires.first.is_shut,
+        wires.second.is_shut,
+        wires.feed.is_shut,
+    ];
+    shut.iter().filter(|is_shut| **is_shut).count() <= 1
+}
+
+/// Eight turns.
+fn turns(all: &mut Loop<Wires>) -> bool {
+    let mut are_well = true;
+    for _ in 0..8 {
+        are_well = are_well && all.turn(64).is_ok();
+    }
+    are_well
+}
+
+/// Turns of a loop: a port that joins without memory is shut, and the others are served.
+pub fn turn(alloc: Global) -> Result<Trial, Fault> {
+    let config = Config::read(alloc, CENTRE)?;
+    let mut all = Loop::new(alloc, config, wires(alloc)?)?;
+    let are_well = turns(&mut all);
+    let wires = all.ports();
+    let is_right = are_well
+        && is_first_right(wires)?
+        && is_second_right(wires)
+        && is_one_shut(wires);
+    Ok(Trial::by(is_right, "a port that was not refused is not served"))
+}
+
+/// A new loop.
+pub fn new_loop(alloc: Global) -> Result<Trial, Fault> {
+    let config = Config::read(alloc, CENTRE)?;
+    let wires = wires(alloc)?;
+    match Loop::new(alloc, config, wires) {
+        Ok(all) => Ok(Trial::by(
+            all.clients() == 0 && all.feeds() == 0,
+            "a loop that is not empty",
+        )),
+        Err(_) => Ok(Trial::Right),
+    }
+}
