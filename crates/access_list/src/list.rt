@@ -6,7 +6,7 @@ ghost use Rattle.access_list.specs.Tokens.{is_separator};
 
 use crate::fault::AccessFault;
 use crate::token::Token;
-use std::alloc::Global;
+use std::alloc::{AllocError, Global};
 use std::marker::Model;
 use std::net::Ipv4Addr;
 
@@ -60,6 +60,14 @@ impl AccessList {
             }
         }
         Ok(AccessList { tokens })
+    }
+
+    /// The same list once more. Only memory can lack.
+    pub fn copy(&self, alloc: Global) -> Result<AccessList, AllocError>
+        ensures { IfOk result (λ copy. copy ≡ self.now) }
+    {
+        let copy = self.tokens.as_slice().to_vec(alloc)?;
+        Ok(AccessList { tokens: copy })
     }
 
     /// Whether some token of the list has the bits of the address wherever its mask is one. An empty list allows nobody.

@@ -4,3 +4,4 @@ mod Finds
 mod Indexing
 mod ReadOn
 mod Views
+mod SameStations

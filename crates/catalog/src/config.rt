@@ -5,15 +5,16 @@ ghost use Rattle.std.specs.Str.{IsUtf8};
 ghost use Rattle.std.specs.Net.Addr.{ipv4_bits};
 ghost use Rattle.toml.specs.Parse.{parse_document};
 ghost use Rattle.toml.specs.View.{table_view};
-ghost use Rattle.protocol.specs.Catalog.{has_codes, sees, view_of};
+ghost use Rattle.protocol.specs.Catalog.{has_codes, sees, view_of, is_same_view, is_same_but_for_access};
 ghost use Rattle.catalog.specs.Places.{view_in, HasDistinctCodes, IsPlace};
 ghost use Rattle.catalog.specs.Reading.{config_of, config_read};
 
+use crate::comparing::{are_same, are_seen, copies};
 use crate::fault::ConfigFault;
 use crate::index::Index;
 use crate::listing::stations_of;
 use crate::settings::{access_of, connections_of, title_of};
-use crate::station::Station;
+use crate::station::{Station, copy_of};
 use crate::view::View;
 use access_list::AccessList;
 use std::alloc::{AllocError, Global};
@@ -182,5 +183,39 @@ impl Config {
             }
         }
         Ok(View::of(places))
+    }
+
+    /// Whether an address sees exactly the stations of a view, in the same order.
+    pub fn has_view(&self, address: Ipv4Addr, view: &View) -> bool
+        ensures { result ≡ is_same_view (view_of self.now (ipv4_bits address)) (view_in self.now view.now) }
+    {
+        are_seen(self.stations(), &self.access, address, view.places())
+    }
+
+    /// Whether another configuration is the same but for the lists of addresses, the server's and the stations': the same
+    /// title and limit of connections, and the same stations in the same order.
+    pub fn is_same_but_for_access(&self, new: &Config) -> bool
+        ensures { result ≡ is_same_but_for_access self.now new.now }
+    {
+        self.title() == new.title()
+            && self.max_connections == new.max_connections
+            && are_same(self.stations(), new.stations())
+    }
+
+    /// The same configuration once more. Only memory can lack.
+    pub fn copy(&self, alloc: Global) -> Result<Config, AllocError>
+        ensures { IfOk result (λ copy. copy ≡ self.now) }
+    {
+        let title = self.title().to_vec(alloc)?;
+        let access = copy_of(alloc, &self.access)?;
+        let stations = copies(alloc, self.stations())?;
+        let index = Index::of(alloc, stations.as_slice())?;
+        Ok(Config {
+            title,
+            max_connections: self.max_connections,
+            access,
+            stations,
+            index,
+        })
     }
 }

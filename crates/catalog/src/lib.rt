@@ -1,6 +1,7 @@
 //! The configuration of a server, and what one address sees of it (SeedLink 3, CAT and STATION; seedlink's `access`).
 #![tactic(auto)]
 
+mod comparing;
 pub mod config;
 pub mod fault;
 mod index;

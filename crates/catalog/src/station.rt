@@ -2,14 +2,14 @@
 ghost use Rattle.std.specs.Prelude.{◌≡◌, ◌≢◌, ◌≤◌, length, IfOk, IfErr, Ok, Err};
 ghost use Rattle.std.specs.Net.Addr.{ipv4_bits};
 ghost use Rattle.toml.specs.View.{table_view};
-ghost use Rattle.protocol.specs.Catalog.{has_codes, sees};
+ghost use Rattle.protocol.specs.Catalog.{has_codes, is_same_station, sees};
 ghost use Rattle.catalog.specs.Reading.{entry_of};
 
 use crate::fault::ConfigFault;
 use crate::settings::{access_of, capacity_of, code_of, description_of, first_of, network_of};
 use access_list::AccessList;
 use sl_packet::Seq;
-use std::alloc::Global;
+use std::alloc::{AllocError, Global};
 use std::marker::Model;
 use std::net::Ipv4Addr;
 use toml::Table;
@@ -122,6 +122,35 @@ impl Station {
         self.network() == network && self.code() == code
     }
 
+    /// Whether another station has the same settings, whoever may use the two.
+    pub(crate) fn is_same(&self, other: &Station) -> bool
+        ensures { result ≡ is_same_station self.now.station other.now.station }
+    {
+        self.network() == other.network()
+            && self.code() == other.code()
+            && self.description() == other.description()
+            && self.capacity == other.capacity
+            && self.first.value() == other.first.value()
+    }
+
+    /// The same station once more. Only memory can lack.
+    pub(crate) fn copy(&self, alloc: Global) -> Result<Station, AllocError>
+        ensures { IfOk result (λ copy. copy ≡ self.now) }
+    {
+        let network = self.network().to_vec(alloc)?;
+        let code = self.code().to_vec(alloc)?;
+        let description = self.description().to_vec(alloc)?;
+        let access = copy_of(alloc, &self.access)?;
+        Ok(Station {
+            network,
+            code,
+            description,
+            capacity: self.capacity,
+            first: self.first,
+            access,
+        })
+    }
+
     /// Whether an address may use it, where the global list is this: its own list decides, without one the global list, and
     /// without either everybody may.
     pub(crate) fn is_open_to(&self, global: &Option<AccessList>, address: Ipv4Addr) -> bool
@@ -132,5 +161,21 @@ impl Station {
             (None, Some(global)) => global.allows(address),
             (None, None) => true,
         }
+    }
+}
+
+/// The same list once more, where there is one.
+pub(crate) fn copy_of(
+    alloc: Global,
+    access: &Option<AccessList>,
+) -> Result<Option<AccessList>, AllocError>
+    ensures { IfOk result (λ copy. copy ≡ access.now) }
+{
+    match access {
+        Some(list) => {
+            let copy = list.copy(alloc)?;
+            Ok(Some(copy))
+        }
+        None => Ok(None),
     }
 }

@@ -1,9 +1,11 @@
 -- Connections by their numbers, and events one after the other.
-use Rattle.std.proofs.Common.{◌≡◌, ℕ, zero, suc, ◌≤◌, ◌==◌, true, List, [], ◌∷◌, ◌++◌, length, Some, None, option_map, slice_get, refl, sym, ap, subst, eqb-true, arith}
+use Rattle.std.proofs.Common.{◌≡◌, ℕ, zero, suc, ◌<◌, ◌≤◌, ◌==◌, nat_lt, is_some, true, List, [], ◌∷◌, ◌++◌, length, map, Some, None, option_map, slice_get, refl, sym, ap, ◌∙◌, subst, eqb-true, arith}
+use Rattle.std.proofs.lemmas.Bool.{ltb-true, ltb-false}
 use Rattle.protocol.specs.Catalog.{Config}
 use Rattle.protocol.proofs.Places.{slice_get-seam}
-use Rattle.protocol.specs.World.{World, Event, Connection, at, step, world_from, handed_from, told, taken_by, client_of}
-use Rattle.protocol.specs.World.Event.{Open, Bytes, Take, Close, Arrive}
+use Rattle.protocol.proofs.Found.{both}
+use Rattle.protocol.specs.World.{World, Event, Connection, at, config_by, config_after, step, world_from, handed_from, told, taken_by, client_of}
+use Rattle.protocol.specs.World.Event.{Open, Bytes, Take, Close, Arrive, Reload}
 
 -- ---- connections by their numbers
 pub length-at : (cs : List Connection) (j : ℕ) (f : Connection → Connection) → length (at cs j f) ≡ length cs
@@ -52,15 +54,41 @@ none_past_the_end [] k past = refl
 none_past_the_end (c ∷ cs) zero past = absurd (omega arith)
 none_past_the_end (c ∷ cs) (suc k) past = none_past_the_end cs k (omega arith)
 
--- ---- events one after the other
-pub world_from-append : (config : Config) (w : World) (es more : List Event) → world_from config w (es ++ more) ≡ world_from config (world_from config w es) more
-world_from-append config w [] more = refl
-world_from-append config w (e ∷ es) more = world_from-append config (step config w e) es more
+pub slice_get-each : (cs : List Connection) (k : ℕ) (f : Connection → Connection) → slice_get (map f cs) k ≡ option_map f (slice_get cs k)
+slice_get-each [] k f = refl
+slice_get-each (c ∷ cs) zero f = refl
+slice_get-each (c ∷ cs) (suc k) f = slice_get-each cs k f
 
-pub handed_from-append : (config : Config) (w : World) (es more : List Event) → handed_from config w (es ++ more) ≡ handed_from config w es ++ handed_from config (world_from config w es) more
+pub length-each : (cs : List Connection) (f : Connection → Connection) → length (map f cs) ≡ length cs
+length-each [] f = refl
+length-each (c ∷ cs) f = ap suc (length-each cs f)
+
+some_below : (cs : List Connection) (k : ℕ) → k < length cs → is_some (slice_get cs k) ≡ true
+some_below [] k below = absurd (omega arith)
+some_below (c ∷ cs) zero below = refl
+some_below (c ∷ cs) (suc k) below = some_below cs k (omega arith)
+
+-- those that were opened are there
+pub there_below : (cs : List Connection) (k : ℕ) → nat_lt k (length cs) ≡ is_some (slice_get cs k)
+there_below cs k =
+    both (nat_lt k (length cs))
+    (λ y. y ∙ sym (some_below cs k (ltb-true k (length cs) y)))
+    (λ n. n ∙ sym (ap is_some (none_past_the_end cs k (ltb-false k (length cs) n))))
+
+-- ---- events one after the other
+pub config_after-append : (config : Config) (es more : List Event) → config_after config (es ++ more) ≡ config_after (config_after config es) more
+config_after-append config [] more = refl
+config_after-append config (e ∷ es) more = config_after-append (config_by config e) es more
+
+pub world_from-append : (config : Config) (w : World) (es more : List Event) → world_from config w (es ++ more) ≡ world_from (config_after config es) (world_from config w es) more
+world_from-append config w [] more = refl
+world_from-append config w (e ∷ es) more = world_from-append (config_by config e) (step config w e) es more
+
+pub handed_from-append : (config : Config) (w : World) (es more : List Event) → handed_from config w (es ++ more) ≡ handed_from config w es ++ handed_from (config_after config es) (world_from config w es) more
 handed_from-append config w [] more = refl
 handed_from-append config w (Open a ∷ es) more = handed_from-append config (step config w (Open a)) es more
 handed_from-append config w (Bytes k bytes ∷ es) more = handed_from-append config (step config w (Bytes k bytes)) es more
 handed_from-append config w (Take k n ∷ es) more = ap (λ l. told k (taken_by w.history (client_of (slice_get w.connections k)) n) ∷ l) (handed_from-append config (step config w (Take k n)) es more)
 handed_from-append config w (Close k ∷ es) more = handed_from-append config (step config w (Close k)) es more
 handed_from-append config w (Arrive r ∷ es) more = handed_from-append config (step config w (Arrive r)) es more
+handed_from-append config w (Reload new ∷ es) more = handed_from-append (config_by config (Reload new)) (step config w (Reload new)) es more

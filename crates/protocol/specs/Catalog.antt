@@ -1,7 +1,7 @@
 -- The stations of a server, and what one address sees of them.
 -- SeedLink 3, CAT and STATION; seedlink's `access`, of a station and of the whole server. Left out: how a configuration is
 -- written, the limits of its values, and wildcards in a station's code.
-use Rattle.std.specs.Prelude.{ℕ, Bool, true, ◌&&◌, List, [], ◌∷◌, ◌++◌, Option, Some, None, filter, map, find, codes}
+use Rattle.std.specs.Prelude.{ℕ, Bool, true, false, ◌&&◌, ◌==◌, List, [], ◌∷◌, ◌++◌, Option, Some, None, filter, map, find, codes}
 use Rattle.std.specs.Str.{bytes_eq}
 use Rattle.protocol.specs.Record.{padded}
 use Rattle.protocol.specs.Access.{Token, allows}
@@ -67,3 +67,31 @@ end_line = codes "END" ++ line_end
 -- the lines of CAT, in the order of the configuration
 abbrev pub listing : View → List (List ℕ)
 listing v = map station_line v.stations ++ end_line ∷ []
+
+-- ---- what two configurations have in common
+
+-- the same settings
+abbrev pub is_same_station : Station → Station → Bool
+is_same_station s t =
+    bytes_eq s.network t.network && bytes_eq s.code t.code && bytes_eq s.description t.description
+    && (s.capacity == t.capacity) && (s.first == t.first)
+
+-- the same stations in the same order
+abbrev pub are_same_stations : List Station → List Station → Bool
+are_same_stations [] [] = true
+are_same_stations (s ∷ ss) (t ∷ ts) = is_same_station s t && are_same_stations ss ts
+are_same_stations _ _ = false
+
+-- the same title and the same stations are seen
+abbrev pub is_same_view : View → View → Bool
+is_same_view v w = bytes_eq v.title w.title && are_same_stations v.stations w.stations
+
+-- all stations, in order
+abbrev pub stations_of : Config → List Station
+stations_of config = map (λ e. e.station) config.entries
+
+-- The two may differ in the lists of addresses that may use the stations, and differ in nothing else.
+abbrev pub is_same_but_for_access : Config → Config → Bool
+is_same_but_for_access config new =
+    bytes_eq config.title new.title && (config.max_connections == new.max_connections)
+    && are_same_stations (stations_of config) (stations_of new)

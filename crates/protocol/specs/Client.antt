@@ -151,6 +151,14 @@ abbrev pub left_with : View → List Arrival → Client → List ℕ → Client
 left_with v h c (b ∷ bs) = record c { waiting = b ∷ bs }
 left_with v h c [] = read_on v h c.unread (record c { state = listed c.state; waiting = [] })
 
+-- ---- a client that is cut
+
+-- It is in its end. What waits is still handed; what is unread is dropped, and nothing is read or chosen any more.
+abbrev pub cut : Client → Client
+cut c = record c { state = Ending; unread = [] }
+
+-- ---- what a Take hands
+
 -- what a Take of n bytes hands, and whether it is ended
 pub record Taken : Type 0 where
   pub bytes : List ℕ

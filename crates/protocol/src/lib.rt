@@ -3,7 +3,7 @@
 //! definitions, so that the laws hold of it. `docs/DEFINITIONS.md` says in which order to read.
 #![tactic(auto)]
 
-ghost use Rattle.std.specs.Prelude.{◌≡◌, ◌≢◌, ◌<◌, ◌≤◌, ◌+◌, if◌then◌else◌, None, length, ◌↔◌, ◌⊎◌, ◌++◌, ℕ, Bool, true, false, List, [], ◌∷◌, map, option_map, slice_get, Some, Ok, Err, All};
+ghost use Rattle.std.specs.Prelude.{◌≡◌, ◌≢◌, ◌<◌, ◌≤◌, ◌+◌, if◌then◌else◌, None, length, Contains, ◌↔◌, ◌⊎◌, ◌++◌, ℕ, Bool, true, false, List, [], ◌∷◌, map, option_map, slice_get, Some, Ok, Err, All};
 ghost use Rattle.std.specs.List.{list_any, concat};
 ghost use Rattle.protocol.specs.declared.record.RecordFault.{RecordFault};
 ghost use Rattle.protocol.specs.Time.{days_before, is_leap, days_of_year_before};
@@ -16,14 +16,14 @@ ghost use Rattle.protocol.specs.Streams.StreamRead.{Going, Ended, NoStream};
 ghost use Rattle.protocol.specs.Access.{Token, allows, IsAllowed, HasMask};
 ghost use Rattle.protocol.specs.Lines.{Line, is_line_end, lines_of, rest_of, capped, cut_from, open_after};
 ghost use Rattle.protocol.specs.Lines.Line.{Text};
-ghost use Rattle.protocol.specs.Catalog.{Station, Config, Entry, View, sees};
+ghost use Rattle.protocol.specs.Catalog.{Station, Config, Entry, View, sees, stations_of, is_same_view, is_same_but_for_access};
 ghost use Rattle.protocol.specs.Pattern.{Pattern, pattern_of, passes, IsPattern, Passes};
 ghost use Rattle.protocol.specs.Command.{Command, words, uppercased, command_of_words, command_of, HasWords, AsksFor, Asks};
 ghost use Rattle.protocol.specs.History.{Arrival, Action, Request, number_at, first_wanted, next, is_over_by};
 ghost use Rattle.protocol.specs.Choosing.{IsStart, HasHeld, IsNext, IsWanted, IsOver};
 ghost use Rattle.protocol.specs.Client.{Client, reads, left_unread, obey, read_byte, read_on};
-ghost use Rattle.protocol.specs.World.{Event, World, Connection, at, world_from, world_after, handed_from, handed};
-ghost use Rattle.protocol.specs.Alone.{OwnEvent, alone, address_of, own_view, seen, handed_to, restricted};
+ghost use Rattle.protocol.specs.World.{Event, World, Connection, accepted, at, config_after, world_from, world_after, handed_from, handed};
+ghost use Rattle.protocol.specs.Alone.{OwnEvent, alone, address_of, own_view, seen, handed_to, restricted, all_restricted, reloads_accepted, configs_in_force};
 ghost use Rattle.protocol.specs.Offers.{arrivals, client_after, offers, bytes_since, handed_since, client_at, offers_to, handed_to_since};
 ghost use Rattle.protocol.specs.Transfers.{KeepsUp, MissesAreOverruns, HandsItsChoices, MissesNothing};
 
@@ -120,6 +120,16 @@ pub fn allowed_addresses()
     ensures { (tokens : List Token) (a : ℕ) → All HasMask tokens → (allows tokens a ≡ true) ↔ IsAllowed tokens a }
 {}
 
+/// Two configurations are the same but for who may use which station where their titles, their limits of connections and
+/// their stations are equal; a record is accepted by the one as by the other. Two views are the same where they are equal.
+pub fn configurations_compared()
+    ensures but_for_access { (config new : Config) → (is_same_but_for_access config new ≡ true) ↔
+        ((config.title ≡ new.title) × (config.max_connections ≡ new.max_connections) × (stations_of config ≡ stations_of new)) }
+    ensures accepted { (config new : Config) (r : List ℕ) → is_same_but_for_access config new ≡ true →
+        accepted new r ≡ accepted config r }
+    ensures views { (v w : View) → (is_same_view v w ≡ true) ↔ (v ≡ w) }
+{}
+
 /// A text is read as the pattern that it is by the table of patterns, and a record passes by the words.
 pub fn patterns_read()
     ensures pattern { (text : List ℕ) (p : Pattern) → (pattern_of text ≡ Some p) ↔ IsPattern text p }
@@ -201,21 +211,26 @@ pub fn connections_numbered()
     ensures pushed { (cs : List Connection) (c : Connection) → slice_get (cs ++ c ∷ []) (length cs) ≡ Some c }
     ensures before_pushed { (cs : List Connection) (c : Connection) (k : ℕ) → length cs ≢ k →
         slice_get (cs ++ c ∷ []) k ≡ slice_get cs k }
+    ensures each { (cs : List Connection) (k : ℕ) (f : Connection → Connection) →
+        slice_get (map f cs) k ≡ option_map f (slice_get cs k) }
+    ensures each_count { (cs : List Connection) (f : Connection → Connection) → length (map f cs) ≡ length cs }
 {}
 
-/// Events one after the other are those of a first list and then those of the rest.
+/// Events one after the other are those of a first list and then those of the rest, under the configuration in force by then.
 pub fn events_in_turn()
+    ensures config { (config : Config) (events more : List Event) →
+        config_after config (events ++ more) ≡ config_after (config_after config events) more }
     ensures world { (config : Config) (w : World) (events more : List Event) →
-        world_from config w (events ++ more) ≡ world_from config (world_from config w events) more }
+        world_from config w (events ++ more) ≡ world_from (config_after config events) (world_from config w events) more }
     ensures handed { (config : Config) (w : World) (events more : List Event) →
         handed_from config w (events ++ more)
-        ≡ handed_from config w events ++ handed_from config (world_from config w events) more }
+        ≡ handed_from config w events ++ handed_from (config_after config events) (world_from config w events) more }
 {}
 
 // ---- A client sees nothing of what it may not see
 
 /// The k-th client is handed what a client alone would be handed, by its own events and the arrivals at stations that it
-/// sees.
+/// saw at its Open. A new configuration is an event of its own only where it is cut by it.
 pub fn isolation()
     ensures { (config : Config) (events : List Event) (k : ℕ) →
         handed_to k (handed config events) ≡ alone (own_view config events k) (seen config events k) }
@@ -226,29 +241,34 @@ pub fn isolation_goes_on()
     ensures { (config : Config) (events more : List Event) (k : ℕ) →
         alone (own_view config (events ++ more) k) (seen config (events ++ more) k)
         ≡ alone (own_view config events k) (seen config events k)
-        ++ handed_to k (handed_from config (world_after config events) more) }
+        ++ handed_to k (handed_from (config_after config events) (world_after config events) more) }
 {}
 
-/// Two clients with the same view, the same events of their own and the same arrivals at stations that they see are
-/// handed the same, at whatever servers and among whatever other clients.
+/// Two clients with the same view at their Open, the same events of their own and the same arrivals at stations that they
+/// see are handed the same, at whatever servers and among whatever other clients.
 pub fn alike()
     ensures { (config config' : Config) (events events' : List Event) (k k' : ℕ) →
         own_view config events k ≡ own_view config' events' k' → seen config events k ≡ seen config' events' k' →
         handed_to k (handed config events) ≡ handed_to k' (handed config' events') }
 {}
 
-/// At two servers where a client has the same view, the same events hand it the same.
+/// At two servers where a client has the same view at its Open, and which accept the same new configurations, the same events
+/// hand it the same.
 pub fn same_view()
     ensures { (config config' : Config) (events : List Event) (k : ℕ) →
         own_view config events k ≡ own_view config' events k →
+        reloads_accepted config events ≡ reloads_accepted config' events →
         handed_to k (handed config events) ≡ handed_to k (handed config' events) }
 {}
 
-/// Stations that a client doesn't see can be taken away, and the same events hand it the same.
+/// Stations that are hidden from a client's address under each configuration in force can be taken away, from all of these,
+/// and the same events hand it the same, where the same new configurations are accepted.
 pub fn hidden_stations()
     ensures { (config : Config) (keep : Entry → Bool) (events : List Event) (k : ℕ) →
-        ((a : ℕ) (e : Entry) → address_of events k ≡ Some a → sees e.access config.access a ≡ true → keep e ≡ true) →
-        handed_to k (handed (restricted keep config) events) ≡ handed_to k (handed config events) }
+        ((c : Config) (a : ℕ) (e : Entry) → Contains (configs_in_force config events) c →
+        address_of events k ≡ Some a → sees e.access c.access a ≡ true → keep e ≡ true) →
+        reloads_accepted (restricted keep config) (all_restricted keep events) ≡ reloads_accepted config events →
+        handed_to k (handed (restricted keep config) (all_restricted keep events)) ≡ handed_to k (handed config events) }
 {}
 
 // ---- A reader that keeps up misses nothing

@@ -1,7 +1,7 @@
 //! One client's side of the server.
 ghost use Rattle.std.specs.Prelude.{◌≡◌, ◌≢◌, ◌≤◌, ◌<◌, ◌+◌, ◌-◌, ◌&&◌, IfOk, OnErr, List, [], ◌∷◌, ◌++◌, length, drop, nat_lt, not, is_ok, is_some, true, false, codes, ℕ, Some, slice_get};
 ghost use Rattle.protocol.specs.History.{Arrival};
-ghost use Rattle.protocol.specs.Client.{read_on, received, offered, after_take, new_client, is_ending, is_nothing};
+ghost use Rattle.protocol.specs.Client.{read_on, received, offered, after_take, cut, new_client, is_ending, is_nothing};
 
 use crate::choices::{Choice, Cursor};
 use crate::modes::Mode;
@@ -118,6 +118,13 @@ impl Session {
         ensures { result.now ≡ self.now.waiting }
     {
         &self.waiting.as_slice()[self.sent..]
+    }
+
+    /// What it sees.
+    pub fn view(&self) -> &View
+        ensures { result.now ≡ self.now.places }
+    {
+        &self.view
     }
 
     /// What it is in the middle of.
@@ -304,6 +311,16 @@ impl Session {
     {
         put_bytes(&mut self.waiting, b"END");
         self.sent = 0;
+        self.read = self.unread.len();
+        self.state = State::Ending;
+    }
+
+    /// It is cut: what waits is still handed, what is unread is dropped, and nothing is read or chosen any more.
+    pub fn cut(&mut self)
+        ensures value { self.new ≡ record self.old { state = Ending; unread = [] } }
+        ensures client { (config : ProtocolConfig) (h : List Arrival) →
+            client_in config h self.new ≡ cut (client_in config h self.old) }
+    {
         self.read = self.unread.len();
         self.state = State::Ending;
     }

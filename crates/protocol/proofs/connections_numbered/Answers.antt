@@ -1,4 +1,4 @@
-use Rattle.protocol.proofs.Connections.{slice_get-at_same, slice_get-at_apart, length-at, at_past_the_end, none_past_the_end, slice_get-push_last, slice_get-push_apart}
+use Rattle.protocol.proofs.Connections.{slice_get-at_same, slice_get-at_apart, length-at, at_past_the_end, none_past_the_end, slice_get-push_last, slice_get-push_apart, slice_get-each, length-each}
 use Rattle.protocol.proofs.connections_numbered.Goals as goal
 
 pub returns : goal.returns
@@ -10,4 +10,6 @@ returns c = record {
   nobody = none_past_the_end;
   pushed = slice_get-push_last;
   before_pushed = slice_get-push_apart;
+  each = slice_get-each;
+  each_count = length-each;
 }

@@ -1,5 +1,5 @@
-use Rattle.std.proofs.Common.{◌≡◌, ◌∙◌, sym, ap}
-use Rattle.protocol.specs.Catalog.{Config, Entry}
+use Rattle.std.proofs.Common.{◌∙◌, ap}
+use Rattle.protocol.specs.Catalog.{Config}
 use Rattle.catalog.specs.Indexing.{first_place}
 use Rattle.catalog.proofs.Indexing.{place_found}
 use Rattle.catalog.proofs.config.Config.place_of.Goals as goal

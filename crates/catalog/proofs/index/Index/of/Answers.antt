@@ -1,10 +1,9 @@
-use Rattle.std.proofs.Common.{rules, ◌≡◌, ◌∙◌, ℕ, ◌+◌, ◌<◌, ◌≤◌, length, take, get_or, All, Some, sym, ap, ap₂, subst, arith}
+use Rattle.std.proofs.Common.{◌≡◌, ◌∙◌, ℕ, ◌+◌, ◌<◌, length, take, get_or, All, Some, sym, ap, ap₂, subst, arith}
 use Rattle.std.specs.BTreeMap.{BTreeMap, Updates}
-use Rattle.std.proofs.Math.Seq.{take-length}
 use Rattle.std.proofs.lemmas.List.{take_all}
 use Rattle.std.proofs.lemmas.List.Elements.{All-more}
 use Rattle.protocol.specs.Catalog.{Entry}
-use Rattle.catalog.specs.Indexing.{key, codes_cmp, place_in, AreShort, Finds, HasShortCodes}
+use Rattle.catalog.specs.Indexing.{key, codes_cmp, AreShort, Finds, HasShortCodes}
 use Rattle.catalog.specs.declared.index.Codes.{Codes}
 use Rattle.catalog.proofs.Indexing.{found_nowhere, index_more}
 use Rattle.catalog.proofs.index.Index.of.Goals as goal

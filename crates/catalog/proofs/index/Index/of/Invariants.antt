@@ -1,4 +1,4 @@
-use Rattle.std.proofs.Common.{◌<◌, ℕ, All, take}
+use Rattle.std.proofs.Common.{All, take}
 use Rattle.catalog.specs.Indexing.{Finds, HasShortCodes}
 use Rattle.catalog.proofs.index.Index.of.Given as goal
 
