@@ -3,6 +3,8 @@
 
 pub mod list;
 pub mod pattern;
+pub mod pool;
 
 pub use list::{Full, Selectors};
 pub use pattern::Selector;
+pub use pool::Pool;

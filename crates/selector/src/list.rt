@@ -14,9 +14,9 @@ use thiserror::Error;
 /// How many selectors a list holds, at most.
 const CAPACITY: usize = 16;
 
-/// A list of selectors is full.
+/// There is no room for a selector more.
 #[derive(Clone, Copy, Debug, PartialEq, Eq, Drop, Error)]
-#[error("sixteen selectors are there already")]
+#[error("no selector more has room")]
 pub struct Full;
 
 impl Full {
@@ -101,7 +101,13 @@ impl Selectors {
     }
 }
 
-fn passes_among(selectors: &[Selector], location: &[u8; 2], channel: &[u8; 3], kind: Kind) -> bool
+/// The same of selectors.
+pub(crate) fn passes_among(
+    selectors: &[Selector],
+    location: &[u8; 2],
+    channel: &[u8; 3],
+    kind: Kind,
+) -> bool
     ensures { result ≡ passes_parts location.now channel.now kind selectors.now }
 {
     let mut is_chosen = false;
