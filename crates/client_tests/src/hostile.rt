@@ -1,0 +1,152 @@
+//! Clients and feeds that misbehave: the server loses nothing but their own connections.
+use loopback::{CENTRE, Centre, GREETING, packet, record};
+use std::alloc::{AllocError, Global};
+use std::io;
+use std::io::{ErrorKind, Read, Write};
+use std::net::Net;
+use std::test::Fail;
+
+/// How many records are fed while a client does not read.
+const MANY: u16 = 30_000;
+
+/// How often a client comes and leaves.
+const VISITS: u16 = 10_000;
+
+/// Records of GE WLF come, so many.
+fn feed<R: Net>(rt: &R, centre: &mut Centre, count: u16) -> Result<(), Fail> {
+    let mut feed = centre.feed(rt)?;
+    for samples in 0..count {
+        feed.write_all(&record(b"WLF", b"BHZ", samples)?)?;
+        if samples % 16 == 15 {
+            centre.turns(1);
+        }
+    }
+    centre.turns(3);
+    Ok(())
+}
+
+/// Whether a client that comes now is greeted.
+fn is_well<R: Net>(rt: &R, centre: &mut Centre) -> Result<bool, Fail> {
+    let mut client = centre.client(rt)?;
+    Ok(centre.answers(&mut client, b"HELLO\r", GREETING)?)
+}
+
+/// A client asks for records that don't fit into what the system holds for it, reads a part of a packet and goes: the system
+/// tells the server that the connection was reset, since bytes were not read.
+fn reset<R: Net>(rt: &R, centre: &mut Centre) -> Result<bool, Fail> {
+    let mut client = centre.client(rt)?;
+    let is_asked = centre.answers(&mut client, b"STATION WLF GE\rDATA\rEND\r", b"OK\r\nOK\r\n")?;
+    feed(rt, centre, MANY)?;
+    let mut part = [0u8; 100];
+    Ok(is_asked && centre.fills(&mut client, &mut part)? && centre.clients() == 1)
+}
+
+#[test]
+fn a_client_that_resets_is_closed_alone(rt: HostRuntime) -> Result<(), Fail> {
+    let mut centre = Centre::open(&rt, CENTRE)?;
+    assert!(rt; reset(&rt, &mut centre)?);
+    feed(&rt, &mut centre, 32)?;
+    assert_eq!(rt; centre.clients(), 0);
+    assert!(rt; is_well(&rt, &mut centre)?);
+    Ok(())
+}
+
+/// Writes once, as much as the system takes. Whether it takes no more.
+fn is_full<S: Write>(client: &mut S, bytes: &[u8]) -> io::Result<bool> {
+    match client.write(bytes) {
+        Ok(_) => Ok(false),
+        Err(error) => {
+            if error.kind() == ErrorKind::WouldBlock {
+                Ok(true)
+            } else {
+                Err(error)
+            }
+        }
+    }
+}
+
+/// HELLO, four hundred times.
+fn hellos(alloc: Global) -> Result<Vec<u8>, AllocError> {
+    let mut bytes = Vec::new(alloc);
+    for _ in 0..400 {
+        bytes.extend_from_slice(b"HELLO\r")?;
+    }
+    Ok(bytes)
+}
+
+/// A client says HELLO again and again, and reads no answer, until neither the server nor the system takes any more.
+fn babble<S: Write>(centre: &mut Centre, client: &mut S, said: &[u8]) -> io::Result<bool> {
+    let mut refusals = 0;
+    for _ in 0..10_000 {
+        let is_full = is_full(client, said)?;
+        centre.turns(1);
+        refusals = if is_full { refusals + 1 } else { 0 };
+        if refusals >= 3 {
+            return Ok(true);
+        }
+    }
+    Ok(false)
+}
+
+#[test]
+fn a_client_that_sends_and_never_reads_harms_nobody(rt: HostRuntime) -> Result<(), Fail> {
+    let mut centre = Centre::open(&rt, CENTRE)?;
+    let mut client = centre.client(&rt)?;
+    let said = hellos(rt.alloc())?;
+    assert!(rt; babble(&mut centre, &mut client, said.as_slice())?);
+    assert!(rt; is_well(&rt, &mut centre)?);
+    assert!(rt; centre.gives(&mut client, GREETING)?);
+    Ok(())
+}
+
+/// A client comes and leaves, so many times; every second one says something before.
+fn visits<R: Net>(rt: &R, centre: &mut Centre) -> Result<(), Fail> {
+    for visit in 0..VISITS {
+        let mut client = centre.client(rt)?;
+        if visit % 2 == 1 {
+            client.write_all(b"HELLO\r")?;
+        }
+        if visit % 100 == 99 {
+            centre.turns(2);
+        }
+    }
+    centre.turns(20);
+    Ok(())
+}
+
+#[test]
+fn clients_that_leave_at_once_leave_nothing(rt: HostRuntime) -> Result<(), Fail> {
+    let mut centre = Centre::open(&rt, CENTRE)?;
+    visits(&rt, &mut centre)?;
+    assert_eq!(rt; centre.clients(), 0);
+    assert!(rt; is_well(&rt, &mut centre)?);
+    Ok(())
+}
+
+/// A feed sends a record and a part of the next one, and goes.
+fn half_fed<R: Net>(rt: &R, centre: &mut Centre) -> Result<(), Fail> {
+    let mut feed = centre.feed(rt)?;
+    feed.write_all(&record(b"WLF", b"BHZ", 1)?)?;
+    feed.write_all(&record(b"WLF", b"BHZ", 2)?[..188])?;
+    centre.turns(3);
+    Ok(())
+}
+
+/// Whether a client reads the packets of the first and the third record next.
+fn gives_both<S: Read>(centre: &mut Centre, client: &mut S) -> Result<bool, Fail> {
+    let first = packet(b"SLFFFFFE", &record(b"WLF", b"BHZ", 1)?);
+    let third = packet(b"SLFFFFFF", &record(b"WLF", b"BHZ", 3)?);
+    Ok(centre.gives(client, &first)? && centre.gives(client, &third)?)
+}
+
+#[test]
+fn a_feed_that_stops_inside_a_record_loses_that_record_alone(rt: HostRuntime) -> Result<(), Fail> {
+    let mut centre = Centre::open(&rt, CENTRE)?;
+    let mut client = centre.client(&rt)?;
+    assert!(rt; centre.answers(&mut client, b"STATION WLF GE\rDATA\rEND\r", b"OK\r\nOK\r\n")?);
+    half_fed(&rt, &mut centre)?;
+    let mut feed = centre.feed(&rt)?;
+    feed.write_all(&record(b"WLF", b"BHZ", 3)?)?;
+    assert!(rt; gives_both(&mut centre, &mut client)?);
+    Ok(())
+}
