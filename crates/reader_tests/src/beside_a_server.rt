@@ -204,12 +204,32 @@ fn fault_of(alloc: Global, plan: Plan<'_>) -> Option<ReaderFault> {
     ReaderCore::new(alloc, plan).err()
 }
 
+/// A plan of so many wants, each with so many patterns.
+fn plan_of(alloc: Global, count: usize, patterns: &[&'static [u8]]) -> Result<Plan<'static>, Fail> {
+    let mut wants = Vec::new(alloc);
+    for _ in 0..count {
+        wants.push(want(alloc, b"WLF", patterns)?)?;
+    }
+    Ok(Plan::Multi(wants))
+}
+
+#[test]
+fn plans_up_to_the_limits_are_begun(rt: HostRuntime) -> Result<(), Fail> {
+    let alloc = rt.alloc();
+    let full: [&'static [u8]; 64] = [b"BH?"; 64];
+    assert!(rt; fault_of(alloc, plan_of(alloc, 255, &full[..4])?) == None);
+    assert!(rt; fault_of(alloc, plan_of(alloc, 255, &full[..5])?) == Some(ReaderFault::Limit));
+    assert!(rt; fault_of(alloc, plan_of(alloc, 16, &full)?) == None);
+    assert!(rt; fault_of(alloc, plan_of(alloc, 17, &full)?) == Some(ReaderFault::Limit));
+    Ok(())
+}
+
 #[test]
 fn plans_outside_the_limits_are_refused(rt: HostRuntime) -> Result<(), Fail> {
     let alloc = rt.alloc();
     let mut wants = Vec::new(alloc);
     assert!(rt; fault_of(alloc, Plan::Multi(Vec::new(alloc))) == Some(ReaderFault::Limit));
-    for _ in 0..33 {
+    for _ in 0..256 {
         wants.push(want(alloc, b"WLF", &[])?)?;
     }
     assert!(rt; fault_of(alloc, Plan::Multi(wants)) == Some(ReaderFault::Limit));

@@ -4,7 +4,7 @@ use std::alloc::Global;
 use std::test::Fail;
 
 /// Words that spell no want that can be asked for.
-static MALFORMED: [&[u8]; 20] = [
+static MALFORMED: [&[u8]; 19] = [
     b"",
     b"GE",
     b"GEWLF",
@@ -24,7 +24,6 @@ static MALFORMED: [&[u8]; 20] = [
     b"GE_WLF@0000000",
     b"GE_WLF@G",
     b"GE_WLF@1@2",
-    b"GE_WLF:A00,A01,A02,A03,A04,A05,A06,A07,A08,A09,A10,A11,A12,A13,A14,A15,A16",
 ];
 
 /// Words that spell a want, with the number of its patterns.
@@ -47,6 +46,23 @@ static RIGHT: [(&[u8], usize); 9] = [
 fn patterns(alloc: Global, word: &[u8]) -> Result<usize, ReaderFault> {
     let want = Want::parse(alloc, word, true)?;
     Ok(want.patterns.len())
+}
+
+/// A word with so many patterns more than one.
+fn word_of(alloc: Global, more: usize) -> Result<Vec<u8>, Fail> {
+    let mut word = b"GE_WLF:BH?".to_vec(alloc)?;
+    for _ in 0..more {
+        word.extend_from_slice(b",!E")?;
+    }
+    Ok(word)
+}
+
+#[test]
+fn a_want_has_at_most_64_patterns(rt: HostRuntime) -> Result<(), Fail> {
+    let alloc = rt.alloc();
+    assert!(rt; patterns(alloc, &word_of(alloc, 63)?) == Ok(64));
+    assert!(rt; patterns(alloc, &word_of(alloc, 64)?) == Err(ReaderFault::Limit));
+    Ok(())
 }
 
 #[test]

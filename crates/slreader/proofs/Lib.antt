@@ -10,3 +10,4 @@ pub mod SentLaws
 pub mod FaultLaws
 pub mod CameLemmas
 mod WorkedDialogues
+pub mod PlanLemmas

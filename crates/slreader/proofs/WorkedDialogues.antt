@@ -1,7 +1,7 @@
 -- Worked dialogues of readers: what is asked and given, and where they end.
-use Rattle.std.specs.Prelude.{◌≡◌, refl, ℕ, List, [], ◌∷◌, Some, None, true, false, codes}
+use Rattle.std.specs.Prelude.{◌≡◌, refl, ℕ, List, [], ◌∷◌, replicate, Some, None, true, false, codes}
 use Rattle.slreader.specs.declared.fault.ReaderFault.TheVariants.{AllRefused, BadReply, NotAPacket}
-use Rattle.slreader.specs.Wants.{PlanValue, commands_of_want, is_plan, is_want}
+use Rattle.slreader.specs.Wants.{PlanValue, WantValue, commands_of_want, is_plan, is_want}
 use Rattle.slreader.specs.Wants.PlanValue.{Uni, Multi}
 use Rattle.slreader.specs.Wants.Action.{Data, Fetch, Time}
 use Rattle.slreader.specs.Dialogue.{after_byte, asked_of, begun, given_by, given_from, reader_of}
@@ -76,3 +76,33 @@ no_begin_refused = refl
 pub two_wants_asked : is_plan two_wants ≡ true
 unfolding is_want
 two_wants_asked = refl
+
+-- ---- the limits of a plan
+
+-- GE WLF by FETCH with so many patterns
+abbrev want_of_size : ℕ → WantValue
+want_of_size n = record { network = codes "GE"; station = codes "WLF"; patterns = replicate n (codes "D"); action = Fetch None None }
+
+pub want_of_64_patterns : is_plan (Uni (want_of_size 64)) ≡ true
+unfolding is_want
+want_of_64_patterns = refl
+
+pub want_of_65_patterns : is_plan (Uni (want_of_size 65)) ≡ false
+unfolding is_want
+want_of_65_patterns = refl
+
+pub plan_of_255_wants : is_plan (Multi (replicate 255 (want_of_size 1))) ≡ true
+unfolding is_want
+plan_of_255_wants = refl
+
+pub plan_of_256_wants : is_plan (Multi (replicate 256 (want_of_size 0))) ≡ false
+unfolding is_want
+plan_of_256_wants = refl
+
+pub plan_of_1024_patterns : is_plan (Multi (replicate 16 (want_of_size 64))) ≡ true
+unfolding is_want
+plan_of_1024_patterns = refl
+
+pub plan_of_1025_patterns : is_plan (Multi (want_of_size 1 ∷ replicate 16 (want_of_size 64))) ≡ false
+unfolding is_want
+plan_of_1025_patterns = refl

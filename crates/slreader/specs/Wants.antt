@@ -1,6 +1,6 @@
 -- What a reader wants, whether it can be asked for, and the commands that ask for it.
 -- SeedLink 3, commands. Left out: wildcards in a station's code, and several patterns in one command.
-use Rattle.std.specs.Prelude.{ℕ, ◌+◌, Bool, true, ◌&&◌, ◌||◌, not, nat_le, List, [], ◌∷◌, ◌++◌, length, map, Option, Some, None, is_some, codes}
+use Rattle.std.specs.Prelude.{ℕ, ◌+◌, Bool, true, ◌&&◌, ◌||◌, not, nat_le, List, [], ◌∷◌, ◌++◌, length, map, sum_by, Option, Some, None, is_some, codes}
 use Rattle.std.specs.List.{list_all}
 use Rattle.protocol.specs.Packet.{digits}
 use Rattle.protocol.specs.Pattern.{pattern_of}
@@ -46,9 +46,9 @@ is_code most code = nat_le 1 (length code) && nat_le (length code) most && list_
 abbrev pub is_pattern : List ℕ → Bool
 is_pattern text = is_some (pattern_of text)
 
--- at most 16 of them
+-- at most 64 of them
 abbrev pub has_patterns : List (List ℕ) → Bool
-has_patterns patterns = nat_le (length patterns) 16 && list_all is_pattern patterns
+has_patterns patterns = nat_le (length patterns) 64 && list_all is_pattern patterns
 
 -- the text of a moment, if there is one
 abbrev pub is_moment : Option (List ℕ) → Bool
@@ -64,14 +64,19 @@ is_action (Data number begin) = is_led (is_some number) (is_some begin) && is_mo
 is_action (Fetch number begin) = is_led (is_some number) (is_some begin) && is_moment begin
 is_action (Time begin last) = is_led (is_some begin) (is_some last) && is_moment begin && is_moment last
 
--- The want can be spelled: a network of 1 or 2 bytes, a station of 1 to 5, at most 16 patterns, and an action of
+-- The want can be spelled: a network of 1 or 2 bytes, a station of 1 to 5, at most 64 patterns, and an action of
 -- which each argument has the one before it.
 unfoldable pub is_want : WantValue → Bool
 is_want w = is_code 2 w.network && is_code 5 w.station && has_patterns w.patterns && is_action w.action
 
--- 1 to 32 wants, each of which can be spelled
+-- how many patterns wants have together
+abbrev pub patterns_together : List WantValue → ℕ
+patterns_together wants = sum_by (λ w. length w.patterns) wants
+
+-- 1 to 255 wants, each of which can be spelled, with at most 1,024 patterns together
 abbrev pub is_plan : PlanValue → Bool
-is_plan p = nat_le 1 (length (wants_of p)) && nat_le (length (wants_of p)) 32 && list_all is_want (wants_of p)
+is_plan p = nat_le 1 (length (wants_of p)) && nat_le (length (wants_of p)) 255 && list_all is_want (wants_of p) &&
+    nat_le (patterns_together (wants_of p)) 1024
 
 -- ---- commands
 

@@ -39,8 +39,9 @@ impl ReaderCore {
     ghost use Rattle.slreader.specs.Comings.{came_outcome, IsNotBegun, Leaves};
     ghost use Rattle.slreader.specs.Whats.{Reads};
 
-    /// A reader that was sent nothing. It fails with Limit exactly where the plan has no want or more than 32, or has
-    /// a want that can't be asked for, and with OutOfMemory only where there is no memory for its commands.
+    /// A reader that was sent nothing. It fails with Limit exactly where the plan has no want or more than 255,
+    /// a want that can't be asked for, or more than 1,024 patterns, and with OutOfMemory only where there is no memory
+    /// for its commands.
     pub fn new(alloc: Global, plan: Plan<'_>) -> Result<ReaderCore, ReaderFault>
         ensures begun { IfOk result (λ r. r ≡ begun (plan_value plan.entry)) }
         ensures plan { OnOk result (is_plan (plan_value plan.entry) ≡ true) }

@@ -1,8 +1,8 @@
 //! Whether a plan can be asked for.
-ghost use Rattle.std.specs.Prelude.{◌≡◌, length};
+ghost use Rattle.std.specs.Prelude.{◌≡◌, length, nat_le};
 ghost use Rattle.std.specs.List.{list_all};
 ghost use Rattle.std.specs.Option.{option_copied};
-ghost use Rattle.slreader.specs.Wants.{is_action as spec_is_action, is_code as spec_is_code, is_code_byte as spec_is_code_byte, is_led, is_moment as spec_is_moment, is_pattern as spec_is_pattern, has_patterns as spec_has_patterns, is_plan, is_want, wants_of};
+ghost use Rattle.slreader.specs.Wants.{is_action as spec_is_action, is_code as spec_is_code, is_code_byte as spec_is_code_byte, is_led, is_moment as spec_is_moment, is_pattern as spec_is_pattern, has_patterns as spec_has_patterns, is_plan, is_want, patterns_together, wants_of};
 ghost use Rattle.slreader.specs.WantTexts.{action_value, texts};
 ghost use Rattle.slreader.specs.Views.{plan_value};
 
@@ -16,10 +16,13 @@ const NETWORK: usize = 2;
 const STATION: usize = 5;
 
 /// How many patterns a want has at most.
-const PATTERNS: usize = 16;
+const PATTERNS: usize = 64;
+
+/// How many patterns the wants of a plan have together at most.
+const TOGETHER: usize = 1024;
 
 /// How many wants a plan has at most.
-const WANTS: usize = 32;
+const WANTS: usize = 255;
 
 /// `A` to `Z` or `0` to `9`.
 fn is_code_byte(byte: u8) -> bool
@@ -61,7 +64,7 @@ fn are_patterns(patterns: &[&[u8]]) -> bool
     true
 }
 
-/// At most 16 texts of patterns.
+/// At most 64 texts of patterns.
 #[tactic(auto, using(crate::proofs::TextLemmas::size_of_texts))]
 fn has_patterns(patterns: &[&[u8]]) -> bool
     ensures { result ≡ spec_has_patterns (texts patterns.now) }
@@ -104,7 +107,15 @@ fn is_action(action: &Action<'_>) -> bool
 }
 
 impl<'a> Want<'a> {
-    /// Whether it can be asked for: its codes have the right bytes, there are at most 16 patterns, each is one, and
+    /// How many patterns it has.
+    #[tactic(auto, using(crate::proofs::TextLemmas::size_of_texts))]
+    fn count(&self) -> usize
+        ensures { result ≡ length self.now.patterns }
+    {
+        self.patterns.len()
+    }
+
+    /// Whether it can be asked for: its codes have the right bytes, there are at most 64 patterns, each is one, and
     /// each argument of its action is a moment and has the argument before it.
     #[tactic(auto, unfolding(crate::specs::Wants::is_want))]
     pub fn is_spellable(&self) -> bool
@@ -115,6 +126,21 @@ impl<'a> Want<'a> {
             && has_patterns(&self.patterns)
             && is_action(&self.action)
     }
+}
+
+/// Whether the wants have at most 1,024 patterns together.
+fn are_together(wants: &[Want<'_>]) -> bool
+    ensures { result ≡ nat_le (patterns_together wants.now) 1024 }
+{
+    let mut left = TOGETHER;
+    for want in wants {
+        let count = want.count();
+        if count > left {
+            return false;
+        }
+        left -= count;
+    }
+    true
 }
 
 /// Whether each of the wants can be asked for.
@@ -140,13 +166,16 @@ impl<'a> Plan<'a> {
         }
     }
 
-    /// Whether it can be asked for: there are 1 to 32 wants, and each of them can be.
+    /// Whether it can be asked for: there are 1 to 255 wants, each of them can be, and
+    /// they have at most 1,024 patterns together.
     pub fn is_spellable(&self) -> bool
         ensures { result ≡ is_plan (plan_value self.now) }
     {
         match self {
             Plan::Uni(want) => want.is_spellable(),
-            Plan::Multi(wants) => !wants.is_empty() && wants.len() <= WANTS && are_wants(wants),
+            Plan::Multi(wants) => {
+                !wants.is_empty() && wants.len() <= WANTS && are_wants(wants) && are_together(wants)
+            }
         }
     }
 }

@@ -31,7 +31,7 @@ pub struct Want<'a> {
     pub network: &'a [u8],
     /// 1 to 5 such bytes.
     pub station: &'a [u8],
-    /// At most 16 patterns over location, channel and type (SeedLink 3, SELECT), as `BH?` and `!E`.
+    /// At most 64 patterns over location, channel and type (SeedLink 3, SELECT), as `BH?` and `!E`.
     pub patterns: Vec<&'a [u8]>,
     /// From where on, and until when.
     pub action: Action<'a>,
@@ -51,6 +51,6 @@ impl<'a> Model for Want<'a> {
 pub enum Plan<'a> {
     /// One want that is asked for without STATION, at the first station that the server has.
     Uni(Want<'a>),
-    /// 1 to 32 wants, each of which begins with STATION.
+    /// 1 to 255 wants, each of which begins with STATION, with at most 1,024 patterns together.
     Multi(Vec<Want<'a>>),
 }
