@@ -7,6 +7,8 @@ mod dialogues;
 #[cfg(test)]
 mod random;
 #[cfg(test)]
+mod random_records;
+#[cfg(test)]
 mod rows;
 #[cfg(test)]
 mod slots;
