@@ -1,11 +1,14 @@
 -- How calls and deeds go on.
-use Rattle.std.proofs.Common.{◌≡◌, ℕ, ◌<◌, ◌-◌, suc, arith, List, [], ◌∷◌, ◌++◌, refl, sym, ap, subst, ◌∙◌, append_assoc, append-nil, Option, Some, None, flat_map}
+use Rattle.std.proofs.Common.{◌≡◌, ℕ, ◌<◌, ◌-◌, suc, arith, List, [], ◌∷◌, ◌++◌, refl, sym, ap, subst, ◌∙◌, append_assoc, append-nil, Option, Some, None, map, flat_map}
 use Rattle.protocol.specs.Catalog.{Config}
-use Rattle.protocol.specs.World.{World, world_from}
-use Rattle.protocol.proofs.Connections.{world_from-append}
+use Rattle.protocol.specs.World.{Event, World, config_after, world_from}
+use Rattle.protocol.specs.World.Event.{Arrive}
+use Rattle.protocol.proofs.Connections.{config_after-append, world_from-append}
 use Rattle.server_core.specs.Standing.{Serving, StandsAt}
 use Rattle.ports.specs.Calls.{Call, Tells}
 use Rattle.event_loop.specs.Deeds.{Deed, Tally, calls_of, calls_in, events_of, events_in, tally, tallied, world_beyond}
+use Rattle.ports.specs.Calls.Given.{Piece, Nothing, TheEnd, Failure}
+use Rattle.event_loop.specs.Deeds.Deed.{Hears, Opens, Feeds, TurnsAway, Reads, ReadsFeed, Writes, Offers, Closes, ShutsFeed}
 use Rattle.event_loop.specs.Faithful.{AreFaithful}
 use Rattle.event_loop.specs.Passes.{beyond}
 use Rattle.event_loop.specs.Going.{Kind, GoesOn, Ends, Does, SoFar, Whole}
@@ -25,10 +28,42 @@ pub flat_map-append : {X Y : Type 0} (f : X → List Y) (xs ys : List X) → fla
 flat_map-append f [] ys = refl
 flat_map-append f (x ∷ xs) ys = ap (λ l. f x ++ l) (flat_map-append f xs ys) ∙ sym (append_assoc (f x) (flat_map f xs) (flat_map f ys))
 
+-- ---- no deed brings a new configuration
+arrivals-keep : (config : Config) (records : List (List ℕ)) → config_after config (map Arrive records) ≡ config
+arrivals-keep config [] = refl
+arrivals-keep config (r ∷ rs) = arrivals-keep config rs
+
+pub deed-keeps : (config : Config) (d : Deed) → config_after config (events_of d) ≡ config
+deed-keeps config (Hears answer) = refl
+deed-keeps config (Opens port address) = refl
+deed-keeps config (Feeds port) = refl
+deed-keeps config (TurnsAway happening port) = refl
+deed-keeps config (Reads client port most (Piece bytes)) = refl
+deed-keeps config (Reads client port most Nothing) = refl
+deed-keeps config (Reads client port most TheEnd) = refl
+deed-keeps config (Reads client port most Failure) = refl
+deed-keeps config (ReadsFeed port most gave records refused) = arrivals-keep config records
+deed-keeps config (Writes client port bytes answer) = refl
+deed-keeps config (Offers client) = refl
+deed-keeps config (Closes client port) = refl
+deed-keeps config (ShutsFeed port) = refl
+
+deeds-keep : (config : Config) (ds : List Deed) → config_after config (events_in ds) ≡ config
+deeds-keep config [] = refl
+deeds-keep config (d ∷ ds) =
+    config_after-append config (events_of d) (events_in ds)
+    ∙ ap (λ c. config_after c (events_in ds)) (deed-keeps config d)
+    ∙ deeds-keep config ds
+
+world_from-then : (config : Config) (w : World) (es more : List Event) → config_after config es ≡ config →
+    world_from config w (es ++ more) ≡ world_from config (world_from config w es) more
+world_from-then config w es more keeps = world_from-append config w es more ∙ ap (λ c. world_from c (world_from config w es) more) keeps
+
 pub world_beyond-append : (config : Config) (w : World) (ds es : List Deed) →
     world_beyond config w (ds ++ es) ≡ world_beyond config (world_beyond config w ds) es
 world_beyond-append config w ds es =
-    ap (world_from config w) (flat_map-append events_of ds es) ∙ world_from-append config w (events_in ds) (events_in es)
+    ap (world_from config w) (flat_map-append events_of ds es) 
+    ∙ world_from-then config w (events_in ds) (events_in es) (deeds-keep config ds)
 
 pub tallied-append : (t : Tally) (ds es : List Deed) → tallied t (ds ++ es) ≡ tallied (tallied t ds) es
 tallied-append t [] es = refl
@@ -40,7 +75,7 @@ faithful-append config w [] es p q = q
 faithful-append config w (d ∷ ds) es p q = (
   p.0,
   faithful-append config (beyond config w d) ds es p.1
-      (subst (λ v. AreFaithful config v es) (world_from-append config w (events_of d) (events_in ds)) q),
+      (subst (λ v. AreFaithful config v es) (world_from-then config w (events_of d) (events_in ds) (deed-keeps config d)) q),
 )
 
 -- nothing done yet

@@ -3,7 +3,7 @@ use Rattle.std.proofs.Common.{◌≡◌, ℕ, zero, suc, ◌==◌, true, false, 
 use Rattle.std.proofs.lemmas.Grind.{flat_map-append}
 use Rattle.protocol.specs.Catalog.{Config}
 use Rattle.protocol.specs.Client.{Client, Taken, offered}
-use Rattle.protocol.specs.World.{World, Handed, step, world_after, handed_from, told, taken_by}
+use Rattle.protocol.specs.World.{World, Handed, step, config_after, world_after, handed_from, told, taken_by}
 use Rattle.protocol.specs.World.Event.{Arrive}
 use Rattle.protocol.specs.Alone.{alone, own_view, seen, handed_to}
 use Rattle.protocol.proofs.Alone.{goes-on}
@@ -15,6 +15,7 @@ use Rattle.event_loop.specs.Deeds.Deed.{Hears, Opens, Feeds, TurnsAway, Reads, R
 use Rattle.event_loop.specs.Passes.{lent_to, client_at, beyond}
 use Rattle.event_loop.specs.Faithful.{IsFaithful, AreFaithful}
 use Rattle.event_loop.specs.Turns.{HandsAsAlone, bytes_alone}
+use Rattle.event_loop.proofs.Going.{deed-keeps}
 
 abbrev nothing : List ℕ
 nothing = []
@@ -88,13 +89,13 @@ deed-hands config w k (ShutsFeed port) h = refl
 pub deeds-hand : (config : Config) (w : World) (k : ℕ) (ds : List Deed) → AreFaithful config w ds → bytes_to k (handed_from config w (events_in ds)) ≡ taken_in k ds
 deeds-hand config w k [] h = refl
 deeds-hand config w k (d ∷ ds) h =
-    ap (bytes_to k) (handed_from-append config w (events_of d) (events_in ds))
+    ap (bytes_to k) (handed_from-append config w (events_of d) (events_in ds) ∙ ap (λ c. handed_from config w (events_of d) ++ handed_from c (beyond config w d) (events_in ds)) (deed-keeps config d))
     ∙ bytes_to-append k (handed_from config w (events_of d)) (handed_from config (beyond config w d) (events_in ds))
     ∙ ap₂ (λ a b. a ++ b) (deed-hands config w k d h.0) (deeds-hand config (beyond config w d) k ds h.1)
 
 pub hands-as-alone : (config : Config) (w : World) (ds : List Deed) → AreFaithful config w ds → HandsAsAlone config w ds
-hands-as-alone config w ds faithful h there k =
+hands-as-alone config w ds faithful first h in_force there k =
     let es = events_in ds in
-    ap bytes_of (goes-on config h es k)
-    ∙ flat_map-append (λ t. t.bytes) (alone (own_view config h k) (seen config h k)) (handed_to k (handed_from config (world_after config h) es))
-    ∙ ap (λ l. bytes_alone config h k ++ l) (ap (λ v. bytes_to k (handed_from config v es)) there ∙ deeds-hand config w k ds faithful)
+    ap bytes_of (goes-on first h es k)
+    ∙ flat_map-append (λ t. t.bytes) (alone (own_view first h k) (seen first h k)) (handed_to k (handed_from (config_after first h) (world_after first h) es))
+    ∙ ap (λ l. bytes_alone first h k ++ l) (ap₂ (λ (c : Config) (v : World). bytes_to k (handed_from c v es)) in_force there ∙ deeds-hand config w k ds faithful)

@@ -2,7 +2,7 @@
 -- The loop is this project's own.
 use Rattle.std.specs.Prelude.{◌≡◌, ℕ, if◌then◌else◌, List, [], ◌∷◌, ◌++◌, flat_map, Option, Some, None}
 use Rattle.protocol.specs.Catalog.{Config}
-use Rattle.protocol.specs.World.{Event, World, world_after}
+use Rattle.protocol.specs.World.{Event, World, config_after, world_after}
 use Rattle.protocol.specs.Alone.{alone, own_view, seen}
 use Rattle.server_core.specs.Standing.{Serving}
 use Rattle.event_loop.specs.declared.seat.Role.{Role}
@@ -59,10 +59,11 @@ pub record IsTurn (config : Config) (most limit : ℕ) (w : World) (seats : List
 abbrev pub bytes_alone : Config → List Event → ℕ → List ℕ
 bytes_alone config events k = flat_map (λ t. t.bytes) (alone (own_view config events k) (seen config events k))
 
--- A client's port takes what a client alone is handed, from its own events and the arrivals that it sees.
+-- A client's port takes what a client alone is handed, from its own events and the arrivals that it sees: at whatever
+-- configuration the server began, and whatever events, with new configurations among them, led to this one and to this world.
 abbrev pub HandsAsAlone : Config → World → List Deed → Type 0
-HandsAsAlone config w deeds = (h : List Event) → world_after config h ≡ w → (k : ℕ) →
-    bytes_alone config (h ++ events_in deeds) k ≡ bytes_alone config h k ++ taken_in k deeds
+HandsAsAlone config w deeds = (first : Config) (h : List Event) → config_after first h ≡ config → world_after first h ≡ w →
+    (k : ℕ) → bytes_alone first (h ++ events_in deeds) k ≡ bytes_alone first h k ++ taken_in k deeds
 
 -- the count that a turn answers
 abbrev pub tally_of : Turned → Tally

@@ -3,7 +3,7 @@ use Rattle.std.proofs.Common.{◌≡◌, ℕ, ◌+◌, ◌<◌, ◌≤◌, true,
 use Rattle.std.proofs.lemmas.Bool.{eqb-false}
 use Rattle.protocol.specs.Catalog.{View, Config, view_of}
 use Rattle.protocol.specs.Client.{Client, new_client, offered, after_take, is_nothing}
-use Rattle.protocol.specs.World.{client_of, Connection, World, at, changed, closed, step}
+use Rattle.protocol.specs.World.{client_of, Connection, World, at, opened, changed, closed, step}
 use Rattle.protocol.specs.World.Event.{Open, Close}
 use Rattle.protocol.proofs.Found.{both}
 use Rattle.protocol.proofs.Connections.{length-at, slice_get-at_same, slice_get-at_here, slice_get-at_apart}
@@ -92,7 +92,7 @@ pushed f g (a ∷ xs) (b ∷ ys) x y e h here (suc k) = pushed f g xs ys x y (om
 
 pub open-stands : (old new : Serving) (s : Sitting) (a : ℕ) → new.config ≡ old.config → new.rings ≡ old.rings → new.sessions ≡ old.sessions ++ Some s ∷ [] → view_in old.config s.places ≡ view_of old.config a → ((h : List Arrival) → client_in old.config h s ≡ new_client) → (config : Config) (w : World) → StandsAt old config w → StandsAt new config (step config w (Open a))
 open-stands old new s a same kept longer view client config w stands =
-    let x : Connection = record { view = view_of config a; client = Some new_client } in
+    let x = opened config a in
     let v : view_in config s.places ≡ view_of config a = rw stands.config_is at view in
     let c : client_in config w.history s ≡ new_client = rw stands.config_is at (client w.history) in
     let here : seated config w.history (Some (Some s)) ≡ seat_at (Some x) = ap₂ (λ (p : View) (q : Client). let t : Option Seat = Some (record { view = p; client = q }) in t) v c in

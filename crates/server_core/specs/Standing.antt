@@ -4,7 +4,7 @@ use Rattle.slab.specs.Slab.{Slab, get}
 use Rattle.protocol.specs.Catalog.{Config, View}
 use Rattle.protocol.specs.Client.{Client, after_take, offered}
 use Rattle.protocol.specs.History.{Arrival}
-use Rattle.protocol.specs.World.{Event, World, Connection, world_after}
+use Rattle.protocol.specs.World.{Event, World, Connection, config_after, world_after}
 use Rattle.held_records.specs.Holdings.{Holdings, holdings_of}
 use Rattle.session_state.specs.declared.session.State.TheVariants.{Starting}
 use Rattle.session_state.specs.Sessions.{Sitting, HasPlaces, client_in, sitting_view}
@@ -79,9 +79,9 @@ pub record StandsAt (server : Serving) (config : Config) (w : World) : Type 0 wh
   pub count : length server.sessions ≡ length w.connections
   pub clients : (k : ℕ) → seated config w.history (slice_get server.sessions k) ≡ seat_at (slice_get w.connections k)
 
--- It stands for the world after events.
+-- It stands for the world after events, under the configuration in force by then.
 abbrev pub Stands : Serving → Config → List Event → Type 0
-Stands server config events = StandsAt server config (world_after config events)
+Stands server config events = StandsAt server (config_after config events) (world_after config events)
 
 -- Only the k-th session goes on.
 pub record OnlyGoesOn (config : Config) (h : List Arrival) (old new : List (Option Sitting)) (k : ℕ) (f : View → Client → Client) : Type 0 where

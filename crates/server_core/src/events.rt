@@ -1,11 +1,11 @@
 //! A whole list of events.
-ghost use Rattle.std.specs.Prelude.{◌≡◌, ℕ, ◌<◌, ◌-◌, ◌^◌, length, List, [], ◌∷◌, ◌++◌, map, slice_get, take as first, Bool, true, Some, IfOk, OnOk};
+ghost use Rattle.std.specs.Prelude.{◌≡◌, ℕ, ◌<◌, ◌-◌, ◌^◌, length, Contains, List, [], ◌∷◌, ◌++◌, map, slice_get, take as first, Bool, true, Some, IfOk, OnOk};
 ghost use Rattle.std.specs.Result.{result_ok};
 ghost use Rattle.protocol.specs.Catalog.{Config as ProtocolConfig, Entry, sees};
-ghost use Rattle.protocol.specs.World.{Event as ProtocolEvent, World, step, handed, told, taken_by, client_of};
+ghost use Rattle.protocol.specs.World.{Event as ProtocolEvent, World, config_by, step, handed, told, taken_by, client_of};
 ghost use Rattle.protocol.specs.World.Event.{Take};
 ghost use Rattle.session_state.specs.Sessions.{Sitting};
-ghost use Rattle.protocol.specs.Alone.{address_of, alone, own_view, seen, handed_to, restricted};
+ghost use Rattle.protocol.specs.Alone.{address_of, alone, own_view, seen, handed_to, restricted, all_restricted, reloads_accepted, configs_in_force};
 ghost use Rattle.server_core.specs.Standing.{StandsAt};
 ghost use Rattle.server_core.specs.Runs.{event_value, handed_value, handed_by, first_waiting, is_over_by, MissesOnlyOverruns, MissesNothingThatIsHeld};
 
@@ -103,7 +103,8 @@ fn act(
     out: &mut Vec<Handed>,
 ) -> Result<(), AllocError>
     ensures stands { OnOk result ((config : ProtocolConfig) (w : World) → length w.history < 2 ^ 64 - 1 →
-        StandsAt server.old config w → StandsAt server.new config (step config w (event_value event.now))) }
+        StandsAt server.old config w →
+        StandsAt server.new (config_by config (event_value event.now)) (step config w (event_value event.now))) }
     ensures handed { OnOk result ((config : ProtocolConfig) (w : World) → StandsAt server.old config w →
         map handed_value out.new.items ≡ map handed_value out.old.items ++ handed_by w (event_value event.now)) }
 {
@@ -157,8 +158,10 @@ pub fn run(alloc: Global, config: Config, events: &[Event]) -> Result<Vec<Handed
         own_view config es k ≡ own_view other others j → seen config es k ≡ seen other others j →
         handed_to k (map handed_value hs.items) ≡ handed_to j (handed other others)) }
     ensures hidden_stations { IfOk result (λ hs. (keep : Entry → Bool) (k : ℕ) → let es = map event_value events.now in
-        ((a : ℕ) (e : Entry) → address_of es k ≡ Some a → sees e.access config.access a ≡ true → keep e ≡ true) →
-        handed_to k (handed (restricted keep config) es) ≡ handed_to k (map handed_value hs.items)) }
+        ((c : ProtocolConfig) (a : ℕ) (e : Entry) → Contains (configs_in_force config es) c →
+            address_of es k ≡ Some a → sees e.access c.access a ≡ true → keep e ≡ true) →
+        reloads_accepted (restricted keep config) (all_restricted keep es) ≡ reloads_accepted config es →
+        handed_to k (handed (restricted keep config) (all_restricted keep es)) ≡ handed_to k (map handed_value hs.items)) }
     ensures misses { IfOk result (λ hs. (k : ℕ) → MissesOnlyOverruns config (map event_value events.now) k (map handed_value hs.items)) }
     ensures keeps_up { IfOk result (λ hs. (k : ℕ) → MissesNothingThatIsHeld config (map event_value events.now) k (map handed_value hs.items)) }
 {

@@ -27,9 +27,9 @@ returns-clause-alike c = λ other others k j view own.
     ap (handed_to k) (ends-well c.args.config c.loop-event.server _ _ _ none c.loop-event.invariant) ∙ alike c.args.config other (map event_value c.args.events.now) others k j view own
 
 pub returns-clause-hidden_stations : goal.returns-clause-hidden_stations
-returns-clause-hidden_stations c = λ keep k kept.
+returns-clause-hidden_stations c = λ keep k kept accepted.
     let none : map event_value (drop c.loop-event.event-index c.args.events.now) ≡ [] = grind (arith, common_steps) in
-    without_hidden c.args.config keep (map event_value c.args.events.now) k kept ∙ sym (ap (handed_to k) (ends-well c.args.config c.loop-event.server _ _ _ none c.loop-event.invariant))
+    without_hidden c.args.config keep (map event_value c.args.events.now) k kept accepted ∙ sym (ap (handed_to k) (ends-well c.args.config c.loop-event.server _ _ _ none c.loop-event.invariant))
 
 pub returns-clause-misses : goal.returns-clause-misses
 returns-clause-misses c = λ k.
