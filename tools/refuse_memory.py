@@ -14,7 +14,7 @@ import tempfile
 from concurrent.futures import ThreadPoolExecutor
 
 TOP = os.path.dirname(os.path.dirname(os.path.realpath(__file__)))
-CALLS = ["parse", "read", "view", "server", "open", "run", "loop", "turn", "reader", "replay"]
+CALLS = ["parse", "read", "view", "server", "open", "run", "loop", "turn", "ports", "reader", "replay"]
 MOST = 100_000
 
 REFUSING = """

@@ -1,26 +1,34 @@
 //! A loop over ports.
-use crate::centre::{ARRIVALS, GREETING, is_packet, record};
+use crate::centre::{ARRIVALS, GREETING, inside, is_packet, outside, record};
 use crate::trial::{Fault, Trial};
 use crate::wires::{Wire, Wires};
 use catalog::Config;
 use event_loop::Loop;
+use ports::{Happening, MemoryPorts, PortScript, ReadAnswer, Script};
 use std::alloc::Global;
 use test_centre::CENTRE;
 
 /// How the lines of a client that asks for two stations are answered.
 const REPLIES: &[u8] = b"OK\r\nOK\r\nOK\r\nOK\r\n";
 
-/// The first client asks for two stations, the second says HELLO, and the feed has four records.
-fn wires(alloc: Global) -> Result<Wires, Fault> {
-    let asking: &[u8] = b"STATION APE GE\rDATA\rSTATION WLF GE\rDATA\rEND\r";
+/// What the first client asks for.
+const ASKED: &[u8] = b"STATION APE GE\rDATA\rSTATION WLF GE\rDATA\rEND\r";
+
+/// The records of a feed.
+fn records(alloc: Global) -> Result<Vec<u8>, Fault> {
     let mut records = Vec::new(alloc);
     for (station, second, _number) in ARRIVALS {
         records.extend_from_slice(&record(station, second)?)?;
     }
+    Ok(records)
+}
+
+/// The first client asks for two stations, the second says HELLO, and the feed has four records.
+fn wires(alloc: Global) -> Result<Wires, Fault> {
     Ok(Wires::new(
-        Wire::new(alloc, asking)?,
+        Wire::new(alloc, ASKED)?,
         Wire::new(alloc, b"HELLO\r")?,
-        Wire::new(alloc, records.as_slice())?,
+        Wire::new(alloc, records(alloc)?.as_slice())?,
     ))
 }
 
@@ -88,6 +96,46 @@ pub fn turn(alloc: Global) -> Result<Trial, Fault> {
         && is_second_right(wires)
         && is_one_shut(wires);
     Ok(Trial::by(is_right, "a port that was not refused is not served"))
+}
+
+/// A port that reads a text once, and takes all.
+fn port(alloc: Global, number: u64, text: &[u8]) -> Result<PortScript, Fault> {
+    let mut reads = Vec::new(alloc);
+    reads.push(ReadAnswer::Piece(text.to_vec(alloc)?))?;
+    Ok(PortScript::new(number, reads, Vec::new(alloc)))
+}
+
+/// The same ports in memory, which keep a record of their calls.
+fn memory_ports(alloc: Global) -> Result<MemoryPorts, Fault> {
+    let happenings = [
+        Happening::Joined(1, inside()),
+        Happening::Joined(2, outside()),
+        Happening::Quiet,
+        Happening::Quiet,
+        Happening::JoinedFeed(3),
+    ];
+    let mut scripts = Vec::new(alloc);
+    scripts.push(port(alloc, 1, ASKED)?)?;
+    scripts.push(port(alloc, 2, b"HELLO\r")?)?;
+    scripts.push(port(alloc, 3, records(alloc)?.as_slice())?)?;
+    let script = Script::new(happenings.to_vec(alloc)?, scripts);
+    Ok(MemoryPorts::new(alloc, script))
+}
+
+/// Turns over ports whose record may not grow: that call fails, and costs its port, or one turn its hearing and what it would
+/// have heard.
+pub fn ports(alloc: Global) -> Result<Trial, Fault> {
+    let config = Config::read(alloc, CENTRE)?;
+    let mut all = Loop::new(alloc, config, memory_ports(alloc)?)?;
+    let mut faults: usize = 0;
+    for _ in 0..8 {
+        if all.turn(64).is_err() {
+            faults = faults.saturating_add(1);
+        }
+    }
+    let open = all.clients().saturating_add(all.feeds());
+    let is_right = matches!((faults, open), (0 | 1, 2 | 3));
+    Ok(Trial::by(is_right, "more than a port or a hearing is lost"))
 }
 
 /// A new loop.

@@ -1,6 +1,6 @@
 //! Makes one call that allocates, and looks at what comes of it where an allocation is refused.
 //!
-//! `memory_tests CALL`, where CALL is `parse`, `read`, `view`, `server`, `open`, `run`, `loop`, `turn`, `reader` or `replay`. It
+//! `memory_tests CALL`, where CALL is `parse`, `read`, `view`, `server`, `open`, `run`, `loop`, `turn`, `ports`, `reader` or `replay`. It
 //! prints `as it should be` where the call succeeds and gives what it is to give, or answers out of memory and nothing
 //! else, and leaves all as it was; else it prints what is wrong. Where an allocation before the call was refused, it ends
 //! with status 3 and says nothing. Without a CALL all of them are made.
@@ -23,8 +23,8 @@ use std::process::ExitCode;
 use trial::{Fault, Trial};
 
 /// The calls that are tried.
-const CALLS: [&str; 10] = [
-    "parse", "read", "view", "server", "open", "run", "loop", "turn", "reader", "replay",
+const CALLS: [&str; 11] = [
+    "parse", "read", "view", "server", "open", "run", "loop", "turn", "ports", "reader", "replay",
 ];
 
 fn tried(alloc: Global, call: &str) -> Result<Trial, Fault> {
@@ -38,6 +38,7 @@ fn tried(alloc: Global, call: &str) -> Result<Trial, Fault> {
         "run" => serving::run_of_events(alloc),
         "loop" => looping::new_loop(alloc),
         "turn" => looping::turn(alloc),
+        "ports" => looping::ports(alloc),
         "replay" => replaying::replay_of_script(alloc),
         _ => Err(anyhow!("there is no such call")),
     }
