@@ -121,7 +121,7 @@ impl Write for Breaking {
 
 /// Takes no byte.
 #[derive(Drop)]
-struct Full;
+pub struct Full;
 
 impl Write for Full {
     fn write(&mut self, _bytes: &[u8]) -> io::Result<usize> {

@@ -1,7 +1,8 @@
 //! Readers and writers of which one call fails: what comes of a failure at each place, in turn.
+use crate::devices::Full;
 use crate::worked::round;
 use feeder::{SendFault, send};
-use sl_io::{Failing, MemorySink, MemorySource, ReadFault, WriteFault, read_all, write_all};
+use sl_io::{Failing, MemorySink, MemorySource, Outer, ReadFault, WriteFault, read_all, write_all};
 use std::alloc::Global;
 use std::test::Fail;
 
@@ -83,5 +84,16 @@ fn a_write_that_fails_ends_a_feed_there(rt: HostRuntime) -> Result<(), Fail> {
         assert!(rt; sent(rt.alloc(), &feed, 0, due) == (fault, count));
     }
     assert!(rt; sent(rt.alloc(), &feed, 0, 4) == (Ok(3), FEED));
+    Ok(())
+}
+
+#[test]
+fn a_writer_that_takes_nothing_ends_a_feed(rt: HostRuntime) -> Result<(), Fail> {
+    let feed = round(rt.alloc(), FEED)?;
+    let mut reader = MemorySource::in_pieces(&feed, 700);
+    let mut writer = Outer::new(Full);
+    assert!(rt; send(&mut reader, &mut writer) == Err(SendFault::Write));
+    assert_eq!(rt; writer.counts().failures, 0);
+    assert_eq!(rt; writer.counts().empty_writes, 1);
     Ok(())
 }
