@@ -1,0 +1,123 @@
+#!/usr/bin/env python3
+"""Counts what a packet costs a server under load: instructions by callgrind, and system calls by strace. Called by bench/wire.sh.
+
+It prints a line a figure, and fails if one is above its limit. The counts hardly depend on the machine.
+"""
+
+import re
+import resource
+import signal
+import subprocess
+import sys
+import tempfile
+import time
+
+import load
+import wire
+
+READERS = 16
+SECONDS = 5
+
+
+def told(figure, most, what):
+    print(f"{figure:10.2f} {most:8d}  {what}", flush=True)
+    return figure <= most
+
+
+def each(config):
+    """The instructions that a packet takes of a server under load."""
+    records = 4_000
+    with tempfile.NamedTemporaryFile(suffix=".callgrind") as out:
+        before = ["valgrind", "--tool=callgrind", "-q", f"--callgrind-out-file={out.name}"]
+        with wire.Arm(wire.serve_words(config), before) as arm:
+            one = load.Load(*arm.ports, READERS, records)
+            subprocess.run(["callgrind_control", "-z", str(arm.program.pid)], capture_output=True, check=True)
+            one.run(300)
+            arm.program.send_signal(signal.SIGINT)
+            arm.program.wait()
+            one.close()
+        total = int(re.search(rb"^(?:summary|totals): (\d+)", out.read(), re.M).group(1))
+    return total / records / READERS
+
+
+class Traced:
+    """The system calls that a program makes for as long as a `with` lasts."""
+
+    def __init__(self, program, *words):
+        self.program, self.words = program, words
+
+    def __enter__(self):
+        self.out = tempfile.NamedTemporaryFile(suffix=".calls")
+        words = ["strace", "-f", *self.words, "-o", self.out.name, "-p", str(self.program.pid)]
+        self.tracer = subprocess.Popen(words, stderr=subprocess.DEVNULL)
+        time.sleep(1)
+        return self
+
+    def __exit__(self, *_):
+        self.tracer.terminate()
+        self.tracer.wait()
+        self.text = self.out.read().decode()
+        self.out.close()
+
+    def count(self, call):
+        """How often it made a call, by the table of `strace -c`; `total` is all calls."""
+        return sum(int(it.split()[3]) for it in self.text.splitlines() if it.split()[-1:] == [call])
+
+
+def under_load(config):
+    """Write calls for 16 packets, and read calls for 16 records."""
+    records = 20_000
+    with wire.Arm(wire.serve_words(config)) as arm:
+        one = load.Load(*arm.ports, READERS, records)
+        with Traced(arm.program, "-c") as traced:
+            one.run()
+        one.close()
+    writes, reads = traced.count("sendto") + traced.count("write"), traced.count("recvfrom") + traced.count("read")
+    return writes / (READERS * records / 16), reads / (records / 16)
+
+
+def waits_between(calls):
+    """How many polls that may wait a server made between the reading of a record and the sending of its packet."""
+    lines = calls.splitlines()
+    read = next(at for at, line in enumerate(lines) if "recvfrom(" in line and line.rstrip().endswith("= 512"))
+    sent = next(at for at, line in enumerate(lines) if at > read and "sendto(" in line)
+    return sum("epoll_wait(" in line and not re.search(r", 0\) += ", line) for line in lines[read:sent])
+
+
+def at_rest(config):
+    """System calls a second with 1,000 clients that wait, and waits between a record that comes alone and its packet."""
+    with wire.Arm(wire.serve_words(config)) as arm:
+        idle = [load.idle_client(arm.ports[0]) for _ in range(1_000)]
+        waiting, feed = load.reader(arm.ports[0]), load.dial(arm.ports[1])
+        time.sleep(0.5)
+        with Traced(arm.program, "-c") as counted:
+            time.sleep(SECONDS)
+        with Traced(arm.program) as traced:
+            feed.sendall(load.record(0))
+            time.sleep(0.5)
+        for client in [*idle, waiting, feed]:
+            client.close()
+    return counted.count("total") / SECONDS, waits_between(traced.text)
+
+
+def main():
+    resource.setrlimit(resource.RLIMIT_NOFILE, (resource.getrlimit(resource.RLIMIT_NOFILE)[1],) * 2)
+    with tempfile.NamedTemporaryFile("w", suffix=".toml") as config:
+        config.write(wire.CONFIG)
+        config.flush()
+        print(f"{'each':>10} {'at most':>8}  work")
+        writes, reads = under_load(config.name)
+        calm, waits = at_rest(config.name)
+        alone = each(config.name)
+        good = [
+            told(alone, 2_500, f"instructions, a packet handed on, {READERS} readers"),
+            told(writes, 1, "write calls for 16 packets"),
+            told(reads, 1, "read calls for 16 records"),
+            told(calm, 20, "system calls a second with 1,000 idle clients"),
+            told(waits, 0, "waits between a record that comes alone and its packet"),
+        ]
+    sys.exit(0 if all(good) else 1)
+
+
+if __name__ == "__main__":
+    main()
