@@ -169,7 +169,7 @@ rests-empty r next c holds none so_far =
     (λ n. absurd (let some : None ≡ Some (first_place r) = rw n at none in cc)) in
     let pushes : r.pushes ≡ 0 = omega (arith, holds.count, holds.some_capacity) in
     let passed : HasPassed r next c (at_place c.cursor.place c.cursor.after_end) =
-        record { within = so_far.within; unwanted = so_far.unwanted; told = λ p x l t a. let it = so_far.told p x l t a in record { last = it.last; is = it.is; from = it.from }; before = so_far.before; after = so_far.after } in
+    record { within = so_far.within; unwanted = so_far.unwanted; told = λ p x l t a. let it = so_far.told p x l t a in record { last = it.last; is = it.is; from = it.from }; before = so_far.before; after = so_far.after } in
     rests-end r next c c.cursor.place c.cursor.after_end holds (omega arith) passed
 
 -- ---- the record at a cursor

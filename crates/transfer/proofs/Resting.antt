@@ -91,6 +91,19 @@ moves-on P i cursor a n start c passes at true_there so_far = record {
   rest = λ j low. passes.others j (λ e. absurd (omega arith)) ∙ so_far.rest j (omega arith);
 }
 
+-- One choice more of which it is true as it is.
+pub moves-stay : (P : Choice → Type 0) (i : ℕ) (a start : Sitting) (c : Choice) → slice_get (chosen_of a.mode) i ≡ Some c → P c → Moves P i a start → Moves P (i + 1) a start
+moves-stay P i a start c at true_there so_far = record {
+  same = so_far.same;
+  count = so_far.count;
+  done = λ j x low there. both (j == i)
+      (λ y. let here : j ≡ i = grind (arith, nat_tests) in
+      let is : Some x ≡ Some c = sym there ∙ ap (slice_get (chosen_of a.mode)) here ∙ at in
+      subst P (ap (λ o. unwrap_or o x) (sym is)) true_there)
+      (λ m. so_far.done j x (grind (arith, nat_tests)) there);
+  rest = λ j low. so_far.rest j (omega arith);
+}
+
 -- Of all choices it is true.
 pub moves-all : (P : Choice → Type 0) (i : ℕ) (now start : Sitting) → length (chosen_of start.mode) ≤ i → Moves P i now start → OfAll P (chosen_of now.mode)
 moves-all P i now start all moves = λ j c at. moves.done j c (let low : j < length (chosen_of now.mode) = within (chosen_of now.mode) j c at in omega (arith, moves.count)) at

@@ -1,6 +1,6 @@
 -- The first of what so many requests are to send, by what their cursors tell.
 -- SeedLink 3, DATA, FETCH and TIME.
-use Rattle.std.specs.Prelude.{◌≡◌, ℕ, ◌<◌, ◌≤◌, Bool, true, nat_le, if◌then◌else◌, List, [], ◌∷◌, length, take, filter_map, slice_get, Option, Some, None, IfSome, option_map}
+use Rattle.std.specs.Prelude.{◌≡◌, ℕ, ◌<◌, ◌≤◌, Bool, true, nat_le, if◌then◌else◌, List, length, take, filter_map, slice_get, Option, Some, None, IfSome, option_map}
 use Rattle.protocol.specs.Catalog.{Config}
 use Rattle.protocol.specs.History.{Arrival, next}
 use Rattle.held_records.specs.Holdings.{Holdings, holdings_of}

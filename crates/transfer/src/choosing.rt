@@ -71,15 +71,17 @@ fn cursor_of(choice: &Choice, rings: &Rings, next: u64) -> Cursor
     }
 }
 
-/// Each request passes what it doesn't want.
+/// Each request passes what it doesn't want, where something may have come to its ring.
 fn pass_unwanted(session: &mut Session, rings: &Rings, next: u64)
     ensures same { but_for_cursors session.new ≡ but_for_cursors session.old }
     ensures rest { OfAll (PassedIn rings.now next) (chosen_of session.old.mode) → OfAll (RestsIn rings.now next) (chosen_of session.new.mode) }
 {
     let count = session.choices().len();
     for i in 0..count {
-        let cursor = cursor_of(&session.choices()[i], rings, next);
-        session.pass(i, cursor);
+        if !is_fresh(&session.choices()[i], rings, next) {
+            let cursor = cursor_of(&session.choices()[i], rings, next);
+            session.pass(i, cursor);
+        }
     }
 }
 

@@ -1,4 +1,4 @@
-use Rattle.std.proofs.Common.{◌≡◌, ◌∙◌, Some, None, ap, sym}
+use Rattle.std.proofs.Common.{◌≡◌, ◌∙◌, Some, None, ap}
 use Rattle.station_ring.specs.declared.held.Held.{Held}
 use Rattle.transfer.proofs.Found.{ahead-ring, ahead-within, told-ahead}
 use Rattle.transfer.proofs.choosing.candidate.Goals as goal

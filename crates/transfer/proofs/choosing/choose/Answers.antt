@@ -1,19 +1,18 @@
-use Rattle.std.proofs.Common.{◌≡◌, ◌∙◌, ◌+◌, Some, None, ap, refl, sym, subst, filter_map}
+use Rattle.std.proofs.Common.{◌≡◌, ◌∙◌, ◌+◌, None, ap, refl, sym, subst, filter_map}
 use Rattle.std.specs.List.{list_all}
 use Rattle.protocol.specs.History.{is_over, next}
-use Rattle.protocol.specs.Client.{is_nothing, offered}
+use Rattle.protocol.specs.Client.{offered}
 use Rattle.protocol.specs.Packet.{packet}
 use Rattle.station_ring.specs.Rings.{number_at}
 use Rattle.session_state.specs.declared.session.State.TheVariants.{Transfer}
 use Rattle.session_state.specs.Choices.{chosen_of, request_in}
 use Rattle.session_state.specs.Sessions.{Sitting, but_for_cursors}
 use Rattle.transfer.specs.Choosing.{answer_of}
-use Rattle.transfer.specs.Cursors.{IsReached, OfAll, PassedIn, RestsIn}
 use Rattle.transfer.proofs.Beginning.{client-same, requests-same}
 use Rattle.transfer.proofs.Going.{ended-passes, ended-reached, passed-all, same-next}
 use Rattle.transfer.proofs.Leading.{leads-to-packet, leads-on}
 use Rattle.transfer.proofs.Packets.{arrived-there}
-use Rattle.transfer.specs.Sleeping.{HasNothing, Sleeps}
+use Rattle.transfer.specs.Sleeping.{Sleeps}
 use Rattle.transfer.proofs.Waits.{all-reached, sleeps-so}
 use Rattle.transfer.proofs.choosing.choose.Goals as goal
 

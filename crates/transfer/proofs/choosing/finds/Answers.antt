@@ -1,6 +1,6 @@
-use Rattle.std.proofs.Common.{◌≡◌, ◌∙◌, Some, None, ap, refl, sym, subst, not, filter_map, false, []}
+use Rattle.std.proofs.Common.{◌≡◌, ◌∙◌, ap, refl, sym, subst, not, filter_map, false, []}
 use Rattle.std.specs.List.{list_all}
-use Rattle.protocol.specs.History.{is_over, next}
+use Rattle.protocol.specs.History.{is_over}
 use Rattle.protocol.specs.Client.{Client, is_nothing, offered}
 use Rattle.protocol.proofs.Found.{both}
 use Rattle.session_state.specs.Choices.{chosen_of, request_in}

@@ -1,4 +1,4 @@
-use Rattle.std.proofs.Common.{◌+◌, ◌∙◌, sym, subst, arith}
+use Rattle.std.proofs.Common.{◌+◌, sym, subst, arith}
 use Rattle.transfer.proofs.Found.{Looks, looks-all, looks-more, looks-none}
 use Rattle.transfer.proofs.choosing.look.Goals as goal
 

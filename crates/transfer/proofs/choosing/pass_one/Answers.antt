@@ -1,4 +1,4 @@
-use Rattle.std.proofs.Common.{◌≡◌, slice_index_or, subst, sym}
+use Rattle.std.proofs.Common.{◌≡◌, slice_index_or, subst}
 use Rattle.session_state.specs.Choices.{chosen_of}
 use Rattle.transfer.proofs.Going.{one-rests}
 use Rattle.transfer.proofs.Resting.{choice-at}
