@@ -1,5 +1,5 @@
 -- Where a request for a number begins, and what a push leaves of the rings.
-use Rattle.std.proofs.Common.{◌≡◌, ◌≢◌, ℕ, ◌-◌, ◌<◌, ◌≤◌, false, Bool, List, [], ◌∷◌, length, Some, None, suc, zero, arith, sym, ap, subst, ◌∙◌, unwrap_or, slice_get, slice_set, get_or, All}
+use Rattle.std.proofs.Common.{◌≡◌, refl, ◌≢◌, ℕ, ◌-◌, ◌<◌, ◌≤◌, false, Bool, List, [], ◌∷◌, length, Some, None, suc, zero, arith, sym, ap, subst, ◌∙◌, unwrap_or, slice_get, slice_set, get_or, All}
 use Rattle.std.specs.Prelude.{◌==◌, if◌then◌else◌}
 use Rattle.station_ring.specs.declared.held.Held.{Held}
 use Rattle.station_ring.specs.Rings.{Holding, IsHolding, Grows, first_place, held_at, number_at, place_with}
@@ -67,7 +67,7 @@ found-held r number place holds found none =
 -- ---- a push
 
 grows-same : (r : Holding) → Grows r r
-grows-same r = record { pushes = omega arith; held = λ place x low there. there }
+grows-same r = record { pushes = omega arith; held = λ place x low there. there; same = λ e. refl }
 
 -- One ring has grown.
 pub grow-at : (rings : List Holding) (place : ℕ) (b r : Holding) → slice_get rings place ≡ Some b → Grows b r → AllGrow rings (slice_set rings place r)

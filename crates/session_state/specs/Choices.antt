@@ -68,7 +68,7 @@ passed_in (Multi n) i cursor = Multi (record n { choices = passed_at i cursor n.
 
 -- a choice with a cursor that has not moved
 abbrev pub at_start : Choice → Choice
-at_start c = record c { cursor = record { place = 0; after_end = None } }
+at_start c = record c { cursor = record { place = 0; after_end = None; seen = 0; ahead = None } }
 
 -- the mode with such cursors: what it is but for how far its requests have come
 abbrev pub all_at_start : Mode → Mode

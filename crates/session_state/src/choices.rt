@@ -46,6 +46,10 @@ pub struct Cursor {
     pub place: u64,
     /// For TIME with an end: the last place before the cursor whose record starts after that end.
     pub after_end: Option<u64>,
+    /// How many records the ring had been given when it was last looked at.
+    pub seen: u64,
+    /// The stamp of the record at the cursor, where one was there then.
+    pub ahead: Option<u64>,
 }
 
 /// A station that a client named. It is a request of a transfer where it has an action.

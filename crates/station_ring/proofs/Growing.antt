@@ -22,7 +22,7 @@ held_at-low r place x there =
 
 -- At a place that was pushed before, a ring holds after one push more nothing else than it did.
 pub pushed-grows : (r : Holding) (item : Held) → IsHolding r → Grows r (pushed r item)
-pushed-grows r item holds = record { pushes = omega arith; held = there_before }
+pushed-grows r item holds = record { pushes = omega arith; held = there_before; same = λ e. absurd (omega arith) }
   where
     all : List Held
     all = r.held ++ item ∷ []

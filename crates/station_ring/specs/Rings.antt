@@ -84,7 +84,9 @@ held_from r place = option_map (λ h. (max place (first_place r), h)) (held_at r
 
 -- ---- two moments
 
--- A ring before and after pushes: at a place that was pushed before, it holds nothing else than it did.
+-- A ring before and after pushes: at a place that was pushed before, it holds nothing else than it did, and without a push it is
+-- the same.
 pub record Grows (before after : Holding) : Type 0 where
   pub pushes : before.pushes ≤ after.pushes
   pub held : (place : ℕ) (x : Held) → place < before.pushes → held_at after place ≡ Some x → held_at before place ≡ Some x
+  pub same : after.pushes ≡ before.pushes → after ≡ before

@@ -1,5 +1,5 @@
 -- Where requests begin, and sessions that differ in cursors alone.
-use Rattle.std.proofs.Common.{◌≡◌, ℕ, ◌<◌, zero, suc, true, false, nat_le, List, [], ◌∷◌, map, filter_map, All, Option, Some, None, slice_get, unwrap_or, refl, sym, ap, subst, ◌∙◌, arith}
+use Rattle.std.proofs.Common.{◌≡◌, ℕ, ◌<◌, ◌≤◌, zero, suc, true, false, nat_le, List, [], ◌∷◌, map, filter_map, All, Option, Some, None, option_map, slice_get, unwrap_or, refl, sym, ap, subst, ◌∙◌, arith}
 use Rattle.std.proofs.lemmas.Bool.Decides.{nat_tests}
 use Rattle.protocol.specs.Catalog.{Config, View}
 use Rattle.protocol.specs.History.{Arrival}
@@ -21,7 +21,8 @@ use Rattle.session_state.specs.declared.session.State.TheVariants.{Negotiating, 
 use Rattle.session_state.specs.Choices.{all_at_start, at_start, choices_in, chosen_of, negotiated_in, request_in}
 use Rattle.session_state.specs.Sessions.{Sitting, but_for_cursors, client_in, sitting_view, state_in}
 use Rattle.transfer.specs.Wanting.{wants_held}
-use Rattle.transfer.specs.Cursors.{ArePassed, BeginsIn, HasPassed, IsAtBegin, OfAll, StartsIn, begin_place, is_after_end}
+use Rattle.transfer.specs.Cursors.{ArePassed, BeginsIn, HasPassed, HasSeen, IsAtBegin, OfAll, StartsIn, begin_place, is_after_end}
+use Rattle.transfer.proofs.Passing.{none-next}
 use Rattle.transfer.proofs.Resting.{same-ring}
 
 -- ---- where requests begin
@@ -34,11 +35,17 @@ behind-there arrivals (y ∷ rings) (suc place) r all e = behind-there arrivals 
 pub begins-moved : (rings : Holdings) (c : Choice) (k : Cursor) → BeginsIn rings c → BeginsIn rings (record c { cursor = k })
 begins-moved rings c k begins = record { before = begins.before }
 
-pub starts-nothing : (rings : Holdings) (c : Choice) → c.action ≡ None → StartsIn rings c
-starts-nothing rings c none = record { starts = λ x action at asked. absurd (let t : None ≡ Some action = sym none ∙ asked in cc) }
+pub starts-nothing : (rings : Holdings) (c : Choice) → c.action ≡ None → c.cursor.ahead ≡ None → StartsIn rings c
+starts-nothing rings c none quiet = record {
+  starts = λ x action at asked. absurd (let t : None ≡ Some action = sym none ∙ asked in cc);
+  quiet = λ e. quiet;
+}
 
-pub starts-nowhere : (rings : Holdings) (c : Choice) → slice_get rings.rings c.place ≡ None → StartsIn rings c
-starts-nowhere rings c none = record { starts = λ x action at asked. absurd (let t : None ≡ Some x = sym none ∙ at in cc) }
+pub starts-nowhere : (rings : Holdings) (c : Choice) → slice_get rings.rings c.place ≡ None → c.cursor.ahead ≡ None → StartsIn rings c
+starts-nowhere rings c none quiet = record {
+  starts = λ x action at asked. absurd (let t : None ≡ Some x = sym none ∙ at in cc);
+  quiet = λ e. quiet;
+}
 
 pub starts-ring : (rings : Holdings) (c : Choice) (r : Holding) (a : Action) → slice_get rings.rings c.place ≡ Some r → c.action ≡ Some a → IsAtBegin r a c.cursor → StartsIn rings c
 starts-ring rings c r a there asks begins = record {
@@ -46,6 +53,7 @@ starts-ring rings c r a there asks begins = record {
       let action_is : a ≡ action = (let t : Some a ≡ Some action = sym asks ∙ asked in cc) in
       subst (λ (y : Holding). IsAtBegin y action c.cursor) (same-ring r x (slice_get rings.rings c.place) there at)
       (subst (λ z. IsAtBegin r z c.cursor) action_is begins);
+  quiet = λ none. absurd (let t : None ≡ Some a = sym none ∙ asks in cc);
 }
 
 -- What came before the first that is wanted is not wanted.
@@ -71,13 +79,29 @@ begin-passed r a next c asked before begins = record {
   after = λ place x e there. absurd (let t : None ≡ Some place = sym begins.after_end ∙ e in cc);
 }
 
+-- No record was looked at yet.
+begin-seen : (r : Holding) (a : Action) (next : ℕ) (c : Choice) → c.action ≡ Some a → IsBefore r (begin_place r a) c.first → IsAtBegin r a c.cursor → HasSeen r next c c.cursor
+begin-seen r a next c asked before begins = record {
+  passed = begin-passed r a next c asked before begins;
+  seen = omega (arith, begins.unseen);
+  fresh = λ e.
+      let past : r.pushes ≤ c.cursor.place = omega (arith, begins.unseen, e) in
+      let none : held_at r c.cursor.place ≡ None = none-next r c.cursor.place begins.holding past in
+      record {
+        low = omega (arith, begins.unseen, e);
+        wanted = λ x there late. absurd (let t : None ≡ Some x = sym none ∙ there in cc);
+        ahead = begins.none ∙ ap (option_map (λ (x : Held). x.stamp)) (sym none);
+        holding = begins.holding;
+      };
+}
+
 -- A session whose requests have just begun has passed nothing that it wants.
 pub starts-passed : (rings : Holdings) (s : Sitting) → OfAll (StartsIn rings) (chosen_of s.mode) → OfAll (BeginsIn rings) (chosen_of s.mode) → ArePassed rings s
 unfolding ArePassed
 starts-passed rings s starts begins = record {
   passed = λ next state i c at. record {
-    passed = λ r action there asked.
-        begin-passed r action next c asked ((begins i c at).before r action there asked) ((starts i c at).starts r action there asked);
+    passed = λ r action there asked. begin-seen r action next c asked ((begins i c at).before r action there asked) ((starts i c at).starts r action there asked);
+    quiet = (starts i c at).quiet;
   };
 }
 

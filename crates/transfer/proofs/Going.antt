@@ -1,5 +1,6 @@
 -- A session that goes on in its transfer has still passed nothing that it wants.
-use Rattle.std.proofs.Common.{◌≡◌, ◌≢◌, ℕ, ◌+◌, ◌≤◌, true, false, nat_le, List, [], refl, sym, ap, subst, ◌∙◌, arith, codes, slice_get}
+use Rattle.std.proofs.Common.{◌≡◌, ◌≢◌, ℕ, ◌+◌, ◌≤◌, true, false, nat_le, List, [], refl, sym, ap, subst, ◌∙◌, arith, codes, slice_get, Some, unwrap_or}
+use Rattle.std.specs.Prelude.{◌==◌}
 use Rattle.std.proofs.lemmas.Bool.Decides.{nat_tests}
 use Rattle.protocol.proofs.Found.{both}
 use Rattle.station_ring.specs.declared.held.Held.{Held}
@@ -9,11 +10,12 @@ use Rattle.session_state.specs.declared.choices.Choice.{Choice}
 use Rattle.session_state.specs.declared.choices.Cursor.{Cursor}
 use Rattle.session_state.specs.declared.session.State.TheVariants.{Transfer, Ending}
 use Rattle.session_state.specs.Choices.{chosen_of}
-use Rattle.session_state.specs.Sessions.{Sitting, KeepsTransfer}
+use Rattle.session_state.specs.Sessions.{Sitting, KeepsTransfer, but_for_cursors}
 use Rattle.transfer.specs.declared.choosing.Chosen.{Chosen}
 use Rattle.transfer.specs.declared.choosing.Chosen.TheVariants.{Packet, Nothing, Complete}
 use Rattle.transfer.specs.Wanting.{wants_held}
-use Rattle.transfer.specs.Cursors.{ArePassed, HasPassed, IsReached, OfAll, PassedIn, RestsIn}
+use Rattle.transfer.specs.Cursors.{ArePassed, HasPassed, IsReached, OfAll, PassedIn, RestedAt, RestsIn}
+use Rattle.transfer.proofs.Resting.{Passes}
 
 pub same-next : (q next : ℕ) → Transfer q ≡ Transfer next → q ≡ next
 same-next q next e = cc
@@ -30,6 +32,14 @@ unwanted-later c q next x later e =
     (λ y. let before : nat_le q x.stamp ≡ true = grind (arith, nat_tests) in rw y (rw before at e))
     (λ n. rw n refl)
 
+-- What is wanted and may still be sent is wanted from a later position on.
+wanted-later : (c : Choice) (q next : ℕ) (x : Held) → next ≤ x.stamp → wants_held c q x ≡ true → wants_held c next x ≡ true
+wanted-later c q next x late e =
+    let test : nat_le next x.stamp ≡ true = grind (arith, nat_tests) in
+    both (nat_le q x.stamp)
+    (λ y. rw test (rw y at e))
+    (λ n. absurd (let t : false ≡ true = rw n at e in cc))
+
 passed-later : (r : Holding) (q next : ℕ) (c : Choice) (k : Cursor) → q ≤ next → HasPassed r q c k → HasPassed r next c k
 passed-later r q next c k later passed = record {
   within = passed.within;
@@ -39,8 +49,15 @@ passed-later r q next c k later passed = record {
   after = passed.after;
 }
 
-rests-passed : (rings : Holdings) (q next : ℕ) (c : Choice) → q ≤ next → RestsIn rings q c → PassedIn rings next c
-rests-passed rings q next c later rests = record { passed = λ r action there asked. passed-later r q next c c.cursor later (rests.rests r action there asked).passed }
+pub rests-passed : (rings : Holdings) (q next : ℕ) (c : Choice) → q ≤ next → RestsIn rings q c → PassedIn rings next c
+rests-passed rings q next c later rests = record {
+  passed = λ r action there asked. let rest = rests.rests r action there asked in record {
+    passed = passed-later r q next c c.cursor later rest.passed;
+    seen = omega (arith, rest.seen);
+    fresh = λ e. record { low = rest.low; wanted = λ x held late. wanted-later c q next x late (rest.wanted x held); ahead = rest.ahead; holding = rest.holding };
+  };
+  quiet = rests.quiet;
+}
 
 pub packet-passes : (rings : Holdings) (a n : Sitting) (q p : ℕ) (w : List ℕ) → n ≡ record a { state = Transfer (p + 1); waiting = w } → q ≤ p → OfAll (RestsIn rings q) (chosen_of a.mode) → ArePassed rings n
 unfolding ArePassed
@@ -93,13 +110,38 @@ grown-passed before after s grow passed = record {
   passed = λ next state i c at. record {
     passed = λ r action there asked.
         let was = grow c.place r there in
-        let old = (passed.passed next state i c at).passed was.ring action was.is_there asked in
+        let seen = (passed.passed next state i c at).passed was.ring action was.is_there asked in
+        let old = seen.passed in
         record {
-          within = omega (arith, old.within, was.grows.pushes);
-          unwanted = λ place x low held. old.unwanted place x low (was.grows.held place x (omega (arith, old.within)) held);
-          told = λ place x low held after_end. old.told place x low (was.grows.held place x (omega (arith, old.within)) held) after_end;
-          before = old.before;
-          after = λ place x e held. old.after place x e (was.grows.held place x (let low = old.before place e in omega (arith, old.within)) held);
+          passed = record {
+            within = omega (arith, old.within, was.grows.pushes);
+            unwanted = λ place x low held. old.unwanted place x low (was.grows.held place x (omega (arith, old.within)) held);
+            told = λ place x low held after_end. old.told place x low (was.grows.held place x (omega (arith, old.within)) held) after_end;
+            before = old.before;
+            after = λ place x e held. old.after place x e (was.grows.held place x (let low = old.before place e in omega (arith, old.within)) held);
+          };
+          seen = omega (arith, seen.seen, was.grows.pushes);
+          fresh = λ e.
+              let still : r.pushes ≡ was.ring.pushes = omega (arith, e, seen.seen, was.grows.pushes) in
+              subst (λ (y : Holding). RestedAt y next c c.cursor) (sym (was.grows.same still)) (seen.fresh (e ∙ still));
         };
+    quiet = (passed.passed next state i c at).quiet;
   };
 }
+
+-- One request more has passed what it doesn't want.
+pub one-passes : (rings : Holdings) (a n : Sitting) → but_for_cursors n ≡ but_for_cursors a → ((next : ℕ) → a.state ≡ Transfer next → OfAll (PassedIn rings next) (chosen_of a.mode) → OfAll (PassedIn rings next) (chosen_of n.mode)) → ArePassed rings a → ArePassed rings n
+unfolding ArePassed
+one-passes rings a n same passes passed = record {
+  passed = λ next state.
+      let was : a.state ≡ Transfer next = ap (λ (s : Sitting). s.state) (sym same) ∙ state in
+      passes next was (passed.passed next was);
+}
+
+pub one-rests : (rings : Holdings) (next i : ℕ) (cursor : Cursor) (a n : Sitting) (c : Choice) → Passes i cursor a n → slice_get (chosen_of a.mode) i ≡ Some c → (PassedIn rings next c → RestsIn rings next (record c { cursor = cursor })) → OfAll (PassedIn rings next) (chosen_of a.mode) → OfAll (PassedIn rings next) (chosen_of n.mode)
+one-rests rings next i cursor a n c passes at rests all j x there = both (j == i)
+    (λ y. let here : j ≡ i = grind (arith, nat_tests) in
+    let is : Some x ≡ Some (record c { cursor = cursor }) = sym there ∙ ap (slice_get (chosen_of n.mode)) here ∙ passes.here c at in
+    subst (PassedIn rings next) (ap (λ o. unwrap_or o x) (sym is)) (rests-passed rings next next (record c { cursor = cursor }) (omega arith) (rests (all i c at))))
+    (λ m. let apart : j ≢ i = λ e. absurd (grind (arith, nat_tests)) in
+    all j x (sym (passes.others j apart) ∙ there))

@@ -69,7 +69,7 @@ Finds r place c next found = (x : Held) → held_at r place ≡ Some x → found
 -- ---- a cursor that moves on
 
 abbrev pub at_place : ℕ → Option ℕ → Cursor
-at_place place after_end = record { place = place; after_end = after_end }
+at_place place after_end = record { place = place; after_end = after_end; seen = 0; ahead = None }
 
 -- What lies before the oldest record is passed.
 pub passed-raised : (r : Holding) (next : ℕ) (c : Choice) (start oldest : ℕ) → IsHolding r → Some oldest ≡ oldest_place r → start ≡ max c.cursor.place oldest → HasPassed r next c c.cursor → HasPassed r next c (at_place start c.cursor.after_end)
@@ -119,37 +119,58 @@ passed-after r next c place after_end found high finds is so_far = record {
       finds-after c next x (sym (finds x (subst (λ n. held_at r n ≡ Some x) (sym same) there)) ∙ is);
 }
 
+-- Nothing is held at the place of the next push.
+pub none-next : (r : Holding) (place : ℕ) → IsHolding r → r.pushes ≤ place → held_at r place ≡ None
+none-next r place holds past = by (held_at r place) refl
+  where
+    by : (o : Option Held) → held_at r place ≡ o → o ≡ None
+    by None e = refl
+    by (Some x) e = absurd (let high : place < r.pushes = held_at-high r place x holds e in omega arith)
+
+-- a cursor at a place of its ring, that was just looked at
+abbrev pub at_record : Holding → ℕ → Option ℕ → Cursor
+at_record r place after_end =
+    record { place = place; after_end = after_end; seen = r.pushes; ahead = option_map (λ x. x.stamp) (held_at r place) }
+
+-- one that has passed all
+abbrev pub at_end : Holding → Option ℕ → Cursor
+at_end r after_end = record { place = r.pushes; after_end = after_end; seen = r.pushes; ahead = None }
+
 -- The request wants the record at the place.
-pub rests-wanted : (r : Holding) (next : ℕ) (c : Choice) (place : ℕ) (after_end : Option ℕ) (found : Found) → first_place r ≤ place → Finds r place c next found → found ≡ Wanted → HasPassed r next c (at_place place after_end) → RestsAt r next c (at_place place after_end)
-rests-wanted r next c place after_end found low finds is so_far = record {
-  passed = so_far;
+pub rests-wanted : (r : Holding) (next : ℕ) (c : Choice) (place : ℕ) (after_end : Option ℕ) (found : Found) → IsHolding r → first_place r ≤ place → Finds r place c next found → found ≡ Wanted → HasPassed r next c (at_place place after_end) → RestsAt r next c (at_record r place after_end)
+rests-wanted r next c place after_end found holds low finds is so_far = record {
+  passed = record { within = so_far.within; unwanted = so_far.unwanted; told = λ p x l t a. let it = so_far.told p x l t a in record { last = it.last; is = it.is; from = it.from }; before = so_far.before; after = so_far.after };
   low = low;
   wanted = λ x there. finds-wanted c next x (sym (finds x there) ∙ is);
+  seen = refl;
+  ahead = refl;
+  holding = holds;
 }
 
 -- All was passed.
-pub rests-end : (r : Holding) (next : ℕ) (c : Choice) (place : ℕ) (after_end : Option ℕ) (pushes : ℕ) → IsHolding r → pushes ≡ r.pushes → r.pushes ≤ place → HasPassed r next c (at_place place after_end) → RestsAt r next c (at_place pushes after_end)
-rests-end r next c place after_end pushes holds is past so_far =
-    let same : place ≡ pushes = omega (arith, so_far.within) in
-    let passed : HasPassed r next c (at_place pushes after_end) = subst (λ n. HasPassed r next c (at_place n after_end)) same so_far in
+pub rests-end : (r : Holding) (next : ℕ) (c : Choice) (place : ℕ) (after_end : Option ℕ) → IsHolding r → r.pushes ≤ place → HasPassed r next c (at_place place after_end) → RestsAt r next c (at_end r after_end)
+rests-end r next c place after_end holds past so_far =
+    let same : place ≡ r.pushes = omega (arith, so_far.within) in
+    let moved : HasPassed r next c (at_place r.pushes after_end) = subst (λ n. HasPassed r next c (at_place n after_end)) same so_far in
     record {
-      passed = passed;
+      passed = record { within = moved.within; unwanted = moved.unwanted; told = λ p x l t a. let it = moved.told p x l t a in record { last = it.last; is = it.is; from = it.from }; before = moved.before; after = moved.after };
       low = omega arith;
-      wanted = λ x there. absurd (let high : pushes < r.pushes = held_at-high r pushes x holds there in omega arith);
+      wanted = λ x there. absurd (let high : r.pushes < r.pushes = held_at-high r r.pushes x holds there in omega arith);
+      seen = refl;
+      ahead = ap (option_map (λ (x : Held). x.stamp)) (sym (none-next r r.pushes holds (omega arith)));
+      holding = holds;
     }
 
 -- A ring to which nothing was pushed holds nothing.
-pub rests-empty : (r : Holding) (next : ℕ) (c : Choice) → IsHolding r → None ≡ oldest_place r → HasPassed r next c c.cursor → RestsAt r next c c.cursor
+pub rests-empty : (r : Holding) (next : ℕ) (c : Choice) → IsHolding r → None ≡ oldest_place r → HasPassed r next c c.cursor → RestsAt r next c (at_end r c.cursor.after_end)
 rests-empty r next c holds none so_far =
     let nothing : length r.held ≡ 0 = both (length r.held == 0)
     (λ y. grind (arith, nat_tests))
     (λ n. absurd (let some : None ≡ Some (first_place r) = rw n at none in cc)) in
     let pushes : r.pushes ≡ 0 = omega (arith, holds.count, holds.some_capacity) in
-    record {
-      passed = so_far;
-      low = omega arith;
-      wanted = λ x there. absurd (let high : c.cursor.place < r.pushes = held_at-high r c.cursor.place x holds there in omega arith);
-    }
+    let passed : HasPassed r next c (at_place c.cursor.place c.cursor.after_end) =
+    record { within = so_far.within; unwanted = so_far.unwanted; told = λ p x l t a. let it = so_far.told p x l t a in record { last = it.last; is = it.is; from = it.from }; before = so_far.before; after = so_far.after } in
+    rests-end r next c c.cursor.place c.cursor.after_end holds (omega arith) passed
 
 -- ---- the record at a cursor
 

@@ -6,6 +6,7 @@ use Rattle.std.proofs.lemmas.Option.{slice_get-get_or}
 use Rattle.protocol.proofs.Found.{both}
 use Rattle.station_ring.specs.Rings.{Holding}
 use Rattle.held_records.specs.Holdings.{Holdings}
+use Rattle.session_state.specs.declared.choices.Action.{Action}
 use Rattle.session_state.specs.declared.choices.Choice.{Choice}
 use Rattle.session_state.specs.declared.choices.Cursor.{Cursor}
 use Rattle.session_state.specs.Choices.{chosen_of}
@@ -17,8 +18,12 @@ use Rattle.transfer.specs.Cursors.{IsReached, OfAll, RestsAt, RestsIn}
 pub same-ring : (a b : Holding) (o : Option Holding) → o ≡ Some a → o ≡ Some b → a ≡ b
 same-ring a b o e f = let t : Some a ≡ Some b = sym e ∙ f in cc
 
-pub rests-ring : (rings : Holdings) (next : ℕ) (c : Choice) (r : Holding) → slice_get rings.rings c.place ≡ Some r → RestsAt r next c c.cursor → RestsIn rings next c
-rests-ring rings next c r there rests = record { rests = λ x action at asked. subst (λ (y : Holding). RestsAt y next c c.cursor) (same-ring r x (slice_get rings.rings c.place) there at) rests }
+pub rests-ring : (rings : Holdings) (next : ℕ) (c : Choice) (r : Holding) (a : Action) → c.action ≡ Some a → slice_get rings.rings c.place ≡ Some r → RestsAt r next c c.cursor → RestsIn rings next c
+rests-ring rings next c r a asks there rests = record {
+  rests = λ x action at asked. subst (λ (y : Holding). RestsAt y next c c.cursor) (same-ring r x (slice_get rings.rings c.place) there at) rests;
+  quiet = λ none. absurd (let t : None ≡ Some a = sym none ∙ asks in cc);
+  nowhere = λ none. absurd (let t : None ≡ Some r = sym none ∙ there in cc);
+}
 
 -- The cursor that a request comes to is kept with it.
 pub rests-moved : (r : Holding) (next : ℕ) (c : Choice) (k : Cursor) → RestsAt r next c k → RestsAt r next (record c { cursor = k }) k
@@ -26,13 +31,24 @@ rests-moved r next c k rests = record {
   passed = record { within = rests.passed.within; unwanted = rests.passed.unwanted; told = rests.passed.told; before = rests.passed.before; after = rests.passed.after };
   low = rests.low;
   wanted = rests.wanted;
+  seen = rests.seen;
+  ahead = rests.ahead;
+  holding = rests.holding;
 }
 
-pub rests-nothing : (rings : Holdings) (next : ℕ) (c : Choice) → c.action ≡ None → RestsIn rings next c
-rests-nothing rings next c none = record { rests = λ x action at asked. absurd (let t : None ≡ Some action = sym none ∙ asked in cc) }
+pub rests-nothing : (rings : Holdings) (next : ℕ) (c : Choice) → c.action ≡ None → c.cursor.ahead ≡ None → RestsIn rings next c
+rests-nothing rings next c none quiet = record {
+  rests = λ x action at asked. absurd (let t : None ≡ Some action = sym none ∙ asked in cc);
+  quiet = λ e. quiet;
+  nowhere = λ e. quiet;
+}
 
-pub rests-nowhere : (rings : Holdings) (next : ℕ) (c : Choice) → slice_get rings.rings c.place ≡ None → RestsIn rings next c
-rests-nowhere rings next c none = record { rests = λ x action at asked. absurd (let t : None ≡ Some x = sym none ∙ at in cc) }
+pub rests-nowhere : (rings : Holdings) (next : ℕ) (c : Choice) → slice_get rings.rings c.place ≡ None → c.cursor.ahead ≡ None → RestsIn rings next c
+rests-nowhere rings next c none quiet = record {
+  rests = λ x action at asked. absurd (let t : None ≡ Some x = sym none ∙ at in cc);
+  quiet = λ e. quiet;
+  nowhere = λ e. quiet;
+}
 
 pub reached-nothing : (rings : Holdings) (c : Choice) → c.action ≡ None → IsReached rings c
 reached-nothing rings c none = record { reached = λ x action at asked. absurd (let t : None ≡ Some action = sym none ∙ asked in cc) }
@@ -73,6 +89,19 @@ moves-on P i cursor a n start c passes at true_there so_far = record {
       (λ m. let apart : j ≢ i = λ e. absurd (grind (arith, nat_tests)) in
       so_far.done j x (grind (arith, nat_tests)) (sym (passes.others j apart) ∙ there));
   rest = λ j low. passes.others j (λ e. absurd (omega arith)) ∙ so_far.rest j (omega arith);
+}
+
+-- One choice more of which it is true as it is.
+pub moves-stay : (P : Choice → Type 0) (i : ℕ) (a start : Sitting) (c : Choice) → slice_get (chosen_of a.mode) i ≡ Some c → P c → Moves P i a start → Moves P (i + 1) a start
+moves-stay P i a start c at true_there so_far = record {
+  same = so_far.same;
+  count = so_far.count;
+  done = λ j x low there. both (j == i)
+      (λ y. let here : j ≡ i = grind (arith, nat_tests) in
+      let is : Some x ≡ Some c = sym there ∙ ap (slice_get (chosen_of a.mode)) here ∙ at in
+      subst P (ap (λ o. unwrap_or o x) (sym is)) true_there)
+      (λ m. so_far.done j x (grind (arith, nat_tests)) there);
+  rest = λ j low. so_far.rest j (omega arith);
 }
 
 -- Of all choices it is true.

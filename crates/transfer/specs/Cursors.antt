@@ -1,9 +1,9 @@
 -- How far the requests of a transfer have come in the rings of their stations. A cursor is a place before which a request wants
 -- nothing more.
 -- SeedLink 3, DATA, FETCH and TIME. Left out: how a cursor is moved.
-use Rattle.std.specs.Prelude.{◌≡◌, ℕ, ◌<◌, ◌≤◌, Bool, true, false, int_lt, if◌then◌else◌, is_some, List, [], ◌∷◌, Option, Some, None, slice_get}
+use Rattle.std.specs.Prelude.{◌≡◌, ℕ, ◌<◌, ◌≤◌, Bool, true, false, int_lt, if◌then◌else◌, is_some, List, [], ◌∷◌, Option, Some, None, option_map, slice_get}
 use Rattle.station_ring.specs.declared.held.Held.{Held}
-use Rattle.station_ring.specs.Rings.{Holding, first_place, held_at}
+use Rattle.station_ring.specs.Rings.{Holding, IsHolding, first_place, held_at}
 use Rattle.held_records.specs.Holdings.{Holdings, IsBefore, place_from}
 use Rattle.session_state.specs.declared.choices.Action.{Action}
 use Rattle.session_state.specs.declared.choices.Action.TheVariants.{Data, Fetch, Time}
@@ -42,9 +42,13 @@ pub record IsAtBegin (r : Holding) (action : Action) (cursor : Cursor) : Type 0 
   pub place : cursor.place ≡ begin_place r action
   pub after_end : cursor.after_end ≡ None
   pub within : cursor.place ≤ r.pushes
+  pub unseen : cursor.seen ≡ 0
+  pub none : cursor.ahead ≡ None
+  pub holding : IsHolding r
 
 pub record StartsIn (rings : Holdings) (c : Choice) : Type 0 where
   pub starts : (r : Holding) (action : Action) → slice_get rings.rings c.place ≡ Some r → c.action ≡ Some action → IsAtBegin r action c.cursor
+  pub quiet : c.action ≡ None → c.cursor.ahead ≡ None
 
 -- ---- what a request has passed
 
@@ -63,18 +67,38 @@ pub record HasPassed (r : Holding) (next : ℕ) (c : Choice) (cursor : Cursor) :
   pub before : (place : ℕ) → cursor.after_end ≡ Some place → place < cursor.place
   pub after : (place : ℕ) (x : Held) → cursor.after_end ≡ Some place → held_at r place ≡ Some x → is_after_end c.action x ≡ true
 
--- Besides, the cursor is not before the oldest record, and the request wants the record at the cursor, where one is there.
+-- Besides, the cursor is not before the oldest record, and the request wants the record at the cursor, where one is there. The
+-- cursor tells its stamp, and how many records the ring had been given.
 pub record RestsAt (r : Holding) (next : ℕ) (c : Choice) (cursor : Cursor) : Type 0 where
   pub passed : HasPassed r next c cursor
   pub low : first_place r ≤ cursor.place
   pub wanted : (x : Held) → held_at r cursor.place ≡ Some x → wants_held c next x ≡ true
+  pub seen : cursor.seen ≡ r.pushes
+  pub ahead : cursor.ahead ≡ option_map (λ x. x.stamp) (held_at r cursor.place)
+  pub holding : IsHolding r
+
+-- So it was when the ring was last looked at, but for records that were sent since: from position `next` on more may be sent.
+pub record RestedAt (r : Holding) (next : ℕ) (c : Choice) (cursor : Cursor) : Type 0 where
+  pub low : first_place r ≤ cursor.place
+  pub wanted : (x : Held) → held_at r cursor.place ≡ Some x → next ≤ x.stamp → wants_held c next x ≡ true
+  pub ahead : cursor.ahead ≡ option_map (λ x. x.stamp) (held_at r cursor.place)
+  pub holding : IsHolding r
+
+-- What a request has passed in its ring, and what is known of the record at its cursor while nothing was pushed since.
+pub record HasSeen (r : Holding) (next : ℕ) (c : Choice) (cursor : Cursor) : Type 0 where
+  pub passed : HasPassed r next c cursor
+  pub seen : cursor.seen ≤ r.pushes
+  pub fresh : cursor.seen ≡ r.pushes → RestedAt r next c cursor
 
 -- the same of a named station that is asked for something, in its ring
 pub record PassedIn (rings : Holdings) (next : ℕ) (c : Choice) : Type 0 where
-  pub passed : (r : Holding) (action : Action) → slice_get rings.rings c.place ≡ Some r → c.action ≡ Some action → HasPassed r next c c.cursor
+  pub passed : (r : Holding) (action : Action) → slice_get rings.rings c.place ≡ Some r → c.action ≡ Some action → HasSeen r next c c.cursor
+  pub quiet : c.action ≡ None → c.cursor.ahead ≡ None
 
 pub record RestsIn (rings : Holdings) (next : ℕ) (c : Choice) : Type 0 where
   pub rests : (r : Holding) (action : Action) → slice_get rings.rings c.place ≡ Some r → c.action ≡ Some action → RestsAt r next c c.cursor
+  pub quiet : c.action ≡ None → c.cursor.ahead ≡ None
+  pub nowhere : slice_get rings.rings c.place ≡ None → c.cursor.ahead ≡ None
 
 -- All records of the station were passed.
 pub record IsReached (rings : Holdings) (c : Choice) : Type 0 where

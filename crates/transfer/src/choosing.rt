@@ -1,5 +1,5 @@
 //! What is sent next.
-ghost use Rattle.std.specs.Prelude.{◌≡◌, ◌≢◌, ◌≤◌, ◌<◌, ◌+◌, [], ◌∷◌, List, ℕ, codes, slice_get, filter_map, option_map, IfSome, Some, None, true, false, not, ℤ, Option};
+ghost use Rattle.std.specs.Prelude.{◌≡◌, ◌≢◌, ◌≤◌, ◌<◌, ◌+◌, [], ◌∷◌, List, ℕ, codes, length, slice_get, filter_map, option_map, IfSome, Some, None, true, false, not, ℤ, Option};
 ghost use Rattle.std.specs.List.{list_all};
 ghost use Rattle.protocol.specs.Catalog.{Config as ProtocolConfig};
 ghost use Rattle.protocol.specs.History.{Arrival, next as next_position, is_over, holds_after};
@@ -15,12 +15,13 @@ ghost use Rattle.session_state.specs.declared.session.State.TheVariants.{Startin
 ghost use Rattle.session_state.specs.declared.choices.Action.TheVariants.{Time};
 ghost use Rattle.transfer.specs.declared.choosing.Chosen.TheVariants.{Packet, Nothing, Complete};
 ghost use Rattle.transfer.specs.Cursors.{ArePassed, IsReached, OfAll, PassedIn, RestsIn};
+ghost use Rattle.transfer.specs.Firsts.{IsAhead, IsOverview, LeadsSoFar, earlier, is_unsent};
 ghost use Rattle.transfer.specs.Sleeping.{HasNothing, MayCome, MoreMayCome, Sleeps, starts_after};
 ghost use Rattle.transfer.specs.Choosing.{answer_of, is_over_of, comes_before, is_transfer, HoldsThere};
 
-use crate::wanting::{Candidate, at_cursor, cursor_in, has_passed_its_end};
+use crate::wanting::{Candidate, cursor_in, has_passed_its_end, unasked};
 use catalog::Config;
-use held_records::{Rings, arrivals_by_place, held_in_the_ring};
+use held_records::{Rings, arrivals_by_place};
 use session_state::{Action, Choice, Cursor, Session, State};
 use sl_packet::frame;
 
@@ -35,75 +36,164 @@ pub enum Chosen {
     Complete,
 }
 
+/// Whether a record that a request knows of may still be sent.
+fn is_unsent(ahead: Option<u64>, next: u64) -> bool
+    ensures { result ≡ is_unsent next ahead }
+{
+    match ahead {
+        Some(stamp) => next <= stamp,
+        None => true,
+    }
+}
+
+/// Whether the cursor of a named station still tells what its request is to send: nothing was pushed to the station's ring since it
+/// was looked at, and the record at the cursor was not sent. No record is looked at.
+fn is_fresh(choice: &Choice, rings: &Rings, next: u64) -> bool
+    ensures { result ≡ true → PassedIn rings.now next choice.now → RestsIn rings.now next choice.now }
+{
+    match rings.ring(choice.place) {
+        Some(ring) if choice.cursor.seen == ring.pushes() => is_unsent(choice.cursor.ahead, next),
+        Some(_ring) => choice.action.is_none(),
+        None => false,
+    }
+}
+
 /// How far the request for a named station comes that passes what it doesn't want.
 fn cursor_of(choice: &Choice, rings: &Rings, next: u64) -> Cursor
     ensures { PassedIn rings.now next choice.now → RestsIn rings.now next (record choice.now { cursor = result }) }
 {
     if choice.action.is_none() {
-        return choice.cursor;
+        return unasked();
     }
     match rings.ring(choice.place) {
         Some(ring) => cursor_in(ring, choice, next),
-        None => choice.cursor,
+        None => unasked(),
     }
 }
 
-/// Each request passes what it doesn't want.
+/// Each request passes what it doesn't want, where something may have come to its ring.
 fn pass_unwanted(session: &mut Session, rings: &Rings, next: u64)
     ensures same { but_for_cursors session.new ≡ but_for_cursors session.old }
     ensures rest { OfAll (PassedIn rings.now next) (chosen_of session.old.mode) → OfAll (RestsIn rings.now next) (chosen_of session.new.mode) }
 {
     let count = session.choices().len();
     for i in 0..count {
-        let cursor = cursor_of(&session.choices()[i], rings, next);
-        session.pass(i, cursor);
+        if !is_fresh(&session.choices()[i], rings, next) {
+            let cursor = cursor_of(&session.choices()[i], rings, next);
+            session.pass(i, cursor);
+        }
     }
 }
 
-/// The first held record of a named station that is wanted, where its request has passed what it doesn't want.
-fn candidate(choice: &Choice, rings: &Rings) -> Option<Candidate>
-    ensures position { (next : ℕ) → RestsIn rings.now next choice.now → (config : ProtocolConfig) (h : List Arrival) → rings.now ≡ holdings_of config h →
-        option_map (λ c. c.position) result ≡ next_position h (filter_map (request_in config) (choice.now ∷ [])) next }
-    ensures late { (next : ℕ) → RestsIn rings.now next choice.now → IfSome result (λ c. next ≤ c.position) }
-    ensures none { (next : ℕ) → RestsIn rings.now next choice.now → result ≡ None → HasNothing rings.now next choice.now }
-    ensures held { IfSome result (λ c. HoldsThere rings.now c.station c.place c.position) }
-{
-    held_in_the_ring();
-    if choice.action.is_none() {
-        return None;
-    }
-    let ring = rings.ring(choice.place)?;
-    at_cursor(ring, choice)
+/// The request whose record ahead came first, by its index among the named stations, and that record's stamp.
+#[derive(Clone, Copy, Debug, PartialEq, Eq)]
+struct First {
+    index: usize,
+    stamp: u64,
 }
 
-/// Whether an arrival came before the one that was found so far, where one was.
-fn comes_before(position: u64, best: &Option<Candidate>) -> bool
-    ensures { result ≡ comes_before (option_map (λ c. c.position) best.now) position }
+/// Whether a record came before the one that was found so far, where one was.
+fn comes_before(stamp: u64, best: &Option<First>) -> bool
+    ensures { result ≡ comes_before (option_map (λ f. f.stamp) best.now) stamp }
 {
     match best {
-        Some(best) => position < best.position,
+        Some(best) => stamp < best.stamp,
         None => true,
     }
 }
 
-/// Of all held records that some request wants, from the arrival `next` on, the one that came first, where the requests have
-/// passed what they don't want.
-fn earliest(choices: &[Choice], rings: &Rings) -> Option<Candidate>
-    ensures position { (next : ℕ) → OfAll (RestsIn rings.now next) choices.now → (config : ProtocolConfig) (h : List Arrival) → rings.now ≡ holdings_of config h →
-        option_map (λ c. c.position) result ≡ next_position h (filter_map (request_in config) choices.now) next }
-    ensures late { (next : ℕ) → OfAll (RestsIn rings.now next) choices.now → IfSome result (λ c. next ≤ c.position) }
-    ensures none { (next : ℕ) → OfAll (RestsIn rings.now next) choices.now → result ≡ None → OfAll (HasNothing rings.now next) choices.now }
-    ensures held { IfSome result (λ c. HoldsThere rings.now c.station c.place c.position) }
+/// What comes first once one more request was looked at.
+fn earlier(best: Option<First>, index: usize, ahead: Option<u64>) -> Option<First>
+    ensures { result ≡ earlier best index ahead }
+{
+    match ahead {
+        Some(stamp) if comes_before(stamp, &best) => Some(First { index, stamp }),
+        Some(_stamp) => best,
+        None => best,
+    }
+}
+
+/// The request whose record ahead came first, where all have passed what they don't want. No ring is looked at.
+fn earliest(choices: &[Choice], rings: &Rings) -> Option<First>
+    ensures { LeadsSoFar rings.now choices.now (length choices.now) result }
 {
     let mut best = None;
-    for choice in choices {
-        if let Some(found) = candidate(choice, rings) {
-            if comes_before(found.position, &best) {
-                best = Some(found);
-            }
-        }
+    for (index, choice) in choices.iter().enumerate() {
+        best = earlier(best, index, choice.cursor.ahead);
     }
     best
+}
+
+/// What a look over all requests comes to.
+enum Overview {
+    /// Some request has to look at its ring again.
+    Stale,
+    /// All have passed what they don't want, and this one's record ahead came first, where one has one.
+    Fresh(Option<First>),
+}
+
+/// Looks over all requests, and at no record.
+fn look(choices: &[Choice], rings: &Rings, next: u64) -> Overview
+    ensures { IsOverview rings.now next choices.now result }
+{
+    let mut best = None;
+    for (index, choice) in choices.iter().enumerate() {
+        if !is_fresh(choice, rings, next) {
+            return Overview::Stale;
+        }
+        best = earlier(best, index, choice.cursor.ahead);
+    }
+    Overview::Fresh(best)
+}
+
+/// Each request passes what it doesn't want, where it may have come to something, and the one whose record came first is told.
+fn rest(session: &mut Session, rings: &Rings, next: u64) -> Option<First>
+    ensures same { but_for_cursors session.new ≡ but_for_cursors session.old }
+    ensures rest { OfAll (PassedIn rings.now next) (chosen_of session.old.mode) → OfAll (RestsIn rings.now next) (chosen_of session.new.mode) }
+    ensures first { LeadsSoFar rings.now (chosen_of session.new.mode) (length (chosen_of session.new.mode)) result }
+{
+    match look(session.choices(), rings, next) {
+        Overview::Fresh(first) => first,
+        Overview::Stale => {
+            pass_unwanted(session, rings, next);
+            earliest(session.choices(), rings)
+        }
+    }
+}
+
+/// The record ahead of a request, as it is held.
+fn candidate(choices: &[Choice], first: First, rings: &Rings) -> Option<Candidate>
+    requires { IsAhead choices.now first.index first.stamp }
+    ensures index { IfSome result (λ c. c.index < length choices.now) }
+    ensures held { IfSome result (λ c. HoldsThere rings.now c.station c.place c.position) }
+    ensures position { (next : ℕ) → OfAll (RestsIn rings.now next) choices.now → option_map (λ c. c.position) result ≡ Some first.stamp }
+{
+    let choice = &choices[first.index];
+    let ring = rings.ring(choice.place)?;
+    let held = ring.get(choice.cursor.place)?;
+    Some(Candidate {
+        index: first.index,
+        station: choice.place,
+        place: choice.cursor.place,
+        position: held.stamp,
+    })
+}
+
+/// Of all held records that some request wants, from the arrival `next` on, the one that came first.
+fn found_next(session: &mut Session, rings: &Rings, next: u64) -> Option<Candidate>
+    ensures same { but_for_cursors session.new ≡ but_for_cursors session.old }
+    ensures rest { OfAll (PassedIn rings.now next) (chosen_of session.old.mode) → OfAll (RestsIn rings.now next) (chosen_of session.new.mode) }
+    ensures index { IfSome result (λ c. c.index < length (chosen_of session.new.mode)) }
+    ensures held { IfSome result (λ c. HoldsThere rings.now c.station c.place c.position) }
+    ensures position { OfAll (PassedIn rings.now next) (chosen_of session.old.mode) → (config : ProtocolConfig) (h : List Arrival) → rings.now ≡ holdings_of config h →
+        option_map (λ c. c.position) result ≡ next_position h (filter_map (request_in config) (chosen_of session.new.mode)) next }
+    ensures late { OfAll (PassedIn rings.now next) (chosen_of session.old.mode) → IfSome result (λ c. next ≤ c.position) }
+    ensures none { OfAll (PassedIn rings.now next) (chosen_of session.old.mode) → result ≡ None → OfAll (HasNothing rings.now next) (chosen_of session.new.mode) }
+{
+    match rest(session, rings, next) {
+        Some(first) => candidate(session.choices(), first, rings),
+        None => None,
+    }
 }
 
 /// Whether nothing more can come for a named station whose request has passed all: it is asked for nothing, by FETCH, or by TIME
@@ -188,11 +278,37 @@ fn put_packet(session: &mut Session, rings: &Rings, found: Candidate)
     session.put(&packet, found.position + 1);
 }
 
+/// A request passes what it doesn't want.
+fn pass_one(session: &mut Session, rings: &Rings, index: usize, next: u64)
+    requires { index < length (chosen_of session.old.mode) }
+    ensures same { but_for_cursors session.new ≡ but_for_cursors session.old }
+    ensures passed { OfAll (PassedIn rings.now next) (chosen_of session.old.mode) → OfAll (PassedIn rings.now next) (chosen_of session.new.mode) }
+{
+    let cursor = cursor_of(&session.choices()[index], rings, next);
+    session.pass(index, cursor);
+}
+
+/// The packet of a held record is made to wait, and its request passes it.
+fn send(session: &mut Session, rings: &Rings, found: Candidate)
+    requires there { HoldsThere rings.now found.station found.place found.position }
+    requires index { found.index < length (chosen_of session.old.mode) }
+    ensures session { (r : Holding) (x : Held) → slice_get rings.now.rings found.station ≡ Some r → held_at r found.place ≡ Some x →
+        but_for_cursors session.new ≡ but_for_cursors (record session.old { state = Transfer (found.position + 1); waiting = packet (number_at r found.place) x.bytes }) }
+    ensures capacity { (r : Holding) → slice_get rings.now.rings found.station ≡ Some r → 1 ≤ r.capacity }
+    ensures passed { (next : ℕ) → next ≤ found.position → OfAll (RestsIn rings.now next) (chosen_of session.old.mode) → ArePassed rings.now session.new }
+{
+    put_packet(session, rings, found);
+    if let State::Transfer(next) = session.state() {
+        pass_one(session, rings, found.index, next);
+    }
+}
+
 /// In a transfer, while nothing waits: of all held records that some request wants, and that arrived after the last one that was
 /// sent, the packet of the one that arrived first is made to wait. Where there is none and nothing more can come, `END` is made to
 /// wait, and the session is in its end. Else, and in another state, nothing changes but how far the requests have come.
 ///
-/// It looks at no record before a request's cursor, and moves each cursor up to the next record that is wanted. What was passed
+/// It looks at no record before a request's cursor, and moves each cursor up to the next record that is wanted. Where nothing was
+/// pushed to the ring of a request since that was last looked at, it looks at none of its records. What was passed
 /// before has to be unwanted, as it is after `start` and after `choose`, and stays so while records arrive.
 pub fn choose(session: &mut Session, config: &Config, rings: &Rings) -> Chosen
     requires { session.old.waiting ≡ [] }
@@ -216,10 +332,9 @@ pub fn choose(session: &mut Session, config: &Config, rings: &Rings) -> Chosen
     };
     config.codes_are_distinct();
     arrivals_by_place();
-    pass_unwanted(session, rings, next);
-    match earliest(session.choices(), rings) {
+    match found_next(session, rings, next) {
         Some(found) => {
-            put_packet(session, rings, found);
+            send(session, rings, found);
             Chosen::Packet
         }
         None => end_if_complete(session, rings),
@@ -240,9 +355,7 @@ pub fn finds(session: &mut Session, rings: &Rings) -> bool
     let State::Transfer(next) = session.state() else {
         return false;
     };
-    pass_unwanted(session, rings, next);
-    let found = earliest(session.choices(), rings);
-    match found {
+    match found_next(session, rings, next) {
         Some(_found) => true,
         None => is_complete(session.choices(), rings),
     }

@@ -10,6 +10,7 @@ ghost use Rattle.session_state.specs.Sessions.{client_in, but_for_cursors, HasFi
 ghost use Rattle.transfer.specs.Cursors.{ArePassed, BeginsIn, IsAtBegin, OfAll, StartsIn, begin_place};
 ghost use Rattle.session_state.specs.declared.session.State.TheVariants.{Starting, Transfer};
 
+use crate::wanting::unasked;
 use held_records::Rings;
 use session_state::{Action, Choice, Cursor, Session};
 use sl_packet::Seq;
@@ -106,9 +107,12 @@ fn place_from(ring: &Ring, number: Seq) -> u64
 fn begin_in(ring: &Ring, action: Action) -> Cursor
     ensures { IsAtBegin ring.now action result }
 {
+    ring.holds_its_last();
     Cursor {
         place: begin_place(ring, action),
         after_end: None,
+        seen: 0,
+        ahead: None,
     }
 }
 
@@ -117,11 +121,11 @@ fn cursor_of(choice: &Choice, rings: &Rings) -> Cursor
     ensures { StartsIn rings.now (record choice.now { cursor = result }) }
 {
     let Some(action) = choice.action else {
-        return choice.cursor;
+        return unasked();
     };
     match rings.ring(choice.place) {
         Some(ring) => begin_in(ring, action),
-        None => choice.cursor,
+        None => unasked(),
     }
 }
 

@@ -68,10 +68,11 @@ fn wants(choice: &Choice, next: u64, held: &Held) -> bool
         && is_in_window(choice, &held.summary)
 }
 
-/// A held record: the place of its station in the configuration, its own place in that station's ring, and its position in the
-/// history.
+/// A held record that a request wants: the request's index among the named stations, the place of its station in the configuration,
+/// its own place in that station's ring, and its position in the history.
 #[derive(Clone, Copy, Debug, PartialEq, Eq)]
 pub struct Candidate {
+    pub index: usize,
     pub station: usize,
     pub place: u64,
     pub position: u64,
@@ -143,40 +144,64 @@ pub fn cursor_in(ring: &Ring, choice: &Choice, next: u64) -> Cursor
 {
     ring.holds_its_last();
     let Some(oldest) = ring.oldest() else {
-        return choice.cursor;
+        return at_end(ring, choice.cursor.after_end);
     };
     let mut after_end = choice.cursor.after_end;
     let start = choice.cursor.place.max(oldest);
     for place in start..ring.pushes() {
         match found_at(ring, place, choice, next) {
-            Found::Wanted => return Cursor { place, after_end },
+            Found::Wanted => return at_record(ring, place, after_end),
             Found::AfterEnd => after_end = Some(place),
             Found::Unwanted => {}
         }
     }
+    at_end(ring, after_end)
+}
+
+/// The cursor of a named station that is asked for nothing.
+pub fn unasked() -> Cursor
+    ensures { result.ahead ≡ None }
+{
     Cursor {
-        place: ring.pushes(),
-        after_end,
+        place: 0,
+        after_end: None,
+        seen: 0,
+        ahead: None,
     }
 }
 
-/// The record at a request's cursor, where one is there.
-pub fn at_cursor(ring: &Ring, choice: &Choice) -> Option<Candidate>
-    ensures position { (next : ℕ) → RestsAt ring.now next choice.now choice.now.cursor →
-        option_map (λ c. c.position) result ≡ option_map (λ x. x.stamp) (find (wants_held choice.now next) ring.now.held) }
-    ensures late { (next : ℕ) → RestsAt ring.now next choice.now choice.now.cursor → IfSome result (λ c. next ≤ c.position) }
-    ensures none { (next : ℕ) → RestsAt ring.now next choice.now choice.now.cursor → result ≡ None →
-        choice.now.cursor.place ≡ ring.now.pushes }
-    ensures held { IfSome result (λ c. HoldsRecord ring.now c.place c.position) }
-    ensures station { IfSome result (λ c. c.station ≡ choice.now.place) }
+/// The cursor of a request that has passed all.
+fn at_end(ring: &Ring, after_end: Option<u64>) -> Cursor
+    ensures { result ≡ record { place = ring.now.pushes; after_end = after_end; seen = ring.now.pushes; ahead = None } }
 {
-    ring.holds_its_last();
-    let held = ring.get(choice.cursor.place)?;
-    Some(Candidate {
-        station: choice.place,
-        place: choice.cursor.place,
-        position: held.stamp,
-    })
+    Cursor {
+        place: ring.pushes(),
+        after_end,
+        seen: ring.pushes(),
+        ahead: None,
+    }
+}
+
+/// The cursor of a request at a place of its ring.
+fn at_record(ring: &Ring, place: u64, after_end: Option<u64>) -> Cursor
+    ensures { result ≡ record { place = place; after_end = after_end; seen = ring.now.pushes; ahead = option_map (λ x. x.stamp) (held_at ring.now place) } }
+{
+    Cursor {
+        place,
+        after_end,
+        seen: ring.pushes(),
+        ahead: stamp_at(ring, place),
+    }
+}
+
+/// The stamp of the record at a place of a ring, where one is held there.
+fn stamp_at(ring: &Ring, place: u64) -> Option<u64>
+    ensures { result ≡ option_map (λ x. x.stamp) (held_at ring.now place) }
+{
+    match ring.get(place) {
+        Some(held) => Some(held.stamp),
+        None => None,
+    }
 }
 
 /// Whether a record is held that starts after the end of TIME, of a request that has passed all.

@@ -1,6 +1,6 @@
-use Rattle.std.proofs.Common.{◌≡◌, ◌∙◌, Some, None, ap, refl, sym, subst, not, filter_map, false, []}
+use Rattle.std.proofs.Common.{◌≡◌, ◌∙◌, ap, refl, sym, subst, not, filter_map, false, []}
 use Rattle.std.specs.List.{list_all}
-use Rattle.protocol.specs.History.{is_over, next}
+use Rattle.protocol.specs.History.{is_over}
 use Rattle.protocol.specs.Client.{Client, is_nothing, offered}
 use Rattle.protocol.proofs.Found.{both}
 use Rattle.session_state.specs.Choices.{chosen_of, request_in}
@@ -15,58 +15,54 @@ use Rattle.transfer.proofs.choosing.finds.Goals as goal
 
 pub returns-in-Some-clause-answer : goal.returns-in-Some-clause-answer
 returns-in-Some-clause-answer c = λ transfers passed config h holds.
-    let rests = c.pass_unwanted.ensures.rest (passed-all c.args.rings.now c.args.session.now passed c.in-Transfer.next (sym c.in-Transfer.ensures)) in
-    let is_next = subst (λ cs. Some c.in-Some._found.position ≡ next h (filter_map (request_in config) cs) c.in-Transfer.next) c.choices.ensures (c.in-Some.ensures.position c.in-Transfer.next (subst (OfAll (RestsIn c.args.rings.now c.in-Transfer.next)) (sym c.choices.ensures) rests) config h holds) in
-    ap not (sym (offers-packet config h c.pass_unwanted.new.session c.in-Transfer.next c.in-Some._found.position
-    (ap (λ (s : Sitting). s.state) c.pass_unwanted.ensures.same ∙ sym c.in-Transfer.ensures) (ap (λ (s : Sitting). s.waiting) c.pass_unwanted.ensures.same ∙ c.requires) (sym is_next)))
-    ∙ ap (λ (x : Client). not (is_nothing (offered h x).waiting)) (client-same config h c.pass_unwanted.new.session c.args.session.now c.pass_unwanted.ensures.same)
+    let is_next = c.in-Some.ensures.position (passed-all c.args.rings.now c.args.session.now passed c.in-Transfer.next (sym c.in-Transfer.ensures)) config h holds in
+    ap not (sym (offers-packet config h c.found_next.new.session c.in-Transfer.next c.in-Some._found.position
+    (ap (λ (s : Sitting). s.state) c.found_next.ensures.same ∙ sym c.in-Transfer.ensures) (ap (λ (s : Sitting). s.waiting) c.found_next.ensures.same ∙ c.requires) (sym is_next)))
+    ∙ ap (λ (x : Client). not (is_nothing (offered h x).waiting)) (client-same config h c.found_next.new.session c.args.session.now c.found_next.ensures.same)
 
 pub returns-in-Some-clause-passed : goal.returns-in-Some-clause-passed
 returns-in-Some-clause-passed c = λ passed.
-    let rests = c.pass_unwanted.ensures.rest (passed-all c.args.rings.now c.args.session.now passed c.in-Transfer.next (sym c.in-Transfer.ensures)) in
-    same-passes c.args.rings.now c.pass_unwanted.new.session c.in-Transfer.next (ap (λ (s : Sitting). s.state) c.pass_unwanted.ensures.same ∙ sym c.in-Transfer.ensures) rests
+    let rests = c.found_next.ensures.rest (passed-all c.args.rings.now c.args.session.now passed c.in-Transfer.next (sym c.in-Transfer.ensures)) in
+    same-passes c.args.rings.now c.found_next.new.session c.in-Transfer.next (ap (λ (s : Sitting). s.state) c.found_next.ensures.same ∙ sym c.in-Transfer.ensures) rests
 
 pub returns-in-None-clause-passed : goal.returns-in-None-clause-passed
 returns-in-None-clause-passed c = λ passed.
-    let rests = c.pass_unwanted.ensures.rest (passed-all c.args.rings.now c.args.session.now passed c.in-Transfer.next (sym c.in-Transfer.ensures)) in
-    same-passes c.args.rings.now c.pass_unwanted.new.session c.in-Transfer.next (ap (λ (s : Sitting). s.state) c.pass_unwanted.ensures.same ∙ sym c.in-Transfer.ensures) rests
+    let rests = c.found_next.ensures.rest (passed-all c.args.rings.now c.args.session.now passed c.in-Transfer.next (sym c.in-Transfer.ensures)) in
+    same-passes c.args.rings.now c.found_next.new.session c.in-Transfer.next (ap (λ (s : Sitting). s.state) c.found_next.ensures.same ∙ sym c.in-Transfer.ensures) rests
 
 -- What is found nowhere: nothing of any station, which all were passed.
-nothing : (c : goal.After-is_complete) → ArePassed c.args.rings.now c.args.session.now → OfAll (HasNothing c.args.rings.now c.in-Transfer.next) (chosen_of c.pass_unwanted.new.session.mode)
+nothing : (c : goal.After-is_complete) → ArePassed c.args.rings.now c.args.session.now → OfAll (HasNothing c.args.rings.now c.in-Transfer.next) (chosen_of c.found_next.new.session.mode)
 nothing c passed =
-    let rests = c.pass_unwanted.ensures.rest (passed-all c.args.rings.now c.args.session.now passed c.in-Transfer.next (sym c.in-Transfer.ensures)) in
-    let lent = subst (OfAll (RestsIn c.args.rings.now c.in-Transfer.next)) (sym c.choices.ensures) rests in
-    subst (OfAll (HasNothing c.args.rings.now c.in-Transfer.next)) c.choices.ensures (c.in-None.ensures.none c.in-Transfer.next lent refl)
+    c.in-None.ensures.none (passed-all c.args.rings.now c.args.session.now passed c.in-Transfer.next (sym c.in-Transfer.ensures)) refl
 
-transferring : (c : goal.After-is_complete) → c.pass_unwanted.new.session.state ≡ Transfer c.in-Transfer.next
-transferring c = ap (λ (s : Sitting). s.state) c.pass_unwanted.ensures.same ∙ sym c.in-Transfer.ensures
+transferring : (c : goal.After-is_complete) → c.found_next.new.session.state ≡ Transfer c.in-Transfer.next
+transferring c = ap (λ (s : Sitting). s.state) c.found_next.ensures.same ∙ sym c.in-Transfer.ensures
 
-waitless : (c : goal.After-is_complete) → c.pass_unwanted.new.session.waiting ≡ []
-waitless c = ap (λ (s : Sitting). s.waiting) c.pass_unwanted.ensures.same ∙ c.requires
+waitless : (c : goal.After-is_complete) → c.found_next.new.session.waiting ≡ []
+waitless c = ap (λ (s : Sitting). s.waiting) c.found_next.ensures.same ∙ c.requires
 
-sleeps : (c : goal.After-is_complete) → ArePassed c.args.rings.now c.args.session.now → c.is_complete.result ≡ false → Sleeps c.args.rings.now c.pass_unwanted.new.session
+sleeps : (c : goal.After-is_complete) → ArePassed c.args.rings.now c.args.session.now → c.is_complete.result ≡ false → Sleeps c.args.rings.now c.found_next.new.session
 sleeps c passed not_all =
-    let rests = c.pass_unwanted.ensures.rest (passed-all c.args.rings.now c.args.session.now passed c.in-Transfer.next (sym c.in-Transfer.ensures)) in
-    let lent = subst (OfAll (RestsIn c.args.rings.now c.in-Transfer.next)) (sym c.choices-in-None.ensures) rests in
-    let reached = subst (OfAll (IsReached c.args.rings.now)) (sym c.choices-in-None.ensures) (all-reached c.args.rings.now c.in-Transfer.next _ (nothing c passed)) in
-    sleeps-so c.args.rings.now c.pass_unwanted.new.session c.in-Transfer.next (transferring c) (waitless c) (nothing c passed)
-    (subst (MoreMayCome c.args.rings.now) c.choices-in-None.ensures (c.is_complete.ensures.more c.in-Transfer.next lent reached not_all))
+    let rests = c.found_next.ensures.rest (passed-all c.args.rings.now c.args.session.now passed c.in-Transfer.next (sym c.in-Transfer.ensures)) in
+    let lent = subst (OfAll (RestsIn c.args.rings.now c.in-Transfer.next)) (sym c.choices.ensures) rests in
+    let reached = subst (OfAll (IsReached c.args.rings.now)) (sym c.choices.ensures) (all-reached c.args.rings.now c.in-Transfer.next _ (nothing c passed)) in
+    sleeps-so c.args.rings.now c.found_next.new.session c.in-Transfer.next (transferring c) (waitless c) (nothing c passed)
+    (subst (MoreMayCome c.args.rings.now) c.choices.ensures (c.is_complete.ensures.more c.in-Transfer.next lent reached not_all))
 
 pub returns-in-None-clause-sleeps : goal.returns-in-None-clause-sleeps
 returns-in-None-clause-sleeps c = λ transfers passed not_all. sleeps c passed not_all
 
 pub returns-in-None-clause-answer : goal.returns-in-None-clause-answer
 returns-in-None-clause-answer c = λ transfers passed config h holds.
-    let a = c.pass_unwanted.new.session in
+    let a = c.found_next.new.session in
     let q = c.in-Transfer.next in
-    let rests = c.pass_unwanted.ensures.rest (passed-all c.args.rings.now c.args.session.now passed q (sym c.in-Transfer.ensures)) in
+    let rests = c.found_next.ensures.rest (passed-all c.args.rings.now c.args.session.now passed q (sym c.in-Transfer.ensures)) in
     let lent = subst (OfAll (RestsIn c.args.rings.now q)) (sym c.choices.ensures) rests in
-    let lent' = subst (OfAll (RestsIn c.args.rings.now q)) (sym c.choices-in-None.ensures) rests in
-    let reached = subst (OfAll (IsReached c.args.rings.now)) (sym c.choices-in-None.ensures) (all-reached c.args.rings.now q _ (nothing c passed)) in
-    let none = subst (λ cs. None ≡ next h (filter_map (request_in config) cs) q) c.choices.ensures (c.in-None.ensures.position q lent config h holds) in
-    let over = c.is_complete.ensures.complete q lent' reached config h holds ∙ ap (λ cs. list_all (is_over h) (filter_map (request_in config) cs)) c.choices-in-None.ensures in
+    let reached = subst (OfAll (IsReached c.args.rings.now)) (sym c.choices.ensures) (all-reached c.args.rings.now q _ (nothing c passed)) in
+    let none = c.in-None.ensures.position (passed-all c.args.rings.now c.args.session.now passed q (sym c.in-Transfer.ensures)) config h holds in
+    let over = c.is_complete.ensures.complete q lent reached config h holds ∙ ap (λ cs. list_all (is_over h) (filter_map (request_in config) cs)) c.choices.ensures in
     let here : c.is_complete.result ≡ not (is_nothing (offered h (client_in config h a)).waiting) =
     both c.is_complete.result
     (λ y. y ∙ ap not (sym (offers-end config h a q (transferring c) (waitless c) (sym none) (sym over ∙ y))))
     (λ x. x ∙ ap not (sym (offers-nothing config h c.args.rings.now a q (sleeps c passed x) (transferring c) holds))) in
-    here ∙ ap (λ (x : Client). not (is_nothing (offered h x).waiting)) (client-same config h a c.args.session.now c.pass_unwanted.ensures.same)
+    here ∙ ap (λ (x : Client). not (is_nothing (offered h x).waiting)) (client-same config h a c.args.session.now c.found_next.ensures.same)

@@ -1,8 +1,8 @@
 use Rattle.std.proofs.Common.{◌≡◌, ◌≤◌, ◌+◌, ℕ, Option, arith, sym, subst}
 use Rattle.station_ring.specs.Rings.{first_place}
 use Rattle.held_records.proofs.Places.{oldest-first}
-use Rattle.transfer.specs.Cursors.{HasPassed}
-use Rattle.transfer.proofs.Passing.{at_place, passed-after, passed-raised, passed-unwanted, rests-end, rests-wanted}
+use Rattle.transfer.specs.Cursors.{HasPassed, RestsAt}
+use Rattle.transfer.proofs.Passing.{at_place, passed-after, passed-raised, passed-unwanted, rests-empty, rests-end, rests-wanted}
 use Rattle.transfer.proofs.wanting.cursor_in.Goals.{in-AfterEnd, in-Unwanted}
 use Rattle.transfer.proofs.wanting.cursor_in.Goals as goal
 
@@ -10,7 +10,13 @@ pub returns-in-Wanted : goal.returns-in-Wanted
 returns-in-Wanted c = λ passed.
     let first : c.in-Some.oldest ≡ first_place c.args.ring.now = oldest-first c.args.ring.now c.in-Some.oldest c.in-Some.ensures in
     let low : first_place c.args.ring.now ≤ c.loop-place.place = omega arith in
-    rests-wanted c.args.ring.now c.args.next c.args.choice.now c.loop-place.place c.loop-place.after_end c.found_at.result low c.found_at.ensures c.in-Wanted.is (c.loop-place.invariant passed)
+    subst (RestsAt c.args.ring.now c.args.next c.args.choice.now) (sym c.at_record.ensures)
+    (rests-wanted c.args.ring.now c.args.next c.args.choice.now c.loop-place.place c.loop-place.after_end c.found_at.result c.holds_its_last.ensures low c.found_at.ensures c.in-Wanted.is (c.loop-place.invariant passed))
+
+pub returns-in_default : goal.returns-in_default
+returns-in_default c = λ passed.
+    subst (RestsAt c.args.ring.now c.args.next c.args.choice.now) (sym c.at_end.ensures)
+    (rests-empty c.args.ring.now c.args.next c.args.choice.now c.holds_its_last.ensures c.in_default.ensures passed)
 
 pub loop-place-init : goal.loop-place-init
 loop-place-init c = λ passed. passed-raised c.args.ring.now c.args.next c.args.choice.now c.max-start.result c.in-Some.oldest c.holds_its_last.ensures c.in-Some.ensures c.max-start.ensures passed
@@ -27,4 +33,6 @@ loop-place-preserved c = λ passed.
     ]
 
 pub returns : goal.returns
-returns c = λ passed. rests-end c.args.ring.now c.args.next c.args.choice.now c.loop-place.place c.loop-place.after_end c.pushes.result c.holds_its_last.ensures c.pushes.ensures (omega arith) (c.loop-place.invariant passed)
+returns c = λ passed.
+    subst (RestsAt c.args.ring.now c.args.next c.args.choice.now) (sym c.at_end-2.ensures)
+    (rests-end c.args.ring.now c.args.next c.args.choice.now c.loop-place.place c.loop-place.after_end c.holds_its_last.ensures (omega arith) (c.loop-place.invariant passed))

@@ -1,0 +1,49 @@
+-- The first of what so many requests are to send, by what their cursors tell.
+-- SeedLink 3, DATA, FETCH and TIME.
+use Rattle.std.specs.Prelude.{◌≡◌, ℕ, ◌<◌, ◌≤◌, Bool, true, nat_le, if◌then◌else◌, List, length, take, filter_map, slice_get, Option, Some, None, IfSome, option_map}
+use Rattle.protocol.specs.Catalog.{Config}
+use Rattle.protocol.specs.History.{Arrival, next}
+use Rattle.held_records.specs.Holdings.{Holdings, holdings_of}
+use Rattle.session_state.specs.declared.choices.Choice.{Choice}
+use Rattle.session_state.specs.Choices.{request_in}
+use Rattle.transfer.specs.declared.choosing.First.{First}
+use Rattle.transfer.specs.declared.choosing.Overview.{Overview}
+use Rattle.transfer.specs.declared.choosing.Overview.TheVariants.{Stale, Fresh}
+use Rattle.transfer.specs.Choosing.{comes_before}
+use Rattle.transfer.specs.Cursors.{OfAll, PassedIn, RestsIn}
+use Rattle.transfer.specs.Sleeping.{HasNothing}
+
+-- Whether a record ahead, where there is one, may still be sent, where that is so of those from position `next` on.
+abbrev pub is_unsent : (next : ℕ) → Option ℕ → Bool
+is_unsent next None = true
+is_unsent next (Some stamp) = nat_le next stamp
+
+-- the first of what was found so far and of one request's record ahead
+abbrev pub earlier : Option First → (index : ℕ) → (ahead : Option ℕ) → Option First
+earlier best index None = best
+earlier best index (Some stamp) =
+    if comes_before (option_map (λ f. f.stamp) best) stamp then Some (record { index = index; stamp = stamp }) else best
+
+-- The cursor of the request with that index tells of a record ahead with that stamp.
+pub record IsAhead (choices : List Choice) (index stamp : ℕ) : Type 0 where
+  pub choice : Choice
+  pub at : slice_get choices index ≡ Some choice
+  pub ahead : choice.cursor.ahead ≡ Some stamp
+
+-- What was found so far, where all requests rest: the position that comes next for so many, which is late enough, and is there
+-- unless all those have passed all.
+pub record LeadsSoFar (rings : Holdings) (choices : List Choice) (i : ℕ) (best : Option First) : Type 0 where
+  pub position : (q : ℕ) → OfAll (RestsIn rings q) choices → (config : Config) (h : List Arrival) → rings ≡ holdings_of config h →
+      option_map (λ f. f.stamp) best ≡ next h (filter_map (request_in config) (take i choices)) q
+  pub there : IfSome best (λ f. IsAhead choices f.index f.stamp)
+  pub late : (q : ℕ) → OfAll (RestsIn rings q) choices → IfSome best (λ f. q ≤ f.stamp)
+  pub reached : (q : ℕ) → OfAll (RestsIn rings q) choices → best ≡ None → (j : ℕ) (c : Choice) → j < i → slice_get choices j ≡ Some c → HasNothing rings q c
+
+-- What a look over all requests comes to: where none of them has to look at its ring again, all of them rest.
+pub record IsFreshOverview (rings : Holdings) (next : ℕ) (choices : List Choice) (first : Option First) : Type 0 where
+  pub rests : OfAll (PassedIn rings next) choices → OfAll (RestsIn rings next) choices
+  pub leads : LeadsSoFar rings choices (length choices) first
+
+abbrev pub IsOverview : Holdings → (next : ℕ) → List Choice → Overview → Type 0
+IsOverview rings next choices Stale = Unit {0}
+IsOverview rings next choices (Fresh first) = IsFreshOverview rings next choices first
