@@ -20,6 +20,7 @@ use anyhow::anyhow;
 use std::alloc::Global;
 use std::env;
 use std::process::ExitCode;
+use std::rt::{Env, Print};
 use trial::{Fault, Trial};
 
 /// The calls that are tried.
@@ -52,8 +53,9 @@ fn said(trial: Trial) -> &'static str {
     }
 }
 
-fn word(alloc: Global, rt: &HostRuntime) -> Result<String, Fault> {
-    let mut last = String::new(alloc);
+/// The last word of the command line, or an empty text.
+fn word<R: Env + AllocGlobal>(rt: &R) -> Result<String, Fault> {
+    let mut last = String::new(rt.alloc());
     for (place, word) in env::args(rt)?.enumerate() {
         if place > 0 {
             last = word;
@@ -62,7 +64,7 @@ fn word(alloc: Global, rt: &HostRuntime) -> Result<String, Fault> {
     Ok(last)
 }
 
-fn try_all(rt: &HostRuntime) -> Result<(), Fault> {
+fn try_all<R: Print + AllocGlobal>(rt: &R) -> Result<(), Fault> {
     for call in CALLS {
         let trial = tried(rt.alloc(), call)?;
         println!(rt; "{call}: {}", said(trial))?;
@@ -70,8 +72,8 @@ fn try_all(rt: &HostRuntime) -> Result<(), Fault> {
     Ok(())
 }
 
-fn try_one(rt: &HostRuntime) -> Result<(), Fault> {
-    let call = word(rt.alloc(), rt)?;
+fn try_one<R: Env + Print + AllocGlobal>(rt: &R) -> Result<(), Fault> {
+    let call = word(rt)?;
     if call.is_empty() {
         return try_all(rt);
     }
