@@ -19,8 +19,9 @@ mod wires;
 use anyhow::anyhow;
 use std::alloc::Global;
 use std::env;
+use std::io::Print;
 use std::process::ExitCode;
-use std::rt::{Env, Print};
+use std::rt::Env;
 use trial::{Fault, Trial};
 
 /// The calls that are tried.
