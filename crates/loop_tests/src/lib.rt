@@ -6,6 +6,8 @@ mod failures;
 #[cfg(test)]
 mod joining;
 #[cfg(test)]
+mod random;
+#[cfg(test)]
 mod runs;
 #[cfg(test)]
 mod transfers;

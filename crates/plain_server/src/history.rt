@@ -1,8 +1,8 @@
 //! All records that came to stations, the oldest first, and questions about them. A position is an index into the list.
-use super::patterns::let_pass;
-use super::sites::Site;
-use super::steps::{Arrival, Facts};
-use super::words::{Action, Verb};
+use crate::patterns::let_pass;
+use crate::records::{Arrival, Facts};
+use crate::sites::Site;
+use crate::words::{Action, Verb};
 use std::alloc::{AllocError, Global};
 
 #[derive(Drop)]
@@ -38,10 +38,10 @@ impl History {
         }
     }
 
-    /// A record comes. It counts where it has facts and a station has its codes.
-    pub fn add(&mut self, arrival: &Arrival) -> Result<(), AllocError> {
+    /// A record comes. It counts if it has facts and a station has its codes; the answer says whether.
+    pub fn add(&mut self, arrival: &Arrival) -> Result<bool, AllocError> {
         let Some(facts) = arrival.facts else {
-            return Ok(());
+            return Ok(false);
         };
         let found = self.sites.iter().position(|site| *site.network == *facts.network
             && *site.code == *facts.code);
@@ -54,7 +54,7 @@ impl History {
                 bytes: arrival.bytes,
             })?;
         }
-        Ok(())
+        Ok(found.is_some())
     }
 
     /// The next position.

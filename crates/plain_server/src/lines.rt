@@ -1,6 +1,6 @@
 //! Random lines of a client.
-use super::draws::Draws;
-use super::sites::Site;
+use crate::draws::Draws;
+use crate::sites::Site;
 use std::alloc::AllocError;
 
 static PATTERNS: [&[u8]; 16] = [

@@ -1,5 +1,5 @@
 //! The patterns of SELECT.
-use super::steps::Facts;
+use crate::records::Facts;
 
 /// What a pattern asks of a record, without its `!`.
 #[derive(Drop)]

@@ -1,9 +1,28 @@
 //! Random records.
-use super::draws::Draws;
-use super::moments;
-use super::sites::Site;
-use super::steps::{Arrival, Facts};
+use crate::draws::Draws;
+use crate::moments;
+use crate::sites::Site;
 use mseed_header::{ByteOrder, Fields, make};
+
+/// What a record says, as it was made. Times are seconds of 2024, times 10,000.
+#[derive(Clone, Copy, Drop)]
+pub struct Facts {
+    pub network: &'static [u8],
+    pub code: &'static [u8],
+    pub location: &'static [u8],
+    pub channel: &'static [u8],
+    /// The type, as a letter.
+    pub kind: u8,
+    pub start: u64,
+    pub end: u64,
+}
+
+/// A record that comes. One without facts is broken.
+#[derive(Clone, Copy, Drop)]
+pub struct Arrival {
+    pub bytes: [u8; 512],
+    pub facts: Option<Facts>,
+}
 
 /// The type of a record, and the samples, the rate and the blockette that give it.
 #[derive(Clone, Copy, Drop)]
@@ -131,7 +150,7 @@ fn made(plan: &Plan) -> Option<[u8; 512]> {
 }
 
 /// A record that comes. Some are broken: a byte of the sequence number, the quality or the hour is changed.
-pub fn arrival(draws: &mut Draws, sites: &'static [Site]) -> Arrival {
+pub fn next_arrival(draws: &mut Draws, sites: &'static [Site]) -> Arrival {
     let plan = drawn_plan(draws, sites);
     let Some(bytes) = made(&plan) else {
         return Arrival {

@@ -1,7 +1,8 @@
 //! One client of the plain server.
-use super::history::{History, Request};
-use super::patterns::is_pattern;
-use super::words::{Action, Command, command_of};
+use crate::history::{History, Request};
+use crate::patterns::is_pattern;
+use crate::plain::Waiting;
+use crate::words::{Action, Command, command_of};
 use std::alloc::{AllocError, Global};
 use std::collections::VecDeque;
 
@@ -270,13 +271,21 @@ impl Visitor {
         Ok(())
     }
 
+    /// How many bytes it may send. What comes after its end is dropped.
+    pub fn room(&self) -> usize {
+        match self.stage {
+            Stage::Over | Stage::Closed => 1024,
+            _ => 1024usize.saturating_sub(self.unread.len()),
+        }
+    }
+
     pub fn receive(
         &mut self,
         history: &History,
         title: &[u8],
         bytes: &[u8],
     ) -> Result<(), AllocError> {
-        if self.unread.len().saturating_add(bytes.len()) > 1024 {
+        if bytes.len() > self.room() || matches!(self.stage, Stage::Over | Stage::Closed) {
             return Ok(());
         }
         for byte in bytes {
@@ -300,6 +309,16 @@ impl Visitor {
             self.stage = Stage::Over;
         }
         Ok(())
+    }
+
+    /// What waits, where something is offered if nothing did.
+    pub fn waiting(&mut self, history: &History) -> Result<Waiting, AllocError> {
+        self.offer(history)?;
+        match self.answers.front() {
+            Some(piece) => Ok(Waiting::Bytes(piece.as_slice().to_vec(self.alloc)?)),
+            None if matches!(self.stage, Stage::Over | Stage::Closed) => Ok(Waiting::TheEnd),
+            None => Ok(Waiting::Nothing),
+        }
     }
 
     /// At most so many of the bytes that wait, and whether the client is told the end.

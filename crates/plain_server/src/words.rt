@@ -1,5 +1,5 @@
 //! The lines of a client, as the profile lists them.
-use super::moments;
+use crate::moments;
 use std::alloc::{AllocError, Global};
 
 #[derive(Clone, Copy, Drop, PartialEq, Eq)]

@@ -1,8 +1,10 @@
-//! Buffers for bytes that wait to be sent. A port has one only while it holds something, so that ports that are idle hold none.
+//! Buffers for bytes that wait to be sent. A port has one only while it holds something, so that ports that are idle
+//! hold none.
 use std::alloc::Global;
 
-/// How many bytes a buffer holds.
-pub const ROOM: usize = 32_768;
+/// How many bytes a buffer holds: 64 packets, as many as a server hands to a port in a turn, so that one write sends
+/// them.
+pub const ROOM: usize = 33_280;
 
 /// Buffers that no port has now.
 #[derive(Drop)]

@@ -1,0 +1,82 @@
+//! The plain server: all clients over one history.
+use crate::history::History;
+use crate::records::Arrival;
+use crate::sites::Centre;
+use crate::visitor::Visitor;
+use std::alloc::{AllocError, Global};
+
+/// What waits for a client.
+#[derive(Drop)]
+pub enum Waiting {
+    Bytes(Vec<u8>),
+    Nothing,
+    /// Nothing, and the connection is over.
+    TheEnd,
+}
+
+#[derive(Drop)]
+pub struct Plain {
+    alloc: Global,
+    title: &'static [u8],
+    history: History,
+    visitors: Vec<Visitor>,
+}
+
+impl Plain {
+    pub fn new(alloc: Global, centre: &Centre) -> Self {
+        Plain {
+            alloc,
+            title: centre.title,
+            history: History::new(alloc, centre.sites),
+            visitors: Vec::new(alloc),
+        }
+    }
+
+    /// A client connects from one of the three addresses. The answer is its number.
+    pub fn connect(&mut self, address: usize) -> Result<usize, AllocError> {
+        let number = self.visitors.len();
+        self.visitors.push(Visitor::new(self.alloc, address))?;
+        Ok(number)
+    }
+
+    /// How many bytes a client may send.
+    pub fn room(&self, client: usize) -> usize {
+        self.visitors
+            .get(client)
+            .map_or(0, |visitor| visitor.room())
+    }
+
+    pub fn receive(&mut self, client: usize, bytes: &[u8]) -> Result<(), AllocError> {
+        match self.visitors.get_mut(client) {
+            Some(visitor) => visitor.receive(&self.history, self.title, bytes),
+            None => Ok(()),
+        }
+    }
+
+    /// What waits for a client, once it is offered something.
+    pub fn waiting(&mut self, client: usize) -> Result<Waiting, AllocError> {
+        match self.visitors.get_mut(client) {
+            Some(visitor) => visitor.waiting(&self.history),
+            None => Ok(Waiting::TheEnd),
+        }
+    }
+
+    /// At most so many of the bytes that wait for a client, and whether it is told the end.
+    pub fn take(&mut self, client: usize, count: usize) -> Result<(Vec<u8>, bool), AllocError> {
+        match self.visitors.get_mut(client) {
+            Some(visitor) => visitor.take(&self.history, self.title, count),
+            None => Ok((Vec::new(self.alloc), true)),
+        }
+    }
+
+    pub fn close(&mut self, client: usize) {
+        if let Some(visitor) = self.visitors.get_mut(client) {
+            visitor.close();
+        }
+    }
+
+    /// A record comes. Whether it is a station's.
+    pub fn arrive(&mut self, arrival: &Arrival) -> Result<bool, AllocError> {
+        self.history.add(arrival)
+    }
+}
