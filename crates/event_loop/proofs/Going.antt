@@ -62,7 +62,7 @@ world_from-then config w es more keeps = world_from-append config w es more ∙ 
 pub world_beyond-append : (config : Config) (w : World) (ds es : List Deed) →
     world_beyond config w (ds ++ es) ≡ world_beyond config (world_beyond config w ds) es
 world_beyond-append config w ds es =
-    ap (world_from config w) (flat_map-append events_of ds es) 
+    ap (world_from config w) (flat_map-append events_of ds es)
     ∙ world_from-then config w (events_in ds) (events_in es) (deeds-keep config ds)
 
 pub tallied-append : (t : Tally) (ds es : List Deed) → tallied t (ds ++ es) ≡ tallied (tallied t ds) es

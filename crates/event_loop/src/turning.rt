@@ -1,7 +1,8 @@
 //! The loop: what happens at its ports, and each port's pass in turn.
-ghost use Rattle.std.specs.Prelude.{◌≡◌, ◌≤◌, ℕ, [], IfOk, OnErr, codes};
-ghost use Rattle.protocol.specs.Catalog.{Config as ProtocolConfig};
-ghost use Rattle.protocol.specs.World.{World, empty_world};
+ghost use Rattle.std.specs.Prelude.{◌≡◌, ◌≤◌, ℕ, [], IfOk, OnErr, codes, is_ok};
+ghost use Rattle.protocol.specs.Catalog.{Config as ProtocolConfig, is_same_but_for_access};
+ghost use Rattle.protocol.specs.World.{World, config_by, empty_world, step};
+ghost use Rattle.protocol.specs.World.Event.{Reload};
 ghost use Rattle.server_core.specs.Standing.{StandsAt};
 ghost use Rattle.sl_io.specs.Counts.{IsMore};
 ghost use Rattle.event_loop.specs.Deeds.{Tally};
@@ -18,7 +19,7 @@ use crate::seat::{Role, Seat};
 use catalog::Config;
 use ports::Ports;
 use protocol::report::Report;
-use server_core::Server;
+use server_core::{ReloadFault, Server};
 use std::alloc::{AllocError, Global};
 use thiserror::Error;
 
@@ -184,6 +185,22 @@ impl<P: Ports> Loop<P> {
             quiet: heard.quiet,
             dropped,
         })
+    }
+
+    /// A new configuration comes into force, as at the server: clients whose address has another view under it than at their
+    /// open are cut, and all others go on. It fails with 34 Different where it differs from the present one in more than
+    /// the lists of addresses, and then nothing changes. No port is called: what a turn hands next is of the new lists.
+    pub fn reload(&mut self, config: Config) -> Result<(), ReloadFault>
+        ensures stands { (old : ProtocolConfig) (w : World) → StandsAt self.old.server old w →
+            StandsAt self.new.server (config_by old (Reload config)) (step old w (Reload config)) }
+        ensures answer { is_ok result ≡ is_same_but_for_access self.old.server.config config }
+        ensures unchanged { OnErr result (self.new.server ≡ self.old.server) }
+        ensures ports { self.new.ports ≡ self.old.ports }
+        ensures seats { self.new.seats.items ≡ self.old.seats.items }
+        ensures most { self.new.most ≡ self.old.most }
+    {
+        let _ = &self.ports;
+        self.server.reload(config)
     }
 
     /// The ports.

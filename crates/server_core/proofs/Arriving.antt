@@ -23,7 +23,7 @@ use Rattle.server_core.specs.declared.arrivals.ArriveFault.{ArriveFault}
 use Rattle.server_core.specs.declared.arrivals.ArriveFault.TheVariants.{UnknownStation}
 use Rattle.server_core.specs.Arrivals.{answer_to, numbered, place_of, place_or_unknown, placed_by, IsPlaced}
 use Rattle.slab.specs.Slab.{Slab}
-use Rattle.server_core.specs.Standing.{IsSettled, Serving, StandsAt, seated, Seat, AreSettled}
+use Rattle.server_core.specs.Standing.{IsSettled, Serving, StandsAt, seated, addressed, Seat, AreSettled}
 
 -- ---- who a record is of
 
@@ -100,8 +100,8 @@ seated-later config h later (Some (Some s)) settled = ap (λ c. let x : Option S
 abbrev pub Arrives : Holdings → Holdings → ℕ → List ℕ → Summary → Type 0
 Arrives old new place bytes summary = (config : Config) (h : List Arrival) (a : Arrival) → old ≡ holdings_of config h → HasDistinctCodes config.entries → is_of (station_at config.entries place) a ≡ true → a.bytes ≡ bytes → summary_of a.facts ≡ summary → new ≡ holdings_of config (h ++ a ∷ [])
 
-pub arrive-stands : (old new : Serving) (r : List ℕ) (place : ℕ) (summary : Summary) → IsPlaced old.config r place summary → new.config ≡ old.config → new.sessions ≡ old.sessions → HasDistinctCodes old.config.entries → ((k : ℕ) (s : Sitting) → slice_get old.sessions k ≡ Some (Some s) → IsSettled old.config old.rings s) → Arrives old.rings new.rings place r summary → (config : Config) (w : World) → StandsAt old config w → StandsAt new config (step config w (Arrive r))
-arrive-stands old new r place summary is same kept distinct settled arrives config w stands = subst (λ c. StandsAt new c (step c w (Arrive r))) stands.config_is here
+pub arrive-stands : (old new : Serving) (r : List ℕ) (place : ℕ) (summary : Summary) → IsPlaced old.config r place summary → new.config ≡ old.config → new.sessions ≡ old.sessions → new.addresses ≡ old.addresses → HasDistinctCodes old.config.entries → ((k : ℕ) (s : Sitting) → slice_get old.sessions k ≡ Some (Some s) → IsSettled old.config old.rings s) → Arrives old.rings new.rings place r summary → (config : Config) (w : World) → StandsAt old config w → StandsAt new config (step config w (Arrive r))
+arrive-stands old new r place summary is same kept from distinct settled arrives config w stands = subst (λ c. StandsAt new c (step c w (Arrive r))) stands.config_is here
   where
     a : Arrival
     a = arrival_of r is.facts
@@ -118,6 +118,7 @@ arrive-stands old new r place summary is same kept distinct settled arrives conf
       holds = holds ∙ ap (λ g. holdings_of g (w.history ++ a ∷ [])) (sym same);
       count = ap length kept ∙ stands.count;
       clients = λ k. ap (λ l. seated old.config (w.history ++ a ∷ []) (slice_get l k)) kept ∙ later k ∙ ap (λ g. seated g w.history (slice_get old.sessions k)) stands.config_is ∙ stands.clients k;
+      addresses = λ k. ap (λ l. addressed (slice_get l k)) from ∙ stands.addresses k;
     }
 
     here : StandsAt new old.config (step old.config w (Arrive r))

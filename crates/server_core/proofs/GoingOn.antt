@@ -9,7 +9,7 @@ use Rattle.held_records.specs.Holdings.{Holdings}
 use Rattle.protocol.specs.History.{Arrival}
 use Rattle.session_state.specs.Sessions.{Sitting, client_in}
 use Rattle.server_core.specs.declared.clients.Clients.{Clients}
-use Rattle.server_core.specs.Clients.{IsTable, session_of, sessions_of, slot_in}
+use Rattle.server_core.specs.Clients.{IsTable, session_of, sessions_of, addresses_of, slot_in}
 use Rattle.server_core.specs.Standing.{Serving, SlotGoesOn, StandsAt, seat_client, seated, taking}
 use Rattle.server_core.proofs.Numbers.{slot_in-below}
 use Rattle.server_core.proofs.Slots.{goes-by-number, nowhere-goes, session-is, session-nowhere, session-there, sessions-counted}
@@ -18,17 +18,18 @@ use Rattle.server_core.proofs.Taking.{same-at}
 
 -- a server of these clients, with no marks
 abbrev pub serving : Config → Holdings → Clients → Serving
-serving g rings c = record { config = g; rings = rings; sessions = sessions_of c; marks = [] }
+serving g rings c = record { config = g; rings = rings; sessions = sessions_of c; addresses = addresses_of c; marks = [] }
 
 -- What a server stands for is the same with whatever marks.
 pub with-marks : (server : Serving) (marks : List Bool) (config : Config) (w : World) → StandsAt server config w → StandsAt (record server { marks = marks }) config w
-with-marks server marks config w stands = record { config_is = stands.config_is; holds = stands.holds; count = stands.count; clients = stands.clients }
+with-marks server marks config w stands = record { config_is = stands.config_is; holds = stands.holds; count = stands.count; clients = stands.clients; addresses = stands.addresses }
 
 -- Where a client was looked for, a server stands for what it stood for before.
-pub found : (g : Config) (rings : Holdings) (before after : Clients) (marks : List Bool) (server : Serving) (config : Config) (w : World) → record (serving g rings before) { marks = marks } ≡ server → sessions_of after ≡ sessions_of before → StandsAt server config w → StandsAt (serving g rings after) config w
-found g rings before after marks server config w is same stands =
-    subst (λ (xs : List (Option Sitting)). StandsAt (record { config = g; rings = rings; sessions = xs; marks = [] }) config w) (sym same)
-    (with-marks (record (serving g rings before) { marks = marks }) [] config w (subst (λ s. StandsAt s config w) (sym is) stands))
+pub found : (g : Config) (rings : Holdings) (before after : Clients) (marks : List Bool) (server : Serving) (config : Config) (w : World) → record (serving g rings before) { marks = marks } ≡ server → sessions_of after ≡ sessions_of before → addresses_of after ≡ addresses_of before → StandsAt server config w → StandsAt (serving g rings after) config w
+found g rings before after marks server config w is same from stands =
+    subst (λ (xs : List (Option Sitting)). StandsAt (record { config = g; rings = rings; sessions = xs; addresses = addresses_of after; marks = [] }) config w) (sym same)
+    (subst (λ (from_ : List (Option ℕ)). StandsAt (record { config = g; rings = rings; sessions = sessions_of before; addresses = from_; marks = [] }) config w) (sym from)
+    (with-marks (record (serving g rings before) { marks = marks }) [] config w (subst (λ s. StandsAt s config w) (sym is) stands)))
 
 -- The client of a number is that of its session.
 as-client : (g : Config) (h : List Arrival) (xs : List (Option Sitting)) (k : ℕ) → option_map (client_in g h) (slice_index_or xs k None) ≡ seat_client (seated g h (slice_get xs k))
@@ -42,9 +43,9 @@ seen-by server number config w stands = as-client server.config w.history server
 
 module _ (g : Config) (rings : Holdings) (c : Clients) (number : ℕ) (config : Config) (w : World) where
   pub goes-there : (f : View → Client → Client) (new : Slab Sitting) (slot : ℕ) → IsTable c → slot_in c.opened.items number ≡ Some slot → SlotGoesOn g w.history c.slots new slot f → StandsAt (serving g rings c) config w → StandsAt (serving g rings (record c { slots = new })) config (record w { connections = at w.connections number (changed f) })
-  unfolding sessions_of
+  unfolding sessions_of addresses_of
   goes-there f new slot table there goes stands =
-      client-stands f (serving g rings c) (serving g rings (record c { slots = new })) number refl refl (sessions-counted (record c { slots = new }) ∙ sym (sessions-counted c)) config w
+      client-stands f (serving g rings c) (serving g rings (record c { slots = new })) number refl refl (sessions-counted (record c { slots = new }) ∙ sym (sessions-counted c)) refl config w
       (goes-by-number g w.history c.opened.items c.slots new c.opens number slot f table.apart there (slot_in-below c.opens c.opened.items number slot table.below there) goes)
       stands
 
@@ -54,7 +55,7 @@ module _ (g : Config) (rings : Holdings) (c : Clients) (number : ℕ) (config : 
 
   pub goes-nowhere : (f : View → Client → Client) → slot_in c.opened.items number ≡ None → StandsAt (serving g rings c) config w → StandsAt (serving g rings c) config (record w { connections = at w.connections number (changed f) })
   goes-nowhere f none stands =
-      client-stands f (serving g rings c) (serving g rings c) number refl refl refl config w
+      client-stands f (serving g rings c) (serving g rings c) number refl refl refl refl config w
       (nowhere-goes g w.history (sessions_of c) number f (session-nowhere g w.history c number none)) stands
 
   pub seen-there : (slot : ℕ) → IsTable c → slot_in c.opened.items number ≡ Some slot → StandsAt (serving g rings c) config w → seat_client (seated g w.history (Some (get c.slots slot))) ≡ client_of (slice_get w.connections number)

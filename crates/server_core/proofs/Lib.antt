@@ -9,3 +9,4 @@ pub mod Taking
 pub mod Rows
 pub mod Marking
 pub mod Sparing
+mod ReloadLemmas

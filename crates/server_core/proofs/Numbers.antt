@@ -8,12 +8,14 @@ use Rattle.std.specs.Ordering.{nat_cmp, ordering_index}
 use Rattle.std.specs.declared.result.Result.{Result}
 use Rattle.std.specs.declared.result.Result.TheVariants.{Ok, Err}
 use Rattle.std.proofs.lemmas.Cmp.{ranked}
+use Rattle.std.proofs.lemmas.Bool.{ltb-true, ltb-false}
+use Rattle.std.specs.Net.Addr.{ipv4_bits}
 use Rattle.std.proofs.lemmas.Bool.Decides.{nat_tests}
 use Rattle.std.proofs.lemmas.List.{get_or_default}
 use Rattle.std.proofs.lemmas.List.Sorted.{IsNonDecreasingBy-from_default}
 use Rattle.protocol.proofs.Found.{both}
 use Rattle.server_core.specs.declared.clients.Opened.{Opened}
-use Rattle.server_core.specs.Clients.{AreAbove, AreBelow, AreRising, IsNumberAt, no_one, number_at, slot_in}
+use Rattle.server_core.specs.Clients.{AreAbove, AreBelow, AreApart, AreRising, IsNumberAt, address_in, no_one, number_at, slot_in}
 
 -- ---- tests of numbers
 
@@ -155,3 +157,67 @@ below-less n [] zero h = tt
 below-less n [] (suc at) h = tt
 below-less n (o ∷ os) zero h = h.1
 below-less n (o ∷ os) (suc at) h = (h.0, below-less n os at h.1)
+
+-- ---- the same of addresses
+no-address-above : (n : ℕ) (os : List Opened) (k : ℕ) → k ≤ n → AreAbove n os → address_in os k ≡ None
+no-address-above n [] k le h = refl
+no-address-above n (o ∷ os) k le h = rw (is-not-above o.number k (omega (arith, le, h.0))) (no-address-above n os k le h.1)
+
+pub no-address-below : (n : ℕ) (os : List Opened) (k : ℕ) → n ≤ k → AreBelow n os → address_in os k ≡ None
+no-address-below n [] k le h = refl
+no-address-below n (o ∷ os) k le h = rw (is-not o.number k (omega (arith, le, h.0))) (no-address-below n os k le h.1)
+
+pub address_in-more : (os : List Opened) (o : Opened) (k : ℕ) → (o.number ≡ k → ⊥) → address_in (os ++ o ∷ []) k ≡ address_in os k
+address_in-more [] o k apart = rw (differs o.number k apart) refl
+address_in-more (x ∷ os) o k apart = ap (λ r. if x.number == k then Some (ipv4_bits x.address) else r) (address_in-more os o k apart)
+
+pub address_in-new : (os : List Opened) (o : Opened) → AreBelow o.number os → address_in (os ++ o ∷ []) o.number ≡ Some (ipv4_bits o.address)
+address_in-new [] o h = rw (is-same o.number o.number refl) refl
+address_in-new (x ∷ os) o h = rw (is-not x.number o.number h.0) (address_in-new os o h.1)
+
+pub address_in-gone : (os : List Opened) (n at : ℕ) → AreRising os → IsNumberAt os n at → address_in (remove os at) n ≡ None
+address_in-gone [] n at h is = absurd (omega (arith, is.inside))
+address_in-gone (o ∷ os) n zero h is = no-address-above o.number os n (omega (arith, is.has_number)) h.0
+address_in-gone (o ∷ os) n (suc at) h is =
+    let later = tail-at o os n at is in
+    rw (is-not o.number n (lower-than-later o os n at h.0 later)) (address_in-gone os n at h.1 later)
+
+pub address_in-less : (os : List Opened) (n at k : ℕ) → (k ≡ n → ⊥) → IsNumberAt os n at → address_in (remove os at) k ≡ address_in os k
+address_in-less [] n at k apart is = absurd (omega (arith, is.inside))
+address_in-less (o ∷ os) n zero k apart is = sym (rw (differs o.number k (λ e. apart (sym e ∙ is.has_number))) refl)
+address_in-less (o ∷ os) n (suc at) k apart is = ap (λ r. if o.number == k then Some (ipv4_bits o.address) else r) (address_in-less os n at k apart (tail-at o os n at is))
+
+-- ---- slots at places
+unfoldable pub slot_at : List Opened → ℕ → ℕ
+slot_at os i = let o : Opened = slice_index_or os i no_one in o.slot
+
+unfoldable pub bits_at : List Opened → ℕ → ℕ
+bits_at os i = let o : Opened = slice_index_or os i no_one in ipv4_bits o.address
+
+-- a number that has a slot stands at a place
+pub record IsPlacedAt (os : List Opened) (k slot i : ℕ) : Type 0 where
+  pub inside : i < length os
+  pub has_slot : slot_at os i ≡ slot
+  pub has_address : address_in os k ≡ Some (bits_at os i)
+
+pub place-of : (os : List Opened) (k slot : ℕ) → slot_in os k ≡ Some slot → (i : ℕ) × IsPlacedAt os k slot i
+unfolding slot_at bits_at
+place-of [] k slot e = absurd cc
+place-of (o ∷ os) k slot e =
+    both (o.number == k)
+    (λ y. let same : Some o.slot ≡ Some slot = rw y at e in (zero, record { inside = omega arith; has_slot = cc; has_address = rw y refl }))
+    (λ n. let later = place-of os k slot (rw n at e) in
+    (suc later.0, record { inside = let w = later.1.inside in omega (arith, w); has_slot = later.1.has_slot; has_address = rw n later.1.has_address }))
+
+-- At different places are different slots.
+pub slots-apart : (os : List Opened) → AreRising os → AreApart os → (i j : ℕ) → i < length os → j < length os → slot_at os i ≡ slot_at os j → i ≡ j
+unfolding slot_at
+slots-apart os rising apart i j lt lt' same =
+    let first = slot-at os (number_at os i) i rising (record { inside = lt; has_number = refl }) in
+    let second = slot-at os (number_at os j) j rising (record { inside = lt'; has_number = refl }) in
+    let numbers : number_at os i ≡ number_at os j = apart (number_at os i) (number_at os j) (slot_at os i) first (second ∙ ap Some (sym same)) in
+    both (nat_lt i j)
+    (λ below. let less = rise os rising i j (ltb-true i j below) lt' in absurd (omega (arith, less, numbers)))
+    (λ not-below. both (nat_lt j i)
+    (λ above. let less = rise os rising j i (ltb-true j i above) lt in absurd (omega (arith, less, numbers)))
+    (λ not-above. let a = ltb-false i j not-below in let b = ltb-false j i not-above in omega (arith, a, b)))

@@ -2,6 +2,8 @@
 use Rattle.std.proofs.Common.{◌≡◌, ℕ, zero, suc, ◌+◌, ◌<◌, ◌≤◌, ◌==◌, nat_lt, List, [], ◌∷◌, ◌++◌, map, length, slice_get, slice_set, slice_index_or, Option, Some, None, unwrap_or, refl, sym, ap, ap₂, subst, ◌∙◌, arith, eqb-true}
 use Rattle.std.specs.Prelude.{IsSome, ◌≢◌}
 use Rattle.std.specs.List.{range_with_len, remove}
+use Rattle.std.specs.Net.Addr.{ipv4_bits}
+use Rattle.std.specs.declared.net.ipv4_addr.Ipv4Addr.{Ipv4Addr}
 use Rattle.std.proofs.lemmas.Bool.{eqb-false}
 use Rattle.std.proofs.lemmas.List.FromFn.{length-map-range_with_len, map-range_with_len_more}
 use Rattle.slab.specs.Slab.{Slab, get, with_value, Updates}
@@ -15,9 +17,9 @@ use Rattle.held_records.specs.Holdings.{Holdings}
 use Rattle.session_state.specs.Sessions.{Sitting}
 use Rattle.server_core.specs.declared.clients.Opened.{Opened}
 use Rattle.server_core.specs.declared.clients.Clients.{Clients}
-use Rattle.server_core.specs.Clients.{AreApart, AreBelow, AreRising, IsNumberAt, IsTable, in_slot, session_of, sessions_of, slot_in}
+use Rattle.server_core.specs.Clients.{AreApart, AreBelow, AreRising, IsNumberAt, IsTable, in_slot, session_of, sessions_of, address_in, addresses_of, slot_in}
 use Rattle.server_core.specs.Standing.{AreSettled, IsSettled, OnlyGoesOn, SlotGoesOn, StayOpen, goes_on, seated}
-use Rattle.server_core.proofs.Numbers.{below-less, below-more, none-below, rising-less, rising-more, slot_in-below, slot_in-gone, slot_in-less, slot_in-more, slot_in-new}
+use Rattle.server_core.proofs.Numbers.{below-less, below-more, none-below, rising-less, rising-more, slot_in-below, slot_in-gone, slot_in-less, slot_in-more, slot_in-new, address_in-gone, address_in-less, address_in-more, address_in-new}
 
 -- ---- values of numbers, as a list
 
@@ -190,9 +192,9 @@ written-table c new table kept = record { rising = table.rising; below = table.b
 
 -- ---- one more
 
-module _ (c new : Clients) (slot : ℕ) (s : Sitting) where
+module _ (c new : Clients) (slot : ℕ) (address : Ipv4Addr) (s : Sitting) where
   abbrev one : Opened
-  one = record { number = c.opens; slot = slot }
+  one = record { number = c.opens; slot = slot; address = address }
 
   pub opens-table : IsTable c → new.opens ≡ c.opens + 1 → new.opened.items ≡ c.opened.items ++ one ∷ [] → get c.slots slot ≡ None → Updates c.slots new.slots slot (Some s) → IsTable new
   opens-table table opens opened vacant updates = record {
@@ -278,3 +280,50 @@ pub closes-nothing : (c : Clients) (number : ℕ) → slot_in c.opened.items num
 unfolding sessions_of
 closes-nothing c number none =
     values-set (session_of c.opened.items c.slots) (session_of c.opened.items c.slots) 0 c.opens number number None (omega arith) (λ j other. refl) (ap (in_slot c.slots) none)
+
+-- ---- addresses
+pub addresses-counted : (c : Clients) → length (addresses_of c) ≡ c.opens
+unfolding addresses_of
+addresses-counted c = length-map-range_with_len (address_in c.opened.items) 0 c.opens
+
+-- They are the same where the numbers are.
+pub same-addresses : (c d : Clients) → d.opens ≡ c.opens → d.opened.items ≡ c.opened.items → addresses_of d ≡ addresses_of c
+unfolding addresses_of
+same-addresses c d opens opened =
+    ap (λ n. map (address_in d.opened.items) (range_with_len 0 n)) opens ∙ ap (λ os. map (address_in os) (range_with_len 0 c.opens)) opened
+
+pub opens-addresses : (c new : Clients) (slot : ℕ) (address : Ipv4Addr) → IsTable c → new.opens ≡ c.opens + 1 → new.opened.items ≡ c.opened.items ++ record { number = c.opens; slot = slot; address = address } ∷ [] → addresses_of new ≡ addresses_of c ++ Some (ipv4_bits address) ∷ []
+unfolding addresses_of
+opens-addresses c new slot address table opens opened =
+    let one : Opened = record { number = c.opens; slot = slot; address = address } in
+    ap (λ n. map (address_in new.opened.items) (range_with_len 0 n)) opens
+    ∙ ap (λ os. map (address_in os) (range_with_len 0 (c.opens + 1))) opened
+    ∙ map-range_with_len_more (address_in (c.opened.items ++ one ∷ [])) 0 c.opens c.opens (omega arith)
+    ∙ ap₂ (λ xs x. xs ++ x ∷ [])
+    (values-same (address_in (c.opened.items ++ one ∷ [])) (address_in c.opened.items) 0 c.opens (λ j le lt. address_in-more c.opened.items one j (λ e. omega (arith, lt, e))))
+    (address_in-new c.opened.items one table.below)
+
+pub closes-addresses : (c new : Clients) (number at : ℕ) → IsTable c → IsNumberAt c.opened.items number at → new.opens ≡ c.opens → new.opened.items ≡ remove c.opened.items at → addresses_of new ≡ slice_set (addresses_of c) number None
+unfolding addresses_of
+closes-addresses c new number at table is opens opened =
+    ap (λ n. map (address_in new.opened.items) (range_with_len 0 n)) opens
+    ∙ ap (λ os. map (address_in os) (range_with_len 0 c.opens)) opened
+    ∙ values-set (address_in c.opened.items) (address_in (remove c.opened.items at)) 0 c.opens number number None (omega arith)
+    (λ j other. address_in-less c.opened.items number at j other is)
+    (address_in-gone c.opened.items number at table.rising is)
+
+-- A number that is not open has no address.
+no-address : (os : List Opened) (number : ℕ) → slot_in os number ≡ None → address_in os number ≡ None
+no-address [] number none = refl
+no-address (o ∷ os) number none = both (o.number == number) (λ y. absurd (let q : Some o.slot ≡ None = rw y at none in cc)) (λ n. rw n (no-address os number (rw n at none)))
+
+pub closes-no-address : (c : Clients) (number : ℕ) → slot_in c.opened.items number ≡ None → addresses_of c ≡ slice_set (addresses_of c) number None
+unfolding addresses_of
+closes-no-address c number none =
+    values-set (address_in c.opened.items) (address_in c.opened.items) 0 c.opens number number None (omega arith) (λ j other. refl) (no-address c.opened.items number none)
+
+-- The address of an open number is the one in the table.
+pub address-there : (c : Clients) (k slot : ℕ) → IsTable c → slot_in c.opened.items k ≡ Some slot → slice_get (addresses_of c) k ≡ Some (address_in c.opened.items k)
+unfolding addresses_of
+address-there c k slot table e =
+    value-inside (address_in c.opened.items) 0 c.opens k k (slot_in-below c.opens c.opened.items k slot table.below e) (omega arith)

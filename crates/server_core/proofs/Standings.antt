@@ -13,7 +13,7 @@ use Rattle.session_state.specs.Sessions.{Sitting, client_in, sitting_view}
 use Rattle.server_core.proofs.Offering.{offered-waiting}
 use Rattle.catalog.specs.Places.{view_in}
 use Rattle.protocol.specs.History.{Arrival}
-use Rattle.server_core.specs.Standing.{taking, Serving, seat_client, seat_of, Seat, seated, seat_with, seat_at, goes_on, StandsAt, OnlyGoesOn, SlotGoesOn}
+use Rattle.server_core.specs.Standing.{taking, Serving, seat_client, seat_of, Seat, seated, seat_with, seat_at, address_with, address_at, addressed, goes_on, StandsAt, OnlyGoesOn, SlotGoesOn}
 
 seat_with-changed : (f : View → Client → Client) (v : View) (o : Option Client) → seat_with v (option_map (f v) o) ≡ goes_on f (seat_with v o)
 seat_with-changed f v None = refl
@@ -34,17 +34,33 @@ goes_on-stands config h old new w k f goes clients j =
     let apart : k ≡ j → ⊥ = eqb-false k j e in
     ap (seated config h) (goes.others j (λ q. apart (sym q))) ∙ clients j ∙ ap seat_at (sym (slice_get-at_apart w.connections k j (changed f) apart)))
 
+address_with-changed : (a : ℕ) (f : Client → Client) (o : Option Client) → address_with a (option_map f o) ≡ address_with a o
+address_with-changed a f None = refl
+address_with-changed a f (Some c) = refl
+
+address_at-changed : (f : View → Client → Client) (x : Option Connection) → address_at (option_map (changed f) x) ≡ address_at x
+address_at-changed f None = refl
+address_at-changed f (Some k) = address_with-changed k.address (f k.view) k.client
+
+-- what one client does changes no address
+changed-addresses : (cs : List Connection) (k : ℕ) (f : View → Client → Client) (j : ℕ) → address_at (slice_get (at cs k (changed f)) j) ≡ address_at (slice_get cs j)
+changed-addresses cs k f j =
+    both (k == j)
+    (λ e. ap address_at (slice_get-at_here cs k j (changed f) e) ∙ address_at-changed f (slice_get cs j))
+    (λ e. ap address_at (slice_get-at_apart cs k j (changed f) (eqb-false k j e)))
+
 -- what one client does, of whatever kind
-pub client-stands : (f : View → Client → Client) (old new : Serving) (number : ℕ) → new.config ≡ old.config → new.rings ≡ old.rings → length new.sessions ≡ length old.sessions → (config : Config) (w : World) → OnlyGoesOn old.config w.history old.sessions new.sessions number f → StandsAt old config w → StandsAt new config (record w { connections = at w.connections number (changed f) })
-client-stands f old new number same kept longer config w goes stands =
+pub client-stands : (f : View → Client → Client) (old new : Serving) (number : ℕ) → new.config ≡ old.config → new.rings ≡ old.rings → length new.sessions ≡ length old.sessions → new.addresses ≡ old.addresses → (config : Config) (w : World) → OnlyGoesOn old.config w.history old.sessions new.sessions number f → StandsAt old config w → StandsAt new config (record w { connections = at w.connections number (changed f) })
+client-stands f old new number same kept longer from config w goes stands =
     record {
       config_is = same ∙ stands.config_is;
       holds = kept ∙ stands.holds ∙ ap (λ g. holdings_of g w.history) (sym same);
       count = longer ∙ stands.count ∙ sym (length-at w.connections number (changed f));
       clients = goes_on-stands config w.history old.sessions new.sessions w number f (subst (λ g. OnlyGoesOn g w.history old.sessions new.sessions number f) stands.config_is goes) stands.clients;
+      addresses = λ j. ap (λ l. addressed (slice_get l j)) from ∙ stands.addresses j ∙ sym (changed-addresses w.connections number f j);
     }
 
-set_apart : (xs : List (Option Sitting)) (k j : ℕ) (x : Option Sitting) → (k ≡ j → ⊥) → slice_get (slice_set xs k x) j ≡ slice_get xs j
+set_apart : {A : Type 0} (xs : List A) (k j : ℕ) (x : A) → (k ≡ j → ⊥) → slice_get (slice_set xs k x) j ≡ slice_get xs j
 set_apart [] k j x apart = refl
 set_apart (y ∷ xs) zero zero x apart = absurd (apart refl)
 set_apart (y ∷ xs) zero (suc j) x apart = refl
@@ -90,8 +106,8 @@ pushed f g (a ∷ xs) [] x y e h here k = absurd (omega (arith, e))
 pushed f g (a ∷ xs) (b ∷ ys) x y e h here zero = h zero
 pushed f g (a ∷ xs) (b ∷ ys) x y e h here (suc k) = pushed f g xs ys x y (omega (arith, e)) (λ i. h (suc i)) here k
 
-pub open-stands : (old new : Serving) (s : Sitting) (a : ℕ) → new.config ≡ old.config → new.rings ≡ old.rings → new.sessions ≡ old.sessions ++ Some s ∷ [] → view_in old.config s.places ≡ view_of old.config a → ((h : List Arrival) → client_in old.config h s ≡ new_client) → (config : Config) (w : World) → StandsAt old config w → StandsAt new config (step config w (Open a))
-open-stands old new s a same kept longer view client config w stands =
+pub open-stands : (old new : Serving) (s : Sitting) (a : ℕ) → new.config ≡ old.config → new.rings ≡ old.rings → new.sessions ≡ old.sessions ++ Some s ∷ [] → new.addresses ≡ old.addresses ++ Some a ∷ [] → length old.addresses ≡ length old.sessions → view_in old.config s.places ≡ view_of old.config a → ((h : List Arrival) → client_in old.config h s ≡ new_client) → (config : Config) (w : World) → StandsAt old config w → StandsAt new config (step config w (Open a))
+open-stands old new s a same kept longer from counted view client config w stands =
     let x = opened config a in
     let v : view_in config s.places ≡ view_of config a = rw stands.config_is at view in
     let c : client_in config w.history s ≡ new_client = rw stands.config_is at (client w.history) in
@@ -101,6 +117,7 @@ open-stands old new s a same kept longer view client config w stands =
       holds = kept ∙ stands.holds ∙ ap (λ g. holdings_of g w.history) (sym same);
       count = ap length longer ∙ length-append old.sessions (Some s ∷ []) ∙ ap (λ n. n + 1) stands.count ∙ sym (length-append w.connections (x ∷ []));
       clients = λ k. ap (λ l. seated config w.history (slice_get l k)) longer ∙ pushed (seated config w.history) seat_at old.sessions w.connections (Some s) x stands.count stands.clients here k;
+      addresses = λ k. ap (λ l. addressed (slice_get l k)) from ∙ pushed addressed address_at old.addresses w.connections (Some a) x (counted ∙ stands.count) stands.addresses refl k;
     }
 
 -- ---- a client that is gone
@@ -118,8 +135,17 @@ length-set_one [] k x = refl
 length-set_one (y ∷ xs) zero x = refl
 length-set_one (y ∷ xs) (suc k) x = ap suc (length-set_one xs k x)
 
-pub close-stands : (old new : Serving) (number : ℕ) → new.config ≡ old.config → new.rings ≡ old.rings → new.sessions ≡ slice_set old.sessions number None → (config : Config) (w : World) → StandsAt old config w → StandsAt new config (step config w (Close number))
-close-stands old new number same kept set config w stands =
+address_at-closed : (x : Option Connection) → address_at (option_map closed x) ≡ None
+address_at-closed None = refl
+address_at-closed (Some k) = refl
+
+addressed_nobody : (xs : List (Option ℕ)) (k : ℕ) → addressed (slice_get (slice_set xs k None) k) ≡ None
+addressed_nobody [] k = refl
+addressed_nobody (x ∷ xs) zero = refl
+addressed_nobody (x ∷ xs) (suc k) = addressed_nobody xs k
+
+pub close-stands : (old new : Serving) (number : ℕ) → new.config ≡ old.config → new.rings ≡ old.rings → new.sessions ≡ slice_set old.sessions number None → new.addresses ≡ slice_set old.addresses number None → (config : Config) (w : World) → StandsAt old config w → StandsAt new config (step config w (Close number))
+close-stands old new number same kept set unset config w stands =
     record {
       config_is = same ∙ stands.config_is;
       holds = kept ∙ stands.holds ∙ ap (λ g. holdings_of g w.history) (sym same);
@@ -132,4 +158,12 @@ close-stands old new number same kept set config w stands =
           (seated_nobody config w.history old.sessions number ∙ sym (ap seat_at (slice_get-at_same w.connections number closed) ∙ seat_at-closed (slice_get w.connections number))))
           (λ n. let apart = eqb-false number k n in
           ap (seated config w.history) (set_apart old.sessions number k None apart) ∙ stands.clients k ∙ ap seat_at (sym (slice_get-at_apart w.connections number k closed apart)));
+      addresses = λ k.
+          ap (λ l. addressed (slice_get l k)) unset
+          ∙ both (number == k)
+          (λ y. let e : number ≡ k = eqb-true number k y in
+          subst (λ i. addressed (slice_get (slice_set old.addresses number None) i) ≡ address_at (slice_get (at w.connections number closed) i)) e
+          (addressed_nobody old.addresses number ∙ sym (ap address_at (slice_get-at_same w.connections number closed) ∙ address_at-closed (slice_get w.connections number))))
+          (λ n. let apart = eqb-false number k n in
+          ap addressed (set_apart old.addresses number k None apart) ∙ stands.addresses k ∙ ap address_at (sym (slice_get-at_apart w.connections number k closed apart)));
     }

@@ -2,6 +2,7 @@
 -- This project's own.
 use Rattle.std.specs.Prelude.{◌≡◌, ℕ, ◌<◌, ◌==◌, if◌then◌else◌, List, [], ◌∷◌, map, length, Option, Some, None, IsSome, slice_index_or}
 use Rattle.std.specs.List.{range_with_len}
+use Rattle.std.specs.Net.Addr.{ipv4_bits}
 use Rattle.slab.specs.Slab.{Slab, get}
 use Rattle.session_state.specs.Sessions.{Sitting}
 use Rattle.server_core.specs.declared.clients.Opened.{Opened}
@@ -11,6 +12,11 @@ use Rattle.server_core.specs.declared.clients.Clients.{Clients}
 abbrev pub slot_in : List Opened → ℕ → Option ℕ
 slot_in [] k = None
 slot_in (o ∷ os) k = if o.number == k then Some o.slot else slot_in os k
+
+-- the address of a number, where its client is open
+abbrev pub address_in : List Opened → ℕ → Option ℕ
+address_in [] k = None
+address_in (o ∷ os) k = if o.number == k then Some (ipv4_bits o.address) else address_in os k
 
 -- the session in a slot
 abbrev pub in_slot : Slab Sitting → Option ℕ → Option Sitting
@@ -24,6 +30,10 @@ session_of os slots k = in_slot slots (slot_in os k)
 -- the sessions of all clients that ever opened
 unfoldable pub sessions_of : Clients → List (Option Sitting)
 sessions_of c = map (session_of c.opened.items c.slots) (range_with_len 0 c.opens)
+
+-- the addresses of all clients that ever opened, while they are open
+unfoldable pub addresses_of : Clients → List (Option ℕ)
+addresses_of c = map (address_in c.opened.items) (range_with_len 0 c.opens)
 
 -- All numbers are above one.
 abbrev pub AreAbove : ℕ → List Opened → Type 0
@@ -42,7 +52,7 @@ AreRising (o ∷ os) = AreAbove o.number os × AreRising os
 
 -- an entry where there is none
 abbrev pub no_one : Opened
-no_one = record { number = 0; slot = 0 }
+no_one = record { number = 0; slot = 0; address = record { octets = 0 ∷ 0 ∷ 0 ∷ 0 ∷ [] } }
 
 -- the number at a place
 abbrev pub number_at : List Opened → ℕ → ℕ

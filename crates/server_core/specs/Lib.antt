@@ -4,3 +4,4 @@ pub mod Refusals
 pub mod Arrivals
 pub mod Clients
 pub mod Marks
+pub mod Reloads

@@ -2,7 +2,7 @@
 use Rattle.std.specs.Prelude.{ℕ, Bool, true, false, List, [], ◌∷◌, take, slice_get, Option, Some, None}
 use Rattle.std.specs.Net.Addr.{ipv4_bits}
 use Rattle.protocol.specs.World.{Event as ProtocolEvent, Handed as ProtocolHanded, World, told, taken_by, client_of}
-use Rattle.protocol.specs.World.Event.{Open as ProtocolOpen, Bytes as ProtocolBytes, Take as ProtocolTake, Close as ProtocolClose, Arrive as ProtocolArrive}
+use Rattle.protocol.specs.World.Event.{Open as ProtocolOpen, Bytes as ProtocolBytes, Take as ProtocolTake, Close as ProtocolClose, Arrive as ProtocolArrive, Reload as ProtocolReload}
 use Rattle.protocol.specs.Catalog.{Config}
 use Rattle.protocol.specs.Alone.{own_view, seen, handed_to}
 use Rattle.protocol.specs.Offers.{arrivals, client_after, offers, bytes_since}
@@ -11,7 +11,7 @@ use Rattle.protocol.specs.Client.{Client}
 use Rattle.server_core.specs.declared.client.Offer.{Offer}
 use Rattle.server_core.specs.declared.client.Offer.TheVariants.{Bytes as OfferBytes, Ended, Idle}
 use Rattle.server_core.specs.declared.events.Event.{Event}
-use Rattle.server_core.specs.declared.events.Event.TheVariants.{Open, Bytes, Take, Close, Arrive}
+use Rattle.server_core.specs.declared.events.Event.TheVariants.{Open, Bytes, Take, Close, Arrive, Reload}
 use Rattle.server_core.specs.declared.events.Handed.{Handed}
 
 abbrev pub event_value : Event → ProtocolEvent
@@ -20,6 +20,7 @@ event_value (Bytes client bytes) = ProtocolBytes client bytes.items
 event_value (Take client count) = ProtocolTake client count
 event_value (Close client) = ProtocolClose client
 event_value (Arrive bytes) = ProtocolArrive bytes
+event_value (Reload config) = ProtocolReload config
 
 abbrev pub handed_value : Handed → ProtocolHanded
 handed_value x = record { client = x.client; bytes = x.bytes.items; ended = x.ended }

@@ -10,12 +10,13 @@ use Rattle.session_state.specs.declared.session.State.TheVariants.{Starting}
 use Rattle.session_state.specs.Sessions.{Sitting, HasPlaces, client_in, sitting_view}
 use Rattle.transfer.specs.Cursors.{ArePassed}
 
--- a server: its configuration, what it holds of all stations, and for the k-th client its session, while that is open,
--- and whether an offer may find something for it
+-- a server: its configuration, what it holds of all stations, and for the k-th client its session and its address, while
+-- that is open, and whether an offer may find something for it
 pub record Serving : Type 0 where
   pub config : Config
   pub rings : Holdings
   pub sessions : List (Option Sitting)
+  pub addresses : List (Option ℕ)
   pub marks : List Bool
 
 -- the mark of the k-th client, while that is open
@@ -60,6 +61,20 @@ goes_on f (Some x) = Some (record x { client = f x.view x.client })
 abbrev pub seat_client : Option Seat → Option Client
 seat_client o = option_map (λ s. s.client) o
 
+-- the address of a connection that is open
+abbrev pub address_with : ℕ → Option Client → Option ℕ
+address_with a None = None
+address_with a (Some c) = Some a
+
+abbrev pub address_at : Option Connection → Option ℕ
+address_at None = None
+address_at (Some k) = address_with k.address k.client
+
+-- the address of a number, of a server's addresses
+abbrev pub addressed : Option (Option ℕ) → Option ℕ
+addressed None = None
+addressed (Some o) = o
+
 -- A session's stations are there, no transfer of it is still to start, and its cursors have passed nothing in the rings that it may
 -- still want.
 pub record IsSettled (config : Config) (rings : Holdings) (s : Sitting) : Type 0 where
@@ -72,12 +87,13 @@ abbrev pub AreSettled : Config → Holdings → Slab Sitting → Type 0
 AreSettled config rings slots = (slot : ℕ) (s : Sitting) → get slots slot ≡ Some s → IsSettled config rings s
 
 -- The server has the configuration, what is held of the history, a session for each connection, and at each number the same
--- view and client.
+-- view, client and address.
 pub record StandsAt (server : Serving) (config : Config) (w : World) : Type 0 where
   pub config_is : server.config ≡ config
   pub holds : HoldsOf server.config server.rings w.history
   pub count : length server.sessions ≡ length w.connections
   pub clients : (k : ℕ) → seated config w.history (slice_get server.sessions k) ≡ seat_at (slice_get w.connections k)
+  pub addresses : (k : ℕ) → addressed (slice_get server.addresses k) ≡ address_at (slice_get w.connections k)
 
 -- It stands for the world after events, under the configuration in force by then.
 abbrev pub Stands : Serving → Config → List Event → Type 0

@@ -86,3 +86,18 @@ impl Refusal {
         }
     }
 }
+
+/// A new configuration differs from the one in force in more than who may use which station. Then nothing changes.
+#[derive(Clone, Copy, Debug, PartialEq, Eq, Drop, Error)]
+#[error("the configuration differs in more than its access lists")]
+pub struct ReloadFault;
+
+impl ReloadFault {
+    /// The number and the name by which the program reports it: 34 Different.
+    pub fn report(self) -> Report
+        ensures number { result.number ≡ 34 }
+        ensures name { result.name.now ≡ codes "Different" }
+    {
+        Report::new(34, "Different")
+    }
+}

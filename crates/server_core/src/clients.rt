@@ -1,5 +1,6 @@
 //! The open clients of a server: their numbers, and the slots in which their sessions are.
 ghost use Rattle.std.specs.Prelude.{◌≡◌, ℕ, ◌∷◌, ◌++◌, [], IfOk, OnOk, OnErr, IfSome, Some, None, true, is_some, slice_set};
+ghost use Rattle.std.specs.Net.Addr.{ipv4_bits};
 ghost use Rattle.slab.specs.Slab.{get, Updates};
 ghost use Rattle.protocol.specs.Catalog.{Config as ProtocolConfig};
 ghost use Rattle.held_records.specs.Holdings.{Holdings};
@@ -7,14 +8,16 @@ ghost use Rattle.held_records.specs.Holdings.{Holdings};
 use session_state::Session;
 use slab::Slab;
 use std::alloc::{AllocError, Global};
+use std::net::Ipv4Addr;
 
 mod finding;
 
-/// The number of an open client, and the slot in which its session is.
+/// The number of an open client, the slot in which its session is, and the address from which it came.
 #[derive(Clone, Copy, Debug, PartialEq, Eq)]
 pub struct Opened {
     pub number: usize,
     pub slot: usize,
+    pub address: Ipv4Addr,
 }
 
 /// The clients of a server. A slot is used again once its client has closed, and a number never.
@@ -31,13 +34,14 @@ pub struct Clients {
 }
 
 impl Clients {
-    ghost use Rattle.server_core.specs.Clients.{IsTable, slot_in, session_of, sessions_of};
+    ghost use Rattle.server_core.specs.Clients.{IsTable, slot_in, session_of, sessions_of, addresses_of};
     ghost use Rattle.server_core.specs.Standing.{AreSettled, IsSettled};
 
     /// No client.
     pub fn new(alloc: Global) -> Clients
         ensures table { IsTable result }
         ensures sessions { sessions_of result ≡ [] }
+        ensures addresses { addresses_of result ≡ [] }
         ensures free { (slot : ℕ) → get result.slots slot ≡ None }
         ensures settled { (config : ProtocolConfig) (rings : Holdings) → AreSettled config rings result.slots }
     {
@@ -64,6 +68,7 @@ impl Clients {
         ensures table { IsTable self.new }
         ensures slot { result ≡ slot_in self.new.opened.items number }
         ensures sessions { sessions_of self.new ≡ sessions_of self.old }
+        ensures addresses { addresses_of self.new ≡ addresses_of self.old }
         ensures slots { self.new.slots ≡ self.old.slots }
         ensures numbers { (self.new.opens ≡ self.old.opens) × (self.new.opened.items ≡ self.old.opened.items) }
     {
@@ -80,13 +85,14 @@ impl Clients {
         self.slots.vacant_key()
     }
 
-    /// One more client opens with its session, and has the next number. It fails where memory lacks, or once 2^64 - 1 clients
+    /// One more client opens with its session, from an address, and has the next number. It fails where memory lacks, or once 2^64 - 1 clients
     /// opened, and then no client changes.
-    pub fn open(&mut self, session: Session) -> Result<usize, AllocError>
+    pub fn open(&mut self, session: Session, address: Ipv4Addr) -> Result<usize, AllocError>
         requires { IsTable self.old }
         ensures table { IsTable self.new }
         ensures number { IfOk result (λ number. number ≡ self.old.opens) }
         ensures opened { OnOk result (sessions_of self.new ≡ sessions_of self.old ++ Some session ∷ []) }
+        ensures came { OnOk result (addresses_of self.new ≡ addresses_of self.old ++ Some (ipv4_bits address) ∷ []) }
         ensures err { OnErr result (sessions_of self.new ≡ sessions_of self.old) }
         ensures slots { OnOk result (Updates self.old.slots self.new.slots self.old.slots.vacant_key (Some session)) }
         ensures vacant { OnOk result (get self.old.slots self.old.slots.vacant_key ≡ None) }
@@ -102,7 +108,11 @@ impl Clients {
         }
         self.slots.reserve(1)?;
         let slot = self.slots.vacant_key();
-        self.opened.push(Opened { number, slot })?;
+        self.opened.push(Opened {
+            number,
+            slot,
+            address,
+        })?;
         let _slot = self.slots.insert_reserved(session);
         self.opens = number + 1;
         Ok(number)
@@ -113,6 +123,7 @@ impl Clients {
         requires { IsTable self.old }
         ensures table { IsTable self.new }
         ensures closed { sessions_of self.new ≡ slice_set (sessions_of self.old) number None }
+        ensures left { addresses_of self.new ≡ slice_set (addresses_of self.old) number None }
         ensures answer { is_some result ≡ is_some (session_of self.old.opened.items self.old.slots number) }
         ensures freed { IfSome result (λ slot. Updates self.old.slots self.new.slots slot None) }
         ensures absent { result ≡ None → self.new.slots ≡ self.old.slots }

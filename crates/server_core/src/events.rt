@@ -29,6 +29,8 @@ pub enum Event {
     Close(usize),
     /// A record comes from a feeder.
     Arrive([u8; 512]),
+    /// A new configuration is read. One that differs in more than who may use which station changes nothing.
+    Reload(Config),
 }
 
 /// What a take hands.
@@ -130,6 +132,11 @@ fn act(
             let _ = server.arrive(bytes);
             Ok(())
         }
+        Event::Reload(config) => {
+            let copy = config.copy(alloc)?;
+            let _ = server.reload(copy);
+            Ok(())
+        }
     }
 }
 
@@ -159,7 +166,7 @@ pub fn run(alloc: Global, config: Config, events: &[Event]) -> Result<Vec<Handed
         handed_to k (map handed_value hs.items) ≡ handed_to j (handed other others)) }
     ensures hidden_stations { IfOk result (λ hs. (keep : Entry → Bool) (k : ℕ) → let es = map event_value events.now in
         ((c : ProtocolConfig) (a : ℕ) (e : Entry) → Contains (configs_in_force config es) c →
-            address_of es k ≡ Some a → sees e.access c.access a ≡ true → keep e ≡ true) →
+        address_of es k ≡ Some a → sees e.access c.access a ≡ true → keep e ≡ true) →
         reloads_accepted (restricted keep config) (all_restricted keep es) ≡ reloads_accepted config es →
         handed_to k (handed (restricted keep config) (all_restricted keep es)) ≡ handed_to k (map handed_value hs.items)) }
     ensures misses { IfOk result (λ hs. (k : ℕ) → MissesOnlyOverruns config (map event_value events.now) k (map handed_value hs.items)) }

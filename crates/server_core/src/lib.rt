@@ -6,11 +6,12 @@ pub mod client;
 mod clients;
 pub mod events;
 mod marks;
+mod reviewing;
 mod seats;
 pub mod server;
 mod serving;
 
 pub use arrivals::ArriveFault;
-pub use client::{Client, Gone, Offer, Refusal};
+pub use client::{Client, Gone, Offer, Refusal, ReloadFault};
 pub use events::{Event, Handed, run};
 pub use server::Server;

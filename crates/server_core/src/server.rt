@@ -2,15 +2,16 @@
 ghost use Rattle.std.specs.Prelude.{OnErr, option_map, ◌≡◌, ◌≢◌, ◌-◌, ◌^◌, Err, ◌<◌, ◌≤◌, [], ◌∷◌, ◌++◌, length, slice_get, slice_index_or, IfOk, OnOk, Ok, Some, None, ℕ, not, false, is_some, is_ok};
 ghost use Rattle.std.specs.Result.{result_ok};
 ghost use Rattle.std.specs.Net.Addr.{ipv4_bits};
-ghost use Rattle.protocol.specs.Catalog.{Config as ProtocolConfig};
+ghost use Rattle.protocol.specs.Catalog.{Config as ProtocolConfig, is_same_but_for_access};
 ghost use Rattle.protocol.specs.Client.{offered};
-ghost use Rattle.protocol.specs.World.{World, step, empty_world, client_of};
-ghost use Rattle.protocol.specs.World.Event.{Open, Bytes, Take, Close, Arrive};
+ghost use Rattle.protocol.specs.World.{World, config_by, step, empty_world, client_of};
+ghost use Rattle.protocol.specs.World.Event.{Open, Bytes, Take, Close, Arrive, Reload};
 
 use crate::arrivals::{ArriveFault, Placing, placed};
-use crate::client::{Client, Gone, Offer, Refusal};
+use crate::client::{Client, Gone, Offer, Refusal, ReloadFault};
 use crate::clients::Clients;
 use crate::marks::Marks;
+use crate::reviewing::review_all;
 use crate::seats;
 use catalog::Config;
 use held_records::Rings;
@@ -31,13 +32,19 @@ pub struct Server {
 
 impl Model for Server {
     ghost use Rattle.std.specs.Prelude.{◌≡◌, length};
-    ghost use Rattle.server_core.specs.Clients.{IsTable, sessions_of};
+    ghost use Rattle.server_core.specs.Clients.{IsTable, sessions_of, addresses_of};
     ghost use Rattle.server_core.specs.Marks.{AreMarked, marks_of};
     ghost use Rattle.server_core.specs.Standing.{Serving, AreSettled};
 
     ghost Value = { Serving };
 
-    ghost view = { λ s. record { config = s.config; rings = s.rings; sessions = sessions_of s.clients; marks = marks_of s.clients s.marks } };
+    ghost view = { λ s. record {
+      config = s.config;
+      rings = s.rings;
+      sessions = sessions_of s.clients;
+      addresses = addresses_of s.clients;
+      marks = marks_of s.clients s.marks;
+    } };
 
     ghost invariant = { λ s. IsTable s.clients × AreSettled s.config s.rings s.clients.slots
         × (length s.rings.rings ≡ length s.config.entries)
@@ -77,7 +84,7 @@ impl Server {
     {
         let view = self.config.view(alloc, address)?;
         self.marks.reserve(self.clients.next_slot())?;
-        let number = self.clients.open(Session::new(view))?;
+        let number = self.clients.open(Session::new(view), address)?;
         Ok(Client::new(number))
     }
 
@@ -253,6 +260,31 @@ impl Server {
             }
             None => Err(Gone),
         }
+    }
+
+    /// A new configuration comes into force, where it differs from the present one in nothing but the lists of addresses.
+    /// Each open client whose address has another view under it than at its open is cut: what waits for it is still
+    /// handed, its unread bytes are dropped, and nothing is read or chosen for it any more. All others go on. It fails
+    /// with 34 Different exactly where the configuration differs in anything else, and then nothing changes. It takes no
+    /// memory, and looks once at each open client and its stations.
+    pub fn reload(&mut self, config: Config) -> Result<(), ReloadFault>
+        ensures stands { (old : ProtocolConfig) (w : World) → StandsAt self.old old w →
+            StandsAt self.new (config_by old (Reload config)) (step old w (Reload config)) }
+        ensures answer { is_ok result ≡ is_same_but_for_access self.old.config config }
+        ensures unchanged { OnErr result (self.new ≡ self.old) }
+    {
+        if !self.config.is_same_but_for_access(&config) {
+            return Err(ReloadFault);
+        }
+        review_all(
+            &config,
+            &self.rings,
+            self.clients.opened.as_slice(),
+            &mut self.clients.slots,
+            &mut self.marks,
+        );
+        self.config = config;
+        Ok(())
     }
 
     /// The session of a client, while it is open.

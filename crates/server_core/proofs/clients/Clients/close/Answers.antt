@@ -2,7 +2,7 @@ use Rattle.std.proofs.Common.{rules, ◌≡◌, ap, sym, subst, None, refl}
 use Rattle.std.specs.Prelude.{IsSome}
 use Rattle.server_core.specs.Clients.{IsNumberAt, in_slot, slot_in}
 use Rattle.server_core.proofs.Numbers.{its-slot-at}
-use Rattle.server_core.proofs.Slots.{closes-nothing, closes-sessions, closes-table, settled-leaves}
+use Rattle.server_core.proofs.Slots.{closes-addresses, closes-no-address, closes-nothing, closes-sessions, closes-table, settled-leaves}
 use Rattle.server_core.proofs.clients.Clients.close.Goals as goal
 
 pub returns-in_err-at-clause-closed : goal.returns-in_err-at-clause-closed
@@ -39,3 +39,15 @@ returns-clause-freed c = c.try_remove-session.ensures.updates
 pub returns-clause-settled : goal.returns-clause-settled
 returns-clause-settled c = λ config rings settled.
     settled-leaves config rings c.args.self.now.slots c.try_remove-session.new.self c.remove-gone.result.slot settled c.try_remove-session.ensures.updates
+
+pub returns-in_err-at-clause-left : goal.returns-in_err-at-clause-left
+returns-in_err-at-clause-left c =
+    let none : slot_in c.args.self.now.opened.items c.args.number ≡ None = search rules in
+    closes-no-address c.args.self.now c.args.number none
+
+pub returns-clause-left : goal.returns-clause-left
+returns-clause-left c =
+    let os = c.args.self.now.opened.items in
+    let found : IsNumberAt os c.args.number c.in_ok-at.at = search rules in
+    closes-addresses c.args.self.now (record { opens = c.args.self.now.opens; opened = c.remove-gone.new.self; near = c.args.self.now.near; slots = c.try_remove-session.new.self })
+    c.args.number c.in_ok-at.at c.requires found refl c.remove-gone.ensures.items

@@ -3,7 +3,7 @@ use Rattle.std.specs.Prelude.{◌+◌, slice_index_or, ◌∷◌, [], ◌++◌}
 use Rattle.slab.specs.Slab.{Slab, Updates}
 use Rattle.session_state.specs.Sessions.{Sitting}
 use Rattle.server_core.specs.declared.clients.Clients.{Clients}
-use Rattle.server_core.proofs.Slots.{opens-sessions, opens-table, room-sessions, room-table, settled-goes}
+use Rattle.server_core.proofs.Slots.{opens-addresses, opens-sessions, opens-table, room-sessions, room-table, settled-goes}
 use Rattle.server_core.proofs.clients.Clients.open.Goals as goal
 
 pub returns-in_err-reserve-clause-err : goal.returns-in_err-reserve-clause-err
@@ -40,12 +40,12 @@ updated c = subst (λ k. Updates c.reserve.new.self c.insert_reserved-slot.new.s
 
 pub returns-clause-table : goal.returns-clause-table
 returns-clause-table c =
-    opens-table (roomy c) (record { opens = c.args.self.now.opens + 1; opened = c.push.new.self; near = c.args.self.now.near; slots = c.insert_reserved-slot.new.self }) c.vacant_key-slot.result c.args.session
+    opens-table (roomy c) (record { opens = c.args.self.now.opens + 1; opened = c.push.new.self; near = c.args.self.now.near; slots = c.insert_reserved-slot.new.self }) c.vacant_key-slot.result c.args.address c.args.session
     (room-table c.args.self.now (roomy c) refl refl (same-slots c) c.requires) refl c.in_ok-push.ensures.items c.vacant_key-slot.ensures.vacant (updated c)
 
 pub returns-clause-opened : goal.returns-clause-opened
 returns-clause-opened c =
-    opens-sessions (roomy c) (record { opens = c.args.self.now.opens + 1; opened = c.push.new.self; near = c.args.self.now.near; slots = c.insert_reserved-slot.new.self }) c.vacant_key-slot.result c.args.session
+    opens-sessions (roomy c) (record { opens = c.args.self.now.opens + 1; opened = c.push.new.self; near = c.args.self.now.near; slots = c.insert_reserved-slot.new.self }) c.vacant_key-slot.result c.args.address c.args.session
     (room-table c.args.self.now (roomy c) refl refl (same-slots c) c.requires) refl c.in_ok-push.ensures.items c.vacant_key-slot.ensures.vacant (updated c)
     ∙ ap (λ (xs : List (Option Sitting)). xs ++ Some c.args.session ∷ []) (room-sessions c.args.self.now (roomy c) refl refl (same-slots c))
 
@@ -53,3 +53,8 @@ pub returns-clause-settled : goal.returns-clause-settled
 returns-clause-settled c = λ config rings settled here.
     settled-goes config rings c.reserve.new.self c.insert_reserved-slot.new.self c.vacant_key-slot.result c.args.session
     (λ slot s e. settled slot s (ap (λ (xs : List (Option Sitting)). slice_index_or xs slot None) (sym (same-slots c)) ∙ e)) here (updated c)
+
+pub returns-clause-came : goal.returns-clause-came
+returns-clause-came c =
+    opens-addresses c.args.self.now (record { opens = c.args.self.now.opens + 1; opened = c.push.new.self; near = c.args.self.now.near; slots = c.insert_reserved-slot.new.self }) c.vacant_key-slot.result c.args.address
+    c.requires refl c.in_ok-push.ensures.items

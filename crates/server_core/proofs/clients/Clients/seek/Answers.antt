@@ -1,9 +1,9 @@
-use Rattle.std.proofs.Common.{rules, ◌∙◌, ap, sym, Some}
+use Rattle.std.proofs.Common.{rules, ◌∙◌, ap, sym, refl, Some}
 use Rattle.std.proofs.lemmas.List.{get_or_default}
 use Rattle.server_core.specs.declared.clients.Opened.{Opened}
 use Rattle.server_core.specs.Clients.{IsNumberAt, no_one}
 use Rattle.server_core.proofs.Numbers.{slot-at}
-use Rattle.server_core.proofs.Slots.{near-sessions, near-table}
+use Rattle.server_core.proofs.Slots.{near-sessions, near-table, same-addresses}
 use Rattle.server_core.proofs.clients.Clients.seek.Goals as goal
 
 pub returns-clause-slot : goal.returns-clause-slot
@@ -18,3 +18,6 @@ returns-clause-table c = near-table c.args.self.now c.in_ok-at.at c.requires
 
 pub returns-clause-sessions : goal.returns-clause-sessions
 returns-clause-sessions c = near-sessions c.args.self.now c.in_ok-at.at
+
+pub returns-clause-addresses : goal.returns-clause-addresses
+returns-clause-addresses c = same-addresses c.args.self.now (record c.args.self.now { near = c.in_ok-at.at }) refl refl

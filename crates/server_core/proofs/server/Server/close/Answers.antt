@@ -28,26 +28,26 @@ invariant_of-self-in-None c = (
 
 pub returns-in-Some-clause-stands : goal.returns-in-Some-clause-stands
 returns-in-Some-clause-stands c = λ config w stands.
-    let here = found c.self.inside.config c.self.inside.rings c.self.inside.clients c.self.inside.clients (marks_of c.self.inside.clients c.self.inside.marks) c.args.self.now config w c.self.view_is refl stands in
+    let here = found c.self.inside.config c.self.inside.rings c.self.inside.clients c.self.inside.clients (marks_of c.self.inside.clients c.self.inside.marks) c.args.self.now config w c.self.view_is refl refl stands in
     rw (← c.number.ensures)
     (with-marks _ (marks_of c.close.new.self c.leave.new.self) config _
-    (close-stands (serving c.self.inside.config c.self.inside.rings c.self.inside.clients) (serving c.self.inside.config c.self.inside.rings c.close.new.self) c.number.result refl refl c.close.ensures.closed config w here))
+    (close-stands (serving c.self.inside.config c.self.inside.rings c.self.inside.clients) (serving c.self.inside.config c.self.inside.rings c.close.new.self) c.number.result refl refl c.close.ensures.closed c.close.ensures.left config w here))
 
 pub returns-in-Some-clause-answer : goal.returns-in-Some-clause-answer
 returns-in-Some-clause-answer c = λ config w stands.
-    let here = found c.self.inside.config c.self.inside.rings c.self.inside.clients c.self.inside.clients (marks_of c.self.inside.clients c.self.inside.marks) c.args.self.now config w c.self.view_is refl stands in
+    let here = found c.self.inside.config c.self.inside.rings c.self.inside.clients c.self.inside.clients (marks_of c.self.inside.clients c.self.inside.marks) c.args.self.now config w c.self.view_is refl refl stands in
     rw (← c.number.ensures)
     (sym (ap is_some c.in-Some.is) ∙ c.close.ensures.answer ∙ seen-session c.self.inside.config c.self.inside.rings c.self.inside.clients c.number.result config w c.self.invariant.0 here)
 
 pub returns-in-None-clause-stands : goal.returns-in-None-clause-stands
 returns-in-None-clause-stands c = λ config w stands.
-    let here = found c.self.inside.config c.self.inside.rings c.self.inside.clients c.self.inside.clients (marks_of c.self.inside.clients c.self.inside.marks) c.args.self.now config w c.self.view_is refl stands in
+    let here = found c.self.inside.config c.self.inside.rings c.self.inside.clients c.self.inside.clients (marks_of c.self.inside.clients c.self.inside.marks) c.args.self.now config w c.self.view_is refl refl stands in
     rw (← c.number.ensures)
     (with-marks _ (marks_of c.close.new.self c.self.inside.marks) config _
-    (close-stands (serving c.self.inside.config c.self.inside.rings c.self.inside.clients) (serving c.self.inside.config c.self.inside.rings c.close.new.self) c.number.result refl refl c.close.ensures.closed config w here))
+    (close-stands (serving c.self.inside.config c.self.inside.rings c.self.inside.clients) (serving c.self.inside.config c.self.inside.rings c.close.new.self) c.number.result refl refl c.close.ensures.closed c.close.ensures.left config w here))
 
 pub returns-in-None-clause-answer : goal.returns-in-None-clause-answer
 returns-in-None-clause-answer c = λ config w stands.
-    let here = found c.self.inside.config c.self.inside.rings c.self.inside.clients c.self.inside.clients (marks_of c.self.inside.clients c.self.inside.marks) c.args.self.now config w c.self.view_is refl stands in
+    let here = found c.self.inside.config c.self.inside.rings c.self.inside.clients c.self.inside.clients (marks_of c.self.inside.clients c.self.inside.marks) c.args.self.now config w c.self.view_is refl refl stands in
     rw (← c.number.ensures)
     (sym (ap is_some c.in-None.is) ∙ c.close.ensures.answer ∙ seen-session c.self.inside.config c.self.inside.rings c.self.inside.clients c.number.result config w c.self.invariant.0 here)

@@ -16,7 +16,7 @@ returns-clause-stands c = λ differs config w stands.
     with-marks _ (marks_of c.self.inside.clients c.arrived.new.self) config _
     (arrive-stands (serving c.self.inside.config c.self.inside.rings c.self.inside.clients) (serving c.self.inside.config c.arrive-number.new.self c.self.inside.clients) c.args.bytes.now c.args.placing.place c.args.placing.summary
     (subst (λ (s : Serving). IsPlaced s.config c.args.bytes.now c.args.placing.place c.args.placing.summary) (sym c.self.view_is) c.requires)
-    refl refl c.codes_are_distinct.ensures (sessions-settled c.self.inside.config c.self.inside.rings c.self.inside.clients c.self.invariant.1) c.arrive-number.ensures.holds config w (with-marks _ [] config w (subst (λ s. StandsAt s config w) (sym c.self.view_is) stands)))
+    refl refl refl c.codes_are_distinct.ensures (sessions-settled c.self.inside.config c.self.inside.rings c.self.inside.clients c.self.invariant.1) c.arrive-number.ensures.holds config w (with-marks _ [] config w (subst (λ s. StandsAt s config w) (sym c.self.view_is) stands)))
 
 pub returns-clause-answer : goal.returns-clause-answer
 returns-clause-answer c = λ differs config w stands.

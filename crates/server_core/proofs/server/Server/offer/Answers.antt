@@ -31,22 +31,22 @@ invariant_of-self-in-None c = (
 
 pub returns-in-Some-clause-stands : goal.returns-in-Some-clause-stands
 returns-in-Some-clause-stands c = λ config w stands.
-    let here = found c.self.inside.config c.self.inside.rings c.self.inside.clients c.seek.new.self (marks_of c.self.inside.clients c.self.inside.marks) c.args.self.now config w c.self.view_is c.seek.ensures.sessions stands in
+    let here = found c.self.inside.config c.self.inside.rings c.self.inside.clients c.seek.new.self (marks_of c.self.inside.clients c.self.inside.marks) c.args.self.now config w c.self.view_is c.seek.ensures.sessions c.seek.ensures.addresses stands in
     rw (← c.number.ensures) (with-marks _ (marks_of (record c.seek.new.self { slots = c.offer_in.new.slots }) c.offer_in.new.marks) config _ (goes-there c.self.inside.config c.self.inside.rings c.seek.new.self c.number.result config w (λ v x. offered w.history x) c.offer_in.new.slots c.in-Some.slot c.seek.ensures.table (sym c.in-Some.ensures.slot) (c.offer_in.ensures.changed w.history here.holds) here))
 
 pub returns-in-Some-clause-answer : goal.returns-in-Some-clause-answer
 returns-in-Some-clause-answer c = λ config w stands.
-    let here = found c.self.inside.config c.self.inside.rings c.self.inside.clients c.seek.new.self (marks_of c.self.inside.clients c.self.inside.marks) c.args.self.now config w c.self.view_is c.seek.ensures.sessions stands in
+    let here = found c.self.inside.config c.self.inside.rings c.self.inside.clients c.seek.new.self (marks_of c.self.inside.clients c.self.inside.marks) c.args.self.now config w c.self.view_is c.seek.ensures.sessions c.seek.ensures.addresses stands in
     rw (← c.number.ensures) (c.offer_in.ensures.answer w.history here.holds ∙ ap (option_map (λ (x : Client). offer_of (offered w.history x))) (seen-there c.self.inside.config c.self.inside.rings c.seek.new.self c.number.result config w c.in-Some.slot c.seek.ensures.table (sym c.in-Some.ensures.slot) here))
 
 pub returns-in-None-clause-stands : goal.returns-in-None-clause-stands
 returns-in-None-clause-stands c = λ config w stands.
-    let here = found c.self.inside.config c.self.inside.rings c.self.inside.clients c.seek.new.self (marks_of c.self.inside.clients c.self.inside.marks) c.args.self.now config w c.self.view_is c.seek.ensures.sessions stands in
+    let here = found c.self.inside.config c.self.inside.rings c.self.inside.clients c.seek.new.self (marks_of c.self.inside.clients c.self.inside.marks) c.args.self.now config w c.self.view_is c.seek.ensures.sessions c.seek.ensures.addresses stands in
     rw (← c.number.ensures) (with-marks _ (marks_of c.seek.new.self c.self.inside.marks) config _ (goes-nowhere c.self.inside.config c.self.inside.rings c.seek.new.self c.number.result config w (λ v x. offered w.history x) (sym c.in-None.ensures.slot) here))
 
 pub returns-in-None-clause-answer : goal.returns-in-None-clause-answer
 returns-in-None-clause-answer c = λ config w stands.
-    let here = found c.self.inside.config c.self.inside.rings c.self.inside.clients c.seek.new.self (marks_of c.self.inside.clients c.self.inside.marks) c.args.self.now config w c.self.view_is c.seek.ensures.sessions stands in
+    let here = found c.self.inside.config c.self.inside.rings c.self.inside.clients c.seek.new.self (marks_of c.self.inside.clients c.self.inside.marks) c.args.self.now config w c.self.view_is c.seek.ensures.sessions c.seek.ensures.addresses stands in
     rw (← c.number.ensures) (ap (option_map (λ (x : Client). offer_of (offered w.history x))) (seen-nowhere c.self.inside.config c.self.inside.rings c.seek.new.self c.number.result config w (sym c.in-None.ensures.slot) here))
 
 pub returns-in-Some-clause-unmarked : goal.returns-in-Some-clause-unmarked

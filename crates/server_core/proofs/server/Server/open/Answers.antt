@@ -1,15 +1,16 @@
-use Rattle.std.proofs.Common.{rules, ◌≡◌, ◌∙◌, [], ap, ap₂, sym, refl, subst, length, List, ℕ, Bool, All, Option}
+use Rattle.std.proofs.Common.{rules, ◌≡◌, ◌∙◌, [], ap, sym, refl, subst, length, List, ℕ, Bool, All, Option}
 use Rattle.std.specs.Net.Addr.{ipv4_bits}
 use Rattle.catalog.specs.Places.{view_in, IsPlace}
 use Rattle.protocol.specs.Client.{Client}
 use Rattle.session_state.specs.declared.session.State.TheVariants.{Negotiating, Transfer}
 use Rattle.session_state.specs.Sessions.{Sitting}
 use Rattle.transfer.proofs.Going.{none-passed}
+use Rattle.server_core.specs.Clients.{addresses_of, sessions_of}
 use Rattle.server_core.specs.Marks.{HasRooms, marks_of}
 use Rattle.server_core.specs.Standing.{IsSettled, Serving}
 use Rattle.server_core.proofs.GoingOn.{found, serving, with-marks}
 use Rattle.server_core.proofs.Marking.{marked-opens, marked-roomier, marked-same}
-use Rattle.server_core.proofs.Slots.{sessions-counted}
+use Rattle.server_core.proofs.Slots.{addresses-counted, same-addresses, sessions-counted}
 use Rattle.server_core.proofs.Sparing.{marks-same}
 use Rattle.server_core.proofs.Standings.{open-stands}
 use Rattle.server_core.proofs.server.Server.open.Goals as goal
@@ -42,8 +43,11 @@ invariant_of-self-in_err-number c =
 
 pub returns-in_err-number-clause-err : goal.returns-in_err-number-clause-err
 returns-in_err-number-clause-err c =
-    let is = ap₂ (λ (xs : List (Option Sitting)) (ms : List Bool). let s : Serving = record { config = c.self.inside.config; rings = c.self.inside.rings; sessions = xs; marks = ms } in s) c.in_err-number.ensures.err
-    (marks-same c.self.inside.clients c.open.new.self c.self.inside.marks c.reserve.new.self c.in_err-number.ensures.numbers.0 c.in_err-number.ensures.numbers.1 (λ slot. c.reserve.ensures.kept.marked slot tt)) ∙ c.self.view_is in
+    let with : List (Option Sitting) → List (Option ℕ) → List Bool → Serving = λ xs from_ ms. record { config = c.self.inside.config; rings = c.self.inside.rings; sessions = xs; addresses = from_; marks = ms } in
+    let addresses = same-addresses c.self.inside.clients c.open.new.self c.in_err-number.ensures.numbers.0 c.in_err-number.ensures.numbers.1 in
+    let marks = marks-same c.self.inside.clients c.open.new.self c.self.inside.marks c.reserve.new.self c.in_err-number.ensures.numbers.0 c.in_err-number.ensures.numbers.1 (λ slot. c.reserve.ensures.kept.marked slot tt) in
+    let is : with (sessions_of c.open.new.self) (addresses_of c.open.new.self) (marks_of c.open.new.self c.reserve.new.self) ≡ c.args.self.now =
+    (λ i. with (c.in_err-number.ensures.err i) (addresses i) (marks i)) ∙ c.self.view_is in
     search rules
 
 pub invariant_of-self-2 : goal.invariant_of-self-2
@@ -62,9 +66,10 @@ invariant_of-self-2 c =
 pub returns-clause-ok : goal.returns-clause-ok
 returns-clause-ok c = λ config w stands.
     with-marks _ (marks_of c.open.new.self c.reserve.new.self) config _
-    (open-stands (serving c.self.inside.config c.self.inside.rings c.self.inside.clients) (serving c.self.inside.config c.self.inside.rings c.open.new.self) c.new.result (ipv4_bits c.args.address) refl refl c.in_ok-number.ensures.opened
+    (open-stands (serving c.self.inside.config c.self.inside.rings c.self.inside.clients) (serving c.self.inside.config c.self.inside.rings c.open.new.self) c.new.result (ipv4_bits c.args.address) refl refl c.in_ok-number.ensures.opened c.in_ok-number.ensures.came
+    (addresses-counted c.self.inside.clients ∙ sym (sessions-counted c.self.inside.clients))
     (ap (λ p. view_in c.self.inside.config p) c.new.ensures.places ∙ c.in_ok-view.ensures.view) (c.new.ensures.client c.self.inside.config) config w
-    (found c.self.inside.config c.self.inside.rings c.self.inside.clients c.self.inside.clients (marks_of c.self.inside.clients c.self.inside.marks) c.args.self.now config w c.self.view_is refl stands))
+    (found c.self.inside.config c.self.inside.rings c.self.inside.clients c.self.inside.clients (marks_of c.self.inside.clients c.self.inside.marks) c.args.self.now config w c.self.view_is refl refl stands))
 
 pub returns-clause-number : goal.returns-clause-number
 returns-clause-number c =

@@ -39,20 +39,20 @@ invariant_of-self-in-None c = (
 
 pub returns-in-Some-clause-stands : goal.returns-in-Some-clause-stands
 returns-in-Some-clause-stands c = λ config w stands.
-    let here = found c.self.inside.config c.self.inside.rings c.self.inside.clients c.seek.new.self (marks_of c.self.inside.clients c.self.inside.marks) c.args.self.now config w c.self.view_is c.seek.ensures.sessions stands in
+    let here = found c.self.inside.config c.self.inside.rings c.self.inside.clients c.seek.new.self (marks_of c.self.inside.clients c.self.inside.marks) c.args.self.now config w c.self.view_is c.seek.ensures.sessions c.seek.ensures.addresses stands in
     rw (← c.number.ensures) (with-marks _ (marks_of (record c.seek.new.self { slots = c.took_in.new.slots }) c.took_in.new.marks) config _ (took-there c.self.inside.config c.self.inside.rings c.seek.new.self c.number.result config w c.args.count c.took_in.new.slots c.in-Some.slot c.seek.ensures.table (sym c.in-Some.ensures.slot) (c.took_in.ensures.changed w.history here.holds) here))
 
 pub returns-in-Some-clause-answer : goal.returns-in-Some-clause-answer
 returns-in-Some-clause-answer c = λ config w stands.
-    let here = found c.self.inside.config c.self.inside.rings c.self.inside.clients c.seek.new.self (marks_of c.self.inside.clients c.self.inside.marks) c.args.self.now config w c.self.view_is c.seek.ensures.sessions stands in
+    let here = found c.self.inside.config c.self.inside.rings c.self.inside.clients c.seek.new.self (marks_of c.self.inside.clients c.self.inside.marks) c.args.self.now config w c.self.view_is c.seek.ensures.sessions c.seek.ensures.addresses stands in
     rw (← c.number.ensures) (c.took_in.ensures.answer w.history ∙ ap is_some (seen-there c.self.inside.config c.self.inside.rings c.seek.new.self c.number.result config w c.in-Some.slot c.seek.ensures.table (sym c.in-Some.ensures.slot) here))
 
 pub returns-in-None-clause-stands : goal.returns-in-None-clause-stands
 returns-in-None-clause-stands c = λ config w stands.
-    let here = found c.self.inside.config c.self.inside.rings c.self.inside.clients c.seek.new.self (marks_of c.self.inside.clients c.self.inside.marks) c.args.self.now config w c.self.view_is c.seek.ensures.sessions stands in
+    let here = found c.self.inside.config c.self.inside.rings c.self.inside.clients c.seek.new.self (marks_of c.self.inside.clients c.self.inside.marks) c.args.self.now config w c.self.view_is c.seek.ensures.sessions c.seek.ensures.addresses stands in
     rw (← c.number.ensures) (with-marks _ (marks_of c.seek.new.self c.self.inside.marks) config _ (took-nowhere c.self.inside.config c.self.inside.rings c.seek.new.self c.number.result config w c.args.count (sym c.in-None.ensures.slot) here))
 
 pub returns-in-None-clause-answer : goal.returns-in-None-clause-answer
 returns-in-None-clause-answer c = λ config w stands.
-    let here = found c.self.inside.config c.self.inside.rings c.self.inside.clients c.seek.new.self (marks_of c.self.inside.clients c.self.inside.marks) c.args.self.now config w c.self.view_is c.seek.ensures.sessions stands in
+    let here = found c.self.inside.config c.self.inside.rings c.self.inside.clients c.seek.new.self (marks_of c.self.inside.clients c.self.inside.marks) c.args.self.now config w c.self.view_is c.seek.ensures.sessions c.seek.ensures.addresses stands in
     rw (← c.number.ensures) (ap is_some (seen-nowhere c.self.inside.config c.self.inside.rings c.seek.new.self c.number.result config w (sym c.in-None.ensures.slot) here))

@@ -1,0 +1,84 @@
+//! Clients that a new configuration cuts.
+ghost use Rattle.std.specs.Prelude.{◌≡◌, ◌≢◌, ℕ, length, not, Some};
+ghost use Rattle.std.specs.Net.Addr.{ipv4_bits};
+ghost use Rattle.protocol.specs.Catalog.{view_of, is_same_view};
+ghost use Rattle.slab.specs.Slab.{get};
+ghost use Rattle.session_state.specs.Sessions.{Sitting, sitting_view};
+ghost use Rattle.server_core.specs.Clients.{AreApart, AreRising};
+ghost use Rattle.server_core.specs.Marks.{AreMarked};
+ghost use Rattle.server_core.specs.Reloads.{reviewed_sitting, AreReviewed};
+ghost use Rattle.server_core.specs.Standing.{AreSettled, StayOpen};
+
+use crate::clients::Opened;
+use crate::marks::Marks;
+use catalog::Config;
+use held_records::Rings;
+use session_state::{Session, Settled};
+use slab::Slab;
+use std::net::Ipv4Addr;
+
+/// A session is cut, where its address has another view under the configuration. It answers whether it was.
+fn review(config: &Config, session: &mut Session, address: Ipv4Addr) -> bool
+    ensures session { session.new ≡ reviewed_sitting config.now (ipv4_bits address) session.old }
+    ensures cut { result ≡ not (is_same_view (view_of config.now (ipv4_bits address)) (sitting_view config.now session.old)) }
+{
+    if config.has_view(address, session.view()) {
+        return false;
+    }
+    session.cut();
+    true
+}
+
+/// The client in a slot is cut, where its address has another view under the configuration. Then it may be offered
+/// something: what waits, or that its connection is over.
+fn review_in(
+    config: &Config,
+    rings: &Rings,
+    slots: &mut Slab<Session>,
+    marks: &mut Marks,
+    slot: usize,
+    address: Ipv4Addr,
+)
+    requires settled { AreSettled config.now rings.now slots.old }
+    requires marked { AreMarked config.now rings.now marks.old slots.old }
+    ensures here { (s : Sitting) → get slots.old slot ≡ Some s →
+        get slots.new slot ≡ Some (reviewed_sitting config.now (ipv4_bits address) s) }
+    ensures others { (other : ℕ) → other ≢ slot → get slots.new other ≡ get slots.old other }
+    ensures settled { AreSettled config.now rings.now slots.new }
+    ensures marked { AreMarked config.now rings.now marks.new slots.new }
+    ensures stations { length marks.new.rows.items ≡ length marks.old.rows.items }
+    ensures kept { StayOpen slots.old slots.new }
+{
+    let _ = rings;
+    match slots.get_mut(slot) {
+        Some(session) => {
+            if review(config, session, address) {
+                marks.heard(slot, session, Settled::Rest);
+            }
+        }
+        None => {}
+    }
+}
+
+/// Each open client is cut whose address has another view under the configuration.
+pub fn review_all(
+    config: &Config,
+    rings: &Rings,
+    opened: &[Opened],
+    slots: &mut Slab<Session>,
+    marks: &mut Marks,
+)
+    requires rising { AreRising opened.now }
+    requires apart { AreApart opened.now }
+    requires settled { AreSettled config.now rings.now slots.old }
+    requires marked { AreMarked config.now rings.now marks.old slots.old }
+    ensures each { AreReviewed config.now opened.now slots.old slots.new }
+    ensures settled { AreSettled config.now rings.now slots.new }
+    ensures marked { AreMarked config.now rings.now marks.new slots.new }
+    ensures stations { length marks.new.rows.items ≡ length marks.old.rows.items }
+    ensures kept { StayOpen slots.old slots.new }
+{
+    for one in opened {
+        review_in(config, rings, slots, marks, one.slot, one.address);
+    }
+}
