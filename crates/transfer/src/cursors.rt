@@ -8,7 +8,7 @@ use session_state::{Choice, Session};
 /// A named station that is asked for nothing is no request.
 ///
 /// `start` puts it to the place at which the request begins. After `choose` no record of the station that is held before it is
-/// wanted any more, and where that answered Nothing it is the ring's count of pushes.
+/// wanted any more: the one that was chosen is passed too. Where that answered Nothing it is the ring's count of pushes.
 pub fn cursor(session: &Session, i: usize) -> u64
     requires { i < length (cursors_of session.now.mode) }
     ensures { Some result ≡ slice_get (cursors_of session.now.mode) i }
