@@ -389,9 +389,9 @@ type CursorRow = (
 /// A request for what is to come; one for all that is held, of which one is gone; one that is overrun; and one that passes a record.
 static CURSORS: [CursorRow; 4] = [
     (&[b"DATA\r"], &[0, 0], &[], [2, 2, 2]),
-    (&[b"FETCH\r"], &[0, 0, 0], &[], [1, 1, 3]),
-    (&[b"DATA 0\r"], &[0, 0], &[0, 0], [1, 2, 4]),
-    (&[b"SELECT BHN\r", b"FETCH\r"], &[0, 0], &[], [0, 1, 2]),
+    (&[b"FETCH\r"], &[0, 0, 0], &[], [1, 2, 3]),
+    (&[b"DATA 0\r"], &[0, 0], &[0, 0], [1, 3, 4]),
+    (&[b"SELECT BHN\r", b"FETCH\r"], &[0, 0], &[], [0, 2, 2]),
 ];
 
 #[test]
