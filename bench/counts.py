@@ -41,7 +41,7 @@ def each(config):
 
 
 class Traced:
-    """The system calls that a program makes for as long as a `with` lasts."""
+    """The system calls that a program makes for as long as a `with` lasts, and for a second before."""
 
     def __init__(self, program, *words):
         self.program, self.words = program, words
@@ -97,7 +97,7 @@ def at_rest(config):
             time.sleep(0.5)
         for client in [*idle, waiting, feed]:
             client.close()
-    return counted.count("total") / SECONDS, waits_between(traced.text)
+    return counted.count("total") / (SECONDS + 1), waits_between(traced.text)
 
 
 def main():

@@ -74,9 +74,8 @@ class Arm:
 
     def cpu(self):
         """Its seconds of a processor so far."""
-        with open(f"/proc/{self.program.pid}/stat", encoding="ascii") as line:
-            fields = line.read().rpartition(")")[2].split()
-        return (int(fields[11]) + int(fields[12])) / os.sysconf("SC_CLK_TCK")
+        with open(f"/proc/{self.program.pid}/schedstat", encoding="ascii") as line:
+            return int(line.read().split()[0]) / 1e9
 
 
 def serve_words(config):
