@@ -9,6 +9,7 @@ use test_centre::CENTRE;
 mod arrivals;
 mod commands;
 mod marks;
+mod reloads;
 mod stations;
 mod steps;
 mod transfers;

@@ -52,6 +52,8 @@ pub enum Step {
     Arrives(Record),
     /// A client takes at most so many bytes.
     Takes(usize, usize, Wanted),
+    /// A configuration is read again.
+    Reloads(&'static [u8]),
 }
 
 /// No byte, and the connection goes on.
@@ -173,6 +175,7 @@ fn event_of(alloc: Global, step: Step) -> Result<Event, Fail> {
         Step::Sends(client, text) => Ok(Event::Bytes(client, text.to_vec(alloc)?)),
         Step::Arrives(record) => Ok(Event::Arrive(made(record)?)),
         Step::Takes(client, count, _wanted) => Ok(Event::Take(client, count)),
+        Step::Reloads(text) => Ok(Event::Reload(Config::read(alloc, text)?)),
     }
 }
 
