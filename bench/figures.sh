@@ -26,6 +26,13 @@ small() {
     row "$(((many - few) / 1000))" "$1" "$4" "$5"
 }
 
+# Sixteen selectors in a pool that holds 1,024 may cost 1.2 times what sixteen alone cost.
+pool() {
+    few=$(counted "$top/crates/bench/out/bench" selectors 1000 '')
+    alone=$((($(counted "$top/crates/bench/out/bench" selectors 2000 '') - few) / 1000))
+    small "$((alone * 12 / 10))" pool '' 'the same in a pool that holds 1,024' "at most 1.2 times the figure above"
+}
+
 # server WORK NUMBER.. : instructions of so many rounds of a work of the program `server_bench`.
 server() {
     counted "$top/crates/server_bench/out/server_bench" "$@"
@@ -138,6 +145,7 @@ small 6000 lines "$times" 'the same of TIME, cut out of bytes first' ''
 small 700 header '' 'mseed_header::read, of a record with one blockette' 'libmseed, with a line printed: about 5,800'
 small 200 number '' 'a sequence number read, counted on and written' ''
 small 1500 selectors '' 'sixteen selectors over a record' ''
+pool
 small 2500 packets '' 'a packet read, cut out and listed by the reader' ''
 calls
 sleepers

@@ -1,10 +1,12 @@
 //! Does one piece of work many times, so that its instructions can be counted: `bench command ROUNDS LINE` reads a line as a
 //! command, `bench lines ROUNDS LINE` cuts it out of bytes first, `bench header ROUNDS` reads the header of a record,
-//! `bench selectors ROUNDS` asks sixteen selectors whether a record passes, `bench number ROUNDS` reads a sequence number and
+//! `bench selectors ROUNDS` asks sixteen selectors whether a record passes, `bench pool ROUNDS` asks the same sixteen in a pool that
+//! holds 1,024, `bench number ROUNDS` reads a sequence number and
 //! writes the one that follows, and `bench packets ROUNDS` reads packets and lists them. It prints a sum of what was read, so that no
 //! work can be left out.
 #![tactic(auto)]
 
+mod pools;
 mod reading;
 
 use mseed_header::{Header, Kind, RecordFault};
@@ -149,7 +151,7 @@ fn main(rt: HostRuntime) -> anyhow::Result<()> {
         words.push(word)?;
     }
     if words.len() < 3 {
-        println!(rt; "bench command|lines|header|selectors|number|packets ROUNDS [LINE]")?;
+        println!(rt; "bench command|lines|header|selectors|pool|number|packets ROUNDS [LINE]")?;
         return Ok(());
     }
     let rounds: u64 = words[2].as_str().parse()?;
@@ -161,6 +163,7 @@ fn main(rt: HostRuntime) -> anyhow::Result<()> {
         "command" => read_commands(line, rounds),
         "lines" => cut_lines(line, rounds),
         "selectors" => ask_selectors(rounds),
+        "pool" => pools::ask_pool(rt.alloc(), rounds)?,
         "number" => count_on(rounds),
         "packets" => reading::list_packets(rt.alloc(), &sample(), rounds)?,
         _ => read_headers(rounds),

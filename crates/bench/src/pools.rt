@@ -1,0 +1,47 @@
+//! Selectors in a pool of many lists.
+ghost use Rattle.std.specs.Prelude.{◌<◌};
+
+use mseed_header::Kind;
+use selector::{Pool, Selector};
+use std::alloc::{AllocError, Global};
+
+/// The list whose selectors are asked.
+const ASKED: usize = 8;
+
+fn add(pool: &mut Pool, list: usize, text: &[u8])
+    requires { list < 255 }
+{
+    if let Some(selector) = Selector::parse(text) {
+        let _ = pool.add(list, selector);
+    }
+}
+
+/// A pool that holds 1,024 selectors: 63 in each of sixteen lists, and in one the sixteen of the program.
+fn full_pool(alloc: Global) -> Result<Pool, AllocError> {
+    let mut pool = Pool::new(alloc)?;
+    for letter in b'A'..=b'O' {
+        add(&mut pool, ASKED, &[b'B', b'L', letter]);
+    }
+    add(&mut pool, ASKED, b"BH?");
+    for list in 0..17 {
+        if list != ASKED {
+            for _ in 0..63 {
+                add(&mut pool, list, b"EH?");
+            }
+        }
+    }
+    Ok(pool)
+}
+
+/// Asks of records of one channel after the other whether they pass a list of a full pool.
+pub fn ask_pool(alloc: Global, rounds: u64) -> Result<u64, AllocError> {
+    let pool = full_pool(alloc)?;
+    let mut channel = *b"BHZ";
+    let mut sum: u64 = 0;
+    for _ in 0..rounds {
+        channel[2] = 65 + (sum % 26) as u8;
+        let is_passed = pool.passes(ASKED, b"00", &channel, Kind::D);
+        sum = sum.wrapping_add(1 + u64::from(is_passed));
+    }
+    Ok(sum)
+}
