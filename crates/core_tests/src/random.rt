@@ -1,27 +1,18 @@
 //! Random lists of events: the server and the plain server hand the same.
-use self::draws::Draws;
 use self::lists::Length;
 use self::plain::Given;
-use self::sites::Centre;
 use self::steps::Step;
 use catalog::Config;
+use plain_server::draws::Draws;
+use plain_server::sites::{self, Centre};
 use server_core::Handed;
 use std::alloc::Global;
 use std::ops::Range;
 use std::test::Fail;
 
-pub mod draws;
-mod history;
-mod lines;
 mod lists;
-mod moments;
-mod patterns;
 mod plain;
-mod records;
-pub mod sites;
 mod steps;
-mod visitor;
-mod words;
 
 const SEED: u64 = 20_240_229;
 

@@ -1,7 +1,7 @@
 //! Slots that are used again: a client that left is gone for good, and every other one is found by its number.
-use crate::random::draws::Draws;
-use crate::random::sites::{ISLAND, address};
 use catalog::Config;
+use plain_server::draws::Draws;
+use plain_server::sites::{ISLAND, address};
 use server_core::{Client, Gone, Refusal, Server};
 use std::alloc::Global;
 use std::test::Fail;

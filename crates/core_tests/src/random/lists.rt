@@ -1,8 +1,8 @@
 //! Random lists of steps.
-use super::draws::Draws;
-use super::sites::Site;
 use super::steps::Step;
-use super::{lines, records};
+use plain_server::draws::Draws;
+use plain_server::sites::Site;
+use plain_server::{lines, records};
 use std::alloc::{AllocError, Global};
 
 #[derive(Drop)]
@@ -41,7 +41,7 @@ impl Maker {
     }
 
     fn arrive(&mut self) -> Result<(), AllocError> {
-        let arrival = records::arrival(&mut self.draws, self.sites);
+        let arrival = records::next_arrival(&mut self.draws, self.sites);
         self.add(Step::Arrive(arrival))
     }
 

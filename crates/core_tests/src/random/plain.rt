@@ -1,8 +1,7 @@
-//! The plain server: all clients over one history.
-use super::history::History;
-use super::sites::Centre;
+//! The plain server over a list of steps.
 use super::steps::Step;
-use super::visitor::Visitor;
+use plain_server::Plain;
+use plain_server::sites::Centre;
 use std::alloc::{AllocError, Global};
 
 /// What a take hands.
@@ -13,62 +12,34 @@ pub struct Given {
     pub ended: bool,
 }
 
-#[derive(Drop)]
-struct Plain {
-    alloc: Global,
-    title: &'static [u8],
-    history: History,
-    visitors: Vec<Visitor>,
-    given: Vec<Given>,
-}
-
-impl Plain {
-    fn take(&mut self, client: usize, count: usize) -> Result<(), AllocError> {
-        let (bytes, ended) = match self.visitors.get_mut(client) {
-            Some(visitor) => visitor.take(&self.history, self.title, count)?,
-            None => (Vec::new(self.alloc), true),
-        };
-        self.given.push(Given {
-            client,
-            bytes,
-            ended,
-        })?;
-        Ok(())
-    }
-
-    fn step(&mut self, step: &Step) -> Result<(), AllocError> {
-        match step {
-            Step::Open(address) => {
-                self.visitors.push(Visitor::new(self.alloc, *address))?;
-                Ok(())
-            }
-            Step::Bytes(client, bytes) => match self.visitors.get_mut(*client) {
-                Some(visitor) => visitor.receive(&self.history, self.title, bytes.as_slice()),
-                None => Ok(()),
-            },
-            Step::Take(client, count) => self.take(*client, *count),
-            Step::Close(client) => {
-                if let Some(visitor) = self.visitors.get_mut(*client) {
-                    visitor.close();
-                }
-                Ok(())
-            }
-            Step::Arrive(arrival) => self.history.add(arrival),
+fn step(plain: &mut Plain, step: &Step, given: &mut Vec<Given>) -> Result<(), AllocError> {
+    match step {
+        Step::Open(address) => {
+            plain.connect(*address)?;
+        }
+        Step::Bytes(client, bytes) => plain.receive(*client, bytes.as_slice())?,
+        Step::Take(client, count) => {
+            let (bytes, ended) = plain.take(*client, *count)?;
+            given.push(Given {
+                client: *client,
+                bytes,
+                ended,
+            })?;
+        }
+        Step::Close(client) => plain.close(*client),
+        Step::Arrive(arrival) => {
+            plain.arrive(arrival)?;
         }
     }
+    Ok(())
 }
 
 /// What is handed over a list of steps.
 pub fn run(alloc: Global, centre: &Centre, steps: &[Step]) -> Result<Vec<Given>, AllocError> {
-    let mut plain = Plain {
-        alloc,
-        title: centre.title,
-        history: History::new(alloc, centre.sites),
-        visitors: Vec::new(alloc),
-        given: Vec::new(alloc),
-    };
-    for step in steps {
-        plain.step(step)?;
+    let mut plain = Plain::new(alloc, centre);
+    let mut given = Vec::new(alloc);
+    for next in steps {
+        step(&mut plain, next, &mut given)?;
     }
-    Ok(plain.given)
+    Ok(given)
 }

@@ -1,28 +1,9 @@
 //! What happens in a list, as either server is told of it.
-use super::sites::address;
+use plain_server::records::Arrival;
+use plain_server::sites::address;
 use server_core::Event;
 use std::alloc::{AllocError, Global};
 use std::io;
-
-/// What a record says, as it was made. Times are seconds of 2024, times 10,000.
-#[derive(Clone, Copy, Drop)]
-pub struct Facts {
-    pub network: &'static [u8],
-    pub code: &'static [u8],
-    pub location: &'static [u8],
-    pub channel: &'static [u8],
-    /// The type, as a letter.
-    pub kind: u8,
-    pub start: u64,
-    pub end: u64,
-}
-
-/// A record that comes. One without facts is broken.
-#[derive(Clone, Copy, Drop)]
-pub struct Arrival {
-    pub bytes: [u8; 512],
-    pub facts: Option<Facts>,
-}
 
 #[derive(Drop)]
 pub enum Step {
