@@ -116,7 +116,10 @@ fn are_right(handed: &[Handed]) -> Result<bool, Fault> {
     let mut is_right = greeting.bytes.as_slice() == GREETING && rest.len() == 9;
     for (place, take) in rest.iter().enumerate() {
         let reply: &[u8] = if place == 4 { b"" } else { b"OK\r\n" };
-        let wanted = place.checked_sub(5).and_then(|at| ARRIVALS.get(at));
+        let wanted = match place.checked_sub(5) {
+            Some(at) => ARRIVALS.get(at),
+            None => None,
+        };
         is_right = is_right
             && match wanted {
                 Some(&(station, second, number)) => {

@@ -1,9 +1,9 @@
 //! Ports of which no call allocates.
-ghost use Rattle.std.specs.Prelude.{None};
+ghost use Rattle.std.specs.Prelude.{◌≡◌, ◌≤◌, None, length};
 
 use crate::trial::Fault;
 use ports::{Got, Happening, PortFault, Ports, Put};
-use std::alloc::Global;
+use std::alloc::{AllocError, Global};
 use std::net::Ipv4Addr;
 
 /// How many bytes a wire takes at most.
@@ -31,13 +31,13 @@ impl Wire {
         })
     }
 
-    fn read(&mut self, buffer: &mut [u8]) -> usize {
-        let left = self.gives.get(self.given..).unwrap_or(&[]);
-        let count = left.len().min(buffer.len());
-        for (slot, byte) in buffer.iter_mut().zip(left.iter()) {
-            *slot = *byte;
-        }
-        self.given = self.given.saturating_add(count);
+    fn read(&mut self, buffer: &mut [u8]) -> usize
+        ensures { result ≤ length buffer.new }
+    {
+        let start = self.given.min(self.gives.len());
+        let count = (self.gives.len() - start).min(buffer.len());
+        buffer[..count].copy_from_slice(&self.gives[start..start + count]);
+        self.given = start + count;
         count
     }
 }
@@ -62,6 +62,29 @@ impl Wires {
             failures: 0,
         }
     }
+
+    /// A port gives bytes, and answers how many.
+    fn give(&mut self, port: u64, buffer: &mut [u8]) -> usize
+        ensures bound { result ≤ length buffer.new }
+        ensures failures { self.new.failures ≡ self.old.failures }
+    {
+        match port {
+            1 => self.first.read(buffer),
+            2 => self.second.read(buffer),
+            _ => self.feed.read(buffer),
+        }
+    }
+
+    /// A port takes bytes.
+    fn take(&mut self, port: u64, bytes: &[u8]) -> Result<(), AllocError>
+        ensures { self.new.failures ≡ self.old.failures }
+    {
+        match port {
+            1 => self.first.taken.extend_from_slice(bytes),
+            2 => self.second.taken.extend_from_slice(bytes),
+            _ => self.feed.taken.extend_from_slice(bytes),
+        }
+    }
 }
 
 impl Ports for Wires {
@@ -81,11 +104,7 @@ impl Ports for Wires {
     }
 
     fn read(&mut self, port: u64, buffer: &mut [u8]) -> Result<Got, PortFault> {
-        let count = match port {
-            1 => self.first.read(buffer),
-            2 => self.second.read(buffer),
-            _ => self.feed.read(buffer),
-        };
+        let count = self.give(port, buffer);
         if count == 0 {
             Ok(Got::Later)
         } else {
@@ -94,16 +113,13 @@ impl Ports for Wires {
     }
 
     fn write(&mut self, port: u64, bytes: &[u8]) -> Result<Put, PortFault> {
-        let taken = match port {
-            1 => &mut self.first.taken,
-            2 => &mut self.second.taken,
-            _ => &mut self.feed.taken,
-        };
-        if taken.extend_from_slice(bytes).is_err() {
-            self.failures = self.failures.wrapping_add(1);
-            return Err(PortFault);
+        match self.take(port, bytes) {
+            Ok(()) => Ok(Put::Took(bytes.len())),
+            Err(_) => {
+                self.failures = self.failures.wrapping_add(1);
+                Err(PortFault)
+            }
         }
-        Ok(Put::Took(bytes.len()))
     }
 
     fn shut(&mut self, port: u64) {
