@@ -76,11 +76,15 @@ fn hellos(alloc: Global) -> Result<Vec<u8>, AllocError> {
 
 /// A client says HELLO again and again, and reads no answer, until neither the server nor the system takes any more.
 fn babble<S: Write>(centre: &mut Centre, client: &mut S, said: &[u8]) -> io::Result<bool> {
-    let mut refusals = 0;
+    let mut refusals: u8 = 0;
     for _ in 0..10_000 {
         let is_full = is_full(client, said)?;
         centre.turns(1);
-        refusals = if is_full { refusals + 1 } else { 0 };
+        refusals = if is_full {
+            refusals.saturating_add(1)
+        } else {
+            0
+        };
         if refusals >= 3 {
             return Ok(true);
         }
@@ -127,7 +131,8 @@ fn clients_that_leave_at_once_leave_nothing(rt: HostRuntime) -> Result<(), Fail>
 fn half_fed<R: Net>(rt: &R, centre: &mut Centre) -> Result<(), Fail> {
     let mut feed = centre.feed(rt)?;
     feed.write_all(&record(b"WLF", b"BHZ", 1)?)?;
-    feed.write_all(&record(b"WLF", b"BHZ", 2)?[..188])?;
+    let second = record(b"WLF", b"BHZ", 2)?;
+    feed.write_all(second.as_slice().get(..188).unwrap_or(&[]))?;
     centre.turns(3);
     Ok(())
 }
