@@ -1,6 +1,8 @@
 //! Clients and feeds that misbehave: the server loses nothing but their own connections.
-use loopback::{CENTRE, Centre, GREETING, record};
-use std::io::Write;
+use loopback::{CENTRE, Centre, GREETING, packet, record};
+use std::alloc::{AllocError, Global};
+use std::io;
+use std::io::{ErrorKind, Read, Write};
 use std::net::Net;
 use std::test::Fail;
 
@@ -49,6 +51,58 @@ fn a_client_that_resets_is_closed_alone(rt: HostRuntime) -> Result<(), Fail> {
     Ok(())
 }
 
+/// Writes once, as much as the system takes. Whether it takes no more.
+fn is_full<S: Write>(client: &mut S, bytes: &[u8]) -> io::Result<bool> {
+    match client.write(bytes) {
+        Ok(_) => Ok(false),
+        Err(error) => {
+            if error.kind() == ErrorKind::WouldBlock {
+                Ok(true)
+            } else {
+                Err(error)
+            }
+        }
+    }
+}
+
+/// HELLO, four hundred times.
+fn hellos(alloc: Global) -> Result<Vec<u8>, AllocError> {
+    let mut bytes = Vec::new(alloc);
+    for _ in 0..400 {
+        bytes.extend_from_slice(b"HELLO\r")?;
+    }
+    Ok(bytes)
+}
+
+/// A client says HELLO again and again, and reads no answer, until neither the server nor the system takes any more.
+fn babble<S: Write>(centre: &mut Centre, client: &mut S, said: &[u8]) -> io::Result<bool> {
+    let mut refusals: u8 = 0;
+    for _ in 0..10_000 {
+        let is_full = is_full(client, said)?;
+        centre.turns(1);
+        refusals = if is_full {
+            refusals.saturating_add(1)
+        } else {
+            0
+        };
+        if refusals >= 3 {
+            return Ok(true);
+        }
+    }
+    Ok(false)
+}
+
+#[test]
+fn a_client_that_sends_and_never_reads_harms_nobody(rt: HostRuntime) -> Result<(), Fail> {
+    let mut centre = Centre::open(&rt, CENTRE)?;
+    let mut client = centre.client(&rt)?;
+    let said = hellos(rt.alloc())?;
+    assert!(rt; babble(&mut centre, &mut client, said.as_slice())?);
+    assert!(rt; is_well(&rt, &mut centre)?);
+    assert!(rt; centre.gives(&mut client, GREETING)?);
+    Ok(())
+}
+
 /// A client comes and leaves, so many times; every second one says something before.
 fn visits<R: Net>(rt: &R, centre: &mut Centre) -> Result<(), Fail> {
     for visit in 0..VISITS {
@@ -70,5 +124,34 @@ fn clients_that_leave_at_once_leave_nothing(rt: HostRuntime) -> Result<(), Fail>
     visits(&rt, &mut centre)?;
     assert_eq!(rt; centre.clients(), 0);
     assert!(rt; is_well(&rt, &mut centre)?);
+    Ok(())
+}
+
+/// A feed sends a record and a part of the next one, and goes.
+fn half_fed<R: Net>(rt: &R, centre: &mut Centre) -> Result<(), Fail> {
+    let mut feed = centre.feed(rt)?;
+    feed.write_all(&record(b"WLF", b"BHZ", 1)?)?;
+    let second = record(b"WLF", b"BHZ", 2)?;
+    feed.write_all(second.as_slice().get(..188).unwrap_or(&[]))?;
+    centre.turns(3);
+    Ok(())
+}
+
+/// Whether a client reads the packets of the first and the third record next.
+fn gives_both<S: Read>(centre: &mut Centre, client: &mut S) -> Result<bool, Fail> {
+    let first = packet(b"SLFFFFFE", &record(b"WLF", b"BHZ", 1)?);
+    let third = packet(b"SLFFFFFF", &record(b"WLF", b"BHZ", 3)?);
+    Ok(centre.gives(client, &first)? && centre.gives(client, &third)?)
+}
+
+#[test]
+fn a_feed_that_stops_inside_a_record_loses_that_record_alone(rt: HostRuntime) -> Result<(), Fail> {
+    let mut centre = Centre::open(&rt, CENTRE)?;
+    let mut client = centre.client(&rt)?;
+    assert!(rt; centre.answers(&mut client, b"STATION WLF GE\rDATA\rEND\r", b"OK\r\nOK\r\n")?);
+    half_fed(&rt, &mut centre)?;
+    let mut feed = centre.feed(&rt)?;
+    feed.write_all(&record(b"WLF", b"BHZ", 3)?)?;
+    assert!(rt; gives_both(&mut centre, &mut client)?);
     Ok(())
 }
