@@ -65,10 +65,10 @@ fn is_full<S: Write>(client: &mut S, bytes: &[u8]) -> io::Result<bool> {
     }
 }
 
-/// HELLO, four hundred times.
+/// HELLO, twenty thousand times.
 fn hellos(alloc: Global) -> Result<Vec<u8>, AllocError> {
     let mut bytes = Vec::new(alloc);
-    for _ in 0..400 {
+    for _ in 0..20_000 {
         bytes.extend_from_slice(b"HELLO\r")?;
     }
     Ok(bytes)
