@@ -1,3 +1,4 @@
 mod Dots
 mod MaskBits
 mod Walks
+mod SameTokens

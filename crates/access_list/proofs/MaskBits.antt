@@ -1,5 +1,5 @@
 -- Every token that a text spells has a mask of 32 bits.
-use Rattle.std.proofs.Common.{◌≡◌, ◌≤◌, ℕ, ◌<◌, ◌+◌, ◌-◌, ◌^◌, true, take, drop, List, [], ◌∷◌, nat_le, IfSome, option_map, arith, inl, inr, subst, Option, Some, None}
+use Rattle.std.proofs.Common.{◌≡◌, ℕ, ◌<◌, ◌+◌, ◌-◌, true, take, drop, List, [], ◌∷◌, IfSome, option_map, arith, inl, inr, subst, Option, Some, None}
 use Rattle.std.specs.Prelude.{◌↔◌, All, IfOk, Result, Ok, Err, option_and_then, position}
 use Rattle.std.proofs.lemmas.Bool.Decides.{leb_tells}
 use Rattle.std.proofs.lemmas.List.Elements.{All-nil, All-cons}
@@ -9,7 +9,7 @@ use Rattle.protocol.specs.Access.{Token, HasMask, IsAllowed, allows}
 use Rattle.protocol.specs.Pieces.{split, without_empty}
 use Rattle.protocol.specs.Time.{digits_between}
 use Rattle.protocol.proofs.Masks.{access_law}
-use Rattle.access_list.specs.Addresses.{is_dot, byte_of, octet_of, all_four, octets_of, octets_of_parts, big_endian, address_of}
+use Rattle.access_list.specs.Addresses.{is_dot, byte_of, octet_of, all_four, octets_of_parts, big_endian, address_of}
 use Rattle.access_list.specs.Tokens.{ones, ones_up_to_32, leading_ones_of, or_else, mask_of, is_slash, is_separator, token_by, token_at, token_of, cons_token, tokens_of, list_of}
 use Rattle.access_list.specs.declared.fault.AccessFault.{AccessFault}
 

@@ -1,5 +1,5 @@
 //! Lists of addresses and masks.
-ghost use Rattle.std.specs.Prelude.{◌≡◌};
+ghost use Rattle.std.specs.Prelude.{◌≡◌, ◌↔◌, true};
 ghost use Rattle.std.specs.List.{list_any};
 ghost use Rattle.protocol.specs.Access.{is_in};
 ghost use Rattle.access_list.specs.Tokens.{is_separator};
@@ -26,7 +26,7 @@ impl Model for AccessList {
 }
 
 impl AccessList {
-    ghost use Rattle.std.specs.Prelude.{◌≢◌, ◌↔◌, ℕ, true, Ok, Err, IfOk, IfErr};
+    ghost use Rattle.std.specs.Prelude.{◌≢◌, ℕ, Ok, Err, IfOk, IfErr};
     ghost use Rattle.std.specs.Net.Addr.{ipv4_bits};
     ghost use Rattle.protocol.specs.Access.{allows, IsAllowed};
     ghost use Rattle.access_list.specs.Tokens.{list_of};
@@ -76,6 +76,14 @@ impl AccessList {
     {
         is_allowed(self.tokens.as_slice(), address.to_bits())
     }
+
+    /// Whether another list has the same tokens in the same order. Then it allows the same addresses; one of other tokens, or of
+    /// the same in another order, may also allow the same.
+    pub fn is_same(&self, other: &AccessList) -> bool
+        ensures { (result ≡ true) ↔ (self.now ≡ other.now) }
+    {
+        are_same(self.tokens.as_slice(), other.tokens.as_slice())
+    }
 }
 
 /// Whether a byte parts tokens.
@@ -90,4 +98,20 @@ fn is_allowed(tokens: &[Token], address: u32) -> bool
     ensures { result ≡ list_any (is_in address) tokens.now }
 {
     tokens.iter().any(|token| token.has(address))
+}
+
+/// Whether two lists have the same tokens in the same order.
+#[tactic(auto, using(crate::proofs::SameTokens::same_lemmas))]
+fn are_same(tokens: &[Token], others: &[Token]) -> bool
+    ensures { (result ≡ true) ↔ (tokens.now ≡ others.now) }
+{
+    if tokens.len() != others.len() {
+        return false;
+    }
+    for (place, token) in tokens.iter().enumerate() {
+        if !token.is_same(&others[place]) {
+            return false;
+        }
+    }
+    true
 }

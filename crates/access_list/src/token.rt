@@ -26,7 +26,7 @@ impl Model for Token {
 
 impl Token {
     ghost use Rattle.protocol.specs.Access.{is_in};
-    ghost use Rattle.std.specs.Prelude.{Some};
+    ghost use Rattle.std.specs.Prelude.{◌↔◌, Some, true};
     ghost use Rattle.access_list.specs.Addresses.{address_of};
     ghost use Rattle.access_list.specs.Tokens.{mask_of, ones, token_by, token_of};
 
@@ -68,6 +68,13 @@ impl Token {
         ensures { result ≡ is_in address self.now }
     {
         address & self.mask == self.address & self.mask
+    }
+
+    /// Whether another token has the same address and the same mask.
+    pub fn is_same(&self, other: &Token) -> bool
+        ensures { (result ≡ true) ↔ (self.now ≡ other.now) }
+    {
+        self.address == other.address && self.mask == other.mask
     }
 }
 

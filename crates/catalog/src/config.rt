@@ -170,6 +170,16 @@ impl Config {
         }
     }
 
+    /// Whether an address may use the stations that have no list of their own.
+    pub(crate) fn sees_others(&self, address: Ipv4Addr) -> bool
+        ensures { result ≡ sees None self.now.access (ipv4_bits address) }
+    {
+        match &self.access {
+            Some(global) => global.allows(address),
+            None => true,
+        }
+    }
+
     /// What an address sees: the stations that it may use, in order. Only memory can lack.
     #[tactic(auto, using(crate::proofs::Views::view_lemmas))]
     pub fn view(&self, alloc: Global, address: Ipv4Addr) -> Result<View, AllocError>

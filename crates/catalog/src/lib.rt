@@ -1,6 +1,7 @@
 //! The configuration of a server, and what one address sees of it (SeedLink 3, CAT and STATION; seedlink's `access`).
 #![tactic(auto)]
 
+pub mod changes;
 mod comparing;
 pub mod config;
 pub mod fault;
@@ -12,6 +13,7 @@ pub mod station;
 mod texts;
 pub mod view;
 
+pub use changes::Changes;
 pub use config::Config;
 pub use fault::ConfigFault;
 pub use station::Station;

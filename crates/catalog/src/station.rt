@@ -3,6 +3,7 @@ ghost use Rattle.std.specs.Prelude.{◌≡◌, ◌≢◌, ◌≤◌, length, IfO
 ghost use Rattle.std.specs.Net.Addr.{ipv4_bits};
 ghost use Rattle.toml.specs.View.{table_view};
 ghost use Rattle.protocol.specs.Catalog.{has_codes, is_same_station, sees};
+ghost use Rattle.catalog.specs.Changes.{is_same_list};
 ghost use Rattle.catalog.specs.Reading.{entry_of};
 
 use crate::fault::ConfigFault;
@@ -133,6 +134,13 @@ impl Station {
             && self.first.value() == other.first.value()
     }
 
+    /// Whether another station has the same list of its own, or neither has one.
+    pub(crate) fn has_same_list(&self, other: &Station) -> bool
+        ensures { result ≡ is_same_list self.now.access other.now.access }
+    {
+        is_same_list(&self.access, &other.access)
+    }
+
     /// The same station once more. Only memory can lack.
     pub(crate) fn copy(&self, alloc: Global) -> Result<Station, AllocError>
         ensures { IfOk result (λ copy. copy ≡ self.now) }
@@ -161,6 +169,17 @@ impl Station {
             (None, Some(global)) => global.allows(address),
             (None, None) => true,
         }
+    }
+}
+
+/// Whether two lists are the same, or there is neither.
+fn is_same_list(access: &Option<AccessList>, other: &Option<AccessList>) -> bool
+    ensures { result ≡ is_same_list access.now other.now }
+{
+    match (access, other) {
+        (Some(list), Some(other)) => list.is_same(other),
+        (None, None) => true,
+        (_, _) => false,
     }
 }
 
