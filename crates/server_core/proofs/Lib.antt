@@ -10,3 +10,4 @@ pub mod Rows
 pub mod Marking
 pub mod Sparing
 mod ReloadLemmas
+mod Currents

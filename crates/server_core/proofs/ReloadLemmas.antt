@@ -209,7 +209,7 @@ refused-reload server new differs config w stands =
     subst {A = Config × List Connection} (λ p. StandsAt server p.0 (record w { connections = p.1 })) (λ i. (sym (reloaded_not config new apart) i, sym (reviewed_not config new w.connections apart) i)) stands
 
 -- ---- all clients, one after the other
-one-at : (os : List Opened) (i : ℕ) (one : Opened) → i < length os → one ≡ get_or os i one → (one.slot ≡ slot_at os i) × (ipv4_bits one.address ≡ bits_at os i)
+pub one-at : (os : List Opened) (i : ℕ) (one : Opened) → i < length os → one ≡ get_or os i one → (one.slot ≡ slot_at os i) × (ipv4_bits one.address ≡ bits_at os i)
 unfolding slot_at bits_at
 one-at os i one lt is =
     let same : one ≡ slice_index_or os i no_one = is ∙ get_or_default os i one no_one lt in

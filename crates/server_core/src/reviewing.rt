@@ -1,17 +1,18 @@
 //! Clients that a new configuration cuts.
-ghost use Rattle.std.specs.Prelude.{◌≡◌, ◌≢◌, ℕ, length, not, Some};
+ghost use Rattle.std.specs.Prelude.{◌≡◌, ◌≢◌, ℕ, length, not, Some, true};
 ghost use Rattle.std.specs.Net.Addr.{ipv4_bits};
-ghost use Rattle.protocol.specs.Catalog.{view_of, is_same_view};
+ghost use Rattle.protocol.specs.Catalog.{view_of, is_same_but_for_access, is_same_view};
+ghost use Rattle.catalog.specs.Changes.{changed_places, few};
 ghost use Rattle.slab.specs.Slab.{get};
 ghost use Rattle.session_state.specs.Sessions.{Sitting, sitting_view};
 ghost use Rattle.server_core.specs.Clients.{AreApart, AreRising};
 ghost use Rattle.server_core.specs.Marks.{AreMarked};
-ghost use Rattle.server_core.specs.Reloads.{reviewed_sitting, AreReviewed};
+ghost use Rattle.server_core.specs.Reloads.{reviewed_sitting, AreCurrentIn, AreReviewed, IsCurrent};
 ghost use Rattle.server_core.specs.Standing.{AreSettled, StayOpen};
 
 use crate::clients::Opened;
 use crate::marks::Marks;
-use catalog::Config;
+use catalog::{Changes, Config};
 use held_records::Rings;
 use session_state::{Session, Settled};
 use slab::Slab;
@@ -60,14 +61,62 @@ fn review_in(
     }
 }
 
-/// Each open client is cut whose address has another view under the configuration.
+/// Whether an address is known to have the same view under both configurations. Where too many stations changed, that is not
+/// known of any.
+fn is_spared(changes: &Option<Changes>, old: &Config, config: &Config, address: Ipv4Addr) -> bool
+    ensures { result ≡ true → is_same_but_for_access old.now config.now ≡ true →
+        changes.now ≡ few (changed_places old.now.entries config.now.entries) →
+        view_of config.now (ipv4_bits address) ≡ view_of old.now (ipv4_bits address) }
+{
+    match changes {
+        Some(changes) => changes.spare(old, config, address),
+        None => false,
+    }
+}
+
+/// The same as `review_in`. Its stations are not looked at where the changes spare the address: then the session has that
+/// view which it had under the old configuration, and needs no review.
+fn review_unless_spared(
+    changes: &Option<Changes>,
+    old: &Config,
+    config: &Config,
+    rings: &Rings,
+    slots: &mut Slab<Session>,
+    marks: &mut Marks,
+    one: &Opened,
+)
+    requires same { is_same_but_for_access old.now config.now ≡ true }
+    requires changes { changes.now ≡ few (changed_places old.now.entries config.now.entries) }
+    requires current { (s : Sitting) → get slots.old one.now.slot ≡ Some s →
+        IsCurrent old.now (ipv4_bits one.now.address) s }
+    requires settled { AreSettled config.now rings.now slots.old }
+    requires marked { AreMarked config.now rings.now marks.old slots.old }
+    ensures here { (s : Sitting) → get slots.old one.now.slot ≡ Some s →
+        get slots.new one.now.slot ≡ Some (reviewed_sitting config.now (ipv4_bits one.now.address) s) }
+    ensures others { (other : ℕ) → other ≢ one.now.slot → get slots.new other ≡ get slots.old other }
+    ensures settled { AreSettled config.now rings.now slots.new }
+    ensures marked { AreMarked config.now rings.now marks.new slots.new }
+    ensures stations { length marks.new.rows.items ≡ length marks.old.rows.items }
+    ensures kept { StayOpen slots.old slots.new }
+{
+    if !is_spared(changes, old, config, one.address) {
+        review_in(config, rings, slots, marks, one.slot, one.address);
+    }
+}
+
+/// Each open client is cut whose address has another view under the new configuration, where each had that of the old one or is
+/// cut already. The lists of the stations are compared once. Then a client costs a look at each station that changed, and at
+/// all stations only where it may see others of them, or where too many changed.
 pub fn review_all(
+    old: &Config,
     config: &Config,
     rings: &Rings,
     opened: &[Opened],
     slots: &mut Slab<Session>,
     marks: &mut Marks,
 )
+    requires same { is_same_but_for_access old.now config.now ≡ true }
+    requires current { AreCurrentIn old.now opened.now slots.old }
     requires rising { AreRising opened.now }
     requires apart { AreApart opened.now }
     requires settled { AreSettled config.now rings.now slots.old }
@@ -78,7 +127,8 @@ pub fn review_all(
     ensures stations { length marks.new.rows.items ≡ length marks.old.rows.items }
     ensures kept { StayOpen slots.old slots.new }
 {
+    let changes = Changes::between(old, config);
     for one in opened {
-        review_in(config, rings, slots, marks, one.slot, one.address);
+        review_unless_spared(&changes, old, config, rings, slots, marks, one);
     }
 }

@@ -34,6 +34,7 @@ impl Model for Server {
     ghost use Rattle.std.specs.Prelude.{◌≡◌, length};
     ghost use Rattle.server_core.specs.Clients.{IsTable, sessions_of, addresses_of};
     ghost use Rattle.server_core.specs.Marks.{AreMarked, marks_of};
+    ghost use Rattle.server_core.specs.Reloads.{AreCurrent, HasHistory};
     ghost use Rattle.server_core.specs.Standing.{Serving, AreSettled};
 
     ghost Value = { Serving };
@@ -48,7 +49,8 @@ impl Model for Server {
 
     ghost invariant = { λ s. IsTable s.clients × AreSettled s.config s.rings s.clients.slots
         × (length s.rings.rings ≡ length s.config.entries)
-        × AreMarked s.config s.rings s.marks s.clients.slots × (length s.marks.rows.items ≡ length s.config.entries) };
+        × AreMarked s.config s.rings s.marks s.clients.slots × (length s.marks.rows.items ≡ length s.config.entries)
+        × HasHistory s.config s.rings × AreCurrent s.config (sessions_of s.clients) (addresses_of s.clients) };
 }
 
 impl Server {
@@ -266,7 +268,9 @@ impl Server {
     /// Each open client whose address has another view under it than at its open is cut: what waits for it is still
     /// handed, its unread bytes are dropped, and nothing is read or chosen for it any more. All others go on. It fails
     /// with 34 Different exactly where the configuration differs in anything else, and then nothing changes. It takes no
-    /// memory, and looks once at each open client and its stations.
+    /// memory. It compares the lists of all stations once, and looks for each open client at the server's list and at the
+    /// stations whose own lists changed. Where these answer the client's address differently, or are more than 32, it looks
+    /// at all stations.
     pub fn reload(&mut self, config: Config) -> Result<(), ReloadFault>
         ensures stands { (old : ProtocolConfig) (w : World) → StandsAt self.old old w →
             StandsAt self.new (config_by old (Reload config)) (step old w (Reload config)) }
@@ -277,6 +281,7 @@ impl Server {
             return Err(ReloadFault);
         }
         review_all(
+            &self.config,
             &config,
             &self.rings,
             self.clients.opened.as_slice(),

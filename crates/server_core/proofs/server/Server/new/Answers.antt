@@ -1,6 +1,7 @@
 use Rattle.std.proofs.Common.{◌∙◌, [], ap, length}
 use Rattle.held_records.proofs.Stations.{rings_count}
 use Rattle.server_core.proofs.Marking.{marked-none}
+use Rattle.server_core.proofs.Currents.{current-none}
 use Rattle.server_core.proofs.server.Server.new.Goals as goal
 
 pub invariant_of-result : goal.invariant_of-result
@@ -10,4 +11,6 @@ invariant_of-result c = (
   rings_count c.args.config [] c.in_ok-rings.rings c.in_ok-rings.ensures,
   marked-none c.args.config c.in_ok-rings.rings c.in_ok-marks.marks c.new-3.result.slots c.new-3.ensures.free c.in_ok-marks.ensures.sending,
   c.in_ok-marks.ensures.stations ∙ ap length c.stations.ensures,
+  record { history = []; holds = c.in_ok-rings.ensures },
+  current-none c.args.config c.new-3.result c.new-3.ensures.sessions,
 )

@@ -3,10 +3,12 @@ use Rattle.session_state.specs.Sessions.{Sitting}
 use Rattle.slab.specs.Slab.{Slab}
 use Rattle.server_core.specs.Standing.{AreSettled}
 use Rattle.server_core.specs.Standing.{Serving}
-use Rattle.server_core.specs.Clients.{sessions_of}
+use Rattle.server_core.specs.Clients.{addresses_of, sessions_of}
 use Rattle.server_core.specs.Marks.{AreMarked, marks_of}
 use Rattle.server_core.proofs.GoingOn.{found, seen-nowhere, seen-there, took-nowhere, took-there, with-marks}
 use Rattle.server_core.proofs.Slots.{session-there, written-table}
+use Rattle.server_core.proofs.Currents.{current-goes, current-same, taken-over}
+use Rattle.server_core.specs.Standing.{taking}
 use Rattle.server_core.proofs.server.Server.took.Goals as goal
 
 pub took_in-requires-clause-settled : goal.took_in-requires-clause-settled
@@ -25,8 +27,17 @@ pub took_in-requires-clause-marked : goal.took_in-requires-clause-marked
 took_in-requires-clause-marked c = subst (λ (slots : Slab Sitting). AreMarked c.self.inside.config c.self.inside.rings c.self.inside.marks slots) (sym c.seek.ensures.slots) c.self.invariant.3
 
 pub invariant_of-self : goal.invariant_of-self
-invariant_of-self c =
-    (written-table c.seek.new.self c.took_in.new.slots c.seek.ensures.table c.took_in.ensures.kept, c.took_in.ensures.settled, c.self.invariant.2, c.took_in.ensures.marked, c.took_in.ensures.stations ∙ c.self.invariant.4)
+invariant_of-self c = (
+  written-table c.seek.new.self c.took_in.new.slots c.seek.ensures.table c.took_in.ensures.kept,
+  c.took_in.ensures.settled,
+  c.self.invariant.2,
+  c.took_in.ensures.marked,
+  c.took_in.ensures.stations ∙ c.self.invariant.4,
+  c.self.invariant.5,
+  current-goes c.self.inside.config c.self.invariant.5.history c.seek.new.self c.number.result c.in-Some.slot (taking c.self.invariant.5.history c.args.count) (taken-over c.self.invariant.5.history c.args.count) c.took_in.new.slots c.seek.ensures.table (sym c.in-Some.ensures.slot)
+      (c.took_in.ensures.changed c.self.invariant.5.history c.self.invariant.5.holds)
+      (current-same c.self.inside.config (sessions_of c.self.inside.clients) (sessions_of c.seek.new.self) (addresses_of c.self.inside.clients) (addresses_of c.seek.new.self) c.seek.ensures.sessions c.seek.ensures.addresses c.self.invariant.6),
+)
 
 pub invariant_of-self-in-None : goal.invariant_of-self-in-None
 invariant_of-self-in-None c = (
@@ -35,6 +46,8 @@ invariant_of-self-in-None c = (
   c.self.invariant.2,
   subst (λ (slots : Slab Sitting). AreMarked c.self.inside.config c.self.inside.rings c.self.inside.marks slots) (sym c.seek.ensures.slots) c.self.invariant.3,
   c.self.invariant.4,
+  c.self.invariant.5,
+  current-same c.self.inside.config (sessions_of c.self.inside.clients) (sessions_of c.seek.new.self) (addresses_of c.self.inside.clients) (addresses_of c.seek.new.self) c.seek.ensures.sessions c.seek.ensures.addresses c.self.invariant.6,
 )
 
 pub returns-in-Some-clause-stands : goal.returns-in-Some-clause-stands
