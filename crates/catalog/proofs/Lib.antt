@@ -5,4 +5,4 @@ mod Indexing
 mod ReadOn
 mod Views
 mod SameStations
-mod Alike
+mod ChangesLemmas

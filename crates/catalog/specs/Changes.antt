@@ -25,12 +25,12 @@ is_same_list _ _ = false
 
 -- ---- places
 
--- the station at a place has the same list of its own in both, or none in either
+-- both stations have the same list of their own, or neither has one
 abbrev pub has_same_list_in : Option Entry → Option Entry → Bool
 has_same_list_in (Some e) (Some f) = is_same_list e.access f.access
 has_same_list_in _ _ = false
 
--- it has not
+-- the station at a place has another one
 abbrev pub is_changed_at : List Entry → List Entry → ℕ → Bool
 is_changed_at es fs place = not (has_same_list_in (slice_get es place) (slice_get fs place))
 
@@ -43,9 +43,9 @@ places_below test (suc place) = if test place then places_below test place ++ pl
 abbrev pub changed_places : List Entry → List Entry → List ℕ
 changed_places es fs = places_below (is_changed_at es fs) (length es)
 
--- places of which there are at most 32
+-- the places, if there are at most 256
 abbrev pub few : List ℕ → Option (List ℕ)
-few places = if nat_le (length places) 32 then Some places else None
+few places = if nat_le (length places) 256 then Some places else None
 
 -- ---- addresses
 
@@ -56,12 +56,14 @@ is_same_answer false b = not b
 
 -- whether an address may use the station at a place; nobody may where there is none
 abbrev pub sees_at : Config → ℕ → ℕ → Bool
-sees_at config a place = unwrap_or (option_map (λ e. sees e.access config.access a) (slice_get config.entries place)) false
+sees_at config a place =
+    unwrap_or (option_map (λ e. sees e.access config.access a) (slice_get config.entries place)) false
 
--- The address is answered the same at a place.
+-- Both configurations answer the address the same at a place.
 abbrev pub is_alike_at : Config → Config → ℕ → ℕ → Bool
 is_alike_at old new a place = is_same_answer (sees_at old a place) (sees_at new a place)
 
--- It is answered the same where a station has no list of its own, and at these places.
+-- They do so at these places, and at any station that has no list of its own.
 abbrev pub is_alike : Config → Config → List ℕ → ℕ → Bool
-is_alike old new places a = is_same_answer (sees None old.access a) (sees None new.access a) && list_all (is_alike_at old new a) places
+is_alike old new places a =
+    is_same_answer (sees None old.access a) (sees None new.access a) && list_all (is_alike_at old new a) places

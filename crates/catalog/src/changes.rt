@@ -11,10 +11,10 @@ use arrayvec::ArrayVec;
 use std::marker::Model;
 use std::net::Ipv4Addr;
 
-/// How many changed stations are told by their places. Where more changed, it costs less to look at all stations.
-const FEW: usize = 32;
+/// How many changed stations are listed at most. If more changed, looking at all stations costs little more.
+const FEW: usize = 256;
 
-/// The places of the stations whose own lists differ between two configurations, rising, and at most 32.
+/// The places of the stations whose own access lists differ between two configurations, rising, and at most 256.
 #[derive(Drop)]
 pub struct Changes {
     places: ArrayVec<usize, FEW>,
@@ -29,19 +29,19 @@ impl Model for Changes {
 }
 
 impl Changes {
-    /// The places of the stations that don't have the same list of their own in both configurations, token for token, where there
-    /// are at most 32 of them. The lists of the servers are not compared. It takes no memory.
+    /// Compares the own access lists of all stations, token by token, and lists the stations whose lists differ; `None` if
+    /// these are more than 256. The configurations' global lists are not compared. It doesn't allocate.
     pub fn between(old: &Config, new: &Config) -> Option<Changes>
         ensures { result ≡ few (changed_places old.now.entries new.now.entries) }
     {
-        let places = changed(old.stations(), new.stations())?;
+        let places = changed_places(old.stations(), new.stations())?;
         Some(Changes { places })
     }
 
-    /// Whether both configurations answer an address the same at each of these places, and where a station has no list of its
-    /// own. If the places are those of all changed stations, and the two differ in nothing but lists of addresses, then what
-    /// the address sees under both is the same.
-    #[tactic(auto, using(crate::proofs::Alike::same_view))]
+    /// Whether both configurations answer an address the same at each of these stations, and at any station without a list
+    /// of its own. If so, if these are all stations whose lists differ, and if the configurations differ in nothing but access
+    /// lists, the address sees the same under both.
+    #[tactic(auto, using(crate::proofs::ChangesLemmas::same_view))]
     pub fn spare(&self, old: &Config, new: &Config, address: Ipv4Addr) -> bool
         ensures value { result ≡ is_alike old.now new.now self.now (ipv4_bits address) }
         ensures view { result ≡ true → is_same_but_for_access old.now new.now ≡ true →
@@ -53,21 +53,21 @@ impl Changes {
     }
 }
 
-/// Whether two tests say the same.
+/// Whether two answers are the same.
 fn is_same(one: bool, other: bool) -> bool
     ensures { result ≡ is_same_answer one other }
 {
     one == other
 }
 
-/// Whether an address is answered the same at a place.
+/// Whether both configurations answer an address the same at a place.
 fn is_alike_at(old: &Config, new: &Config, address: Ipv4Addr, place: usize) -> bool
     ensures { result ≡ is_alike_at old.now new.now (ipv4_bits address) place }
 {
     is_same(old.sees(place, address), new.sees(place, address))
 }
 
-/// Whether an address is answered the same at all of these places.
+/// Whether they do so at all of these places.
 fn are_alike_at(old: &Config, new: &Config, address: Ipv4Addr, places: &[usize]) -> bool
     ensures { result ≡ list_all (is_alike_at old.now new.now (ipv4_bits address)) places.now }
 {
@@ -76,7 +76,7 @@ fn are_alike_at(old: &Config, new: &Config, address: Ipv4Addr, places: &[usize])
         .all(|place| is_alike_at(old, new, address, *place))
 }
 
-/// Whether the station at a place has another list of its own than that of the other stations at it.
+/// Whether the two stations at a place have different lists of their own.
 fn is_changed_at(stations: &[Station], others: &[Station], place: usize) -> bool
     ensures { result ≡ is_changed_at stations.now others.now place }
 {
@@ -86,8 +86,8 @@ fn is_changed_at(stations: &[Station], others: &[Station], place: usize) -> bool
     }
 }
 
-/// The places of the stations that have another list of their own than the other stations, where these are few.
-fn changed(stations: &[Station], others: &[Station]) -> Option<ArrayVec<usize, FEW>>
+/// The places at which the two stations have different lists of their own, if these are few.
+fn changed_places(stations: &[Station], others: &[Station]) -> Option<ArrayVec<usize, FEW>>
     ensures { option_map (λ places. places.items) result ≡ few (changed_places stations.now others.now) }
 {
     let mut places = ArrayVec::new();

@@ -172,7 +172,7 @@ impl Station {
     }
 }
 
-/// Whether two lists are the same, or there is neither.
+/// Whether two lists are the same, or neither is there.
 fn is_same_list(access: &Option<AccessList>, other: &Option<AccessList>) -> bool
     ensures { result ≡ is_same_list access.now other.now }
 {

@@ -10,4 +10,4 @@ pub mod Rows
 pub mod Marking
 pub mod Sparing
 mod ReloadLemmas
-mod Currents
+mod CurrentLemmas

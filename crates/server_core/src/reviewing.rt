@@ -61,8 +61,7 @@ fn review_in(
     }
 }
 
-/// Whether an address is known to have the same view under both configurations. Where too many stations changed, that is not
-/// known of any.
+/// Whether an address certainly has the same view under both configurations. If too many stations changed, the answer is no.
 fn is_spared(changes: &Option<Changes>, old: &Config, config: &Config, address: Ipv4Addr) -> bool
     ensures { result ≡ true → is_same_but_for_access old.now config.now ≡ true →
         changes.now ≡ few (changed_places old.now.entries config.now.entries) →
@@ -74,8 +73,8 @@ fn is_spared(changes: &Option<Changes>, old: &Config, config: &Config, address: 
     }
 }
 
-/// The same as `review_in`. Its stations are not looked at where the changes spare the address: then the session has that
-/// view which it had under the old configuration, and needs no review.
+/// Does what `review_in` does, but looks at no station that did not change if the address certainly has the view that it had
+/// under the old configuration.
 fn review_unless_spared(
     changes: &Option<Changes>,
     old: &Config,
@@ -104,9 +103,9 @@ fn review_unless_spared(
     }
 }
 
-/// Each open client is cut whose address has another view under the new configuration, where each had that of the old one or is
-/// cut already. The lists of the stations are compared once. Then a client costs a look at each station that changed, and at
-/// all stations only where it may see others of them, or where too many changed.
+/// Cuts each open client whose address has another view under the new configuration. Under the old one each has the view of
+/// its address, or is cut already. The stations' lists are compared once. After that a client costs a look at each station
+/// whose list changed, and a look at all stations only if these don't settle it.
 pub fn review_all(
     old: &Config,
     config: &Config,

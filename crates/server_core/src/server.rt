@@ -268,9 +268,9 @@ impl Server {
     /// Each open client whose address has another view under it than at its open is cut: what waits for it is still
     /// handed, its unread bytes are dropped, and nothing is read or chosen for it any more. All others go on. It fails
     /// with 34 Different exactly where the configuration differs in anything else, and then nothing changes. It takes no
-    /// memory. It compares the lists of all stations once, and looks for each open client at the server's list and at the
-    /// stations whose own lists changed. Where these answer the client's address differently, or are more than 32, it looks
-    /// at all stations.
+    /// memory. It compares the stations' lists once, and then asks for each open client only about the server's list and the
+    /// stations whose lists changed. If both configurations don't answer these the same for the client's address, or if more
+    /// than 256 lists changed, it looks at all stations.
     pub fn reload(&mut self, config: Config) -> Result<(), ReloadFault>
         ensures stands { (old : ProtocolConfig) (w : World) → StandsAt self.old old w →
             StandsAt self.new (config_by old (Reload config)) (step old w (Reload config)) }

@@ -1,6 +1,6 @@
 use Rattle.std.proofs.Common.{◌∙◌, ap₂, sym}
 use Rattle.catalog.specs.Changes.{is_same_list}
-use Rattle.catalog.proofs.Alike.{tokens_decided}
+use Rattle.catalog.proofs.ChangesLemmas.{tokens_decided}
 use Rattle.catalog.proofs.station.is_same_list.Goals as goal
 
 pub returns-in-Some-Some : goal.returns-in-Some-Some

@@ -6,7 +6,7 @@ use Rattle.server_core.specs.Marks.{AreMarked, marks_of}
 use Rattle.server_core.proofs.GoingOn.{found, seen-session, serving, with-marks}
 use Rattle.server_core.proofs.Marking.{marked-leaves}
 use Rattle.server_core.proofs.Standings.{close-stands}
-use Rattle.server_core.proofs.Currents.{current-closed as closed}
+use Rattle.server_core.proofs.CurrentLemmas.{current-closed as closed}
 use Rattle.server_core.proofs.server.Server.close.Goals as goal
 
 pub invariant_of-self : goal.invariant_of-self
@@ -17,7 +17,8 @@ invariant_of-self c = (
   marked-leaves c.self.inside.config c.self.inside.rings c.self.inside.marks c.leave.new.self c.self.inside.clients.slots c.close.new.self.slots c.in-Some.slot c.leave.ensures.kept c.self.invariant.3 c.in-Some.ensures.freed c.leave.ensures.sending,
   c.leave.ensures.kept.rows.count ∙ c.self.invariant.4,
   c.self.invariant.5,
-  closed c.self.inside.config c.self.inside.clients c.close.new.self c.number.result c.close.ensures.closed c.close.ensures.left c.self.invariant.6,
+  closed c.self.inside.config c.self.inside.clients c.close.new.self c.number.result c.close.ensures.closed
+      c.close.ensures.left c.self.invariant.6,
 )
 
 pub invariant_of-self-in-None : goal.invariant_of-self-in-None
@@ -28,7 +29,8 @@ invariant_of-self-in-None c = (
   subst (λ (slots : Slab Sitting). AreMarked c.self.inside.config c.self.inside.rings c.self.inside.marks slots) (sym (c.close.ensures.absent c.in-None.is)) c.self.invariant.3,
   c.self.invariant.4,
   c.self.invariant.5,
-  closed c.self.inside.config c.self.inside.clients c.close.new.self c.number.result c.close.ensures.closed c.close.ensures.left c.self.invariant.6,
+  closed c.self.inside.config c.self.inside.clients c.close.new.self c.number.result c.close.ensures.closed
+      c.close.ensures.left c.self.invariant.6,
 )
 
 pub returns-in-Some-clause-stands : goal.returns-in-Some-clause-stands

@@ -9,7 +9,7 @@ use Rattle.server_core.proofs.Marking.{marked-arrives}
 use Rattle.server_core.proofs.Sparing.{marks-those, serving-with}
 use Rattle.server_core.proofs.Slots.{sessions-settled}
 use Rattle.server_core.proofs.Arriving.{accepted-there, answers-number, arrive-settled, arrive-stands, place-there}
-use Rattle.server_core.proofs.Currents.{history-arrives}
+use Rattle.server_core.proofs.CurrentLemmas.{history-arrives}
 use Rattle.server_core.proofs.server.Server.hold.Goals as goal
 
 pub returns-clause-stands : goal.returns-clause-stands
@@ -51,8 +51,10 @@ invariant_of-self c = (
   marked-arrives c.self.inside.config c.self.inside.rings c.arrive-number.new.self c.self.inside.marks c.arrived.new.self c.args.placing.place c.self.inside.clients.slots c.arrive-number.ensures.others
       (inside c) c.arrived.ensures.marked c.arrived.ensures.room c.arrived.ensures.sending c.arrived.ensures.rows c.self.invariant.3,
   ap length c.arrived.ensures.rows ∙ c.self.invariant.4,
-  history-arrives c.self.inside.config c.self.inside.rings c.arrive-number.new.self c.args.bytes.now c.args.placing.place c.args.placing.summary
-      (subst (λ (s : Serving). IsPlaced s.config c.args.bytes.now c.args.placing.place c.args.placing.summary) (sym c.self.view_is) c.requires)
+  history-arrives c.self.inside.config c.self.inside.rings c.arrive-number.new.self c.args.bytes.now
+      c.args.placing.place c.args.placing.summary
+      (subst (λ (s : Serving). IsPlaced s.config c.args.bytes.now c.args.placing.place c.args.placing.summary)
+      (sym c.self.view_is) c.requires)
       c.codes_are_distinct.ensures c.arrive-number.ensures.holds c.self.invariant.5,
   c.self.invariant.6,
 )

@@ -1,7 +1,7 @@
 use Rattle.std.proofs.Common.{◌∙◌, [], ap, length}
 use Rattle.held_records.proofs.Stations.{rings_count}
 use Rattle.server_core.proofs.Marking.{marked-none}
-use Rattle.server_core.proofs.Currents.{current-none}
+use Rattle.server_core.proofs.CurrentLemmas.{current-none}
 use Rattle.server_core.proofs.server.Server.new.Goals as goal
 
 pub invariant_of-result : goal.invariant_of-result

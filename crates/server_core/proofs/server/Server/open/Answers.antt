@@ -13,7 +13,7 @@ use Rattle.server_core.proofs.Marking.{marked-opens, marked-roomier, marked-same
 use Rattle.server_core.proofs.Slots.{addresses-counted, same-addresses, sessions-counted}
 use Rattle.server_core.proofs.Sparing.{marks-same}
 use Rattle.server_core.proofs.Standings.{open-stands}
-use Rattle.server_core.proofs.Currents.{current-new, current-opens, current-same}
+use Rattle.server_core.proofs.CurrentLemmas.{current-new, current-opens, current-same}
 use Rattle.server_core.proofs.server.Server.open.Goals as goal
 
 pub invariant_of-self : goal.invariant_of-self
@@ -43,8 +43,10 @@ invariant_of-self-in_err-number c =
           (marked-roomier c.self.inside.config c.self.inside.rings c.self.inside.marks c.reserve.new.self c.self.inside.clients.slots c.reserve.ensures.kept c.self.invariant.3),
       c.reserve.ensures.kept.rows.count ∙ c.self.invariant.4,
       c.self.invariant.5,
-      current-same c.self.inside.config (sessions_of c.self.inside.clients) (sessions_of c.open.new.self) (addresses_of c.self.inside.clients) (addresses_of c.open.new.self) c.in_err-number.ensures.err
-          (same-addresses c.self.inside.clients c.open.new.self c.in_err-number.ensures.numbers.0 c.in_err-number.ensures.numbers.1) c.self.invariant.6,
+      current-same c.self.inside.config (sessions_of c.self.inside.clients) (sessions_of c.open.new.self)
+          (addresses_of c.self.inside.clients) (addresses_of c.open.new.self) c.in_err-number.ensures.err
+          (same-addresses c.self.inside.clients c.open.new.self c.in_err-number.ensures.numbers.0
+          c.in_err-number.ensures.numbers.1) c.self.invariant.6,
     )
 
 pub returns-in_err-number-clause-err : goal.returns-in_err-number-clause-err
@@ -68,11 +70,15 @@ invariant_of-self-2 c =
           (ap (λ (x : Client). x.waiting) (c.new.ensures.client c.self.inside.config [])) c.in_ok-number.ensures.slots,
       c.reserve.ensures.kept.rows.count ∙ c.self.invariant.4,
       c.self.invariant.5,
-      current-same c.self.inside.config (sessions_of c.self.inside.clients ++ Some c.new.result ∷ []) (sessions_of c.open.new.self) (addresses_of c.self.inside.clients ++ Some (ipv4_bits c.args.address) ∷ []) (addresses_of c.open.new.self)
+      current-same c.self.inside.config (sessions_of c.self.inside.clients ++ Some c.new.result ∷ [])
+          (sessions_of c.open.new.self) (addresses_of c.self.inside.clients ++ Some (ipv4_bits c.args.address) ∷ [])
+          (addresses_of c.open.new.self)
           c.in_ok-number.ensures.opened c.in_ok-number.ensures.came
-          (current-opens c.self.inside.config (sessions_of c.self.inside.clients) (addresses_of c.self.inside.clients) c.new.result (ipv4_bits c.args.address)
+          (current-opens c.self.inside.config (sessions_of c.self.inside.clients) (addresses_of c.self.inside.clients)
+          c.new.result (ipv4_bits c.args.address)
           (sessions-counted c.self.inside.clients ∙ sym (addresses-counted c.self.inside.clients))
-          (current-new c.self.inside.config (ipv4_bits c.args.address) c.new.result (ap (λ p. view_in c.self.inside.config p) c.new.ensures.places ∙ c.in_ok-view.ensures.view))
+          (current-new c.self.inside.config (ipv4_bits c.args.address) c.new.result
+          (ap (λ p. view_in c.self.inside.config p) c.new.ensures.places ∙ c.in_ok-view.ensures.view))
           c.self.invariant.6),
     )
 

@@ -7,7 +7,7 @@ use Rattle.server_core.specs.Refusals.{receipt}
 use Rattle.server_core.specs.Marks.{AreMarked, marks_of}
 use Rattle.server_core.proofs.GoingOn.{found, goes-nowhere, goes-there, seen-nowhere, seen-there, with-marks}
 use Rattle.server_core.proofs.Slots.{written-table}
-use Rattle.server_core.proofs.Currents.{current-goes, current-same, received-over}
+use Rattle.server_core.proofs.CurrentLemmas.{current-goes, current-same, received-over}
 use Rattle.server_core.specs.Clients.{addresses_of, sessions_of}
 use Rattle.server_core.proofs.server.Server.receive.Goals as goal
 
@@ -25,9 +25,14 @@ invariant_of-self c = (
   c.receive_in.ensures.marked,
   c.receive_in.ensures.stations ∙ c.self.invariant.4,
   c.self.invariant.5,
-  current-goes c.self.inside.config c.self.invariant.5.history c.seek.new.self c.number.result c.in-Some.slot (λ v x. received v c.self.invariant.5.history c.args.bytes.now x) (received-over c.self.invariant.5.history c.args.bytes.now) c.receive_in.new.slots c.seek.ensures.table (sym c.in-Some.ensures.slot)
+  current-goes c.self.inside.config c.self.invariant.5.history c.seek.new.self c.number.result c.in-Some.slot
+      (λ v x. received v c.self.invariant.5.history c.args.bytes.now x)
+      (received-over c.self.invariant.5.history c.args.bytes.now) c.receive_in.new.slots c.seek.ensures.table
+      (sym c.in-Some.ensures.slot)
       (c.receive_in.ensures.changed c.self.invariant.5.history c.self.invariant.5.holds)
-      (current-same c.self.inside.config (sessions_of c.self.inside.clients) (sessions_of c.seek.new.self) (addresses_of c.self.inside.clients) (addresses_of c.seek.new.self) c.seek.ensures.sessions c.seek.ensures.addresses c.self.invariant.6),
+      (current-same c.self.inside.config (sessions_of c.self.inside.clients) (sessions_of c.seek.new.self)
+      (addresses_of c.self.inside.clients) (addresses_of c.seek.new.self) c.seek.ensures.sessions
+      c.seek.ensures.addresses c.self.invariant.6),
 )
 
 pub invariant_of-self-in-None : goal.invariant_of-self-in-None
@@ -38,7 +43,9 @@ invariant_of-self-in-None c = (
   subst (λ (slots : Slab Sitting). AreMarked c.self.inside.config c.self.inside.rings c.self.inside.marks slots) (sym c.seek.ensures.slots) c.self.invariant.3,
   c.self.invariant.4,
   c.self.invariant.5,
-  current-same c.self.inside.config (sessions_of c.self.inside.clients) (sessions_of c.seek.new.self) (addresses_of c.self.inside.clients) (addresses_of c.seek.new.self) c.seek.ensures.sessions c.seek.ensures.addresses c.self.invariant.6,
+  current-same c.self.inside.config (sessions_of c.self.inside.clients) (sessions_of c.seek.new.self)
+      (addresses_of c.self.inside.clients) (addresses_of c.seek.new.self) c.seek.ensures.sessions
+      c.seek.ensures.addresses c.self.invariant.6,
 )
 
 pub returns-in-Some-clause-stands : goal.returns-in-Some-clause-stands

@@ -7,7 +7,7 @@ use Rattle.server_core.specs.Standing.{Serving}
 use Rattle.server_core.proofs.GoingOn.{found, with-marks}
 use Rattle.server_core.proofs.ReloadLemmas.{marked-under, refused-reload, reload-stands, same_count, settled-under}
 use Rattle.server_core.proofs.Slots.{written-table}
-use Rattle.server_core.proofs.Currents.{current-after, current-in-slots, history-under}
+use Rattle.server_core.proofs.CurrentLemmas.{current-after, current-in-slots, history-under}
 use Rattle.server_core.proofs.server.Server.reload.Goals as goal
 
 pub review_all-requires-clause-settled : goal.review_all-requires-clause-settled
@@ -18,7 +18,8 @@ review_all-requires-clause-marked c = marked-under c.self.inside.config c.args.c
 
 pub review_all-requires-clause-current : goal.review_all-requires-clause-current
 review_all-requires-clause-current c =
-    subst (λ (os : List Opened). AreCurrentIn c.self.inside.config os c.self.inside.clients.slots) (sym c.as_slice.ensures.value)
+    subst (λ (os : List Opened). AreCurrentIn c.self.inside.config os c.self.inside.clients.slots)
+    (sym c.as_slice.ensures.value)
     (current-in-slots c.self.inside.config c.self.inside.clients c.self.invariant.0 c.self.invariant.6)
 
 pub invariant_of-self : goal.invariant_of-self
@@ -29,9 +30,12 @@ invariant_of-self c =
       c.self.invariant.2 ∙ count,
       c.review_all.ensures.marked,
       c.review_all.ensures.stations ∙ c.self.invariant.4 ∙ count,
-      history-under c.self.inside.config c.args.config c.self.inside.rings (sym c.if-not-is_same_but_for_access.ensures) c.self.invariant.5,
-      current-after c.args.config c.self.inside.clients c.review_all.new.slots c.self.invariant.0 c.review_all.ensures.kept
-          (subst (λ (os : List Opened). AreReviewed c.args.config os c.self.inside.clients.slots c.review_all.new.slots) c.as_slice.ensures.value c.review_all.ensures.each),
+      history-under c.self.inside.config c.args.config c.self.inside.rings
+          (sym c.if-not-is_same_but_for_access.ensures) c.self.invariant.5,
+      current-after c.args.config c.self.inside.clients c.review_all.new.slots c.self.invariant.0
+          c.review_all.ensures.kept
+          (subst (λ (os : List Opened). AreReviewed c.args.config os c.self.inside.clients.slots
+          c.review_all.new.slots) c.as_slice.ensures.value c.review_all.ensures.each),
     )
 
 pub returns-then-not-is_same_but_for_access-clause-stands : goal.returns-then-not-is_same_but_for_access-clause-stands

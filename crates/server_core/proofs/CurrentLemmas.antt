@@ -65,11 +65,13 @@ taken-over h n v c over =
     let still : IsOver d = offered-over h v c over in
     both (is_nothing (take n d.waiting))
     (λ y. subst IsOver (sym (ap (λ b. if b then d else left_with v h d (drop n d.waiting)) y)) still)
-    (λ m. subst IsOver (sym (ap (λ b. if b then d else left_with v h d (drop n d.waiting)) m)) (left-over h v d (drop n d.waiting) still))
+    (λ m. subst IsOver (sym (ap (λ b. if b then d else left_with v h d (drop n d.waiting)) m))
+    (left-over h v d (drop n d.waiting) still))
 
 -- ---- a session that goes on
 
-in-its-end : (config : Config) (h : List Arrival) (s : Sitting) → (client_in config h s).state ≡ ClientEnding → s.state ≡ Ending
+in-its-end : (config : Config) (h : List Arrival) (s : Sitting) → (client_in config h s).state ≡ ClientEnding
+    → s.state ≡ Ending
 in-its-end config h s ends = by s.state ends
   where
     by : (t : State) → state_in config h (sitting_view config s) s.mode t ≡ ClientEnding → t ≡ Ending
@@ -86,29 +88,42 @@ is-cut : (config : Config) (h : List Arrival) (s : Sitting) → IsOver (client_i
 is-cut config h s over = (in-its-end config h s over.0, over.1)
 
 module _ (config : Config) (h : List Arrival) (f : View → Client → Client) (keeps : KeepsOver f) (a : ℕ) where
-  session-goes : (s r : Sitting) → Some (seat_of config h s) ≡ Some (record (seat_of config h r) { client = f (sitting_view config r) (client_in config h r) }) → IsCurrent config a r → IsCurrent config a s
-  session-goes s r same current differs =
-      let is : seat_of config h s ≡ record (seat_of config h r) { client = f (sitting_view config r) (client_in config h r) } = cc in
-      let view : sitting_view config s ≡ sitting_view config r = ap (λ (x : Seat). x.view) is in
-      let client : client_in config h s ≡ f (sitting_view config r) (client_in config h r) = ap (λ (x : Seat). x.client) is in
-      let was : IsCut r = current (ap (is_same_view (view_of config a)) (sym view) ∙ differs) in
-      is-cut config h s (subst IsOver (sym client) (keeps (sitting_view config r) (client_in config h r) (is-over config h r was)))
+  abbrev gone-on : Sitting → Seat
+  gone-on r = record (seat_of config h r) { client = f (sitting_view config r) (client_in config h r) }
 
-  option-goes : (s : Sitting) (o : Option (Option Sitting)) → Some (seat_of config h s) ≡ goes_on f (seated config h o) → ((r : Sitting) → o ≡ Some (Some r) → IsCurrent config a r) → IsCurrent config a s
+  session-goes : (s r : Sitting) → Some (seat_of config h s) ≡ Some (gone-on r) → IsCurrent config a r
+      → IsCurrent config a s
+  session-goes s r same current differs =
+      let is : seat_of config h s ≡ gone-on r = cc in
+      let view : sitting_view config s ≡ sitting_view config r = ap (λ (x : Seat). x.view) is in
+      let client : client_in config h s ≡ f (sitting_view config r) (client_in config h r) =
+      ap (λ (x : Seat). x.client) is in
+      let was : IsCut r = current (ap (is_same_view (view_of config a)) (sym view) ∙ differs) in
+      is-cut config h s (subst IsOver (sym client)
+      (keeps (sitting_view config r) (client_in config h r) (is-over config h r was)))
+
+  option-goes : (s : Sitting) (o : Option (Option Sitting))
+      → Some (seat_of config h s) ≡ goes_on f (seated config h o)
+      → ((r : Sitting) → o ≡ Some (Some r) → IsCurrent config a r) → IsCurrent config a s
   option-goes s None same current = absurd cc
   option-goes s (Some None) same current = absurd cc
   option-goes s (Some (Some r)) same current = session-goes s r same (current r refl)
 
-module _ (config : Config) (h : List Arrival) (c : Clients) (number slot : ℕ) (f : View → Client → Client) (keeps : KeepsOver f) where
-  pub current-goes : (new : Slab Sitting) → IsTable c → slot_in c.opened.items number ≡ Some slot → SlotGoesOn config h c.slots new slot f →
-      AreCurrent config (sessions_of c) (addresses_of c) → AreCurrent config (sessions_of (record c { slots = new })) (addresses_of (record c { slots = new }))
+module _ (config : Config) (h : List Arrival) (c : Clients) (number slot : ℕ) (f : View → Client → Client)
+    (keeps : KeepsOver f) where
+  pub current-goes : (new : Slab Sitting) → IsTable c → slot_in c.opened.items number ≡ Some slot
+      → SlotGoesOn config h c.slots new slot f
+      → AreCurrent config (sessions_of c) (addresses_of c)
+      → AreCurrent config (sessions_of (record c { slots = new })) (addresses_of (record c { slots = new }))
   unfolding sessions_of addresses_of
   current-goes new table there goes current k a s has from =
-      let only = goes-by-number config h c.opened.items c.slots new c.opens number slot f table.apart there (slot_in-below c.opens c.opened.items number slot table.below there) goes in
+      let only = goes-by-number config h c.opened.items c.slots new c.opens number slot f table.apart there
+      (slot_in-below c.opens c.opened.items number slot table.below there) goes in
       both (k == number)
       (λ y.
       let e : k ≡ number = eqb-true k number y in
-      let here : slice_get (sessions_of (record c { slots = new })) number ≡ Some (Some s) = ap (slice_get (sessions_of (record c { slots = new }))) (sym e) ∙ has in
+      let here : slice_get (sessions_of (record c { slots = new })) number ≡ Some (Some s) =
+      ap (slice_get (sessions_of (record c { slots = new }))) (sym e) ∙ has in
       option-goes config h f keeps a s (slice_get (sessions_of c) number) (ap (seated config h) (sym here) ∙ only.here)
       (λ r was. current number a r was (ap (slice_get (addresses_of c)) (sym e) ∙ from)))
       (λ n. current k a s (sym (only.others k (eqb-false k number n)) ∙ has) from)
@@ -116,13 +131,15 @@ module _ (config : Config) (h : List Arrival) (c : Clients) (number slot : ℕ) 
 -- ---- clients that come and go
 
 -- Whose sessions and addresses are the same.
-pub current-same : (config : Config) (xs ys : List (Option Sitting)) (places bs : List (Option ℕ)) → ys ≡ xs → bs ≡ places → AreCurrent config xs places → AreCurrent config ys bs
-current-same config xs ys places bs same from current k a s has is =
+pub current-same : (config : Config) (xs ys : List (Option Sitting)) (addresses bs : List (Option ℕ)) → ys ≡ xs
+    → bs ≡ addresses → AreCurrent config xs addresses → AreCurrent config ys bs
+current-same config xs ys addresses bs same from current k a s has is =
     current k a s (ap (λ zs. slice_get zs k) (sym same) ∙ has) (ap (λ zs. slice_get zs k) (sym from) ∙ is)
 
 module _ {X Y : Type 0} (x : X) (y : Y) where
   -- Two lists to which one more is added are the same before it.
-  last-or-before : (xs : List X) (ys : List Y) (k : ℕ) (x' : X) (y' : Y) → length xs ≡ length ys → slice_get (xs ++ x ∷ []) k ≡ Some x' → slice_get (ys ++ y ∷ []) k ≡ Some y' →
+  last-or-before : (xs : List X) (ys : List Y) (k : ℕ) (x' : X) (y' : Y) → length xs ≡ length ys
+      → slice_get (xs ++ x ∷ []) k ≡ Some x' → slice_get (ys ++ y ∷ []) k ≡ Some y' →
       ((slice_get xs k ≡ Some x') × (slice_get ys k ≡ Some y')) ⊎ ((x ≡ x') × (y ≡ y'))
   last-or-before [] [] zero x' y' count e f = inr (cc, cc)
   last-or-before [] [] (suc k) x' y' count e f = absurd cc
@@ -135,21 +152,27 @@ some-same : {X : Type 0} (x y : X) → Some x ≡ Some y → x ≡ y
 some-same x y e = cc
 
 -- One more opens.
-pub current-opens : (config : Config) (xs : List (Option Sitting)) (places : List (Option ℕ)) (s : Sitting) (a : ℕ) → length xs ≡ length places → IsCurrent config a s → AreCurrent config xs places → AreCurrent config (xs ++ Some s ∷ []) (places ++ Some a ∷ [])
-current-opens config xs places s a count here current k b t has from =
-    by (last-or-before (Some s) (Some a) xs places k (Some t) (Some b) count has from)
+pub current-opens : (config : Config) (xs : List (Option Sitting)) (addresses : List (Option ℕ)) (s : Sitting) (a : ℕ)
+    → length xs ≡ length addresses → IsCurrent config a s → AreCurrent config xs addresses
+    → AreCurrent config (xs ++ Some s ∷ []) (addresses ++ Some a ∷ [])
+current-opens config xs addresses s a count here current k b t has from =
+    by (last-or-before (Some s) (Some a) xs addresses k (Some t) (Some b) count has from)
   where
-    by : ((slice_get xs k ≡ Some (Some t)) × (slice_get places k ≡ Some (Some b))) ⊎ ((Some s ≡ Some t) × (Some a ≡ Some b)) → IsCurrent config b t
+    by : ((slice_get xs k ≡ Some (Some t)) × (slice_get addresses k ≡ Some (Some b)))
+        ⊎ ((Some s ≡ Some t) × (Some a ≡ Some b)) → IsCurrent config b t
     by (inl p) = current k b t p.0 p.1
-    by (inr q) = subst (λ (n : ℕ). IsCurrent config n t) (some-same a b q.1) (subst (IsCurrent config a) (some-same s t q.0) here)
+    by (inr q) = subst (λ (n : ℕ). IsCurrent config n t) (some-same a b q.1)
+        (subst (IsCurrent config a) (some-same s t q.0) here)
 
 -- the session of one that opens
-pub current-new : (config : Config) (a : ℕ) (s : Sitting) → sitting_view config s ≡ view_of config a → IsCurrent config a s
+pub current-new : (config : Config) (a : ℕ) (s : Sitting) → sitting_view config s ≡ view_of config a
+    → IsCurrent config a s
 current-new config a s sees differs =
     absurd (true≢false (sym ((views_compared (view_of config a) (sitting_view config s)).1 (sym sees)) ∙ differs))
 
 -- What is there once a place was emptied was there before.
-left-there : {X : Type 0} (xs : List (Option X)) (n k : ℕ) (x : X) → slice_get (slice_set xs n None) k ≡ Some (Some x) → slice_get xs k ≡ Some (Some x)
+left-there : {X : Type 0} (xs : List (Option X)) (n k : ℕ) (x : X) → slice_get (slice_set xs n None) k ≡ Some (Some x)
+    → slice_get xs k ≡ Some (Some x)
 left-there [] n k x e = e
 left-there (y ∷ ys) zero zero x e = absurd cc
 left-there (y ∷ ys) zero (suc k) x e = e
@@ -157,18 +180,24 @@ left-there (y ∷ ys) (suc n) zero x e = e
 left-there (y ∷ ys) (suc n) (suc k) x e = left-there ys n k x e
 
 -- One closes.
-pub current-closes : (config : Config) (xs : List (Option Sitting)) (places : List (Option ℕ)) (n : ℕ) → AreCurrent config xs places → AreCurrent config (slice_set xs n None) (slice_set places n None)
-current-closes config xs places n current k a s has from = current k a s (left-there xs n k s has) (left-there places n k a from)
+pub current-closes : (config : Config) (xs : List (Option Sitting)) (addresses : List (Option ℕ)) (n : ℕ)
+    → AreCurrent config xs addresses → AreCurrent config (slice_set xs n None) (slice_set addresses n None)
+current-closes config xs addresses n current k a s has from =
+    current k a s (left-there xs n k s has) (left-there addresses n k a from)
 
 -- A client that closes leaves the others as they were.
-pub current-closed : (config : Config) (c new : Clients) (n : ℕ) → sessions_of new ≡ slice_set (sessions_of c) n None → addresses_of new ≡ slice_set (addresses_of c) n None →
+pub current-closed : (config : Config) (c new : Clients) (n : ℕ) → sessions_of new ≡ slice_set (sessions_of c) n None
+    → addresses_of new ≡ slice_set (addresses_of c) n None →
     AreCurrent config (sessions_of c) (addresses_of c) → AreCurrent config (sessions_of new) (addresses_of new)
 current-closed config c new n closed left current =
-    current-same config (slice_set (sessions_of c) n None) (sessions_of new) (slice_set (addresses_of c) n None) (addresses_of new) closed left (current-closes config (sessions_of c) (addresses_of c) n current)
+    current-same config (slice_set (sessions_of c) n None) (sessions_of new) (slice_set (addresses_of c) n None)
+    (addresses_of new) closed left (current-closes config (sessions_of c) (addresses_of c) n current)
 
 -- where there is none
-pub current-none : (config : Config) (c : Clients) → sessions_of c ≡ [] → AreCurrent config (sessions_of c) (addresses_of c)
-current-none config c none k a s has from = absurd (let q : None ≡ Some (Some s) = sym (ap (λ xs. slice_get xs k) none) ∙ has in cc)
+pub current-none : (config : Config) (c : Clients) → sessions_of c ≡ []
+    → AreCurrent config (sessions_of c) (addresses_of c)
+current-none config c none k a s has from =
+    absurd (let q : None ≡ Some (Some s) = sym (ap (λ xs. slice_get xs k) none) ∙ has in cc)
 
 -- ---- a new configuration
 
@@ -176,27 +205,33 @@ current-none config c none k a s has from = absurd (let q : None ≡ Some (Some 
 reviewed-current : (new : Config) (a : ℕ) (s : Sitting) → IsCurrent new a (reviewed_sitting new a s)
 reviewed-current new a s =
     both (is_same_view (view_of new a) (sitting_view new s))
-    (λ y. subst (IsCurrent new a) (sym (ap (λ b. if b then s else cut_sitting s) y)) (λ differs. absurd (true≢false (sym y ∙ differs))))
+    (λ y. subst (IsCurrent new a) (sym (ap (λ b. if b then s else cut_sitting s) y))
+    (λ differs. absurd (true≢false (sym y ∙ differs))))
     (λ n. subst (IsCurrent new a) (sym (ap (λ b. if b then s else cut_sitting s) n)) (λ differs. (refl, refl)))
 
 cut-again : (s : Sitting) → IsCut s → cut_sitting s ≡ s
 cut-again s is = ap₂ (λ (t : State) (bytes : List ℕ). record s { state = t; unread = bytes }) (sym is.0) (sym is.1)
 
 -- A current session whose address sees the same under the new configuration needs no review.
-pub spared-same : (g new : Config) (a : ℕ) (s : Sitting) → is_same_but_for_access g new ≡ true → view_of new a ≡ view_of g a → IsCurrent g a s → reviewed_sitting new a s ≡ s
+pub spared-same : (g new : Config) (a : ℕ) (s : Sitting) → is_same_but_for_access g new ≡ true
+    → view_of new a ≡ view_of g a → IsCurrent g a s → reviewed_sitting new a s ≡ s
 spared-same g new a s same sees current =
     both (is_same_view (view_of new a) (sitting_view new s))
     (λ y. ap (λ b. if b then s else cut_sitting s) y)
     (λ n.
-    let differs : is_same_view (view_of g a) (sitting_view g s) ≡ false = ap₂ is_same_view (sym sees) (sym (same-view g new same s.places)) ∙ n in
+    let differs : is_same_view (view_of g a) (sitting_view g s) ≡ false =
+    ap₂ is_same_view (sym sees) (sym (same-view g new same s.places)) ∙ n in
     ap (λ b. if b then s else cut_sitting s) n ∙ cut-again s (current differs))
 
 -- the sessions in the slots, and those of the numbers
-pub current-in-slots : (config : Config) (c : Clients) → IsTable c → AreCurrent config (sessions_of c) (addresses_of c) → AreCurrentIn config c.opened.items c.slots
+pub current-in-slots : (config : Config) (c : Clients) → IsTable c
+    → AreCurrent config (sessions_of c) (addresses_of c) → AreCurrentIn config c.opened.items c.slots
 current-in-slots config c table current k slot a s there from has =
     current k a s (session-there c k slot table there ∙ ap Some has) (address-there c k slot table there ∙ ap Some from)
 
-pub current-after : (new : Config) (c : Clients) (slots : Slab Sitting) → IsTable c → StayOpen c.slots slots → AreReviewed new c.opened.items c.slots slots → AreCurrent new (sessions_of (record c { slots = slots })) (addresses_of (record c { slots = slots }))
+pub current-after : (new : Config) (c : Clients) (slots : Slab Sitting) → IsTable c → StayOpen c.slots slots
+    → AreReviewed new c.opened.items c.slots slots
+    → AreCurrent new (sessions_of (record c { slots = slots })) (addresses_of (record c { slots = slots }))
 current-after new c slots table kept each k a t has from = by (slot_in c.opened.items k) refl
   where
     after : Clients
@@ -205,40 +240,53 @@ current-after new c slots table kept each k a t has from = by (slot_in c.opened.
     now-table : IsTable after
     now-table = written-table c slots table kept
 
-    from-slot : (slot : ℕ) → slot_in c.opened.items k ≡ Some slot → (o : Option Sitting) → IsSome o → get c.slots slot ≡ o → IsCurrent new a t
+    from-slot : (slot : ℕ) → slot_in c.opened.items k ≡ Some slot → (o : Option Sitting) → IsSome o
+        → get c.slots slot ≡ o → IsCurrent new a t
     from-slot slot there None none is = absurd (let q : false ≡ true = none in cc)
     from-slot slot there (Some s) some is =
-        let came : address_in c.opened.items k ≡ Some a = some-same _ _ (sym (address-there after k slot now-table there) ∙ from) in
+        let came : address_in c.opened.items k ≡ Some a =
+        some-same _ _ (sym (address-there after k slot now-table there) ∙ from) in
         let now : get slots slot ≡ Some t = some-same _ _ (sym (session-there after k slot now-table there) ∙ has) in
         subst (IsCurrent new a) (some-same _ _ (sym (each k slot a s there came is) ∙ now)) (reviewed-current new a s)
 
     by : (o : Option ℕ) → slot_in c.opened.items k ≡ o → IsCurrent new a t
-    by None none = absurd (let q : Some (seat_of new [] t) ≡ None = ap (seated new []) (sym has) ∙ session-nowhere new [] after k none in cc)
+    by None none = absurd (let q : Some (seat_of new [] t) ≡ None =
+        ap (seated new []) (sym has) ∙ session-nowhere new [] after k none in cc)
     by (Some slot) there = from-slot slot there (get c.slots slot) (table.there k slot there) refl
 
 -- The session at a place that was not reviewed yet is as it was before.
-pub current-at : (new config : Config) (os : List Opened) (start slots : Slab Sitting) → AreRising os → AreApart os → (i : ℕ) (one : Opened) → i < length os → one ≡ get_or os i one → IsLeft new os start slots i → AreCurrentIn config os start
+pub current-at : (new config : Config) (os : List Opened) (start slots : Slab Sitting) → AreRising os → AreApart os
+    → (i : ℕ) (one : Opened) → i < length os → one ≡ get_or os i one → IsLeft new os start slots i
+    → AreCurrentIn config os start
     → (s : Sitting) → get slots one.slot ≡ Some s → IsCurrent config (ipv4_bits one.address) s
 current-at new config os start slots rising apart i one lt is left current s has =
     let k = number_at os i in
-    let there : slot_in os k ≡ Some one.slot = its-slot-at os k i one rising (record { inside = lt; has_number = refl }) is in
+    let there : slot_in os k ≡ Some one.slot =
+    its-slot-at os k i one rising (record { inside = lt; has_number = refl }) is in
     let at = one-at os i one lt is in
     let place = place-of os k one.slot there in
     let here : place.0 ≡ i = slots-apart os rising apart place.0 i place.1.inside lt (place.1.has_slot ∙ at.0) in
-    let from : address_in os k ≡ Some (ipv4_bits one.address) = place.1.has_address ∙ ap (λ n. Some (bits_at os n)) here ∙ ap Some (sym at.1) in
-    let was : get start one.slot ≡ Some s = ap (get start) at.0 ∙ sym (left i (omega arith) lt) ∙ ap (get slots) (sym at.0) ∙ has in
+    let from : address_in os k ≡ Some (ipv4_bits one.address) =
+    place.1.has_address ∙ ap (λ n. Some (bits_at os n)) here ∙ ap Some (sym at.1) in
+    let was : get start one.slot ≡ Some s =
+    ap (get start) at.0 ∙ sym (left i (omega arith) lt) ∙ ap (get slots) (sym at.0) ∙ has in
     current k one.slot (ipv4_bits one.address) s there from was
 
 -- ---- the history
 
 -- A record that arrives is the last of it.
-pub history-arrives : (config : Config) (old new : Holdings) (r : List ℕ) (place : ℕ) (summary : Summary) → IsPlaced config r place summary → HasDistinctCodes config.entries → Arrives old new place r summary → HasHistory config old → HasHistory config new
+pub history-arrives : (config : Config) (old new : Holdings) (r : List ℕ) (place : ℕ) (summary : Summary)
+    → IsPlaced config r place summary → HasDistinctCodes config.entries → Arrives old new place r summary
+    → HasHistory config old → HasHistory config new
 history-arrives config old new r place summary is distinct arrives was =
     record {
       history = was.history ++ arrival_of r is.facts ∷ [];
-      holds = arrives config was.history (arrival_of r is.facts) was.holds distinct (place-there config is.facts place is.at).1 refl is.kept;
+      holds = arrives config was.history (arrival_of r is.facts) was.holds distinct
+          (place-there config is.facts place is.at).1 refl is.kept;
     }
 
 -- Under another configuration with the same stations it is the same.
-pub history-under : (g new : Config) (rings : Holdings) → is_same_but_for_access g new ≡ true → HasHistory g rings → HasHistory new rings
-history-under g new rings same was = record { history = was.history; holds = was.holds ∙ sym (same-holdings g new same was.history) }
+pub history-under : (g new : Config) (rings : Holdings) → is_same_but_for_access g new ≡ true → HasHistory g rings
+    → HasHistory new rings
+history-under g new rings same was =
+    record { history = was.history; holds = was.holds ∙ sym (same-holdings g new same was.history) }
