@@ -41,13 +41,17 @@ fn reset<R: Net>(rt: &R, centre: &mut Centre) -> Result<bool, Fail> {
     Ok(is_asked && centre.fills(&mut client, &mut part)? && centre.clients() == 1)
 }
 
+/// Whether the server closes a client that resets, and serves the next one.
+fn closes_the_reset_alone<R: Net>(rt: &R, centre: &mut Centre) -> Result<bool, Fail> {
+    let is_reset = reset(rt, centre)?;
+    feed(rt, centre, 32)?;
+    Ok(is_reset && centre.clients() == 0 && is_well(rt, centre)?)
+}
+
 #[test]
 fn a_client_that_resets_is_closed_alone(rt: HostRuntime) -> Result<(), Fail> {
     let mut centre = Centre::open(&rt, CENTRE)?;
-    assert!(rt; reset(&rt, &mut centre)?);
-    feed(&rt, &mut centre, 32)?;
-    assert_eq!(rt; centre.clients(), 0);
-    assert!(rt; is_well(&rt, &mut centre)?);
+    assert!(rt; closes_the_reset_alone(&rt, &mut centre)?);
     Ok(())
 }
 
@@ -92,14 +96,32 @@ fn babble<S: Write>(centre: &mut Centre, client: &mut S, said: &[u8]) -> io::Res
     Ok(false)
 }
 
+/// Whether the next client is served while one babbles, and that one's first answer is there to be read.
+fn is_well_beside<R: Net, S: Read + Write>(
+    rt: &R,
+    centre: &mut Centre,
+    client: &mut S,
+    said: &[u8],
+) -> Result<bool, Fail> {
+    let is_full = babble(centre, client, said)?;
+    Ok(is_full && is_well(rt, centre)? && centre.gives(client, GREETING)?)
+}
+
+/// The same with a client that comes for it.
+fn is_well_beside_a_babbler<R: Net>(
+    rt: &R,
+    centre: &mut Centre,
+    said: &[u8],
+) -> Result<bool, Fail> {
+    let mut client = centre.client(rt)?;
+    is_well_beside(rt, centre, &mut client, said)
+}
+
 #[test]
 fn a_client_that_sends_and_never_reads_harms_nobody(rt: HostRuntime) -> Result<(), Fail> {
-    let mut centre = Centre::open(&rt, CENTRE)?;
-    let mut client = centre.client(&rt)?;
     let said = hellos(rt.alloc())?;
-    assert!(rt; babble(&mut centre, &mut client, said.as_slice())?);
-    assert!(rt; is_well(&rt, &mut centre)?);
-    assert!(rt; centre.gives(&mut client, GREETING)?);
+    let mut centre = Centre::open(&rt, CENTRE)?;
+    assert!(rt; is_well_beside_a_babbler(&rt, &mut centre, said.as_slice())?);
     Ok(())
 }
 
@@ -118,12 +140,16 @@ fn visits<R: Net>(rt: &R, centre: &mut Centre) -> Result<(), Fail> {
     Ok(())
 }
 
+/// Whether no client is left after the visits, and the next one is served.
+fn is_left_by_all<R: Net>(rt: &R, centre: &mut Centre) -> Result<bool, Fail> {
+    visits(rt, centre)?;
+    Ok(centre.clients() == 0 && is_well(rt, centre)?)
+}
+
 #[test]
 fn clients_that_leave_at_once_leave_nothing(rt: HostRuntime) -> Result<(), Fail> {
     let mut centre = Centre::open(&rt, CENTRE)?;
-    visits(&rt, &mut centre)?;
-    assert_eq!(rt; centre.clients(), 0);
-    assert!(rt; is_well(&rt, &mut centre)?);
+    assert!(rt; is_left_by_all(&rt, &mut centre)?);
     Ok(())
 }
 
@@ -137,6 +163,13 @@ fn half_fed<R: Net>(rt: &R, centre: &mut Centre) -> Result<(), Fail> {
     Ok(())
 }
 
+/// Another feed sends the third record.
+fn feed_third<R: Net>(rt: &R, centre: &Centre) -> Result<(), Fail> {
+    let mut feed = centre.feed(rt)?;
+    feed.write_all(&record(b"WLF", b"BHZ", 3)?)?;
+    Ok(())
+}
+
 /// Whether a client reads the packets of the first and the third record next.
 fn gives_both<S: Read>(centre: &mut Centre, client: &mut S) -> Result<bool, Fail> {
     let first = packet(b"SLFFFFFE", &record(b"WLF", b"BHZ", 1)?);
@@ -144,14 +177,18 @@ fn gives_both<S: Read>(centre: &mut Centre, client: &mut S) -> Result<bool, Fail
     Ok(centre.gives(client, &first)? && centre.gives(client, &third)?)
 }
 
+/// Whether the record that was not whole is the only one that a client misses.
+fn misses_that_alone<R: Net>(rt: &R, centre: &mut Centre) -> Result<bool, Fail> {
+    let mut client = centre.client(rt)?;
+    let is_asked = centre.answers(&mut client, b"STATION WLF GE\rDATA\rEND\r", b"OK\r\nOK\r\n")?;
+    half_fed(rt, centre)?;
+    feed_third(rt, centre)?;
+    Ok(is_asked && gives_both(centre, &mut client)?)
+}
+
 #[test]
 fn a_feed_that_stops_inside_a_record_loses_that_record_alone(rt: HostRuntime) -> Result<(), Fail> {
     let mut centre = Centre::open(&rt, CENTRE)?;
-    let mut client = centre.client(&rt)?;
-    assert!(rt; centre.answers(&mut client, b"STATION WLF GE\rDATA\rEND\r", b"OK\r\nOK\r\n")?);
-    half_fed(&rt, &mut centre)?;
-    let mut feed = centre.feed(&rt)?;
-    feed.write_all(&record(b"WLF", b"BHZ", 3)?)?;
-    assert!(rt; gives_both(&mut centre, &mut client)?);
+    assert!(rt; misses_that_alone(&rt, &mut centre)?);
     Ok(())
 }

@@ -14,9 +14,8 @@ ghost use Rattle.event_loop.specs.Hearing.{heard};
 ghost use Rattle.event_loop.specs.Hearing.End.{Faulted};
 ghost use Rattle.event_loop.specs.Tables.{IsTable, HearsOnce, HeardBy, WholeHearing, CountsFault, tally_heard_by, heard_end};
 
-use crate::seat::{Role, Seat};
+use crate::seat::{Role, Seat, Unfinished};
 use crate::table::{clients, feeds, mark_readable, mark_writable, place_of};
-use feeder::FeedCutter;
 use ports::{Happening, PortFault, Ports};
 use server_core::Server;
 use std::alloc::Global;
@@ -83,6 +82,7 @@ fn join_feed<P: Ports>(
     server: &Server,
     ports: &mut P,
     seats: &mut Vec<Seat>,
+    alloc: Global,
     most: usize,
     port: u64,
 )
@@ -100,7 +100,12 @@ fn join_feed<P: Ports>(
         ports.shut(port);
         return;
     }
-    let _kept = seats.insert(at, Seat::joining(port, Role::Feed(FeedCutter::new())));
+    match Unfinished::new(alloc) {
+        Ok(unfinished) => {
+            let _kept = seats.insert(at, Seat::joining(port, Role::Feed(unfinished)));
+        }
+        Err(_) => ports.shut(port),
+    }
 }
 
 // Hears what happened next.
@@ -123,7 +128,7 @@ fn hear_once<P: Ports>(
             Hark::Happened
         }
         Ok(Happening::JoinedFeed(port)) => {
-            join_feed(server, ports, seats, most, port);
+            join_feed(server, ports, seats, alloc, most, port);
             Hark::Happened
         }
         Ok(Happening::Readable(port)) => {

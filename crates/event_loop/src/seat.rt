@@ -1,9 +1,36 @@
 //! Ports that are open, and whose they are.
-ghost use Rattle.std.specs.Prelude.{◌≡◌, true};
+ghost use Rattle.std.specs.Prelude.{◌≡◌, [], true, IfOk};
 ghost use Rattle.event_loop.specs.Hearing.{is_client, joining};
 
 use feeder::FeedCutter;
 use server_core::Client;
+use std::alloc::{AllocError, Global};
+use std::marker::Model;
+
+/// The bytes of a feed's unfinished record. They are kept apart from the feed's seat, so that a client's seat, of which there may
+/// be thousands, has no room for them. In a contract it is these bytes.
+#[derive(Drop)]
+pub struct Unfinished {
+    pub cutter: Box<FeedCutter>,
+}
+
+impl Model for Unfinished {
+    ghost use Rattle.std.specs.Prelude.{ℕ, List};
+
+    ghost Value = { List ℕ };
+
+    ghost view = { λ u. u.cutter.value };
+}
+
+impl Unfinished {
+    /// No byte. Only memory can lack.
+    pub fn new(alloc: Global) -> Result<Unfinished, AllocError>
+        ensures { IfOk result (λ unfinished. unfinished ≡ []) }
+    {
+        let cutter = Box::new(alloc, FeedCutter::new())?;
+        Ok(Unfinished { cutter })
+    }
+}
 
 /// Whose a port is.
 #[derive(Drop)]
@@ -11,7 +38,7 @@ pub enum Role {
     /// A client's.
     Client(Client),
     /// A feed's, with the bytes of its unfinished record.
-    Feed(FeedCutter),
+    Feed(Unfinished),
 }
 
 impl Role {

@@ -1,5 +1,6 @@
 //! The seats of a loop, by rising port.
 ghost use Rattle.std.specs.Prelude.{◌≡◌, ◌<◌, ◌≤◌, IfOk, IfErr, map, length, vec_len};
+ghost use Rattle.std.specs.List.{remove};
 ghost use Rattle.event_loop.specs.Hearing.{clients_in, feeds_in, readable_at, writable_at};
 ghost use Rattle.event_loop.specs.Tables.{AreRising, IsSeatOf, IsGapFor};
 
@@ -32,6 +33,14 @@ pub fn mark_writable(seats: &mut Vec<Seat>, port: u64)
     if let Ok(at) = place_of(seats.as_slice(), port) {
         seats[at].writable = true;
     }
+}
+
+/// The seat at a place is gone.
+pub fn remove(seats: &mut Vec<Seat>, at: usize)
+    requires { at < length seats.old.items }
+    ensures { seats.new.items ≡ remove seats.old.items at }
+{
+    let _gone = seats.remove(at);
 }
 
 /// How many clients' ports are open.

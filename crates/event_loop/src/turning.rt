@@ -16,6 +16,7 @@ use crate::feeding::read_feed;
 use crate::hearing::hear;
 use crate::passes::{read_client, write_client};
 use crate::seat::{Role, Seat};
+use crate::table::remove;
 use catalog::Config;
 use ports::Ports;
 use protocol::report::Report;
@@ -75,12 +76,12 @@ fn pass<P: Ports>(
             read_client(server, ports, client, seat, buffer, limit)
                 && write_client(server, ports, client, seat, limit)
         }
-        Role::Feed(cutter) => read_feed(
+        Role::Feed(unfinished) => read_feed(
             server,
             ports,
             seat.port,
             &mut seat.readable,
-            cutter,
+            &mut *unfinished.cutter,
             &mut buffer[..FEED_READ],
             limit,
             dropped,
@@ -107,7 +108,7 @@ fn pass_all<P: Ports>(
         if pass(server, ports, &mut seats[at], &mut buffer, limit, dropped) {
             at += 1;
         } else {
-            let _gone = seats.remove(at);
+            remove(seats, at);
         }
     }
 }

@@ -33,8 +33,8 @@ returns-then-feeds-ge-FEEDS-clause-goes g c = λ t calls config w tells stands.
     (hears-away-feed config c.args.most w calls (g.P.Ports.calls c.args.ports.now) c.args.server.now t ss (g.P.Ports.calls c.shut.new.self)
     c.args.port (is-unseated ss c.args.port c.in-Err.at gap) tells c.shut.ensures.call stands)
 
-pub returns-clause-table : goal.returns-clause-table
-returns-clause-table g c =
+pub returns-in-Ok-clause-table : goal.returns-in-Ok-clause-table
+returns-in-Ok-clause-table g c =
     let ss = c.args.seats.now.items in
     let new : Seat = joining c.args.port (FeedRole []) in
     let gap : IsGapFor ss c.args.port c.in-Err.at = search rules in
@@ -44,8 +44,8 @@ returns-clause-table g c =
     let few : feeds_in ss < 16 = grind (arith, common_steps) in
     subst (IsTable c.args.most) (sym kept) (table-feed c.args.most ss new c.in-Err.at refl gap few c.requires)
 
-pub returns-clause-goes : goal.returns-clause-goes
-returns-clause-goes g c = λ t calls config w tells stands.
+pub returns-in-Ok-clause-goes : goal.returns-in-Ok-clause-goes
+returns-in-Ok-clause-goes g c = λ t calls config w tells stands.
     let ss = c.args.seats.now.items in
     let new : Seat = joining c.args.port (FeedRole []) in
     let gap : IsGapFor ss c.args.port c.in-Err.at = search rules in
@@ -55,3 +55,13 @@ returns-clause-goes g c = λ t calls config w tells stands.
     let few : feeds_in ss < 16 = grind (arith, common_steps) in
     hears-feed config c.args.most w calls (g.P.Ports.calls c.args.ports.now) c.args.server.now t ss c.insert-kept.new.self.items
     c.args.port (is-unseated ss c.args.port c.in-Err.at gap) few (kept ∙ inserted ss new c.in-Err.at gap) tells stands
+
+pub returns-in-Err-new-clause-goes : goal.returns-in-Err-new-clause-goes
+returns-in-Err-new-clause-goes g c = λ t calls config w tells stands.
+    let ss = c.args.seats.now.items in
+    let gap : IsGapFor ss c.args.port c.in-Err.at = search rules in
+    subst (λ xs. HearsOnce config c.args.most w calls (g.P.Ports.calls c.shut-in-Err-new.new.self) c.args.server.now t ss xs
+    Happened) (sym c.reserve.ensures.items)
+    (hears-away-feed config c.args.most w calls (g.P.Ports.calls c.args.ports.now) c.args.server.now t ss
+    (g.P.Ports.calls c.shut-in-Err-new.new.self) c.args.port (is-unseated ss c.args.port c.in-Err.at gap) tells
+    c.shut-in-Err-new.ensures.call stands)

@@ -1,5 +1,5 @@
-use Rattle.std.proofs.Common.{subst, sym}
-use Rattle.event_loop.specs.declared.seat.Role.TheVariants.{Client as ClientRole}
+use Rattle.std.proofs.Common.{rules, ◌≡◌, ◌∙◌, ap, subst, sym}
+use Rattle.event_loop.specs.declared.seat.Role.TheVariants.{Client as ClientRole, Feed as FeedRole}
 use Rattle.event_loop.specs.Feeding.{feed_tally}
 use Rattle.event_loop.specs.Going.{Whole, if_open}
 use Rattle.event_loop.specs.Passes.{ClientReads}
@@ -26,5 +26,9 @@ returns-else-read_client-clause-goes g c = λ happenings config w stands.
 pub returns-in-Feed-clause-goes : goal.returns-in-Feed-clause-goes
 returns-in-Feed-clause-goes g c = λ happenings config w stands.
     let calls = g.P.Ports.calls in
-    pass-feed config c.args.limit w (calls c.args.ports.now) c.args.seat.now c.in-Feed.cutter (calls c.read_feed.new.ports) c.read_feed.new.server (feed_tally happenings c.args.dropped.now) (feed_tally happenings c.read_feed.new.dropped) _ c.in-Feed.is
+    let rest = c.deref_mut.result.now in
+    let same : c.in-Feed.unfinished ≡ rest = search rules in
+    pass-feed config c.args.limit w (calls c.args.ports.now) c.args.seat.now rest (calls c.read_feed.new.ports)
+    c.read_feed.new.server (feed_tally happenings c.args.dropped.now) (feed_tally happenings c.read_feed.new.dropped) _
+    (c.in-Feed.is ∙ ap FeedRole same)
     (c.read_feed.ensures.goes c.args.seat.now.writable happenings config w stands)

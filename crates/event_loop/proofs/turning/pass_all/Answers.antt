@@ -31,7 +31,7 @@ passes-preserved g c =
     let ss = c.passes.seats.items in
     let inside : c.passes.at < length ss = search rules in
     let here : c.index_mut.result.now ≡ get_or ss c.passes.at no_seat = c.index_mut.ensures.value ∙ get_or_default ss c.passes.at c.index_mut.result.now no_seat inside in
-    let left : c.remove-gone.new.self.items ≡ remove (set ss c.passes.at c.pass.new.seat) c.passes.at = c.remove-gone.ensures.items in
+    let left : c.remove.new.seats.items ≡ remove (set ss c.passes.at c.pass.new.seat) c.passes.at = c.remove.ensures in
     let count = length-remove (set ss c.passes.at c.pass.new.seat) c.passes.at (search rules) in
     record {
       goes = λ happenings config w stands.
