@@ -13,19 +13,12 @@ import sys
 import tempfile
 import time
 
+from wire import free_ports
+
 TOP = os.path.dirname(os.path.dirname(os.path.realpath(__file__)))
 PROGRAM = f"{TOP}/crates/seedlinkd/out/seedlinkd"
 GREETING = b"SeedLink v3.0 (station access)\r\n"
 SECONDS = 4
-
-
-def free_ports():
-    """Two ports that nobody listens on."""
-    sockets = [socket.create_server(("127.0.0.1", 0)) for _ in range(2)]
-    ports = [it.getsockname()[1] for it in sockets]
-    for it in sockets:
-        it.close()
-    return ports
 
 
 def serving(ports, descriptors=1024):
