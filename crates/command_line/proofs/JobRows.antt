@@ -29,7 +29,7 @@ serve_words =
     codes "seedlinkd" ∷ codes "serve" ∷ codes "c.toml" ∷ codes "--listen" ∷ codes "127.0.0.1:18000" ∷ codes "--feed"
     ∷ codes "127.0.0.1:18001" ∷ []
 
-pub serve_asked : job_of serve_words ≡ Some (Serve (codes "c.toml") (codes "127.0.0.1:18000") (codes "127.0.0.1:18001") None)
+pub serve_asked : job_of serve_words ≡ Some (Serve (codes "c.toml") (codes "127.0.0.1:18000") (codes "127.0.0.1:18001") None None None)
 unfolding clap_on_literals
 serve_asked = refl
 
@@ -41,9 +41,18 @@ abbrev turns_words : List Text
 turns_words =
     codes "seedlinkd" ∷ codes "serve" ∷ codes "--turns" ∷ codes "20" ∷ codes "c" ∷ codes "--feed=b" ∷ codes "--listen=a" ∷ []
 
-pub turns_asked : job_of turns_words ≡ Some (Serve (codes "c") (codes "a") (codes "b") (Some 20))
+pub turns_asked : job_of turns_words ≡ Some (Serve (codes "c") (codes "a") (codes "b") (Some 20) None None)
 unfolding clap_on_literals
 turns_asked = refl
+
+abbrev reread_words : List Text
+reread_words =
+    codes "seedlinkd" ∷ codes "serve" ∷ codes "--report=9" ∷ codes "--reread" ∷ codes "600" ∷ codes "c" ∷ codes "--feed=b"
+    ∷ codes "--listen=a" ∷ []
+
+pub reread_asked : job_of reread_words ≡ Some (Serve (codes "c") (codes "a") (codes "b") None (Some 600) (Some 9))
+unfolding clap_on_literals
+reread_asked = refl
 
 pub feed_asked : job_of (codes "seedlinkd" ∷ codes "feed" ∷ codes "a" ∷ codes "f" ∷ []) ≡ Some (Feed (codes "a") (codes "f"))
 unfolding clap_on_literals

@@ -36,15 +36,21 @@ check_app = with_rule (new_app (codes "check")) (wanted (codes "FILE"))
 abbrev pub replay_app : App
 replay_app = with_rule (with_rule (new_app (codes "replay")) (wanted (codes "CONFIG"))) (wanted (codes "SCRIPT"))
 
--- `--turns N`, with N from 1 to 1,000,000,000
-abbrev pub turns_rule : Rule
-turns_rule = record (option false (codes "turns")) { parser = Some (Unsigned 1 1000000000) }
+-- an option `--name N` that counts turns, with N from 1 to 1,000,000,000
+abbrev pub turns_rule : Text → Rule
+turns_rule name = record (option false name) { parser = Some (Unsigned 1 1000000000) }
 
--- `serve CONFIG --listen A:P --feed A:P [--turns N]`
+-- `serve CONFIG --listen A:P --feed A:P`
+abbrev pub addressed_app : App
+addressed_app =
+    with_rule (with_rule (with_rule (new_app (codes "serve")) (wanted (codes "CONFIG")))
+    (option true (codes "listen"))) (option true (codes "feed"))
+
+-- `serve CONFIG --listen A:P --feed A:P [--turns N] [--reread N] [--report N]`
 abbrev pub serve_app : App
 serve_app =
-    with_rule (with_rule (with_rule (with_rule (new_app (codes "serve")) (wanted (codes "CONFIG")))
-    (option true (codes "listen"))) (option true (codes "feed"))) turns_rule
+    with_rule (with_rule (with_rule addressed_app (turns_rule (codes "turns"))) (turns_rule (codes "reread")))
+    (turns_rule (codes "report"))
 
 -- `feed A:P FILE`
 abbrev pub feed_app : App
@@ -83,7 +89,7 @@ program_app =
 pub data Asked : Type 0 where
   Check : (file : List ℕ) → Asked
   Replay : (config : List ℕ) → (script : List ℕ) → Asked
-  Serve : (config listen feed : List ℕ) → (turns : Option ℕ) → Asked
+  Serve : (config listen feed : List ℕ) → (turns reread report : Option ℕ) → Asked
   Feed : (server file : List ℕ) → Asked
   Read : (server : List ℕ) → (wants : List (List ℕ)) → (fetch : Bool) → (output : Option (List ℕ)) → Asked
 
@@ -91,7 +97,8 @@ pub data Asked : Type 0 where
 abbrev pub asked : Job → Asked
 asked (job.Check file) = Check file.now
 asked (job.Replay config script) = Replay config.now script.now
-asked (job.Serve config listen feed turns) = Serve config.now listen.now feed.now turns
+asked (job.Serve config listen feed turns reread report) =
+    Serve config.now listen.now feed.now turns reread report
 asked (job.Feed server file) = Feed server.now file.now
 asked (job.Read server wants fetch output) =
     Read server.now (map (λ want. want.now) wants.items) fetch (option_map (λ file. file.now) output)
@@ -119,18 +126,21 @@ abbrev pub turns_of : Option (List ℕ) → Option (Option ℕ)
 turns_of None = Some None
 turns_of (Some text) = checked_turns (digits_between 1 10 text)
 
-abbrev pub turns_in : List Row → Option (Option ℕ)
-turns_in rows = turns_of (first_of (codes "turns") rows)
+-- the number of turns that an option has
+abbrev pub turns_in : Text → List Row → Option (Option ℕ)
+turns_in name rows = turns_of (first_of name rows)
 
 -- a server's job, where all of it is there
-abbrev pub with_server : Option (List ℕ) → Option (List ℕ) → Option (List ℕ) → Option (Option ℕ) → Option Asked
-with_server (Some config) (Some listen) (Some feed) (Some turns) = Some (Serve config listen feed turns)
-with_server _ _ _ _ = None
+abbrev pub with_server : Option (List ℕ) → Option (List ℕ) → Option (List ℕ) →
+    Option (Option ℕ) → Option (Option ℕ) → Option (Option ℕ) → Option Asked
+with_server (Some config) (Some listen) (Some feed) (Some turns) (Some reread) (Some report) =
+    Some (Serve config listen feed turns reread report)
+with_server _ _ _ _ _ _ = None
 
 abbrev pub serve_asked : List Row → Option Asked
 serve_asked rows =
     with_server (first_of (codes "CONFIG") rows) (first_of (codes "listen") rows) (first_of (codes "feed") rows)
-    (turns_in rows)
+    (turns_in (codes "turns") rows) (turns_in (codes "reread") rows) (turns_in (codes "report") rows)
 
 abbrev pub feed_asked : List Row → Option Asked
 feed_asked rows = with_both Feed (first_of (codes "SERVER") rows) (first_of (codes "FILE") rows)

@@ -2,7 +2,7 @@
 ghost use Rattle.std.specs.Prelude.{◌≡◌, Some, false, IfOk};
 ghost use Rattle.clap.specs.Words.{app_of, rule_of, with_rule, with_subcommand};
 ghost use Rattle.clap.specs.declared.Command.TheViews.{out-Command as fields_of};
-ghost use Rattle.command_line.specs.Jobs.{check_app, feed_app, fetch_rule, named_app, option, program_app, read_app, replay_app, serve_app, turns_rule, wanted, wants_rule};
+ghost use Rattle.command_line.specs.Jobs.{addressed_app, check_app, feed_app, fetch_rule, named_app, option, program_app, read_app, replay_app, serve_app, turns_rule, wanted, wants_rule};
 
 use clap::builder::ValueParser;
 use clap::{Arg, ArgAction, Command};
@@ -70,24 +70,17 @@ fn replay_command<'a>(alloc: Global) -> Result<Command<'a>, AllocError>
     with_argument(with_config, script)
 }
 
-/// The option `--turns N`.
-fn turns<'a>(alloc: Global) -> Arg<'a>
-    ensures rule { rule_of result ≡ turns_rule }
+/// An option `--name N` that counts turns.
+fn turns<'a>(alloc: Global, name: &'a str, help: &'a str) -> Arg<'a>
+    ensures rule { rule_of result ≡ turns_rule name.entry.now }
     ensures own { result.global ≡ false }
 {
-    option(
-        alloc,
-        "turns",
-        "N",
-        false,
-        "Ends after N turns, 1 to 1000000000",
-    )
-    .value_parser(ValueParser::Unsigned(1, 1_000_000_000))
+    option(alloc, name, "N", false, help).value_parser(ValueParser::Unsigned(1, 1_000_000_000))
 }
 
-/// `serve CONFIG --listen A:P --feed A:P [--turns N]`.
-fn serve_command<'a>(alloc: Global) -> Result<Command<'a>, AllocError>
-    ensures app { IfOk result (λ c. app_of c ≡ serve_app) }
+/// `serve CONFIG --listen A:P --feed A:P`.
+fn addressed_command<'a>(alloc: Global) -> Result<Command<'a>, AllocError>
+    ensures app { IfOk result (λ c. app_of c ≡ addressed_app) }
     ensures own { IfOk result (λ c. (fields_of c).has_globals ≡ false) }
 {
     let command = Command::new(alloc, "serve").about("Serves records to clients over sockets");
@@ -100,11 +93,31 @@ fn serve_command<'a>(alloc: Global) -> Result<Command<'a>, AllocError>
         true,
         "Address and port for feeds of records",
     );
-    let turns = turns(alloc);
     let with_config = with_argument(command, config)?;
     let with_listen = with_argument(with_config, listen)?;
-    let with_feed = with_argument(with_listen, feed)?;
-    with_argument(with_feed, turns)
+    with_argument(with_listen, feed)
+}
+
+/// `serve CONFIG --listen A:P --feed A:P [--turns N] [--reread N] [--report N]`.
+fn serve_command<'a>(alloc: Global) -> Result<Command<'a>, AllocError>
+    ensures app { IfOk result (λ c. app_of c ≡ serve_app) }
+    ensures own { IfOk result (λ c. (fields_of c).has_globals ≡ false) }
+{
+    let command = addressed_command(alloc)?;
+    let end = turns(alloc, "turns", "Ends after N turns, 1 to 1000000000");
+    let reread = turns(
+        alloc,
+        "reread",
+        "Reads CONFIG again every N turns, 1 to 1000000000",
+    );
+    let report = turns(
+        alloc,
+        "report",
+        "Writes a line on standard error every N turns, 1 to 1000000000",
+    );
+    let with_end = with_argument(command, end)?;
+    let with_reread = with_argument(with_end, reread)?;
+    with_argument(with_reread, report)
 }
 
 /// `feed A:P FILE`.

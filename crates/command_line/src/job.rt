@@ -13,13 +13,16 @@ pub enum Job<'a> {
         config: &'a str,
         script: &'a str,
     },
-    /// `serve CONFIG --listen A:P --feed A:P [--turns N]`: a server over sockets. `turns` is 1 to 1,000,000,000. Without
-    /// it the server runs until it is ended from outside.
+    /// `serve CONFIG --listen A:P --feed A:P [--turns N] [--reread N] [--report N]`: a server over sockets. Each number
+    /// is 1 to 1,000,000,000, and counts turns. Without `turns` the server runs until it is ended from outside. Every
+    /// `reread` turns it reads its configuration again, and every `report` turns it tells what it has done.
     Serve {
         config: &'a str,
         listen: &'a str,
         feed: &'a str,
         turns: Option<usize>,
+        reread: Option<usize>,
+        report: Option<usize>,
     },
     /// `feed A:P FILE`: sends the records of a file to a server.
     Feed {

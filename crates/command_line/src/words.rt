@@ -39,11 +39,12 @@ fn replay_job<'a>(arguments: &ArgMatches<'a>) -> Option<Job<'a>>
     Some(Job::Replay { config, script })
 }
 
-/// The number of turns: the inner None where it is left out, and None where the text is no number of its range.
-fn turns_in<'a>(arguments: &ArgMatches<'a>) -> Option<Option<usize>>
-    ensures { result ≡ turns_in (rows_of (found_of arguments.now)) }
+/// The number of turns that an option has: the inner None where it is left out, and None where the text is no number of
+/// its range.
+fn turns_in<'a>(arguments: &ArgMatches<'a>, name: &str) -> Option<Option<usize>>
+    ensures { result ≡ turns_in name.now (rows_of (found_of arguments.now)) }
 {
-    let Some(text) = text_at(arguments, "turns") else {
+    let Some(text) = text_at(arguments, name) else {
         return Some(None);
     };
     let number = decimal::number(text.as_bytes(), 1, 10)?;
@@ -59,12 +60,16 @@ fn serve_job<'a>(arguments: &ArgMatches<'a>) -> Option<Job<'a>>
     let config = text_at(arguments, "CONFIG")?;
     let listen = text_at(arguments, "listen")?;
     let feed = text_at(arguments, "feed")?;
-    let turns = turns_in(arguments)?;
+    let turns = turns_in(arguments, "turns")?;
+    let reread = turns_in(arguments, "reread")?;
+    let report = turns_in(arguments, "report")?;
     Some(Job::Serve {
         config,
         listen,
         feed,
         turns,
+        reread,
+        report,
     })
 }
 
@@ -147,7 +152,7 @@ fn refused(alloc: Global, error: clap::Error) -> WordsFault
 fn no_number(alloc: Global) -> WordsFault
     ensures { HelpIs false result }
 {
-    match "error: the number of turns is 1 to 10 decimal digits\n".to_string(alloc) {
+    match "error: a number of turns is 1 to 10 decimal digits\n".to_string(alloc) {
         Ok(text) => WordsFault::Refused {
             text,
             is_help: false,

@@ -10,3 +10,4 @@ mod Feeds
 mod FeedSteps
 mod SeatPasses
 mod AllPasses
+pub mod Serving

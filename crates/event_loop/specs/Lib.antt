@@ -6,3 +6,4 @@ pub mod Hearing
 pub mod Turns
 pub mod Tables
 pub mod Faithful
+pub mod Serves

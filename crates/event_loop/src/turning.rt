@@ -1,11 +1,11 @@
 //! The loop: what happens at its ports, and each port's pass in turn.
-ghost use Rattle.std.specs.Prelude.{◌≡◌, ◌≤◌, ℕ, [], IfOk, OnErr, codes, is_ok};
+ghost use Rattle.std.specs.Prelude.{◌≡◌, ◌≤◌, ℕ, [], IfOk, MatchResult, OnErr, codes, is_ok, length};
 ghost use Rattle.protocol.specs.Catalog.{Config as ProtocolConfig, is_same_but_for_access};
 ghost use Rattle.protocol.specs.World.{World, config_by, empty_world, step};
 ghost use Rattle.protocol.specs.World.Event.{Reload};
 ghost use Rattle.server_core.specs.Standing.{StandsAt};
 ghost use Rattle.sl_io.specs.Counts.{IsMore};
-ghost use Rattle.event_loop.specs.Deeds.{Tally};
+ghost use Rattle.event_loop.specs.Deeds.{Tally, refused_more};
 ghost use Rattle.event_loop.specs.Feeding.{feed_tally};
 ghost use Rattle.event_loop.specs.Going.{Whole, if_open};
 ghost use Rattle.event_loop.specs.Hearing.{clients_in, feeds_in};
@@ -122,6 +122,7 @@ pub struct Loop<P> {
     seats: Vec<Seat>,
     alloc: Global,
     most: usize,
+    refused: u64,
     ghost table: { IsTable most seats.items },
 }
 
@@ -132,6 +133,7 @@ impl<P: Ports + Drop> Loop<P> {
         ensures ports { IfOk result (λ made. made.ports ≡ ports) }
         ensures seats { IfOk result (λ made. made.seats.items ≡ []) }
         ensures most { IfOk result (λ made. made.most ≡ config.max_connections) }
+        ensures refused { IfOk result (λ made. made.refused ≡ 0) }
     {
         let most = config.max_connections();
         let server = Server::new(alloc, config)?;
@@ -141,6 +143,7 @@ impl<P: Ports + Drop> Loop<P> {
             seats: Vec::new(alloc),
             alloc,
             most,
+            refused: 0,
         })
     }
 }
@@ -162,6 +165,8 @@ impl<P: Ports> Loop<P> {
         ensures few_clients { clients_in self.new.seats.items ≤ self.new.most }
         ensures few_feeds { feeds_in self.new.seats.items ≤ 16 }
         ensures most { self.new.most ≡ self.old.most }
+        ensures refused { MatchResult result (λ turned. self.new.refused ≡ refused_more self.old.refused turned.dropped)
+            (λ _. self.new.refused ≡ self.old.refused) }
     {
         let Ok(heard) = hear(
             &mut self.server,
@@ -181,6 +186,7 @@ impl<P: Ports> Loop<P> {
             limit,
             &mut dropped,
         );
+        self.refused = self.refused.saturating_add(dropped);
         Ok(Turned {
             happenings: heard.happenings,
             quiet: heard.quiet,
@@ -199,6 +205,7 @@ impl<P: Ports> Loop<P> {
         ensures ports { self.new.ports ≡ self.old.ports }
         ensures seats { self.new.seats.items ≡ self.old.seats.items }
         ensures most { self.new.most ≡ self.old.most }
+        ensures refused { self.new.refused ≡ self.old.refused }
     {
         let _ = &self.ports;
         self.server.reload(config)
@@ -230,5 +237,19 @@ impl<P: Ports> Loop<P> {
         ensures { result ≡ feeds_in self.now.seats.items }
     {
         crate::table::feeds(self.seats.as_slice())
+    }
+
+    /// How many records arrived, from all feeds: those that the server accepted.
+    pub fn arrivals(&self) -> u64
+        ensures { (config : ProtocolConfig) (w : World) → StandsAt self.now.server config w → result ≡ length w.history }
+    {
+        self.server.arrivals()
+    }
+
+    /// How many records the server refused in all turns; it stays at 2^64 - 1.
+    pub fn refused(&self) -> u64
+        ensures { result ≡ self.now.refused }
+    {
+        self.refused
     }
 }

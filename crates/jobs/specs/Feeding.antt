@@ -1,5 +1,5 @@
 -- What feeding a server does, and why it stops.
-use Rattle.std.specs.Prelude.{◌≡◌, ℕ, [], List, ◌<◌, length}
+use Rattle.std.specs.Prelude.{ℕ}
 use Rattle.feeder.specs.Sending.{StopsSending}
 use Rattle.jobs.specs.declared.failure.Failure.{Failure}
 use Rattle.jobs.specs.declared.failure.Failure.TheVariants as failure

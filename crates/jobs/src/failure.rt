@@ -1,7 +1,7 @@
 //! Why the program ends with status 1.
 ghost use Rattle.std.specs.Prelude.{◌≡◌};
 ghost use Rattle.jobs.specs.Faults.{failure_number, failure_name};
-ghost use Rattle.jobs.specs.declared.failure.Failure.TheVariants.{Config as ConfigFailure, Replay as ReplayFailure, Check as CheckFailure, Records as RecordsFailure, Listen as ListenFailure, Serve as ServeFailure, Send as SendFailure, Want as WantFailure, Packets as PacketsFailure};
+ghost use Rattle.jobs.specs.declared.failure.Failure.TheVariants.{Config as ConfigFailure, Replay as ReplayFailure, Check as CheckFailure, Records as RecordsFailure, Listen as ListenFailure, Reload as ReloadFailure, Serve as ServeFailure, Send as SendFailure, Want as WantFailure, Packets as PacketsFailure};
 
 use crate::faults::ReplayFault;
 use crate::serving::ServeFault;
@@ -10,6 +10,7 @@ use feeder::SendFault;
 use packet_listing::ListingFault;
 use protocol::report::Report;
 use record_listing::{CheckFault, FileFault};
+use server_core::ReloadFault;
 use slreader::ReaderFault;
 use socket_ports::ListenFault;
 use thiserror::Error;
@@ -47,6 +48,9 @@ pub enum Failure {
     /// No connection to the server could be made.
     #[error("no connection to the server could be made")]
     Connect,
+    /// A configuration that was read again differs in more than its access lists.
+    #[error("{0}")]
+    Reload(ReloadFault),
     /// The server ended before its turns were done.
     #[error("{0}")]
     Serve(ServeFault),
@@ -62,7 +66,7 @@ pub enum Failure {
 }
 
 impl Failure {
-    /// The number and the name by which the program reports it: 1 to 6, 10, 11, 20 to 25, 40 to 47, 51 or 52.
+    /// The number and the name by which the program reports it: 1 to 6, 10, 11, 20 to 25, 34, 40 to 47, 51 or 52.
     pub fn report(self) -> Report
         ensures number { result.number ≡ failure_number self }
         ensures name { result.name.now ≡ failure_name self }
@@ -78,6 +82,7 @@ impl Failure {
             Failure::Address => Report::new(11, "Address"),
             Failure::Listen(fault) => fault.report(),
             Failure::Connect => Report::new(47, "Connect"),
+            Failure::Reload(fault) => fault.report(),
             Failure::Serve(fault) => fault.report(),
             Failure::Send(fault) => fault.report(),
             Failure::Want(fault) => fault.report(),
@@ -123,6 +128,14 @@ impl From<ListenFault> for Failure {
 
     fn from(fault: ListenFault) -> Failure {
         Failure::Listen(fault)
+    }
+}
+
+impl From<ReloadFault> for Failure {
+    ghost from_gives = { λ fault failure. failure ≡ ReloadFailure fault };
+
+    fn from(fault: ReloadFault) -> Failure {
+        Failure::Reload(fault)
     }
 }
 

@@ -2,6 +2,7 @@
 //! a check of records. Why they fail, and what the exit status is.
 #![tactic(auto)]
 
+mod activity;
 mod endpoint;
 mod failure;
 mod faults;
@@ -9,15 +10,19 @@ mod feeding;
 mod files;
 mod network;
 mod replaying;
+mod running;
 mod serving;
 mod standard_error;
 mod statuses;
+mod telling;
+mod timetable;
 mod work;
 
+pub use activity::Activity;
 pub use endpoint::Endpoint;
 pub use failure::Failure;
 pub use faults::ReplayFault;
 pub use feeding::{feed, feed_records};
 pub use replaying::replay;
-pub use serving::{ServeFault, serve};
+pub use serving::{ServeFault, serve, serve_block};
 pub use statuses::{failed, obey, told};

@@ -3,8 +3,9 @@ use crate::endpoint::Endpoint;
 use crate::failure::Failure;
 use crate::feeding::feed;
 use crate::files::{config_at, open};
-use crate::serving::serve;
+use crate::running::serve_by;
 use crate::standard_error::StandardError;
+use crate::timetable::Timetable;
 use packet_listing::{Nowhere, read_over};
 use sl_io::{Outer, Sink};
 use slreader::{Plan, Want};
@@ -25,25 +26,24 @@ pub fn connect<R: Net>(rt: &R, server: Endpoint) -> Result<R::Stream, Failure> {
     TcpStream::connect(rt, SocketAddr::V4(server.socket_address())).map_err(|_| Failure::Connect)
 }
 
-/// Serves clients and feeds for so many turns, and then sends what was not sent yet.
-pub fn serve_sockets<R: Files + Net + AllocGlobal>(
+/// Serves clients and feeds as the timetable says, and then sends what was not sent yet.
+pub fn serve_sockets<R: Files + Eprint + Net + AllocGlobal>(
     rt: &R,
-    config: &str,
+    path: &str,
     listen: &str,
     feed: &str,
-    turns: Option<usize>,
+    timetable: &Timetable,
 ) -> Result<(), Failure> {
     let listen = endpoint(listen)?;
     let feed = endpoint(feed)?;
-    let config = config_at(rt, config)?;
+    let config = config_at(rt, path)?;
     let ports = MioPorts::listen(
         rt,
         rt.alloc(),
         listen.socket_address(),
         feed.socket_address(),
     )?;
-    let turns = turns.map_or(u64::MAX, |turns| turns as u64);
-    let mut ports = serve(rt.alloc(), config, ports, turns)?;
+    let mut ports = serve_by(rt, config, ports, path, timetable)?;
     ports.finish();
     Ok(())
 }

@@ -5,9 +5,9 @@ ghost use Rattle.std.specs.Process.{exit_status};
 ghost use Rattle.command_line.specs.Jobs.{IsJob, IsMistake};
 
 use crate::failure::Failure;
+use crate::telling::tell_failure;
 use crate::work::run_job;
 use command_line::{WordsFault, read_words};
-use protocol::report::Report;
 use std::net::Net;
 use std::process::ExitCode;
 use std::rt::Files;
@@ -19,8 +19,7 @@ const REFUSED: u8 = 2;
 pub fn failed<R: Eprint>(rt: &R, failure: Failure) -> ExitCode
     ensures { exit_status result ≡ 1 }
 {
-    let Report { number, name } = failure.report();
-    let _ = eprintln!(rt; "seedlinkd: {number} {name}");
+    tell_failure(rt, failure);
     ExitCode::FAILURE
 }
 

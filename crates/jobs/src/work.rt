@@ -2,6 +2,7 @@
 use crate::failure::Failure;
 use crate::files::{check_file, replay_files};
 use crate::network::{feed_file, read_server, serve_sockets};
+use crate::timetable::Timetable;
 use command_line::Job;
 use std::net::Net;
 use std::rt::Files;
@@ -19,7 +20,16 @@ pub fn run_job<R: Files + Print + Eprint + Net + AllocGlobal>(
             listen,
             feed,
             turns,
-        } => serve_sockets(rt, config, listen, feed, turns),
+            reread,
+            report,
+        } => {
+            let timetable = Timetable {
+                turns,
+                reread,
+                report,
+            };
+            serve_sockets(rt, config, listen, feed, &timetable)
+        }
         Job::Feed { server, file } => feed_file(rt, server, file),
         Job::Read {
             server,

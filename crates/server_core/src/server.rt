@@ -250,6 +250,13 @@ impl Server {
         Ok(number)
     }
 
+    /// How many records arrived, at all stations: those that were accepted.
+    pub fn arrivals(&self) -> u64
+        ensures { (config : ProtocolConfig) (w : World) → StandsAt self.now config w → result ≡ length w.history }
+    {
+        self.rings.arrivals()
+    }
+
     /// A client's connection ends, and the client is gone for good.
     pub fn close(&mut self, client: Client) -> Result<(), Gone>
         ensures stands { (config : ProtocolConfig) (w : World) → StandsAt self.old config w → StandsAt self.new config (step config w (Close client)) }

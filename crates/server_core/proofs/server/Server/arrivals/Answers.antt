@@ -1,0 +1,9 @@
+use Rattle.std.proofs.Common.{◌∙◌, ap, subst, sym}
+use Rattle.held_records.specs.Holdings.{holdings_of}
+use Rattle.server_core.specs.Standing.{StandsAt}
+use Rattle.server_core.proofs.server.Server.arrivals.Goals as goal
+
+pub returns : goal.returns
+returns c = λ config w stands.
+    let here = subst (λ s. StandsAt s config w) (sym c.self.view_is) stands in
+    c.arrivals.ensures.count config w.history (here.holds ∙ ap (λ g. holdings_of g w.history) here.config_is)
