@@ -1,9 +1,15 @@
 -- Worked lines of scripts.
-use Rattle.std.specs.Prelude.{◌≡◌, refl, [], ◌∷◌, Some, None, codes}
+use Rattle.std.specs.Prelude.{◌≡◌, ⊤, refl, [], ◌∷◌, ◌++◌, Some, None, codes}
+use Rattle.std.specs.Str.{chars, is_utf8}
 use Rattle.hex.proofs.OnLiterals.{hex_on_literals}
-use Rattle.protocol.specs.World.Event.{Bytes, Take, Close, Arrive}
+use Rattle.toml.proofs.OnLiterals.{toml_on_literals}
+use Rattle.protocol.specs.Catalog.{Station}
+use Rattle.protocol.specs.World.Event.{Bytes, Take, Close, Arrive, Reload}
 use Rattle.protocol.proofs.Vectors.{sample}
-use Rattle.event_script.specs.Script.{event_of}
+use Rattle.catalog.specs.Keys.{text_at, text_if_any, number_at, number_if_any, elements_at}
+use Rattle.catalog.specs.Reading.{config_of, stations_of, station_values, station_of, entry_of}
+use Rattle.catalog.specs.Settings.{title_of, access_of, connections_of, network_of, code_of, description_of, capacity_of, first_of}
+use Rattle.event_script.specs.Script.{config_told, event_of}
 
 -- ---- lines
 
@@ -68,3 +74,50 @@ many_samples = refl
 pub short_record : event_of (codes "arrive-hex 0a0a") ≡ None
 unfolding hex_on_literals
 short_record = refl
+
+-- ---- configurations
+
+-- what an example unfolds to compute what keys hold, and the configuration of a text
+unfoldable numbers_on_literals : ⊤
+unfolding connections_of capacity_of first_of number_at number_if_any
+numbers_on_literals = tt
+
+unfoldable texts_on_literals : ⊤
+unfolding title_of access_of network_of code_of description_of text_at text_if_any elements_at
+texts_on_literals = tt
+
+unfoldable stations_on_literals : ⊤
+unfolding numbers_on_literals texts_on_literals config_of stations_of station_values station_of entry_of
+stations_on_literals = tt
+
+unfoldable config_on_literals : ⊤
+unfolding hex_on_literals toml_on_literals stations_on_literals is_utf8 chars config_told
+config_on_literals = tt
+
+-- one station
+abbrev small : Station
+small = record { network = codes "GE"; code = codes "A"; description = []; capacity = 1; first = 0 }
+
+-- the text has a title and that station
+pub reload : event_of (codes "reload 7469746c653d2254220a5b5b73746174696f6e5d5d0a6e6574" ++ codes "776f726b3d224745220a636f64653d2241220a646573637269" ++ codes "7074696f6e3d22220a63617061636974793d310a")
+    ≡ Some (Reload (record {
+      title = codes "T";
+      max_connections = 100;
+      access = None;
+      entries = record { station = small; access = None } ∷ [];
+    }))
+unfolding config_on_literals
+reload = refl
+
+-- no TOML: `a`
+pub no_document : event_of (codes "reload 61") ≡ None
+unfolding config_on_literals
+no_document = refl
+
+-- no UTF-8
+pub no_text : event_of (codes "reload ff") ≡ None
+unfolding config_on_literals
+no_text = refl
+
+pub no_configuration : event_of (codes "reload ") ≡ None
+no_configuration = refl

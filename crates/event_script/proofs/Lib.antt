@@ -4,6 +4,7 @@ mod FittingLemmas
 mod HexRecords
 mod Lines
 mod OptionSteps
+mod ReloadRows
 mod Separators
 mod SpaceLemmas
 mod TableLemmas

@@ -4,14 +4,15 @@ use Rattle.std.specs.Prelude.{option_and_then}
 use Rattle.std.specs.Str.{bytes_eq}
 use Rattle.std.proofs.lemmas.Slice.Eq.{bytes_eq-Decides}
 use Rattle.protocol.specs.World.{Event}
-use Rattle.protocol.specs.World.Event.{Open, Bytes, Take, Close, Arrive}
+use Rattle.protocol.specs.World.Event.{Open, Bytes, Take, Close, Arrive, Reload}
 use Rattle.protocol.proofs.Found.{both}
 use Rattle.access_list.specs.Addresses.{address_of}
 use Rattle.event_script.specs.Rows.{IsLine, ReadsByTheTable, arrive_text}
-use Rattle.event_script.specs.Rows.IsLine.{open_line, bytes_line, text_line, take_line, close_line, arrive_line, arrive_hex_line}
-use Rattle.event_script.specs.Script.{Addressed, addressed_by, addressed_in, addressed_of, bytes_in, count_of, cut_of, decimal_of, event_in, event_of, hex_of, hex_record_of, line_in, named_event, record_of, take_in}
+use Rattle.event_script.specs.Rows.IsLine.{open_line, bytes_line, text_line, take_line, close_line, arrive_line, arrive_hex_line, reload_line}
+use Rattle.event_script.specs.Script.{Addressed, addressed_by, addressed_in, addressed_of, bytes_in, count_of, cut_of, decimal_of, event_in, event_of, hex_config_of, hex_of, hex_record_of, line_in, named_event, record_of, take_in}
 use Rattle.event_script.proofs.ArriveRows.{hex-made, hex-whole, record-made, record-whole}
 use Rattle.event_script.proofs.OptionSteps.{and_then_some, map_some}
+use Rattle.event_script.proofs.ReloadRows.{hex_config-made, hex_config-whole}
 use Rattle.event_script.proofs.SpaceLemmas.{cut-made, cut-whole, number-has_no_space}
 
 -- ---- a client's number in front
@@ -52,6 +53,9 @@ line-read _ _ (arrive_line w f bytes tells made) =
     ap (option_and_then event_in) (cut-made (codes "arrive") (arrive_text w) refl) ∙ ap (option_map Arrive) (record-made w f bytes tells made)
 line-read _ _ (arrive_hex_line digits bytes h long) =
     ap (option_and_then event_in) (cut-made (codes "arrive-hex") digits refl) ∙ ap (option_map Arrive) (hex-made digits bytes h long)
+line-read _ _ (reload_line digits text config h utf8 e) =
+    ap (option_and_then event_in) (cut-made (codes "reload") digits refl)
+    ∙ ap (option_map Reload) (hex_config-made digits text config h utf8 e)
 
 -- ---- an event that is read is that of a line of the table
 
@@ -101,6 +105,14 @@ hex-row rest e h =
     let whole = hex-whole rest bytes.0 bytes.1 in
     subst (λ x. IsLine (codes "arrive-hex" ++ 32 ∷ rest) x) bytes.2 (arrive_hex_line rest bytes.0 whole.0 whole.1)
 
+reload-row : (rest : List ℕ) (e : Event) → option_map Reload (hex_config_of rest) ≡ Some e
+    → IsLine (codes "reload" ++ 32 ∷ rest) e
+reload-row rest e h =
+    let config = map_some Reload (hex_config_of rest) e h in
+    let whole = hex_config-whole rest config.0 config.1 in
+    subst (λ x. IsLine (codes "reload" ++ 32 ∷ rest) x) config.2
+    (reload_line rest whole.0 config.0 whole.1 whole.2 whole.3)
+
 named : (name word rest : List ℕ) (e : Event) → bytes_eq name word ≡ true → IsLine (word ++ 32 ∷ rest) e → IsLine (name ++ 32 ∷ rest) e
 named name word rest e y row = subst (λ n. IsLine (n ++ 32 ∷ rest) e) (sym ((bytes_eq-Decides name word).0 y)) row
 
@@ -120,7 +132,9 @@ named-row name rest e h =
     (λ y. named name (codes "arrive") rest e y (arrive-row rest e (rw y at h5)))
     (λ n. let h6 = rw n at h5 in both (bytes_eq name (codes "arrive-hex"))
     (λ y. named name (codes "arrive-hex") rest e y (hex-row rest e (rw y at h6)))
-    (λ n. let none : None ≡ Some e = rw n at h6 in absurd cc)))))))
+    (λ n. let h7 = rw n at h6 in both (bytes_eq name (codes "reload"))
+    (λ y. named name (codes "reload") rest e y (reload-row rest e (rw y at h7)))
+    (λ n. let none : None ≡ Some e = rw n at h7 in absurd cc))))))))
 
 read-line : (line : List ℕ) (e : Event) → event_of line ≡ Some e → IsLine line e
 read-line line e h =

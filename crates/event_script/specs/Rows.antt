@@ -1,11 +1,15 @@
 -- What a line of a script is, in words.
-use Rattle.std.specs.Prelude.{◌≡◌, ◌≤◌, ◌↔◌, ◌⊎◌, ℕ, List, [], ◌∷◌, ◌++◌, length, pos, Some, None, codes}
+use Rattle.std.specs.Prelude.{◌≡◌, ◌≤◌, ◌↔◌, ◌⊎◌, ℕ, List, [], ◌∷◌, ◌++◌, length, pos, Some, None, Ok, codes}
 use Rattle.std.specs.List.{join_with_byte}
+use Rattle.std.specs.Str.{IsUtf8}
 use Rattle.protocol.specs.declared.record.ByteOrder.TheVariants.{Big}
 use Rattle.protocol.specs.Made.{Fields, made}
+use Rattle.protocol.specs.Catalog.{Config}
 use Rattle.protocol.specs.World.{Event}
-use Rattle.protocol.specs.World.Event.{Open, Bytes, Take, Close, Arrive}
+use Rattle.protocol.specs.World.Event.{Open, Bytes, Take, Close, Arrive, Reload}
 use Rattle.access_list.specs.Addresses.{address_of}
+use Rattle.toml.specs.Parse.{parse_document}
+use Rattle.catalog.specs.Reading.{config_read}
 use Rattle.event_script.specs.Script.{count_of, decimal_of, event_of, hex_of}
 
 -- The words of a line `arrive`, and its start in numbers.
@@ -77,6 +81,9 @@ pub data IsLine : List ℕ → Event → Type 0 where
   -- arrive-hex HEX
   arrive_hex_line : (digits bytes : List ℕ) → hex_of digits ≡ Some bytes → length bytes ≡ 512 →
       IsLine (codes "arrive-hex" ++ 32 ∷ digits) (Arrive bytes)
+  -- reload HEX
+  reload_line : (digits text : List ℕ) (config : Config) → hex_of digits ≡ Some text → IsUtf8 text →
+      config_read (parse_document text) ≡ Ok config → IsLine (codes "reload" ++ 32 ∷ digits) (Reload config)
 
 -- what is read of a line is the event that it is by the table, and a line that is in no row has no event
 abbrev pub ReadsByTheTable : Type 0

@@ -2,14 +2,17 @@
 use Rattle.std.specs.Prelude.{ℕ, ◌+◌, Bool, true, nat_le, ◌==◌, if◌then◌else◌, List, [], ◌∷◌, ◌++◌, length, take, drop, position, pos, Option, Some, None, option_map, option_and_then, codes}
 use Rattle.std.specs.List.{slice_split}
 use Rattle.std.specs.Result.{result_ok}
-use Rattle.std.specs.Str.{bytes_eq}
+use Rattle.std.specs.Str.{bytes_eq, is_utf8}
 use Rattle.protocol.specs.Time.{digits_between}
 use Rattle.protocol.specs.declared.record.ByteOrder.TheVariants.{Big}
 use Rattle.protocol.specs.Made.{Fields, made}
+use Rattle.protocol.specs.Catalog.{Config}
 use Rattle.protocol.specs.World.{Event}
-use Rattle.protocol.specs.World.Event.{Open, Bytes, Take, Close, Arrive}
+use Rattle.protocol.specs.World.Event.{Open, Bytes, Take, Close, Arrive, Reload}
 use Rattle.access_list.specs.Addresses.{address_of}
 use Rattle.hex.specs.Hex.{decode_of}
+use Rattle.toml.specs.Parse.{parse_document}
+use Rattle.catalog.specs.Reading.{config_read}
 
 -- ---- numbers and bytes
 
@@ -189,6 +192,16 @@ fields_of text = option_and_then fields_in (six_of 32 text)
 abbrev pub record_of : List ℕ → Option (List ℕ)
 record_of text = option_and_then made (fields_of text)
 
+-- ---- configurations
+
+-- the configuration that a text in UTF-8 is; none where its reading is refused
+unfoldable pub config_told : List ℕ → Option Config
+config_told text = if is_utf8 text then result_ok (config_read (parse_document text)) else None
+
+-- the configuration whose text pairs of hexadecimal digits spell
+abbrev pub hex_config_of : List ℕ → Option Config
+hex_config_of digits = option_and_then config_told (hex_of digits)
+
 -- ---- events
 
 -- the event of a line that begins with that name and a space, by what stands behind it
@@ -201,6 +214,7 @@ named_event name rest =
     else if bytes_eq name (codes "close") then option_map Close (decimal_of rest)
     else if bytes_eq name (codes "arrive") then option_map Arrive (record_of rest)
     else if bytes_eq name (codes "arrive-hex") then option_map Arrive (hex_record_of rest)
+    else if bytes_eq name (codes "reload") then option_map Reload (hex_config_of rest)
     else None
 
 -- the event of a cut line
@@ -208,8 +222,8 @@ abbrev pub event_in : Cut → Option Event
 event_in cut = named_event cut.front cut.rest
 
 -- The event of a line, without its end: `open ADDRESS`, `bytes C HEX`, `line C TEXT`, `take C N`, `close C`,
--- `arrive NET STA LOC CHA Y,D,H,M,S,F SAMPLES` or `arrive-hex HEX`. C is the number of a client, counted in the order of the
--- lines `open` from 0.
+-- `arrive NET STA LOC CHA Y,D,H,M,S,F SAMPLES`, `arrive-hex HEX` or `reload HEX`. C is the number of a client, counted in the
+-- order of the lines `open` from 0.
 abbrev pub event_of : List ℕ → Option Event
 event_of line = option_and_then event_in (cut_of line)
 

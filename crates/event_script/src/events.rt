@@ -43,15 +43,18 @@ fn read_line(alloc: Global, line: &[u8], events: &mut Vec<Event>) -> Result<(), 
 }
 
 /// The events of a script. Each line ends with a line feed, which the last may lack. A line is `open ADDRESS`,
-/// `bytes C HEX`, `line C TEXT`, `take C N`, `close C`, `arrive NET STA LOC CHA Y,D,H,M,S,F SAMPLES` or `arrive-hex HEX`, with
-/// one space between its words; an empty line and one that begins with `#` are skipped. All numbers have 1 to 10 decimal
-/// digits. C is a client, counted by the lines `open` from 0, and N is at most 1,000,000. HEX is one or more pairs of
-/// hexadecimal digits in either case. TEXT is all that follows the space, and a carriage return is put behind it.
+/// `bytes C HEX`, `line C TEXT`, `take C N`, `close C`, `arrive NET STA LOC CHA Y,D,H,M,S,F SAMPLES`, `arrive-hex HEX` or
+/// `reload HEX`, with one space between its words; an empty line and one that begins with `#` are skipped. All numbers have 1
+/// to 10 decimal digits. C is a client, counted by the lines `open` from 0, and N is at most 1,000,000. HEX is one or more
+/// pairs of hexadecimal digits in either case. TEXT is all that follows the space, and a carriage return is put behind it.
 ///
 /// By `arrive` a record arrives that has the codes of a network, a station, a location (`--` is the empty code) and a channel,
 /// a start (year, day of the year, hour, minute, second and ten-thousandths) and a count of samples. Its sequence number is 1,
 /// its quality D, its rate 100 samples a second and its encoding 11, its numbers are in big-endian order, and it has no data.
 /// Fields that spell no record are a bad line. By `arrive-hex` any 512 bytes arrive.
+///
+/// By `reload` a configuration is read again: its text is what HEX spells, as a file of one has it (`Config::read`). A text that
+/// is no configuration is a bad line. Whether the server takes the configuration is not asked here.
 ///
 /// It fails with Script exactly where some line is none of these, memory aside.
 pub fn events_of(alloc: Global, text: &[u8]) -> Result<Vec<Event>, ScriptFault>

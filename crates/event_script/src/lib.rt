@@ -8,6 +8,7 @@ mod fault;
 mod line;
 mod numbers;
 mod output;
+mod reload;
 
 pub use events::{events_of, lines_by_the_table};
 pub use fault::ScriptFault;

@@ -1,14 +1,15 @@
 //! The event of a line.
 ghost use Rattle.std.specs.Prelude.{option_map, option_and_then, Some};
-ghost use Rattle.protocol.specs.World.Event.{Open, Close, Arrive};
+ghost use Rattle.protocol.specs.World.Event.{Open, Close, Arrive, Reload};
 ghost use Rattle.access_list.specs.Addresses.{address_of};
-ghost use Rattle.event_script.specs.Script.{addressed_of, bytes_in, decimal_of, event_of, hex_record_of, line_in, named_event, record_of, take_in};
+ghost use Rattle.event_script.specs.Script.{addressed_of, bytes_in, decimal_of, event_of, hex_config_of, hex_record_of, line_in, named_event, record_of, take_in};
 ghost use Rattle.event_script.specs.ScriptValues.{IsRead};
 
 use crate::arrive::told_record;
 use crate::cuts::{client_and_rest, cut_at};
 use crate::fault::ScriptFault;
 use crate::numbers::{count, decimal, hex_bytes, hex_record};
+use crate::reload::told_config;
 use access_list::address;
 use server_core::Event;
 use std::alloc::Global;
@@ -41,6 +42,8 @@ fn named_event(alloc: Global, name: &[u8], rest: &[u8]) -> Result<Event, ScriptF
         arrive_event(rest)
     } else if name == b"arrive-hex".as_slice() {
         arrive_hex_event(rest)
+    } else if name == b"reload".as_slice() {
+        reload_event(alloc, rest)
     } else {
         Err(ScriptFault::Script)
     }
@@ -120,4 +123,13 @@ fn arrive_hex_event(rest: &[u8]) -> Result<Event, ScriptFault>
         Some(bytes) => Ok(Event::Arrive(bytes)),
         None => Err(ScriptFault::Script),
     }
+}
+
+/// `reload HEX`: the text of a configuration. A text that is none is no event.
+fn reload_event(alloc: Global, rest: &[u8]) -> Result<Event, ScriptFault>
+    ensures { IsRead (option_map Reload (hex_config_of rest.now)) result }
+{
+    let text = hex_bytes(alloc, rest)?;
+    let config = told_config(alloc, text.as_slice())?;
+    Ok(Event::Reload(config))
 }

@@ -24,6 +24,15 @@ pub struct Request {
     pub from: usize,
 }
 
+/// The six hexadecimal digits of a number.
+pub fn push_digits(text: &mut Vec<u8>, number: usize) -> Result<(), AllocError> {
+    for unit in [0x100000, 0x10000, 0x1000, 0x100, 0x10, 1] {
+        let digit = number.checked_div(unit).unwrap_or(0) % 16;
+        text.push(b"0123456789ABCDEF".get(digit).copied().unwrap_or(b'?'))?;
+    }
+    Ok(())
+}
+
 #[derive(Drop)]
 pub struct History {
     pub sites: &'static [Site],
@@ -191,10 +200,7 @@ impl History {
         };
         let number = self.number(came.site, came.before);
         packet.extend_from_slice(b"SL")?;
-        for unit in [0x100000, 0x10000, 0x1000, 0x100, 0x10, 1] {
-            let digit = number.checked_div(unit).unwrap_or(0) % 16;
-            packet.push(b"0123456789ABCDEF".get(digit).copied().unwrap_or(b'?'))?;
-        }
+        push_digits(&mut packet, number)?;
         packet.extend_from_slice(&came.bytes)?;
         Ok(packet)
     }

@@ -9,6 +9,7 @@ pub mod moments;
 pub mod patterns;
 pub mod plain;
 pub mod records;
+pub mod reloads;
 pub mod sites;
 pub mod visitor;
 pub mod words;

@@ -1,7 +1,8 @@
 //! The plain server: all clients over one history.
 use crate::history::History;
 use crate::records::Arrival;
-use crate::sites::Centre;
+use crate::reloads::Reload;
+use crate::sites::{Centre, Seen};
 use crate::visitor::Visitor;
 use std::alloc::{AllocError, Global};
 
@@ -19,6 +20,8 @@ pub struct Plain {
     alloc: Global,
     title: &'static [u8],
     history: History,
+    /// Who may use the stations by the lists in force.
+    seen: Seen,
     visitors: Vec<Visitor>,
 }
 
@@ -28,6 +31,7 @@ impl Plain {
             alloc,
             title: centre.title,
             history: History::new(alloc, centre.sites),
+            seen: centre.seen(),
             visitors: Vec::new(alloc),
         }
     }
@@ -35,7 +39,8 @@ impl Plain {
     /// A client connects from one of the three addresses. The answer is its number.
     pub fn connect(&mut self, address: usize) -> Result<usize, AllocError> {
         let number = self.visitors.len();
-        self.visitors.push(Visitor::new(self.alloc, address))?;
+        let visitor = Visitor::new(self.alloc, address, self.seen);
+        self.visitors.push(visitor)?;
         Ok(number)
     }
 
@@ -78,5 +83,19 @@ impl Plain {
     /// A record comes. Whether it is a station's.
     pub fn arrive(&mut self, arrival: &Arrival) -> Result<bool, AllocError> {
         self.history.add(arrival)
+    }
+
+    /// A configuration is read again. One that differs in more than its lists changes nothing. Else each client that sees
+    /// something else by it than when it came is cut.
+    pub fn reload(&mut self, reload: &Reload) {
+        let Some(seen) = reload.seen else {
+            return;
+        };
+        self.seen = seen;
+        for visitor in self.visitors.as_mut_slice() {
+            if visitor.would_see_other(seen) {
+                visitor.cut();
+            }
+        }
     }
 }

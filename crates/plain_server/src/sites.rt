@@ -10,15 +10,37 @@ pub struct Site {
     pub description: &'static [u8],
     pub capacity: usize,
     pub first: usize,
-    /// Which of the three addresses may use it.
-    pub seen: [bool; 3],
 }
 
+/// Who may use the stations.
 #[derive(Drop)]
+pub struct Lists {
+    /// The list of the whole server.
+    pub all: Option<&'static [u8]>,
+    /// The list of each station.
+    pub own: &'static [Option<&'static [u8]>],
+    /// Which of the three addresses may use each station by these lists.
+    pub seen: Seen,
+}
+
+/// Which of the three addresses may use each station.
+pub type Seen = &'static [[bool; 3]];
+
+#[derive(Clone, Copy, Drop)]
 pub struct Centre {
     pub text: &'static [u8],
     pub title: &'static [u8],
+    pub connections: usize,
     pub sites: &'static [Site],
+    /// Lists that it may have, those of the text first.
+    pub lists: &'static [Lists],
+}
+
+impl Centre {
+    /// Who may use the stations by the text.
+    pub fn seen(&self) -> Seen {
+        self.lists.first().map_or(&[], |lists| lists.seen)
+    }
 }
 
 /// The addresses that clients connect from.
@@ -34,6 +56,7 @@ pub fn address(place: usize) -> Ipv4Addr {
 pub const ISLAND: Centre = Centre {
     text: CENTRE,
     title: b"Test Centre",
+    connections: 8,
     sites: &[
         Site {
             network: b"GE",
@@ -41,7 +64,6 @@ pub const ISLAND: Centre = Centre {
             description: b"Island",
             capacity: 4,
             first: 0,
-            seen: [true, false, false],
         },
         Site {
             network: b"GE",
@@ -49,7 +71,6 @@ pub const ISLAND: Centre = Centre {
             description: b"Forest",
             capacity: 2,
             first: 0xFFFFFE,
-            seen: [true, true, true],
         },
         Site {
             network: b"XX",
@@ -57,7 +78,45 @@ pub const ISLAND: Centre = Centre {
             description: b"Vault",
             capacity: 1,
             first: 0,
-            seen: [true, true, true],
+        },
+    ],
+    lists: &[
+        Lists {
+            all: None,
+            own: &[Some(b"10.0.0.0/8"), None, None],
+            seen: &[[true, false, false], [true, true, true], [true, true, true]],
+        },
+        // GE WLF is closed to the second address.
+        Lists {
+            all: None,
+            own: &[Some(b"10.0.0.0/8"), Some(b"10.0.0.0/8 192.168.1.1"), None],
+            seen: &[
+                [true, false, false],
+                [true, false, true],
+                [true, true, true],
+            ],
+        },
+        // All but GE APE is closed to the third.
+        Lists {
+            all: Some(b"10.0.0.7, 172.16.0.9"),
+            own: &[Some(b"10.0.0.0/8"), None, None],
+            seen: &[
+                [true, false, false],
+                [true, true, false],
+                [true, true, false],
+            ],
+        },
+        // GE APE is open to everybody.
+        Lists {
+            all: None,
+            own: &[Some(b"0.0.0.0/0"), None, None],
+            seen: &[[true, true, true], [true, true, true], [true, true, true]],
+        },
+        // Nobody sees anything else than at first.
+        Lists {
+            all: None,
+            own: &[Some(b"10.0.0.7"), Some(b"0.0.0.0/0"), None],
+            seen: &[[true, false, false], [true, true, true], [true, true, true]],
         },
     ],
 };
@@ -84,6 +143,7 @@ first = "FFFFFD"
 access = "10.0.0.7, 172.16.0.0/12"
 "#,
     title: b"P",
+    connections: 100,
     sites: &[
         Site {
             network: b"A",
@@ -91,7 +151,6 @@ access = "10.0.0.7, 172.16.0.0/12"
             description: b"",
             capacity: 1,
             first: 0xFFFFFF,
-            seen: [false, true, false],
         },
         Site {
             network: b"B",
@@ -99,7 +158,37 @@ access = "10.0.0.7, 172.16.0.0/12"
             description: b"Two",
             capacity: 3,
             first: 0xFFFFFD,
-            seen: [true, true, false],
+        },
+    ],
+    lists: &[
+        Lists {
+            all: Some(b"0.0.0.0/0"),
+            own: &[Some(b"172.16.0.9"), Some(b"10.0.0.7, 172.16.0.0/12")],
+            seen: &[[false, true, false], [true, true, false]],
+        },
+        // A S is for nobody.
+        Lists {
+            all: Some(b"0.0.0.0/0"),
+            own: &[Some(b""), Some(b"10.0.0.7, 172.16.0.0/12")],
+            seen: &[[false, false, false], [true, true, false]],
+        },
+        // It is for everybody.
+        Lists {
+            all: Some(b"0.0.0.0/0"),
+            own: &[None, Some(b"10.0.0.7, 172.16.0.0/12")],
+            seen: &[[true, true, true], [true, true, false]],
+        },
+        // It is for the first address, by the list of the whole server.
+        Lists {
+            all: Some(b"10.0.0.7"),
+            own: &[None, Some(b"172.16.0.0/255.240.0.0 10.0.0.7")],
+            seen: &[[true, false, false], [true, true, false]],
+        },
+        // Nobody sees anything else than at first.
+        Lists {
+            all: None,
+            own: &[Some(b"172.16.0.9/32"), Some(b"10.0.0.0/8 172.16.0.9")],
+            seen: &[[false, true, false], [true, true, false]],
         },
     ],
 };
@@ -141,6 +230,7 @@ first = "FE"
 access = "172.16.0.9/255.255.255.255, 192.168.0.0/16"
 "#,
     title: b"Coast",
+    connections: 100,
     sites: &[
         Site {
             network: b"IU",
@@ -148,7 +238,6 @@ access = "172.16.0.9/255.255.255.255, 192.168.0.0/16"
             description: b"shut",
             capacity: 2,
             first: 0x1F,
-            seen: [false, false, false],
         },
         Site {
             network: b"NO",
@@ -156,7 +245,6 @@ access = "172.16.0.9/255.255.255.255, 192.168.0.0/16"
             description: b"Kongsberg",
             capacity: 2,
             first: 0xFFFFFE,
-            seen: [true, false, true],
         },
         Site {
             network: b"NO",
@@ -164,7 +252,6 @@ access = "172.16.0.9/255.255.255.255, 192.168.0.0/16"
             description: b"Bergen",
             capacity: 3,
             first: 0xFFFFFC,
-            seen: [true, true, true],
         },
         Site {
             network: b"NO",
@@ -172,7 +259,87 @@ access = "172.16.0.9/255.255.255.255, 192.168.0.0/16"
             description: b"Hamar",
             capacity: 1,
             first: 0xFE,
-            seen: [false, true, true],
+        },
+    ],
+    lists: &[
+        Lists {
+            all: Some(b"10.0.0.0/255.0.0.0 192.168.1.1"),
+            own: &[
+                Some(b""),
+                None,
+                Some(b"0.0.0.0/0"),
+                Some(b"172.16.0.9/255.255.255.255, 192.168.0.0/16"),
+            ],
+            seen: &[
+                [false, false, false],
+                [true, false, true],
+                [true, true, true],
+                [false, true, true],
+            ],
+        },
+        // NO KONO is closed to the first address.
+        Lists {
+            all: Some(b"192.168.1.1"),
+            own: &[
+                Some(b""),
+                None,
+                Some(b"0.0.0.0/0"),
+                Some(b"172.16.0.9/255.255.255.255, 192.168.0.0/16"),
+            ],
+            seen: &[
+                [false, false, false],
+                [false, false, true],
+                [true, true, true],
+                [false, true, true],
+            ],
+        },
+        // It is open to everybody.
+        Lists {
+            all: None,
+            own: &[
+                Some(b""),
+                None,
+                Some(b"0.0.0.0/0"),
+                Some(b"172.16.0.9/255.255.255.255, 192.168.0.0/16"),
+            ],
+            seen: &[
+                [false, false, false],
+                [true, true, true],
+                [true, true, true],
+                [false, true, true],
+            ],
+        },
+        // The first station of its code is open to the third address.
+        Lists {
+            all: Some(b"10.0.0.0/255.0.0.0 192.168.1.1"),
+            own: &[
+                Some(b"192.168.1.1"),
+                None,
+                Some(b"0.0.0.0/0"),
+                Some(b"172.16.0.9/255.255.255.255, 192.168.0.0/16"),
+            ],
+            seen: &[
+                [false, false, true],
+                [true, false, true],
+                [true, true, true],
+                [false, true, true],
+            ],
+        },
+        // Nobody sees anything else than at first.
+        Lists {
+            all: Some(b"10.0.0.7 192.168.0.0/16"),
+            own: &[
+                Some(b""),
+                None,
+                Some(b"0.0.0.0/0"),
+                Some(b"172.16.0.0/12 192.168.1.1"),
+            ],
+            seen: &[
+                [false, false, false],
+                [true, false, true],
+                [true, true, true],
+                [false, true, true],
+            ],
         },
     ],
 };
@@ -204,6 +371,7 @@ capacity = 7
 access = "192.168.1.1"
 "#,
     title: b"Hills",
+    connections: 100,
     sites: &[
         Site {
             network: b"GE",
@@ -211,7 +379,6 @@ access = "192.168.1.1"
             description: b"Fifty",
             capacity: 50,
             first: 0xFFFFF0,
-            seen: [true, true, true],
         },
         Site {
             network: b"A",
@@ -219,7 +386,6 @@ access = "192.168.1.1"
             description: b"Thirty-one",
             capacity: 31,
             first: 0xFFFFFE,
-            seen: [true, true, false],
         },
         Site {
             network: b"A",
@@ -227,7 +393,69 @@ access = "192.168.1.1"
             description: b"Seven",
             capacity: 7,
             first: 0,
-            seen: [false, false, true],
+        },
+    ],
+    lists: &[
+        Lists {
+            all: None,
+            own: &[
+                None,
+                Some(b"10.0.0.0/8 172.16.0.0/12"),
+                Some(b"192.168.1.1"),
+            ],
+            seen: &[
+                [true, true, true],
+                [true, true, false],
+                [false, false, true],
+            ],
+        },
+        // A APE is closed to the second address.
+        Lists {
+            all: None,
+            own: &[None, Some(b"10.0.0.0/8"), Some(b"192.168.1.1")],
+            seen: &[
+                [true, true, true],
+                [true, false, false],
+                [false, false, true],
+            ],
+        },
+        // GE S is closed to the third.
+        Lists {
+            all: Some(b"10.0.0.0/8 172.16.0.9"),
+            own: &[
+                None,
+                Some(b"10.0.0.0/8 172.16.0.0/12"),
+                Some(b"192.168.1.1"),
+            ],
+            seen: &[
+                [true, true, false],
+                [true, true, false],
+                [false, false, true],
+            ],
+        },
+        // A S is open to the first.
+        Lists {
+            all: None,
+            own: &[
+                None,
+                Some(b"10.0.0.0/8 172.16.0.0/12"),
+                Some(b"10.0.0.7 192.168.1.1"),
+            ],
+            seen: &[[true, true, true], [true, true, false], [true, false, true]],
+        },
+        // Nobody sees anything else than at first.
+        Lists {
+            all: None,
+            own: &[
+                Some(b"0.0.0.0/0"),
+                Some(b"10.0.0.7 172.16.0.9"),
+                Some(b"192.168.1.0/24"),
+            ],
+            seen: &[
+                [true, true, true],
+                [true, true, false],
+                [false, false, true],
+            ],
         },
     ],
 };

@@ -2,6 +2,7 @@
 use crate::history::{History, Request};
 use crate::patterns::is_pattern;
 use crate::plain::Waiting;
+use crate::sites::Seen;
 use crate::words::{Action, Command, command_of};
 use std::alloc::{AllocError, Global};
 use std::collections::VecDeque;
@@ -20,6 +21,8 @@ pub enum Stage {
 pub struct Visitor {
     alloc: Global,
     address: usize,
+    /// Who could use the stations when it came.
+    seen: Seen,
     stage: Stage,
     /// What it sent and was not read.
     unread: VecDeque<u8>,
@@ -27,6 +30,8 @@ pub struct Visitor {
     line: Vec<u8>,
     /// What waits to be taken.
     answers: VecDeque<Vec<u8>>,
+    /// The lines of CAT that are still to wait.
+    listing: VecDeque<Vec<u8>>,
     is_multi: bool,
     /// The patterns of uni-station mode.
     patterns: Vec<Vec<u8>>,
@@ -49,15 +54,32 @@ fn is_changed(patterns: &mut Vec<Vec<u8>>, pattern: Option<Vec<u8>>) -> Result<b
     Ok(true)
 }
 
+/// Whether one of the three addresses may use a station.
+fn may_use(seen: Seen, site: usize, address: usize) -> bool {
+    let addresses = seen.get(site);
+    addresses.is_some_and(|them| them.get(address).copied().unwrap_or(false))
+}
+
+fn line_of(alloc: Global, parts: &[&[u8]]) -> Result<Vec<u8>, AllocError> {
+    let mut line = Vec::new(alloc);
+    for part in parts {
+        line.extend_from_slice(part)?;
+    }
+    line.extend_from_slice(b"\r\n")?;
+    Ok(line)
+}
+
 impl Visitor {
-    pub fn new(alloc: Global, address: usize) -> Self {
+    pub fn new(alloc: Global, address: usize, seen: Seen) -> Self {
         Visitor {
             alloc,
             address,
+            seen,
             stage: Stage::Asking,
             unread: VecDeque::new(alloc),
             line: Vec::new(alloc),
             answers: VecDeque::new(alloc),
+            listing: VecDeque::new(alloc),
             is_multi: false,
             patterns: Vec::new(alloc),
             requests: Vec::new(alloc),
@@ -69,15 +91,26 @@ impl Visitor {
     pub fn close(&mut self) {
         self.stage = Stage::Closed;
         self.answers.clear();
+        self.listing.clear();
+    }
+
+    /// What waits is still handed. What it sent is forgotten, and nothing else comes to wait.
+    pub fn cut(&mut self) {
+        if self.stage != Stage::Closed {
+            self.stage = Stage::Over;
+        }
+        self.unread.clear();
+        self.listing.clear();
     }
 
     fn answer(&mut self, parts: &[&[u8]]) -> Result<(), AllocError> {
-        let mut line = Vec::new(self.alloc);
-        for part in parts {
-            line.extend_from_slice(part)?;
-        }
-        line.extend_from_slice(b"\r\n")?;
-        self.answers.push_back(line)?;
+        self.answers.push_back(line_of(self.alloc, parts)?)?;
+        Ok(())
+    }
+
+    /// A line of CAT, which waits once it is its turn.
+    fn answer_later(&mut self, parts: &[&[u8]]) -> Result<(), AllocError> {
+        self.listing.push_back(line_of(self.alloc, parts)?)?;
         Ok(())
     }
 
@@ -89,17 +122,27 @@ impl Visitor {
         }
     }
 
-    fn sees(&self, history: &History, site: usize) -> bool {
-        let site = history.sites.get(site);
-        site.is_some_and(|site| site.seen.get(self.address).copied().unwrap_or(false))
+    fn sees(&self, site: usize) -> bool {
+        may_use(self.seen, site, self.address)
+    }
+
+    /// Whether it would see another list of stations if it came now.
+    pub fn would_see_other(&self, seen: Seen) -> bool {
+        let mut is_other = false;
+        for site in 0..seen.len() {
+            if may_use(seen, site, self.address) != self.sees(site) {
+                is_other = true;
+            }
+        }
+        is_other
     }
 
     fn list(&mut self, history: &History) -> Result<(), AllocError> {
         for (place, site) in history.sites.iter().enumerate() {
-            if self.sees(history, place) {
+            if self.sees(place) {
                 let network = b"  ".get(site.network.len()..).unwrap_or(b"");
                 let code = b"     ".get(site.code.len()..).unwrap_or(b"");
-                self.answer(&[
+                self.answer_later(&[
                     site.network,
                     network,
                     b" ",
@@ -110,7 +153,7 @@ impl Visitor {
                 ])?;
             }
         }
-        self.answer(&[b"END"])
+        self.answer_later(&[b"END"])
     }
 
     /// The first station of a code that the client may use, or the first of all where no code is given.
@@ -124,7 +167,7 @@ impl Visitor {
         for (place, site) in history.sites.iter().enumerate() {
             let is_meant = code.is_none_or(|code| *code == *site.code)
                 && network.is_none_or(|network| *network == *site.network);
-            if found.is_none() && is_meant && self.sees(history, place) {
+            if found.is_none() && is_meant && self.sees(place) {
                 found = Some(place);
             }
         }
@@ -254,11 +297,16 @@ impl Visitor {
         }
     }
 
+    /// Whether nothing waits, and no line of CAT is to come.
+    fn is_idle(&self) -> bool {
+        self.answers.is_empty() && self.listing.is_empty()
+    }
+
     /// Reads on while it may: until an answer waits, and always in a transfer.
     fn read(&mut self, history: &History, title: &[u8]) -> Result<(), AllocError> {
         for _ in 0..self.unread.len() {
             let is_reading = self.stage == Stage::Transfer
-                || (self.stage == Stage::Asking && self.answers.is_empty());
+                || (self.stage == Stage::Asking && self.is_idle());
             if !is_reading {
                 return Ok(());
             }
@@ -294,11 +342,23 @@ impl Visitor {
         self.read(history, title)
     }
 
-    /// What waits where nothing did: a packet or the end of a transfer.
+    /// What waits where nothing did: a line of CAT, a packet or the end of a transfer.
     fn offer(&mut self, history: &History) -> Result<(), AllocError> {
-        if self.stage != Stage::Transfer || !self.answers.is_empty() {
+        if !self.answers.is_empty() {
             return Ok(());
         }
+        if let Some(line) = self.listing.pop_front() {
+            self.answers.push_back(line)?;
+            return Ok(());
+        }
+        if self.stage == Stage::Transfer {
+            self.offer_packet(history)?;
+        }
+        Ok(())
+    }
+
+    /// The next packet that is wanted waits, or the end.
+    fn offer_packet(&mut self, history: &History) -> Result<(), AllocError> {
         let requests = self.requests.as_slice();
         if let Some(position) = history.next(requests, self.position) {
             self.answers
