@@ -45,7 +45,7 @@ fn scene_of(alloc: Global, list: u64) -> Result<Scene, Fail> {
     } else {
         (sites::centre_of(list), Length::Crowd(STEPS, CROWD))
     };
-    let steps = lists::list(alloc, Draws::new(SEED, list), centre.sites, length)?;
+    let steps = lists::list(alloc, Draws::new(SEED, list), centre, length)?;
     Ok(Scene { centre, steps })
 }
 

@@ -1,15 +1,15 @@
 //! Random lists of steps.
 use super::steps::Step;
 use plain_server::draws::Draws;
-use plain_server::sites::Site;
-use plain_server::{lines, records};
+use plain_server::sites::Centre;
+use plain_server::{lines, records, reloads};
 use std::alloc::{AllocError, Global};
 
 #[derive(Drop)]
 struct Maker {
     alloc: Global,
     draws: Draws,
-    sites: &'static [Site],
+    centre: Centre,
     /// How many clients were opened.
     clients: usize,
     /// How many of the last ones act.
@@ -41,8 +41,13 @@ impl Maker {
     }
 
     fn arrive(&mut self) -> Result<(), AllocError> {
-        let arrival = records::next_arrival(&mut self.draws, self.sites);
+        let arrival = records::next_arrival(&mut self.draws, self.centre.sites);
         self.add(Step::Arrive(arrival))
+    }
+
+    fn reload(&mut self) -> Result<(), AllocError> {
+        let reload = reloads::next_reload(self.alloc, &mut self.draws, &self.centre)?;
+        self.add(Step::Reload(reload))
     }
 
     fn take(&mut self, client: usize) -> Result<(), AllocError> {
@@ -82,7 +87,7 @@ impl Maker {
     fn converse(&mut self, client: usize) -> Result<(), AllocError> {
         let mut bytes = Vec::new(self.alloc);
         for _ in 0..self.draws.number(&[1, 1, 2]) {
-            lines::request(&mut self.draws, self.sites, &mut bytes)?;
+            lines::request(&mut self.draws, self.centre.sites, &mut bytes)?;
         }
         if !self.draws.is_one_of(6) {
             lines::end(&mut self.draws, &mut bytes)?;
@@ -105,7 +110,7 @@ impl Maker {
     fn speak(&mut self, client: usize) -> Result<(), AllocError> {
         let mut bytes = Vec::new(self.alloc);
         for _ in 0..self.draws.number(&[1, 1, 1, 2, 4]) {
-            lines::line(&mut self.draws, self.sites, &mut bytes)?;
+            lines::line(&mut self.draws, self.centre.sites, &mut bytes)?;
         }
         self.send(client, bytes)
     }
@@ -120,6 +125,9 @@ impl Maker {
     }
 
     fn step(&mut self) -> Result<(), AllocError> {
+        if self.draws.is_one_of(150) {
+            return self.reload();
+        }
         let client = self.client();
         match self.draws.below(32) {
             0 => self.open(),
@@ -147,13 +155,13 @@ pub enum Length {
 pub fn list(
     alloc: Global,
     draws: Draws,
-    sites: &'static [Site],
+    centre: Centre,
     length: Length,
 ) -> Result<Vec<Step>, AllocError> {
     let mut maker = Maker {
         alloc,
         draws,
-        sites,
+        centre,
         clients: 0,
         acting: 8,
         steps: Vec::new(alloc),

@@ -30,6 +30,7 @@ fn step(plain: &mut Plain, step: &Step, given: &mut Vec<Given>) -> Result<(), Al
         Step::Arrive(arrival) => {
             plain.arrive(arrival)?;
         }
+        Step::Reload(reload) => plain.reload(reload),
     }
     Ok(())
 }

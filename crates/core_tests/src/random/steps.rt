@@ -1,9 +1,12 @@
 //! What happens in a list, as either server is told of it.
+use catalog::Config;
 use plain_server::records::Arrival;
+use plain_server::reloads::Reload;
 use plain_server::sites::address;
 use server_core::Event;
-use std::alloc::{AllocError, Global};
+use std::alloc::Global;
 use std::io;
+use std::test::Fail;
 
 #[derive(Drop)]
 pub enum Step {
@@ -13,16 +16,18 @@ pub enum Step {
     Take(usize, usize),
     Close(usize),
     Arrive(Arrival),
+    Reload(Reload),
 }
 
 /// The step as the server is told it.
-pub fn event(alloc: Global, step: &Step) -> Result<Event, AllocError> {
+pub fn event(alloc: Global, step: &Step) -> Result<Event, Fail> {
     match step {
         Step::Open(place) => Ok(Event::Open(address(*place))),
         Step::Bytes(client, bytes) => Ok(Event::Bytes(*client, bytes.as_slice().to_vec(alloc)?)),
         Step::Take(client, count) => Ok(Event::Take(*client, *count)),
         Step::Close(client) => Ok(Event::Close(*client)),
         Step::Arrive(arrival) => Ok(Event::Arrive(arrival.bytes)),
+        Step::Reload(reload) => Ok(Event::Reload(Config::read(alloc, reload.text.as_slice())?)),
     }
 }
 
@@ -49,6 +54,10 @@ pub fn show(rt: &HostRuntime, step: &Step) -> io::Result<()> {
         Step::Arrive(arrival) => {
             eprint!(rt; "arrive-hex ")?;
             show_bytes(rt, &arrival.bytes)
+        }
+        Step::Reload(reload) => {
+            eprint!(rt; "reload ")?;
+            show_bytes(rt, reload.text.as_slice())
         }
     }
 }
