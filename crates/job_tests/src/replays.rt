@@ -8,6 +8,7 @@ use test_centre::CENTRE;
 
 mod devices;
 mod refused;
+mod reloads;
 
 /// The hexadecimal digits of the 45 bytes that HELLO is answered.
 const GREETING: &str =
@@ -38,13 +39,19 @@ fn greeted(alloc: Global, text: &str) -> Result<String, AllocError> {
     Ok(all)
 }
 
+/// Two hexadecimal digits a byte.
+fn push_digits(text: &mut String, bytes: &[u8]) -> Result<(), Fail> {
+    for byte in bytes {
+        let byte = *byte;
+        write!(text, "{byte:02x}")?;
+    }
+    Ok(())
+}
+
 /// A line `bytes` of client 0.
 fn push_bytes(script: &mut String, bytes: &[u8]) -> Result<(), Fail> {
     script.push_str("bytes 0 ")?;
-    for byte in bytes {
-        let byte = *byte;
-        write!(script, "{byte:02x}")?;
-    }
+    push_digits(script, bytes)?;
     script.push('\n')?;
     Ok(())
 }

@@ -11,7 +11,7 @@ const HEAD: &[u8; 64] =
     b"000001D APE    BHZGE\x07\xe8\x00\x3c\x00\x00\x00\x00\x00\x00\x00\x64\x00\x64\x00\x01\x00\x00\x00\x01\x00\x00\x00\x00\x00\x40\x00\x30\x03\xe8\x00\x00\x0b\x01\x09\x00\x00\x00\x00\x00\x00\x00\x00\x00";
 
 /// That record, with other bytes from some places on.
-fn record_with(changes: &[(usize, &[u8])]) -> [u8; 512] {
+pub(crate) fn record_with(changes: &[(usize, &[u8])]) -> [u8; 512] {
     let mut record = [0; 512];
     record[..64].copy_from_slice(HEAD);
     for (place, bytes) in changes {

@@ -22,7 +22,7 @@ fn fault(alloc: Global, script: &[u8]) -> Result<Option<ReplayFault>, Fail> {
 }
 
 /// Lines that are no event.
-static LINES: [&str; 32] = [
+static LINES: [&str; 42] = [
     "bytes 0 484",
     "bytes 0 4g",
     "bytes 0 48 45",
@@ -55,6 +55,17 @@ static LINES: [&str; 32] = [
     "fetch 0 1",
     "arrive GE APE -- BHZ 2024,60,0,0,0,0",
     "arrive-hex 00",
+    "reload",
+    "reload ",
+    "reload 0",
+    "reload 0g",
+    "RELOAD 7469746c653d2254220a",
+    // No TOML, no UTF-8, a space too many, no station, and a capacity of 0.
+    "reload 61",
+    "reload ff",
+    "reload  23",
+    "reload 7469746c653d2254220a",
+    "reload 7469746c653d2254220a5b5b73746174696f6e5d5d0a6e6574776f726b3d224745220a636f64653d2241220a6465736372697074696f6e3d22220a63617061636974793d300a",
 ];
 
 /// Why a script is refused of which that line is the second.
