@@ -71,8 +71,75 @@ fn serve_has_two_addresses_and_may_have_turns(rt: HostRuntime) -> Result<(), Fai
         listen: "a:1",
         feed: "b:2",
         turns: Some(20),
+        reread: None,
+        report: None,
     };
     assert!(rt; job == wanted);
+    Ok(())
+}
+
+/// What is read of `serve` with an option that counts turns, and a text for it: `turns`, `reread` and `report`. None where the
+/// words are refused.
+fn counts(
+    alloc: Global,
+    option: &str,
+    text: &str,
+) -> Result<Option<[Option<usize>; 3]>, AllocError> {
+    let words = strings(
+        alloc,
+        &[
+            "seedlinkd",
+            "serve",
+            "c",
+            "--listen=a",
+            "--feed=b",
+            option,
+            text,
+        ],
+    )?;
+    match read_words(alloc, words.as_slice()) {
+        Ok(
+            Job::Serve {
+                turns,
+                reread,
+                report,
+                ..
+            },
+        ) => Ok(Some([turns, reread, report])),
+        _ => Ok(None),
+    }
+}
+
+/// The option that is given, with its place among the three.
+static COUNTING: [(&str, usize); 3] = [("--turns", 0), ("--reread", 1), ("--report", 2)];
+
+#[test]
+fn counts_of_turns_are_1_to_1000000000(rt: HostRuntime) -> Result<(), Fail> {
+    for (option, place) in &COUNTING {
+        for (text, number) in [("1", 1), ("1000000000", 1_000_000_000), ("0000000600", 600)] {
+            let mut wanted = [None; 3];
+            wanted[*place % 3] = Some(number);
+            assert!(rt;
+                counts(rt.alloc(), option, text)? == Some(wanted),
+                "{option} {text}"
+            );
+        }
+        for text in [
+            "0",
+            "1000000001",
+            "00000000600",
+            "+1",
+            "-1",
+            "",
+            "1.5",
+            "often",
+        ] {
+            assert!(rt;
+                counts(rt.alloc(), option, text)?.is_none(),
+                "{option} {text}"
+            );
+        }
+    }
     Ok(())
 }
 
