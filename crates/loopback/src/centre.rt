@@ -110,6 +110,12 @@ impl Centre {
         self.server.clients()
     }
 
+    /// A configuration is read again. Whether the server takes it.
+    pub fn rereads<R: AllocGlobal>(&mut self, rt: &R, config: &[u8]) -> Result<bool, Fail> {
+        let config = Config::read(rt.alloc(), config)?;
+        Ok(self.server.reload(config).is_ok())
+    }
+
     /// A client that connects.
     pub fn client<R: Net>(&self, rt: &R) -> io::Result<R::Stream> {
         connect(rt, self.clients)

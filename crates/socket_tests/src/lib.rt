@@ -9,6 +9,8 @@ mod feeds;
 #[cfg(test)]
 mod reads;
 #[cfg(test)]
+mod reloads;
+#[cfg(test)]
 mod serving;
 #[cfg(test)]
 mod transfers;
