@@ -104,10 +104,7 @@ fn gives_packets<S: Read>(centre: &mut Centre, client: &mut S, count: u16) -> Re
 }
 
 /// Whether a client that reads only after the server has shut its connection reads all packets, END and the end.
-fn is_given_all_late<S: Read + Write>(
-    centre: &mut Centre,
-    client: &mut S,
-) -> Result<bool, Fail> {
+fn is_given_all_late<S: Read + Write>(centre: &mut Centre, client: &mut S) -> Result<bool, Fail> {
     let said = b"STATION WLF GE\rFETCH\rEND\r";
     if !centre.answers(client, said, b"OK\r\nOK\r\n")? {
         return Ok(false);

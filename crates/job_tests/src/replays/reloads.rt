@@ -4,7 +4,7 @@ use crate::scripts::record_with;
 use std::alloc::Global;
 use std::test::Fail;
 
-/// The same three stations, but GE WLF is open to addresses that begin with 172.16 alone.
+/// The same three stations, but GE WLF is open to addresses that begin with 10 alone.
 const FOREST_CLOSED: &[u8] = br#"title = "Test Centre"
 max_connections = 8
 
@@ -21,7 +21,7 @@ code = "WLF"
 description = "Forest"
 capacity = 2
 first = "FFFFFE"
-access = "172.16.0.0/16"
+access = "10.0.0.0/8"
 
 [[station]]
 network = "XX"
@@ -47,7 +47,7 @@ code = "WLF"
 description = "Forest"
 capacity = 2
 first = "FFFFFE"
-access = "172.16.0.0/16"
+access = "10.0.0.0/8"
 
 [[station]]
 network = "XX"
@@ -98,7 +98,7 @@ static ROWS: [Row; 3] = [
     // GE WLF is closed to the first client within a packet; the second goes on.
     Row {
         script: &[
-            Text("open 10.0.0.7\nopen 172.16.0.9\n"),
+            Text("open 172.16.0.9\nopen 10.0.0.7\n"),
             Text("line 0 STATION WLF GE\ntake 0 520\nline 0 DATA\ntake 0 520\nline 0 END\n"),
             Text("line 1 STATION WLF GE\ntake 1 520\nline 1 DATA\ntake 1 520\nline 1 END\n"),
             Text("arrive GE WLF -- BHZ 2024,60,0,0,0,0 100\ntake 0 1\nreload "),
@@ -124,16 +124,16 @@ static ROWS: [Row; 3] = [
         script: &[
             Text("reload "),
             Digits(FOREST_CLOSED),
-            Text("\nopen 10.0.0.7\nline 0 STATION WLF GE\ntake 0 520\n"),
+            Text("\nopen 172.16.0.9\nline 0 STATION WLF GE\ntake 0 520\n"),
         ],
         output: &[Text("0 4552524f520d0a\n")],
     },
     // A configuration that the server refuses changes nothing, and is no fault of the script.
     Row {
         script: &[
-            Text("open 10.0.0.7\nreload "),
+            Text("open 172.16.0.9\nreload "),
             Digits(ISLAND_LARGER),
-            Text("\nline 0 STATION WLF GE\ntake 0 520\nopen 10.0.0.7\n"),
+            Text("\nline 0 STATION WLF GE\ntake 0 520\nopen 172.16.0.9\n"),
             Text("line 1 STATION WLF GE\ntake 1 520"),
         ],
         output: &[Text("0 4f4b0d0a\n1 4f4b0d0a\n")],
