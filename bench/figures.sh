@@ -69,6 +69,23 @@ sleepers() {
     row "$((($(round 100 sleepers 9999) - awake) / 9999))" 60 'a client that sleeps, of 9,999, in a turn that hands another one a packet' "a turn with none: $awake"
 }
 
+# reload_of CLIENTS CHANGED : what one of the last two reloads takes of four, if the lists of so many of 1,024 stations changed.
+reload_of() {
+    echo "$((($(server reload "$1" "$2" 4) - $(server reload "$1" "$2" 2)) / 2))"
+}
+
+# a_client CHANGED : what such a reload takes more with 10,000 clients than with none, for each of them.
+a_client() {
+    echo "$((($(reload_of 10000 "$1") - $(reload_of 0 "$1")) / 10000))"
+}
+
+# A reload for clients of whom nothing changes.
+reloads() {
+    row "$(a_client 1)" 300 'a reload, a client of 10,000 for whom nothing changes, 1 of 1,024 lists' ''
+    row "$(a_client 256)" 15000 'the same, 256 of 1,024 lists' ''
+    row "$(a_client 257)" 30000 'the same, 257 of 1,024 lists: all stations are looked at' ''
+}
+
 # peak WORK NUMBER : the most memory, in KiB, that a work of the program `server_bench` had at once.
 peak() {
     python3 -c 'import resource, subprocess, sys
@@ -149,6 +166,7 @@ pool
 small 2500 packets '' 'a packet read, cut out and listed by the reader' ''
 calls
 sleepers
+reloads
 memory
 check
 replay

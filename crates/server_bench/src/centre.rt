@@ -54,6 +54,25 @@ pub fn config_of(alloc: Global, small: u32, large: u32, capacity: u32) -> anyhow
     Ok(Config::read(alloc, text.as_bytes())?)
 }
 
+/// A configuration of 1,024 stations for addresses that begin with 10. The first ones have lists of their own, which let in one
+/// address more: 192.168.0 and the host.
+pub fn listed_config(alloc: Global, listed: u32, host: u32) -> anyhow::Result<Config> {
+    let mut text = format!(in alloc;
+        "title = \"Bench\"\nmax_connections = 10000\naccess = \"10.0.0.0/8\"\n"
+    )?;
+    for place in 0..1024 {
+        let station = format!(in alloc;
+            "[[station]]\nnetwork = \"GE\"\ncode = \"{place:05}\"\ndescription = \"Bench\"\ncapacity = 1\n"
+        )?;
+        text.push_str(station.as_str())?;
+        if place < listed {
+            let access = format!(in alloc; "access = \"10.0.0.0/8 192.168.0.{host}\"\n")?;
+            text.push_str(access.as_str())?;
+        }
+    }
+    Ok(Config::read(alloc, text.as_bytes())?)
+}
+
 /// Each of some records arrives once, one after the other. Answers a sum of their numbers.
 pub fn arrive_all(server: &mut Server, records: &[[u8; 512]]) -> u64 {
     let mut sum: u64 = 0;

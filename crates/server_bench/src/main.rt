@@ -8,7 +8,8 @@
 //! ROUNDS`: clients come and go, one after the other. `server_bench crowd CLIENTS`: so many are open at the end.
 //! `server_bench ready ROUNDS`: a client that waits is asked whether it is ready. `server_bench apart CLIENTS ROUNDS`:
 //! a record arrives while so many clients wait at another station. `server_bench sleepers CLIENTS ROUNDS`: a turn of a
-//! loop hands one client a packet while so many others wait.
+//! loop hands one client a packet while so many others wait. `server_bench reload CLIENTS CHANGED ROUNDS`: a new
+//! configuration comes into force, in which so many of 1,024 stations have lists that differ for no client's address.
 //!
 //! It prints a sum of what was answered, so that no work can be left out.
 #![tactic(auto)]
@@ -44,9 +45,12 @@ fn main(rt: HostRuntime) -> anyhow::Result<()> {
         ("ready", [rounds]) => works::ready(alloc, *rounds)?,
         ("apart", [clients, rounds]) => works::apart(alloc, *clients, *rounds)?,
         ("sleepers", [clients, rounds]) => turns::sleepers(alloc, *clients, *rounds)?,
+        ("reload", [clients, changed, rounds]) => works::reload(
+            alloc, *clients, *changed, *rounds,
+        )?,
         _ => {
             println!(rt;
-                "server_bench arrive|packets|idle|passed|visits|crowd|ready|apart|sleepers NUMBER.. ROUNDS"
+                "server_bench arrive|packets|idle|passed|visits|crowd|ready|apart|sleepers|reload NUMBER.. ROUNDS"
             )?;
             return Ok(());
         }

@@ -1,5 +1,7 @@
 //! The works whose instructions are counted. Each answers a sum of what it was answered.
-use crate::centre::{arrive_all, arrive_by_turns, asking, full_server, record_of, take_one};
+use crate::centre::{
+    arrive_all, arrive_by_turns, asking, full_server, listed_config, record_of, take_one,
+};
 use server_core::{Client, Offer, Server};
 use std::alloc::Global;
 use std::net::Ipv4Addr;
@@ -97,4 +99,29 @@ pub fn apart(alloc: Global, clients: u32, rounds: u32) -> anyhow::Result<u64> {
     }
     let record = record_of(alloc, 1, b"BHZ")?;
     Ok(arrive_by_turns(&mut server, &[record], rounds))
+}
+
+/// The server's clients, from so many addresses that begin with 10.
+fn open_from_many(alloc: Global, server: &mut Server, clients: u32) -> anyhow::Result<()> {
+    for host in 0..clients {
+        server.open(alloc, Ipv4Addr::from_bits(0x0A00_0000 | host))?;
+    }
+    Ok(())
+}
+
+/// Two configurations come into force by turns, in which so many of 1,024 stations have other lists, while so many clients are
+/// open. The lists differ in one address, from which no client came. Answers how many were accepted.
+pub fn reload(alloc: Global, clients: u32, changed: u32, rounds: u32) -> anyhow::Result<u64> {
+    let one = listed_config(alloc, changed, 1)?;
+    let other = listed_config(alloc, changed, 2)?;
+    let mut server = Server::new(alloc, one.copy(alloc)?)?;
+    open_from_many(alloc, &mut server, clients)?;
+    let mut accepted: u64 = 0;
+    for round in 0..rounds {
+        let next = if round % 2 == 0 { &other } else { &one };
+        if server.reload(next.copy(alloc)?).is_ok() {
+            accepted = accepted.wrapping_add(1);
+        }
+    }
+    Ok(accepted)
 }
