@@ -1,7 +1,7 @@
 -- Negotiation: what each command answers and changes, by the stations that the client sees.
 -- SeedLink 3, the dialogue in uni-station and multi-station mode. Left out: the texts of other servers (the replies to HELLO
 -- and CAT, and which station uni-station mode takes, are this project's).
-use Rattle.std.specs.Prelude.{ℕ, ◌+◌, nat_lt, if◌then◌else◌, List, [], ◌∷◌, ◌++◌, length, Option, Some, None, codes, slice_get, slice_set, filter_map}
+use Rattle.std.specs.Prelude.{ℕ, ◌+◌, nat_lt, ◌&&◌, if◌then◌else◌, List, [], ◌∷◌, ◌++◌, length, sum_by, Option, Some, None, codes, slice_get, slice_set, filter_map}
 use Rattle.protocol.specs.Catalog.{Station, View, find_station, has_codes}
 use Rattle.protocol.specs.Lines.{line_end}
 use Rattle.protocol.specs.Pattern.{Pattern, pattern_of}
@@ -55,11 +55,19 @@ position_of s (c ∷ cs) i = if has_codes s.network s.code c.station then Some i
 
 -- how many stations a client may name
 abbrev pub max_choices : ℕ
-max_choices = 32
+max_choices = 255
 
 -- how many patterns each may have
 abbrev pub max_patterns : ℕ
-max_patterns = 16
+max_patterns = 64
+
+-- how many patterns all of them may have together
+abbrev pub max_together : ℕ
+max_together = 1024
+
+-- how many they have
+abbrev pub together : List Choice → ℕ
+together cs = sum_by (λ c. length c.patterns) cs
 
 -- the station as the current one: at its place, or named anew where there is room
 abbrev pub choose_known : Station → List Choice → Option ℕ → Outcome
@@ -78,15 +86,16 @@ abbrev pub choices_of : Negotiated → List Choice
 choices_of (Uni ps) = []
 choices_of (Multi cs current) = cs
 
--- SELECT with a pattern: the patterns with one more, or None where the text is no pattern or there is no room
-abbrev pub with_pattern : List Pattern → Option Pattern → Option (List Pattern)
-with_pattern ps None = None
-with_pattern ps (Some p) = if nat_lt (length ps) max_patterns then Some (ps ++ p ∷ []) else None
+-- SELECT with a pattern: the patterns with one more, or None where the text is no pattern or there is no room, while the client has so
+-- many in all
+abbrev pub with_pattern : (all : ℕ) → List Pattern → Option Pattern → Option (List Pattern)
+with_pattern all ps None = None
+with_pattern all ps (Some p) = if nat_lt (length ps) max_patterns && nat_lt all max_together then Some (ps ++ p ∷ []) else None
 
 -- SELECT: without a pattern there are none from then on
-abbrev pub selected : List Pattern → Option (List ℕ) → Option (List Pattern)
-selected ps None = Some []
-selected ps (Some text) = with_pattern ps (pattern_of text)
+abbrev pub selected : (all : ℕ) → List Pattern → Option (List ℕ) → Option (List Pattern)
+selected all ps None = Some []
+selected all ps (Some text) = with_pattern all ps (pattern_of text)
 
 -- the change of the current choice, where there is one
 abbrev pub current_choice : List Choice → Option ℕ → Option Choice
@@ -111,11 +120,11 @@ select_in cs current c (Some new) = Stays ok_line (Multi (put cs current (record
 -- in multi-station mode, where a station is current
 abbrev pub select_multi : List Choice → Option ℕ → Option (List ℕ) → Option Choice → Outcome
 select_multi cs current text None = Stays error_line (Multi cs current)
-select_multi cs current text (Some c) = select_in cs current c (selected c.patterns text)
+select_multi cs current text (Some c) = select_in cs current c (selected (together cs) c.patterns text)
 
 -- SELECT, in either mode
 abbrev pub select : Negotiated → Option (List ℕ) → Outcome
-select (Uni ps) text = select_uni ps (selected ps text)
+select (Uni ps) text = select_uni ps (selected (length ps) ps text)
 select (Multi cs current) text = select_multi cs current text (current_choice cs current)
 
 -- DATA, FETCH and TIME
