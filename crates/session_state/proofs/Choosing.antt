@@ -11,7 +11,7 @@ use Rattle.protocol.specs.Session.Negotiated.{Multi}
 use Rattle.protocol.specs.Session.Outcome.{Stays, Starts}
 use Rattle.catalog.specs.Places.{station_at}
 use Rattle.session_state.specs.declared.choices.Action.{Action}
-use Rattle.session_state.specs.declared.choices.Choice.{Choice}
+use Rattle.session_state.specs.Naming.{Choice}
 use Rattle.session_state.specs.declared.choices.Cursor.{Cursor}
 use Rattle.session_state.specs.Naming.{Naming}
 use Rattle.session_state.specs.Choices.{action_value, choice_in, choices_in, is_of_station, kept_at, passed_at}
@@ -86,10 +86,6 @@ pub passed-there : (cs new : List Choice) (i : ℕ) (cursor : Cursor) → i < le
 passed-there cs new i cursor within made =
     let c = there cs i within in
     refilled cs new (ap length (made c.0 c.1) ∙ length-set cs i (record c.0 { cursor = cursor })) ∙ made c.0 c.1 ∙ sym (ap (passed_at i cursor cs) c.1)
-
--- whether some station has an action
-abbrev pub has_action : Choice → Bool
-has_action c = is_some c.action
 
 abbrev some_wish : List Wish → Bool
 some_wish [] = false

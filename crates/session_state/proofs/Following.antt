@@ -11,7 +11,7 @@ use Rattle.protocol.specs.Session.Outcome.{Stays, Lists, Ends}
 use Rattle.protocol.specs.Client.{Client, follow, leave, read_byte, is_nothing}
 use Rattle.protocol.specs.Client.State.{Negotiating as ClientNegotiating, Transfer as ClientTransfer, Ending as ClientEnding}
 use Rattle.protocol.proofs.Found.{both}
-use Rattle.session_state.specs.declared.modes.Mode.{Mode}
+use Rattle.session_state.specs.Naming.{Mode}
 use Rattle.session_state.specs.declared.modes.Change.{Change}
 use Rattle.session_state.specs.declared.modes.Effect.{Effect}
 use Rattle.session_state.specs.declared.modes.Effect.TheVariants.{Done, Refused, Starts}

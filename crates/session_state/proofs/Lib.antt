@@ -1,3 +1,4 @@
+pub mod NamedLemmas
 pub mod Choosing
 pub mod Asking
 pub mod Following
