@@ -1,6 +1,6 @@
 -- The values of the stations that a client named, and of what was negotiated.
 -- SeedLink 3, STATION, SELECT, DATA, FETCH and TIME.
-use Rattle.std.specs.Prelude.{◌≡◌, ℕ, ◌<◌, ◌≤◌, Bool, true, false, List, [], ◌∷◌, length, drop, Option, Some, None, IfSome}
+use Rattle.std.specs.Prelude.{◌≡◌, ℕ, ◌<◌, ◌≤◌, Bool, true, false, List, [], ◌∷◌, length, drop, Option, None, IfSome}
 use Rattle.protocol.specs.Pattern.{Pattern}
 use Rattle.selector.specs.Pools.{list_at}
 use Rattle.session_state.specs.declared.choices.Action.{Action}

@@ -127,7 +127,11 @@ impl Named {
             self.new ≡ record { choices = choice_of (begun place (Some action)) c.selectors ∷ []; current = None } }
     {
         let _ = &self.pool;
-        replace(self.entries.as_mut_slice(), 0, Entry::new(place, Some(action)));
+        replace(
+            self.entries.as_mut_slice(),
+            0,
+            Entry::new(place, Some(action)),
+        );
         self.current = None;
     }
 

@@ -148,6 +148,14 @@ impl Session {
         self.mode.choices()
     }
 
+    /// The i-th of them.
+    pub fn choice(&self, i: usize) -> &Entry
+        requires { i < length (chosen_of self.now.mode) }
+        ensures { (c : ChoiceValue) → slice_get (chosen_of self.now.mode) i ≡ Some c → result.now ≡ entry_of c }
+    {
+        &self.mode.choices()[i]
+    }
+
     /// Whether a record with that location, channel and type passes the selectors of the i-th named station.
     pub fn passes(&self, i: usize, location: &[u8; 2], channel: &[u8; 3], kind: Kind) -> bool
         requires { i < length (chosen_of self.now.mode) }
