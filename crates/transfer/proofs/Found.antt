@@ -15,7 +15,7 @@ use Rattle.session_state.specs.Choices.{request_in}
 use Rattle.transfer.specs.declared.choosing.First.{First}
 use Rattle.transfer.specs.Choosing.{comes_before}
 use Rattle.transfer.specs.Cursors.{OfAll, PassedIn, RestsAt, RestsIn}
-use Rattle.transfer.specs.Firsts.{IsAhead, IsFreshOverview, LeadsSoFar, earlier, is_unsent}
+use Rattle.transfer.specs.Firsts.{IsAhead, LeadsSoFar, earlier, is_unsent}
 use Rattle.transfer.specs.Sleeping.{HasNothing}
 use Rattle.transfer.specs.Wanting.{wants_held}
 use Rattle.transfer.proofs.Positions.{next-none}
@@ -153,36 +153,6 @@ leads-more rings choices i c best low is so_far = by c.cursor.ahead refl
     by (Some stamp) told = both (comes_before (option_map (λ x. x.stamp) best) stamp)
         (λ y. rw y (leads-first rings choices i c best stamp low is told y so_far))
         (λ n. rw n (leads-second rings choices i c best stamp low is told n so_far))
-
--- ---- a look over all requests
-
--- So many requests rest, and what is first among them is found.
-pub record Looks (rings : Holdings) (next : ℕ) (choices : List Choice) (i : ℕ) (best : Option First) : Type 0 where
-  pub rests : (j : ℕ) (c : Choice) → j < i → slice_get choices j ≡ Some c → PassedIn rings next c → RestsIn rings next c
-  pub leads : LeadsSoFar rings choices i best
-
-pub looks-none : (rings : Holdings) (next : ℕ) (choices : List Choice) → Looks rings next choices 0 None
-looks-none rings next choices = record { rests = λ j c low at. absurd (omega arith); leads = leads-none rings choices }
-
-pub looks-more : (rings : Holdings) (next : ℕ) (choices : List Choice) (i : ℕ) (c : Choice) (best : Option First) → i < length choices → c ≡ get_or choices i c → (PassedIn rings next c → RestsIn rings next c) → Looks rings next choices i best → Looks rings next choices (i + 1) (earlier best i c.cursor.ahead)
-looks-more rings next choices i c best low is fresh so_far =
-    let here : slice_get choices i ≡ Some c = choice-at choices i c low is in
-    record {
-      rests = λ j x below at passed. both (j == i)
-          (λ y. let same_index : j ≡ i = grind (arith, nat_tests) in
-          let same : c ≡ x = (let t : Some c ≡ Some x = sym here ∙ ap (slice_get choices) (sym same_index) ∙ at in cc) in
-          subst (RestsIn rings next) same (fresh (subst (PassedIn rings next) (sym same) passed)))
-          (λ n. so_far.rests j x (grind (arith, nat_tests)) at passed);
-      leads = leads-more rings choices i c best low is so_far.leads;
-    }
-
-pub looks-all : (rings : Holdings) (next : ℕ) (choices : List Choice) (i : ℕ) (best : Option First) → length choices ≤ i → i ≤ length choices → Looks rings next choices i best → IsFreshOverview rings next choices best
-looks-all rings next choices i best all within looks =
-    let end : i ≡ length choices = omega arith in
-    record {
-      rests = λ passed j c at. looks.rests j c (choice-within choices j c i all at) at (passed j c at);
-      leads = subst (λ n. LeadsSoFar rings choices n best) end looks.leads;
-    }
 
 pub ahead-within : (choices : List Choice) (i stamp : ℕ) → IsAhead choices i stamp → i < length choices
 ahead-within choices i stamp ahead = choice-within choices i ahead.choice (length choices) (omega arith) ahead.at

@@ -13,3 +13,4 @@ pub mod Going
 pub mod Asked
 pub mod Waits
 pub mod EntryLemmas
+pub mod BestLemmas

@@ -1,6 +1,6 @@
 -- The first of what so many requests are to send, by what their cursors tell.
 -- SeedLink 3, DATA, FETCH and TIME.
-use Rattle.std.specs.Prelude.{◌≡◌, ℕ, ◌<◌, ◌≤◌, Bool, true, nat_le, if◌then◌else◌, List, length, take, filter_map, slice_get, Option, Some, None, IfSome, option_map}
+use Rattle.std.specs.Prelude.{◌≡◌, ℕ, ◌<◌, ◌≤◌, Bool, true, nat_le, if◌then◌else◌, List, [], ◌∷◌, ◌+◌, length, take, filter_map, slice_get, Option, Some, None, IfSome, option_map}
 use Rattle.protocol.specs.Catalog.{Config}
 use Rattle.protocol.specs.History.{Arrival, next}
 use Rattle.held_records.specs.Holdings.{Holdings, holdings_of}
@@ -39,11 +39,30 @@ pub record LeadsSoFar (rings : Holdings) (choices : List Choice) (i : ℕ) (best
   pub late : (q : ℕ) → OfAll (RestsIn rings q) choices → IfSome best (λ f. q ≤ f.stamp)
   pub reached : (q : ℕ) → OfAll (RestsIn rings q) choices → best ≡ None → (j : ℕ) (c : Choice) → j < i → slice_get choices j ≡ Some c → HasNothing rings q c
 
--- What a look over all requests comes to: where none of them has to look at its ring again, all of them rest.
-pub record IsFreshOverview (rings : Holdings) (next : ℕ) (choices : List Choice) (first : Option First) : Type 0 where
-  pub rests : OfAll (PassedIn rings next) choices → OfAll (RestsIn rings next) choices
-  pub leads : LeadsSoFar rings choices (length choices) first
+-- the first of what these requests are to send, of which the first has that index, and of what was found before
+abbrev pub best_after : Option First → (index : ℕ) → List Choice → Option First
+best_after best index [] = best
+best_after best index (c ∷ cs) = best_after (earlier best index c.cursor.ahead) (index + 1) cs
 
-abbrev pub IsOverview : Holdings → (next : ℕ) → List Choice → Overview → Type 0
-IsOverview rings next choices Stale = Unit {0}
-IsOverview rings next choices (Fresh first) = IsFreshOverview rings next choices first
+-- the same of all requests
+abbrev pub best_of : List Choice → Option First
+best_of cs = best_after None 0 cs
+
+-- Those from an index on and before another rest.
+abbrev pub RestBetween : Holdings → (next from to : ℕ) → List Choice → Type 0
+RestBetween rings next from to choices = (j : ℕ) (c : Choice) → from ≤ j → j < to → slice_get choices j ≡ Some c → PassedIn rings next c → RestsIn rings next c
+
+-- What a look over the requests from an index on comes to: the first that has to look at its ring again, or none.
+pub record IsFreshOverview (rings : Holdings) (next : ℕ) (choices : List Choice) (from : ℕ) (before first : Option First) : Type 0 where
+  pub rests : RestBetween rings next from (length choices) choices
+  pub best : before ≡ best_of (take from choices) → first ≡ best_of choices
+
+pub record IsStaleOverview (rings : Holdings) (next : ℕ) (choices : List Choice) (from : ℕ) (before : Option First) (index : ℕ) (first : Option First) : Type 0 where
+  pub after : from ≤ index
+  pub within : index < length choices
+  pub rests : RestBetween rings next from index choices
+  pub best : before ≡ best_of (take from choices) → first ≡ best_of (take index choices)
+
+abbrev pub IsOverview : Holdings → (next : ℕ) → List Choice → (from : ℕ) → (before : Option First) → Overview → Type 0
+IsOverview rings next choices from before (Stale index first) = IsStaleOverview rings next choices from before index first
+IsOverview rings next choices from before (Fresh first) = IsFreshOverview rings next choices from before first

@@ -74,20 +74,6 @@ fn cursor_of(session: &Session, i: usize, rings: &Rings, next: u64) -> Cursor
     }
 }
 
-/// Each request passes what it doesn't want, where something may have come to its ring.
-fn pass_unwanted(session: &mut Session, rings: &Rings, next: u64)
-    ensures same { but_for_cursors session.new ≡ but_for_cursors session.old }
-    ensures rest { OfAll (PassedIn rings.now next) (chosen_of session.old.mode) → OfAll (RestsIn rings.now next) (chosen_of session.new.mode) }
-{
-    let count = session.choices().len();
-    for i in 0..count {
-        if !is_fresh(session.choice(i), rings, next) {
-            let cursor = cursor_of(session, i, rings, next);
-            session.pass(i, cursor);
-        }
-    }
-}
-
 /// The request whose record ahead came first, by its index among the named stations, and that record's stamp.
 #[derive(Clone, Copy, Debug, PartialEq, Eq)]
 struct First {
@@ -116,52 +102,52 @@ fn earlier(best: Option<First>, index: usize, ahead: Option<u64>) -> Option<Firs
     }
 }
 
-/// The request whose record ahead came first, where all have passed what they don't want. No ring is looked at.
-fn earliest(entries: &[Entry], rings: &Rings) -> Option<First>
-    ensures { (cs : List Choice) → map entry_of cs ≡ entries.now → LeadsSoFar rings.now cs (length cs) result }
-{
-    let mut best = None;
-    for (index, entry) in entries.iter().enumerate() {
-        best = earlier(best, index, entry.cursor.ahead);
-    }
-    best
-}
-
-/// What a look over all requests comes to.
+/// What a look over requests comes to.
 enum Overview {
-    /// Some request has to look at its ring again.
-    Stale,
+    /// The request with this index has to look at its ring again; of those before it, this one's record ahead came first.
+    Stale(usize, Option<First>),
     /// All have passed what they don't want, and this one's record ahead came first, where one has one.
     Fresh(Option<First>),
 }
 
-/// Looks over all requests, and at no record.
-fn look(entries: &[Entry], rings: &Rings, next: u64) -> Overview
-    ensures { (cs : List Choice) → map entry_of cs ≡ entries.now → IsOverview rings.now next cs result }
+/// Looks over the requests from an index on, and at no record. Of those before it, `before` came first.
+fn look(entries: &[Entry], rings: &Rings, next: u64, from: usize, before: Option<First>) -> Overview
+    requires { from ≤ length entries.now }
+    ensures { (cs : List Choice) → map entry_of cs ≡ entries.now → IsOverview rings.now next cs from before result }
 {
-    let mut best = None;
-    for (index, entry) in entries.iter().enumerate() {
+    let mut best = before;
+    for index in from..entries.len() {
+        let entry = &entries[index];
         if !is_fresh(entry, rings, next) {
-            return Overview::Stale;
+            return Overview::Stale(index, best);
         }
         best = earlier(best, index, entry.cursor.ahead);
     }
     Overview::Fresh(best)
 }
 
-/// Each request passes what it doesn't want, where it may have come to something, and the one whose record came first is told.
+/// Each request passes what it doesn't want, where something may have come to its ring, and the one whose record came first is told.
+/// All requests are walked over once.
 fn rest(session: &mut Session, rings: &Rings, next: u64) -> Option<First>
     ensures same { but_for_cursors session.new ≡ but_for_cursors session.old }
     ensures rest { OfAll (PassedIn rings.now next) (chosen_of session.old.mode) → OfAll (RestsIn rings.now next) (chosen_of session.new.mode) }
     ensures first { LeadsSoFar rings.now (chosen_of session.new.mode) (length (chosen_of session.new.mode)) result }
 {
-    match look(session.choices(), rings, next) {
-        Overview::Fresh(first) => first,
-        Overview::Stale => {
-            pass_unwanted(session, rings, next);
-            earliest(session.choices(), rings)
+    let count = session.choices().len();
+    let mut best = None;
+    let mut from = 0;
+    for _i in 0..count {
+        match look(session.choices(), rings, next, from, best) {
+            Overview::Fresh(first) => return first,
+            Overview::Stale(index, before) => {
+                let cursor = cursor_of(session, index, rings, next);
+                session.pass(index, cursor);
+                best = earlier(before, index, cursor.ahead);
+                from = index + 1;
+            }
         }
     }
+    best
 }
 
 /// The record ahead of a request, as it is held.
