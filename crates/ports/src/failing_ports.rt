@@ -1,5 +1,5 @@
 //! Ports of which one call fails.
-ghost use Rattle.std.specs.Prelude.{◌≡◌, ◌<◌, ◌==◌, ◌-◌, List, [], ◌∷◌, Some, IsErr, IfOk, length};
+ghost use Rattle.std.specs.Prelude.{◌≡◌, ◌<◌, ◌==◌, ◌-◌, ◌≢◌, List, [], ◌∷◌, Some, IsErr, IsSome, IfOk, length};
 ghost use Rattle.sl_io.specs.Counts.{CountsFailure};
 ghost use Rattle.ports.specs.Calls.{Call, Tells, given, IsGiven, IsTaken};
 ghost use Rattle.ports.specs.Calls.Call.{Next, Read, Write, Shut};
@@ -70,6 +70,9 @@ impl<P: Ports> Ports for FailingPorts<P> {
         ensures failure { CountsFailure self.old.log.failures self.new.log.failures result }
         ensures fails { self.old.due ≡ 1 → IsErr result }
         ensures reaches_nothing { self.old.due ≡ 1 → self.new.inner ≡ self.old.inner }
+        ensures passed_on { self.old.due ≢ 1 → IsSome (told self.new.log) →
+            Tells (P.calls self.old.inner) (P.calls self.new.inner) (Next result ∷ [])
+            × CountsFailure (P.failures self.old.inner) (P.failures self.new.inner) result }
         ensures due { self.new.due ≡ self.old.due - 1 }
     {
         if self.is_due() {
@@ -86,6 +89,9 @@ impl<P: Ports> Ports for FailingPorts<P> {
         ensures failure { CountsFailure self.old.log.failures self.new.log.failures result }
         ensures fails { self.old.due ≡ 1 → IsErr result }
         ensures reaches_nothing { self.old.due ≡ 1 → self.new.inner ≡ self.old.inner }
+        ensures passed_on { self.old.due ≢ 1 → IsSome (told self.new.log) →
+            Tells (P.calls self.old.inner) (P.calls self.new.inner) (Read port (length buffer.new) (given result buffer.new) ∷ [])
+            × CountsFailure (P.failures self.old.inner) (P.failures self.new.inner) result }
         ensures due { self.new.due ≡ self.old.due - 1 }
     {
         if self.is_due() {
@@ -102,6 +108,9 @@ impl<P: Ports> Ports for FailingPorts<P> {
         ensures failure { CountsFailure self.old.log.failures self.new.log.failures result }
         ensures fails { self.old.due ≡ 1 → IsErr result }
         ensures reaches_nothing { self.old.due ≡ 1 → self.new.inner ≡ self.old.inner }
+        ensures passed_on { self.old.due ≢ 1 → IsSome (told self.new.log) →
+            Tells (P.calls self.old.inner) (P.calls self.new.inner) (Write port bytes.now result ∷ [])
+            × CountsFailure (P.failures self.old.inner) (P.failures self.new.inner) result }
         ensures due { self.new.due ≡ self.old.due - 1 }
     {
         if self.is_due() {
@@ -114,6 +123,8 @@ impl<P: Ports> Ports for FailingPorts<P> {
     fn shut(&mut self, port: u64)
         ensures call { Tells (told self.old.log) (told self.new.log) (Shut port ∷ []) }
         ensures failures { self.new.log.failures ≡ self.old.log.failures }
+        ensures passed_on { Tells (P.calls self.old.inner) (P.calls self.new.inner) (Shut port ∷ [])
+            × (P.failures self.new.inner ≡ P.failures self.old.inner) }
         ensures due { self.new.due ≡ self.old.due }
     {
         self.inner.shut(port);

@@ -27,7 +27,8 @@ pub struct MemoryPorts {
 impl MemoryPorts {
     /// Ports that follow the script.
     pub fn new(alloc: Global, script: Script) -> MemoryPorts
-        ensures { told result.log ≡ Some [] }
+        ensures script { result.script ≡ script }
+        ensures calls { told result.log ≡ Some [] }
     {
         MemoryPorts {
             script,

@@ -2,7 +2,7 @@
 ghost use Rattle.std.specs.Prelude.{◌≡◌, ◌<◌, [], ◌∷◌, length, None};
 ghost use Rattle.sl_io.specs.Counts.{CountsFailure};
 ghost use Rattle.ports.specs.Calls.{Tells, given, IsGiven, IsTaken};
-ghost use Rattle.ports.specs.Calls.Call.{Next};
+ghost use Rattle.ports.specs.Calls.Call.{Next, Read, Write, Shut};
 ghost use Rattle.socket_ports.specs.Numbers.{TellsOpenPorts, numbers};
 
 use crate::fault::ListenFault;
@@ -47,7 +47,8 @@ impl MioPorts {
 
     /// Sends the bytes that were taken and not sent yet, as long as somebody takes them, for five seconds at most.
     pub fn finish(&mut self)
-        ensures { self.new.failures ≡ self.old.failures }
+        ensures failures { self.new.failures ≡ self.old.failures }
+        ensures joined { self.new.sockets.joined ≡ self.old.sockets.joined }
     {
         self.sockets.finish();
     }
@@ -58,8 +59,8 @@ impl Ports for MioPorts {
 
     ghost failures = { λ s. s.failures };
 
-    /// What happened next. A new port has a number that no port had before, and Readable and Writable are told of open ports
-    /// alone.
+    /// What happened next. A new port has a number that no port had before: the count of those that joined, which no other
+    /// call changes. Readable and Writable are told of open ports alone.
     fn next(&mut self) -> Result<Happening, PortFault>
         ensures call { Tells None None (Next result ∷ []) }
         ensures failure { CountsFailure self.old.failures self.new.failures result }
@@ -72,7 +73,13 @@ impl Ports for MioPorts {
         answer
     }
 
-    fn read(&mut self, port: u64, buffer: &mut [u8]) -> Result<Got, PortFault> {
+    fn read(&mut self, port: u64, buffer: &mut [u8]) -> Result<Got, PortFault>
+        requires { 0 < length buffer.old }
+        ensures bound { IsGiven result (length buffer.new) }
+        ensures call { Tells None None (Read port (length buffer.new) (given result buffer.new) ∷ []) }
+        ensures failure { CountsFailure self.old.failures self.new.failures result }
+        ensures joined { self.new.sockets.joined ≡ self.old.sockets.joined }
+    {
         let answer = self.sockets.read(port, buffer);
         if answer.is_err() {
             self.failures = self.failures.wrapping_add(1);
@@ -80,7 +87,13 @@ impl Ports for MioPorts {
         answer
     }
 
-    fn write(&mut self, port: u64, bytes: &[u8]) -> Result<Put, PortFault> {
+    fn write(&mut self, port: u64, bytes: &[u8]) -> Result<Put, PortFault>
+        requires { 0 < length bytes.now }
+        ensures bound { IsTaken result (length bytes.now) }
+        ensures call { Tells None None (Write port bytes.now result ∷ []) }
+        ensures failure { CountsFailure self.old.failures self.new.failures result }
+        ensures joined { self.new.sockets.joined ≡ self.old.sockets.joined }
+    {
         let answer = self.sockets.write(port, bytes);
         if answer.is_err() {
             self.failures = self.failures.wrapping_add(1);
@@ -88,7 +101,11 @@ impl Ports for MioPorts {
         answer
     }
 
-    fn shut(&mut self, port: u64) {
+    fn shut(&mut self, port: u64)
+        ensures call { Tells None None (Shut port ∷ []) }
+        ensures failures { self.new.failures ≡ self.old.failures }
+        ensures joined { self.new.sockets.joined ≡ self.old.sockets.joined }
+    {
         self.sockets.shut(port);
     }
 }

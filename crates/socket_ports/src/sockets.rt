@@ -323,7 +323,8 @@ impl Sockets {
 
     pub fn read(&mut self, port: u64, buffer: &mut [u8]) -> Result<Got, PortFault>
         requires { 0 < length buffer.old }
-        ensures { IsGiven result (length buffer.new) }
+        ensures bound { IsGiven result (length buffer.new) }
+        ensures joined { self.new.joined ≡ self.old.joined }
     {
         let Some(at) = place_of(self.connections.as_slice(), port) else {
             return Ok(Got::Closed);
@@ -339,7 +340,8 @@ impl Sockets {
     }
 
     pub fn write(&mut self, port: u64, bytes: &[u8]) -> Result<Put, PortFault>
-        ensures { IsTaken result (length bytes.now) }
+        ensures bound { IsTaken result (length bytes.now) }
+        ensures joined { self.new.joined ≡ self.old.joined }
     {
         let Some(at) = place_of(self.connections.as_slice(), port) else {
             return Ok(Put::Later);
@@ -358,7 +360,9 @@ impl Sockets {
     }
 
     /// Ends a port. Its last bytes are still sent.
-    pub fn shut(&mut self, port: u64) {
+    pub fn shut(&mut self, port: u64)
+        ensures { self.new.joined ≡ self.old.joined }
+    {
         let Some(at) = place_of(self.connections.as_slice(), port) else {
             return;
         };
@@ -379,8 +383,10 @@ impl Sockets {
     }
 
     /// Takes the events of the last poll, and tells nobody.
-    fn take_events(&mut self) {
-        for _ in 0..EVENTS {
+    fn take_events(&mut self)
+        ensures { self.new.joined ≡ self.old.joined }
+    {
+        'events: for _ in 0..EVENTS {
             if self.next_marks().is_none() {
                 return;
             }
@@ -388,8 +394,10 @@ impl Sockets {
     }
 
     /// Sends what was gathered, as long as somebody takes it, for five seconds at most.
-    pub fn finish(&mut self) {
-        for _ in 0..LAST_POLLS {
+    pub fn finish(&mut self)
+        ensures { self.new.joined ≡ self.old.joined }
+    {
+        'polls: for _ in 0..LAST_POLLS {
             self.send_gathered();
             if self.unsent_count() == 0 || self.poll().is_err() {
                 return;

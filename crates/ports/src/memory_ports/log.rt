@@ -1,5 +1,5 @@
 //! Calls that were made.
-ghost use Rattle.std.specs.Prelude.{◌≡◌, IfOk, IsErr, Some, None, [], ◌∷◌, length};
+ghost use Rattle.std.specs.Prelude.{◌≡◌, IfOk, IsErr, IsSome, Some, None, [], ◌∷◌, length};
 ghost use Rattle.sl_io.specs.Counts.{CountsFailure, IsMore};
 ghost use Rattle.ports.specs.Calls.{Tells, given, IsGiven, IsTaken};
 ghost use Rattle.ports.specs.Calls.Call.{Next, Read, Write, Shut};
@@ -92,6 +92,7 @@ impl Log {
     pub fn next(&mut self, answer: Result<Happening, PortFault>) -> Result<Happening, PortFault>
         ensures call { Tells (told self.old) (told self.new) (Next result ∷ []) }
         ensures failure { CountsFailure self.old.failures self.new.failures result }
+        ensures answer { IsSome (told self.new) → result ≡ answer }
         ensures failed { IsErr answer → IsErr result }
     {
         if self.made.push(Made::Next(answer)).is_err() {
@@ -114,6 +115,7 @@ impl Log {
         ensures bound { IsGiven result (length buffer.now) }
         ensures call { Tells (told self.old) (told self.new) (Read port (length buffer.now) (given result buffer.now) ∷ []) }
         ensures failure { CountsFailure self.old.failures self.new.failures result }
+        ensures answer { IsSome (told self.new) → result ≡ answer }
         ensures failed { IsErr answer → IsErr result }
     {
         let Ok(gave) = kept_answer(self.alloc, buffer, answer) else {
@@ -144,6 +146,7 @@ impl Log {
         ensures bound { IsTaken result (length bytes.now) }
         ensures call { Tells (told self.old) (told self.new) (Write port bytes.now result ∷ []) }
         ensures failure { CountsFailure self.old.failures self.new.failures result }
+        ensures answer { IsSome (told self.new) → result ≡ answer }
         ensures failed { IsErr answer → IsErr result }
     {
         let Ok(copy) = bytes.to_vec(self.alloc) else {

@@ -1,0 +1,5 @@
+use Rattle.std.proofs.Common.{◌≡◌}
+use Rattle.socket_ports.proofs.sockets.Sockets.take_events.Given as goal
+
+abbrev pub invariant-events : goal.invariant-events
+invariant-events l = l.self.joined ≡ l.fn.self.joined
