@@ -195,8 +195,13 @@ impl Visitor {
         requests.iter().position(|request| request.site == site)
     }
 
+    /// How many stations were named.
+    pub fn stations(&self) -> usize {
+        self.requests.len()
+    }
+
     /// How many patterns the stations that were named have together.
-    fn together(&self) -> usize {
+    pub fn together(&self) -> usize {
         let mut count: usize = 0;
         for request in self.requests.as_slice() {
             count = count.saturating_add(request.patterns.len());
