@@ -115,6 +115,18 @@ impl Maker {
         }
         Ok(())
     }
+
+    /// All steps of a list.
+    fn make(&mut self) -> Result<(), AllocError> {
+        self.open()?;
+        self.open()?;
+        self.fill_all()?;
+        self.change_some()?;
+        self.arrive_some()?;
+        self.end(0)?;
+        self.end(1)?;
+        self.transfer()
+    }
 }
 
 /// A list of steps.
@@ -131,13 +143,6 @@ pub fn list(
         size,
         steps: Vec::new(alloc),
     };
-    maker.open()?;
-    maker.open()?;
-    maker.fill_all()?;
-    maker.change_some()?;
-    maker.arrive_some()?;
-    maker.end(0)?;
-    maker.end(1)?;
-    maker.transfer()?;
+    maker.make()?;
     Ok(maker.steps)
 }
