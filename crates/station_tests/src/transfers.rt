@@ -66,7 +66,7 @@ fn opened(alloc: Global, config: &Config) -> Result<Session, AllocError>
     ensures { IfOk result (λ s. HasPlaces config.now s) }
 {
     let view = config.view(alloc, Ipv4Addr::new(10, 0, 0, 7))?;
-    Ok(Session::new(view))
+    Session::new(alloc, view)
 }
 
 /// All that waits is taken.
