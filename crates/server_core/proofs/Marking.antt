@@ -11,9 +11,9 @@ use Rattle.protocol.specs.Client.{Client, is_ending, is_nothing, offered}
 use Rattle.protocol.proofs.Found.{both}
 use Rattle.catalog.specs.Places.{view_in}
 use Rattle.held_records.specs.Holdings.{Holdings}
-use Rattle.session_state.specs.declared.choices.Choice.{Choice}
-use Rattle.session_state.specs.declared.modes.Mode.{Mode}
-use Rattle.session_state.specs.declared.modes.Mode.TheVariants.{Uni, Multi}
+use Rattle.session_state.specs.Naming.{Choice}
+use Rattle.session_state.specs.Naming.{Mode}
+use Rattle.session_state.specs.Naming.Mode.{Uni, Multi}
 use Rattle.session_state.specs.declared.session.State.{State}
 use Rattle.session_state.specs.declared.session.State.TheVariants.{Negotiating, Listing, Starting, Transfer, Ending}
 use Rattle.session_state.specs.Choices.{all_at_start, at_start, chosen_of}

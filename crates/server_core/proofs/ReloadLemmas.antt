@@ -20,9 +20,9 @@ use Rattle.protocol.proofs.Found.{both}
 use Rattle.catalog.specs.Places.{station_at, nowhere, view_in}
 use Rattle.held_records.specs.Holdings.{Holdings, holdings_of, ring_of}
 use Rattle.session_state.specs.declared.choices.Action.{Action}
-use Rattle.session_state.specs.declared.choices.Choice.{Choice}
-use Rattle.session_state.specs.declared.modes.Mode.{Mode}
-use Rattle.session_state.specs.declared.modes.Mode.TheVariants.{Uni, Multi}
+use Rattle.session_state.specs.Naming.{Choice}
+use Rattle.session_state.specs.Naming.{Mode}
+use Rattle.session_state.specs.Naming.Mode.{Uni, Multi}
 use Rattle.session_state.specs.declared.session.State.{State}
 use Rattle.session_state.specs.declared.session.State.TheVariants.{Negotiating, Listing, Starting, Transfer, Ending}
 use Rattle.session_state.specs.Choices.{action_value, chosen_of, negotiated_in, request_in, request_with}

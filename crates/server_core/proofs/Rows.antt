@@ -6,7 +6,7 @@ use Rattle.std.proofs.lemmas.List.{drop_more}
 use Rattle.protocol.proofs.Found.{both}
 use Rattle.slot_rows.specs.declared.row.Row.{Row}
 use Rattle.slot_rows.specs.Rows.{bit_of, HasRoom}
-use Rattle.session_state.specs.declared.choices.Choice.{Choice}
+use Rattle.session_state.specs.Naming.{Choice}
 use Rattle.server_core.specs.Marks.{Elsewhere, KeepsRows, RoomBy, asked, bit_by}
 
 -- ---- one row is written

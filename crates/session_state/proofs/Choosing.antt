@@ -1,27 +1,24 @@
 -- What a change of one named station is, by its settings.
-use Rattle.std.proofs.Common.{◌≡◌, ◌<◌, ℕ, ◌+◌, true, false, Bool, nat_lt, List, [], ◌∷◌, ◌++◌, length, slice_get, slice_set, Option, Some, None, IfSome, unwrap_or, option_map, is_some, filter_map, cond, refl, sym, ap, subst, ◌∙◌, arith, zero, suc}
-use Rattle.std.specs.List.{list_any, refill, position, position_or_len}
-use Rattle.std.proofs.lemmas.Grind.{common_steps}
-use Rattle.std.proofs.lemmas.List.{map-set, length-set}
+use Rattle.std.proofs.Common.{◌≡◌, ◌<◌, ◌≤◌, ℕ, ◌+◌, true, false, Bool, nat_lt, List, [], ◌∷◌, ◌++◌, length, slice_get, slice_set, Option, Some, None, unwrap_or, option_map, filter_map, cond, refl, sym, ap, ap₂, ◌∙◌, arith, zero, suc}
+use Rattle.std.specs.List.{list_any, position, position_or_len}
+use Rattle.std.proofs.lemmas.List.{map-set}
+use Rattle.std.proofs.lemmas.List.Sums.{sum_by-cons}
 use Rattle.std.proofs.lemmas.Option.{slice_get-map}
 use Rattle.protocol.specs.Catalog.{Config, Station}
 use Rattle.protocol.specs.Pattern.{Pattern}
-use Rattle.protocol.specs.Session.{Choice as ProtocolChoice, Wish, act_multi, choose_known, choose_station, current_choice, end_with, error_line, ok_line, put, position_of, select_multi, wish_of, max_patterns}
+use Rattle.protocol.specs.Session.{Choice as ProtocolChoice, Wish, act_multi, choose_known, choose_station, current_choice, end_with, error_line, ok_line, position_of, select_multi, together, wish_of}
 use Rattle.protocol.specs.Session.Negotiated.{Multi}
 use Rattle.protocol.specs.Session.Outcome.{Stays, Starts}
 use Rattle.catalog.specs.Places.{station_at}
 use Rattle.session_state.specs.declared.choices.Action.{Action}
-use Rattle.session_state.specs.declared.choices.Choice.{Choice}
-use Rattle.session_state.specs.declared.choices.Cursor.{Cursor}
-use Rattle.session_state.specs.Naming.{Naming}
-use Rattle.session_state.specs.Choices.{action_value, choice_in, choices_in, is_of_station, kept_at, passed_at}
+use Rattle.session_state.specs.declared.choices.Entry.{Entry}
+use Rattle.selector.specs.Pools.{list_at}
+use Rattle.session_state.specs.Naming.{Choice, Naming, begun, choice_of, choices_with}
+use Rattle.session_state.specs.Choices.{action_value, choice_in, choices_in, has_action, is_of_station}
 use Rattle.protocol.proofs.Found.{both}
-use Rattle.session_state.specs.Changes.{outcome_after, selecting_in, widened, widening}
+use Rattle.session_state.specs.Changes.{all_selectors, has_room, outcome_after, selecting_in, widened, widening}
+use Rattle.session_state.proofs.NamedLemmas.{with-length, with-push}
 use Rattle.session_state.specs.declared.modes.Effect.{Effect}
-use Rattle.session_state.specs.declared.modes.Effect.TheVariants.{Done, Refused}
-
-refilled : {X : Type 0} (xs ws : List X) → length ws ≡ length xs → refill (length xs) xs ws ≡ ws
-refilled xs ws e = grind (arith, common_steps)
 
 -- a choice that is there
 there : {X : Type 0} (xs : List X) (i : ℕ) → i < length xs → (x : X) × (slice_get xs i ≡ Some x)
@@ -29,67 +26,68 @@ there [] i h = absurd (omega arith)
 there (x ∷ xs) zero h = (x, refl)
 there (x ∷ xs) (suc i) h = there xs i (omega arith)
 
--- the current choice is there
-pub current-within : (cs : List Choice) (current : Option ℕ) (i : ℕ) → current ≡ Some i → IfSome current (λ j. j < length cs) → i < length cs
-current-within cs current i e h = subst (λ o. IfSome o (λ j. j < length cs)) e h
-
--- the choices in which one was replaced
-pub put-set : (config : Config) (cs new : List Choice) (i : ℕ) (c : Choice) → new ≡ slice_set cs i c → choices_in config (refill (length cs) cs new) ≡ put (choices_in config cs) (Some i) (choice_in config c)
-put-set config cs new i c e =
-    ap (choices_in config) (refilled cs new (ap length e ∙ length-set cs i c) ∙ e) ∙ map-set (choice_in config) cs i c
-
 current-there : (config : Config) (cs : List Choice) (i : ℕ) (c : Choice) → slice_get cs i ≡ Some c → current_choice (choices_in config cs) (Some i) ≡ Some (choice_in config c)
 current-there config cs i c e = slice_get-map (choice_in config) cs i ∙ ap (option_map (choice_in config)) e
 
-pub cleared : (config : Config) (cs new : List Choice) (i : ℕ) (current : Option ℕ) → current ≡ Some i → i < length cs → ((c : Choice) → slice_get cs i ≡ Some c → new ≡ slice_set cs i (record c { selectors = [] })) → Stays ok_line (Multi (choices_in config (refill (length cs) cs new)) current) ≡ select_multi (choices_in config cs) current None (current_choice (choices_in config cs) current)
-cleared config cs new i current is_i within made =
-    let c = there cs i within in
-    rw (is_i, current-there config cs i c.0 c.1, put-set config cs new i (record c.0 { selectors = [] }) (made c.0 c.1)) refl
+-- ---- what changes of the current station lead to
 
-pub acted : (config : Config) (cs new : List Choice) (i : ℕ) (current : Option ℕ) (action : Action) → current ≡ Some i → i < length cs → ((c : Choice) → slice_get cs i ≡ Some c → new ≡ slice_set cs i (record c { action = Some action })) → Stays ok_line (Multi (choices_in config (refill (length cs) cs new)) current) ≡ act_multi (choices_in config cs) current (action_value action) (current_choice (choices_in config cs) current)
-acted config cs new i current action is_i within made =
-    let c = there cs i within in
-    rw (is_i, current-there config cs i c.0 c.1, put-set config cs new i (record c.0 { action = Some action }) (made c.0 c.1)) refl
+pub cleared : (config : Config) (a new : Naming) (i : ℕ) → a.current ≡ Some i → i < length a.choices → ((c : Choice) → slice_get a.choices i ≡ Some c → new ≡ record a { choices = slice_set a.choices i (record c { selectors = [] }) }) → Stays ok_line (Multi (choices_in config new.choices) new.current) ≡ select_multi (choices_in config a.choices) a.current None (current_choice (choices_in config a.choices) a.current)
+cleared config a new i is_i within made =
+    let c = there a.choices i within in
+    ap (λ (x : Naming). Stays ok_line (Multi (choices_in config x.choices) x.current)) (made c.0 c.1)
+    ∙ rw (is_i, current-there config a.choices i c.0 c.1) (ap (λ xs. Stays ok_line (Multi xs (Some i))) (map-set (choice_in config) a.choices i (record c.0 { selectors = [] })))
+
+pub acted : (config : Config) (a new : Naming) (i : ℕ) (action : Action) → a.current ≡ Some i → i < length a.choices → ((c : Choice) → slice_get a.choices i ≡ Some c → new ≡ record a { choices = slice_set a.choices i (record c { action = Some action }) }) → Stays ok_line (Multi (choices_in config new.choices) new.current) ≡ act_multi (choices_in config a.choices) a.current (action_value action) (current_choice (choices_in config a.choices) a.current)
+acted config a new i action is_i within made =
+    let c = there a.choices i within in
+    ap (λ (x : Naming). Stays ok_line (Multi (choices_in config x.choices) x.current)) (made c.0 c.1)
+    ∙ rw (is_i, current-there config a.choices i c.0 c.1) (ap (λ xs. Stays ok_line (Multi xs (Some i))) (map-set (choice_in config) a.choices i (record c.0 { action = Some action })))
 
 set-there : {X : Type 0} (xs : List X) (i : ℕ) (x : X) → slice_get xs i ≡ Some x → slice_set xs i x ≡ xs
 set-there [] i x e = refl
 set-there (y ∷ xs) zero x e = ap (λ o. unwrap_or o x ∷ xs) (sym e)
 set-there (y ∷ xs) (suc i) x e = ap (λ zs. y ∷ zs) (set-there xs i x e)
 
-pub widened-room : (ps : List Pattern) (p : Pattern) → length ps < 16 → ps ++ p ∷ [] ≡ widened ps p
-widened-room ps p h = let room : nat_lt (length ps) max_patterns ≡ true = grind arith in rw room refl
+-- the selectors of all stations are the patterns of their settings
+pub all-in : (config : Config) (cs : List Choice) → together (choices_in config cs) ≡ all_selectors cs
+all-in config [] = refl
+all-in config (c ∷ cs) =
+    sum_by-cons (λ x. length x.patterns) (choice_in config c) (choices_in config cs)
+    ∙ ap (λ n. length c.selectors + n) (all-in config cs)
+    ∙ sym (sum_by-cons (λ x. length x.selectors) c cs)
 
-pub widened-full : (ps : List Pattern) (p : Pattern) → length ps ≡ 16 → ps ≡ widened ps p
-widened-full ps p h = let room : nat_lt (length ps) max_patterns ≡ false = grind arith in rw room refl
+pub added : (config : Config) (a new : Naming) (i : ℕ) (p : Pattern) (effect : Effect) → a.current ≡ Some i → i < length a.choices → ((c : Choice) → slice_get a.choices i ≡ Some c → new ≡ record a { choices = slice_set a.choices i (record c { selectors = widened (all_selectors a.choices) c.selectors p }) }) → ((c : Choice) → slice_get a.choices i ≡ Some c → effect ≡ widening (all_selectors a.choices) c.selectors) → outcome_after effect (Multi (choices_in config new.choices) new.current) ≡ selecting_in (choices_in config a.choices) a.current (Some p) (current_choice (choices_in config a.choices) a.current)
+added config a new i p effect is_i within made led =
+    let c = there a.choices i within in
+    let here : slice_get (choices_in config a.choices) i ≡ Some (choice_in config c.0) = current-there config a.choices i c.0 c.1 in
+    ap (λ (x : Naming). outcome_after effect (Multi (choices_in config x.choices) x.current)) (made c.0 c.1)
+    ∙ rw (is_i, current-there config a.choices i c.0 c.1, led c.0 c.1, all-in config a.choices)
+    (both (has_room (all_selectors a.choices) (c.0).selectors)
+    (λ y. rw y (ap (λ xs. Stays ok_line (Multi xs (Some i))) (map-set (choice_in config) a.choices i (record c.0 { selectors = (c.0).selectors ++ p ∷ [] }))))
+    (λ n. rw n (ap (λ xs. Stays error_line (Multi xs (Some i))) (map-set (choice_in config) a.choices i c.0 ∙ set-there (choices_in config a.choices) i (choice_in config c.0) here))))
 
-pub widening-room : (ps : List Pattern) → length ps < 16 → Done ≡ widening ps
-widening-room ps h = let room : nat_lt (length ps) max_patterns ≡ true = grind arith in rw room refl
+-- ---- a station that is named anew
 
-pub widening-full : (ps : List Pattern) → length ps ≡ 16 → Refused ≡ widening ps
-widening-full ps h = let room : nat_lt (length ps) max_patterns ≡ false = grind arith in rw room refl
+choices-length : (config : Config) (cs : List Choice) → length (choices_in config cs) ≡ length cs
+choices-length config [] = refl
+choices-length config (c ∷ cs) = ap suc (choices-length config cs)
 
-pub ruleset widening_lemmas = (widened-room, widened-full, widening-room, widening-full)
+choices-more : (config : Config) (cs ds : List Choice) → choices_in config (cs ++ ds) ≡ choices_in config cs ++ choices_in config ds
+choices-more config [] ds = refl
+choices-more config (c ∷ cs) ds = ap (λ xs. choice_in config c ∷ xs) (choices-more config cs ds)
 
-pub added : (config : Config) (cs new : List Choice) (i : ℕ) (current : Option ℕ) (p : Pattern) (effect : Effect) → current ≡ Some i → i < length cs → ((c : Choice) → slice_get cs i ≡ Some c → (new ≡ slice_set cs i (record c { selectors = widened c.selectors p })) × (effect ≡ widening c.selectors)) → outcome_after effect (Multi (choices_in config (refill (length cs) cs new)) current) ≡ selecting_in (choices_in config cs) current (Some p) (current_choice (choices_in config cs) current)
-added config cs new i current p effect is_i within made =
-    let c = there cs i within in
-    let here = current-there config cs i c.0 c.1 in
-    rw (is_i, here, put-set config cs new i (record c.0 { selectors = widened (c.0).selectors p }) (made c.0 c.1).0, (made c.0 c.1).1)
-    (both (nat_lt (length (c.0).selectors) max_patterns) (λ y. rw y refl) (λ n. rw n (ap (λ xs. Stays error_line (Multi xs (Some i))) (set-there (choices_in config cs) i (choice_in config c.0) here))))
+pub full : (config : Config) (s : Station) (es : List Entry) (lists : List (List Pattern)) (n : Naming) → choices_with es lists ≡ n.choices → 255 ≤ length es → Stays error_line (Multi (choices_in config (choices_with es lists)) None) ≡ choose_known s (choices_in config n.choices) None
+full config s es lists n view h =
+    let long : length (choices_in config n.choices) ≡ length es = choices-length config n.choices ∙ ap length (sym view) ∙ with-length es lists in
+    let no : nat_lt (length (choices_in config n.choices)) 255 ≡ false = grind (arith, long, h) in
+    rw no (ap (λ cs. Stays error_line (Multi (choices_in config cs) None)) view)
 
-pub kept-there : (cs new : List Choice) (i first : ℕ) → i < length cs → ((c : Choice) → slice_get cs i ≡ Some c → new ≡ slice_set cs i (record c { first = first })) → refill (length cs) cs new ≡ kept_at i first cs (slice_get cs i)
-kept-there cs new i first within made =
-    let c = there cs i within in
-    refilled cs new (ap length (made c.0 c.1) ∙ length-set cs i (record c.0 { first = first })) ∙ made c.0 c.1 ∙ sym (ap (kept_at i first cs) c.1)
-
-pub passed-there : (cs new : List Choice) (i : ℕ) (cursor : Cursor) → i < length cs → ((c : Choice) → slice_get cs i ≡ Some c → new ≡ slice_set cs i (record c { cursor = cursor })) → refill (length cs) cs new ≡ passed_at i cursor cs (slice_get cs i)
-passed-there cs new i cursor within made =
-    let c = there cs i within in
-    refilled cs new (ap length (made c.0 c.1) ∙ length-set cs i (record c.0 { cursor = cursor })) ∙ made c.0 c.1 ∙ sym (ap (passed_at i cursor cs) c.1)
-
--- whether some station has an action
-abbrev pub has_action : Choice → Bool
-has_action c = is_some c.action
+pub anew : (config : Config) (place count : ℕ) (es new : List Entry) (lists : List (List Pattern)) (n : Naming) → choices_with es lists ≡ n.choices → list_at lists (length es) ≡ [] → count ≡ length es → count < 255 → new ≡ es ++ begun place None ∷ [] → Stays ok_line (Multi (choices_in config (choices_with new lists)) (Some count)) ≡ choose_known (station_at config.entries place) (choices_in config n.choices) None
+anew config place count es new lists n view none is_count h made =
+    let long : length (choices_in config n.choices) ≡ count = choices-length config n.choices ∙ ap length (sym view) ∙ with-length es lists ∙ sym is_count in
+    let yes : nat_lt (length (choices_in config n.choices)) 255 ≡ true = grind (arith, long, h) in
+    let more : choices_with new lists ≡ n.choices ++ choice_of (begun place None) [] ∷ [] = ap (λ xs. choices_with xs lists) made ∙ with-push es lists (begun place None) ∙ ap₂ (λ xs l. xs ++ choice_of (begun place None) l ∷ []) view none in
+    rw (yes, long) (ap (λ cs. Stays ok_line (Multi cs (Some count))) (ap (choices_in config) more ∙ choices-more config n.choices (choice_of (begun place None) [] ∷ [])))
 
 abbrev some_wish : List Wish → Bool
 some_wish [] = false

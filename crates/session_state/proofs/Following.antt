@@ -6,12 +6,12 @@ use Rattle.protocol.specs.Lines.Line.{Text, TooLong}
 use Rattle.protocol.specs.Command.{Command, command_of}
 use Rattle.protocol.specs.Command.Command.{Blank, Hello, Cat, Bye, End, Station, Select, Data, Fetch, Time, Bad}
 use Rattle.protocol.specs.History.{Arrival, Request}
-use Rattle.protocol.specs.Session.{Negotiated, Outcome, outcome_of}
+use Rattle.protocol.specs.Session.{Negotiated, outcome_of}
 use Rattle.protocol.specs.Session.Outcome.{Stays, Lists, Ends}
 use Rattle.protocol.specs.Client.{Client, follow, leave, read_byte, is_nothing}
 use Rattle.protocol.specs.Client.State.{Negotiating as ClientNegotiating, Transfer as ClientTransfer, Ending as ClientEnding}
 use Rattle.protocol.proofs.Found.{both}
-use Rattle.session_state.specs.declared.modes.Mode.{Mode}
+use Rattle.session_state.specs.Naming.{Mode}
 use Rattle.session_state.specs.declared.modes.Change.{Change}
 use Rattle.session_state.specs.declared.modes.Effect.{Effect}
 use Rattle.session_state.specs.declared.modes.Effect.TheVariants.{Done, Refused, Starts}

@@ -1,3 +1,5 @@
+pub mod NamedLemmas
+pub mod ModeLemmas
 pub mod Choosing
 pub mod Asking
 pub mod Following

@@ -2,10 +2,10 @@
 use Rattle.std.proofs.Common.{◌≡◌, ◌≢◌, ℕ, List, [], ◌∷◌, length, map, slice_get, Some, None, Option, suc, zero, refl, sym, ap, subst, ◌∙◌, unwrap_or, nat_lt}
 use Rattle.protocol.specs.Catalog.{Config}
 use Rattle.protocol.proofs.Found.{both}
-use Rattle.session_state.specs.declared.choices.Choice.{Choice}
+use Rattle.session_state.specs.Naming.{Choice}
 use Rattle.session_state.specs.declared.choices.Cursor.{Cursor}
-use Rattle.session_state.specs.declared.modes.Mode.{Mode}
-use Rattle.session_state.specs.declared.modes.Mode.TheVariants.{Uni, Multi}
+use Rattle.session_state.specs.Naming.{Mode}
+use Rattle.session_state.specs.Naming.Mode.{Uni, Multi}
 use Rattle.session_state.specs.declared.modes.Effect.{Effect}
 use Rattle.session_state.specs.declared.modes.Effect.TheVariants.{Done, Refused, Starts}
 use Rattle.session_state.specs.declared.session.State.{State}

@@ -9,9 +9,9 @@ use Rattle.protocol.specs.Client.{Client, received, read_on, is_ending, request_
 use Rattle.protocol.specs.Client.State.{Transfer as ClientTransfer}
 use Rattle.protocol.proofs.Unread.{read_on-unread}
 use Rattle.session_state.specs.declared.choices.Action.{Action}
-use Rattle.session_state.specs.declared.choices.Choice.{Choice}
-use Rattle.session_state.specs.declared.modes.Mode.{Mode}
-use Rattle.session_state.specs.declared.modes.Mode.TheVariants.{Uni, Multi}
+use Rattle.session_state.specs.Naming.{Choice}
+use Rattle.session_state.specs.Naming.{Mode}
+use Rattle.session_state.specs.Naming.Mode.{Uni, Multi}
 use Rattle.session_state.specs.declared.session.State.TheVariants.{Starting, Transfer}
 use Rattle.session_state.specs.declared.session.Settled.{Settled}
 use Rattle.session_state.specs.Choices.{choices_in, chosen_of, request_in}

@@ -1,5 +1,5 @@
 -- What a session does when bytes are handed, and with the lines of a listing.
-use Rattle.std.proofs.Common.{◌≡◌, ℕ, ◌+◌, ◌<◌, ◌≤◌, true, false, List, [], ◌∷◌, ◌++◌, length, take, drop, map, Some, None, Option, refl, sym, ap, subst, ◌∙◌, arith, length-append, Bool, nat_lt, nat_le, zero, suc, slice_get, slice_index_or, add-one}
+use Rattle.std.proofs.Common.{◌≡◌, ℕ, ◌+◌, ◌<◌, ◌≤◌, true, false, List, [], ◌∷◌, ◌++◌, length, take, drop, map, Some, None, Option, refl, sym, ap, subst, ◌∙◌, arith, length-append, Bool, nat_lt, zero, suc, slice_get, slice_index_or, add-one}
 use Rattle.std.specs.Prelude.{is_some}
 use Rattle.std.proofs.lemmas.List.{length-map}
 use Rattle.protocol.specs.Record.{padded}
@@ -11,7 +11,7 @@ use Rattle.protocol.specs.Client.{Client, read_on, is_nothing, filled_in, offere
 use Rattle.protocol.specs.Client.State.{Negotiating, Listing}
 use Rattle.protocol.proofs.Found.{both}
 use Rattle.catalog.specs.Places.{view_in, station_at}
-use Rattle.session_state.specs.declared.modes.Mode.{Mode}
+use Rattle.session_state.specs.Naming.{Mode}
 use Rattle.session_state.specs.declared.session.State.{State as SessionState}
 use Rattle.session_state.specs.declared.session.State.TheVariants.{Negotiating as Waits, Listing as Lists, Starting as Begins, Transfer as Transfers, Ending as Ends}
 use Rattle.session_state.specs.declared.session.Settled.{Settled}

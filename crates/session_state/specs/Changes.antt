@@ -1,9 +1,9 @@
 -- What a command changes of what was negotiated, and what it leads to.
 -- SeedLink 3, the dialogue in uni-station and multi-station mode.
-use Rattle.std.specs.Prelude.{ℕ, nat_lt, if◌then◌else◌, List, [], ◌∷◌, ◌++◌, length, Option, Some, None, option_map, filter_map}
+use Rattle.std.specs.Prelude.{ℕ, nat_lt, ◌&&◌, Bool, if◌then◌else◌, List, [], ◌∷◌, ◌++◌, length, sum_by, Option, Some, None, option_map, filter_map}
 use Rattle.protocol.specs.Catalog.{Config, View}
 use Rattle.protocol.specs.Pattern.{Pattern}
-use Rattle.protocol.specs.Session.{Choice, Negotiated, Outcome, act, choices_of, choose_station, end_multi, error_line, ok_line, select, select_in, select_uni, wish_of, with_pattern, max_patterns}
+use Rattle.protocol.specs.Session.{Choice, Negotiated, Outcome, act, choices_of, choose_station, end_multi, error_line, ok_line, select, select_in, select_uni, wish_of, with_pattern, together, max_patterns, max_together}
 use Rattle.protocol.specs.Session.Negotiated.{Uni, Multi}
 use Rattle.protocol.specs.Session.{current_choice}
 use Rattle.protocol.specs.Session.Outcome.{Stays, Starts as StartsOutcome}
@@ -12,16 +12,17 @@ use Rattle.session_state.specs.declared.modes.Change.{Change}
 use Rattle.session_state.specs.declared.modes.Change.TheVariants.{Name, Clear, Add, Act, Finish}
 use Rattle.session_state.specs.declared.modes.Effect.{Effect}
 use Rattle.session_state.specs.declared.modes.Effect.TheVariants.{Done, Refused, Starts}
+use Rattle.session_state.specs.Naming.{Choice as Named}
 use Rattle.session_state.specs.Choices.{action_value}
 
 -- SELECT with a pattern, where a station is current; without a pattern, as for a text that is none, nothing changes
 abbrev pub selecting_in : List Choice → Option ℕ → Option Pattern → Option Choice → Outcome
 selecting_in cs current pattern None = Stays error_line (Multi cs current)
-selecting_in cs current pattern (Some c) = select_in cs current c (with_pattern c.patterns pattern)
+selecting_in cs current pattern (Some c) = select_in cs current c (with_pattern (together cs) c.patterns pattern)
 
 -- the same in either mode
 abbrev pub selecting : Negotiated → Option Pattern → Outcome
-selecting (Uni ps) pattern = select_uni ps (with_pattern ps pattern)
+selecting (Uni ps) pattern = select_uni ps (with_pattern (length ps) ps pattern)
 selecting (Multi cs current) pattern = selecting_in cs current pattern (current_choice cs current)
 
 -- what a change leads to
@@ -38,10 +39,18 @@ outcome_after Done n = Stays ok_line n
 outcome_after Refused n = Stays error_line n
 outcome_after Starts n = StartsOutcome (filter_map wish_of (choices_of n))
 
--- the patterns with one more, where there is room
-abbrev pub widened : List Pattern → Pattern → List Pattern
-widened ps p = if nat_lt (length ps) max_patterns then ps ++ p ∷ [] else ps
+-- how many selectors named stations have together
+abbrev pub all_selectors : List Named → ℕ
+all_selectors cs = sum_by (λ c. length c.selectors) cs
 
--- whether there is
-abbrev pub widening : List Pattern → Effect
-widening ps = if nat_lt (length ps) max_patterns then Done else Refused
+-- Where there are so many in all, there is room for one more.
+abbrev pub has_room : (all : ℕ) → List Pattern → Bool
+has_room all ps = nat_lt (length ps) max_patterns && nat_lt all max_together
+
+-- the patterns with one more, where there is room
+abbrev pub widened : (all : ℕ) → List Pattern → Pattern → List Pattern
+widened all ps p = if has_room all ps then ps ++ p ∷ [] else ps
+
+-- what comes of it
+abbrev pub widening : (all : ℕ) → List Pattern → Effect
+widening all ps = if has_room all ps then Done else Refused

@@ -1,6 +1,6 @@
 -- The stations that a client named, by their places in a configuration, and what was negotiated by their settings.
 -- SeedLink 3, STATION, SELECT, DATA, FETCH and TIME.
-use Rattle.std.specs.Prelude.{ℕ, Bool, List, [], map, slice_get, slice_set, Option, Some, None, option_map}
+use Rattle.std.specs.Prelude.{ℕ, Bool, List, [], map, slice_get, slice_set, Option, Some, None, option_map, is_some}
 use Rattle.protocol.specs.Catalog.{Config, Station, has_codes}
 use Rattle.protocol.specs.History.{Action as ProtocolAction, Request}
 use Rattle.protocol.specs.History.Action.{Data as DataAction, Fetch as FetchAction, Time as TimeAction}
@@ -9,10 +9,10 @@ use Rattle.protocol.specs.Session.Negotiated.{Uni as UniNegotiated, Multi as Mul
 use Rattle.catalog.specs.Places.{station_at}
 use Rattle.session_state.specs.declared.choices.Action.{Action}
 use Rattle.session_state.specs.declared.choices.Action.TheVariants.{Data, Fetch, Time}
-use Rattle.session_state.specs.declared.choices.Choice.{Choice}
+use Rattle.session_state.specs.declared.choices.Entry.{Entry}
 use Rattle.session_state.specs.declared.choices.Cursor.{Cursor}
-use Rattle.session_state.specs.declared.modes.Mode.{Mode}
-use Rattle.session_state.specs.declared.modes.Mode.TheVariants.{Uni, Multi}
+use Rattle.session_state.specs.Naming.{Choice, Mode, start}
+use Rattle.session_state.specs.Naming.Mode.{Uni, Multi}
 
 -- the action that is asked for
 abbrev pub action_value : Action → ProtocolAction
@@ -51,6 +51,14 @@ request_in config c = request_with config c c.action
 abbrev pub is_of_station : Config → Station → Choice → Bool
 is_of_station config s c = has_codes s.network s.code (station_at config.entries c.place)
 
+-- the same of an entry
+abbrev pub is_entry_of_station : Config → Station → Entry → Bool
+is_entry_of_station config s e = has_codes s.network s.code (station_at config.entries e.place)
+
+-- Something is asked of the station.
+abbrev pub has_action : Choice → Bool
+has_action c = is_some c.action
+
 -- the choices with the first position of the i-th replaced, where that is there
 abbrev pub kept_at : ℕ → ℕ → List Choice → Option Choice → List Choice
 kept_at i first cs None = cs
@@ -68,7 +76,7 @@ passed_in (Multi n) i cursor = Multi (record n { choices = passed_at i cursor n.
 
 -- a choice with a cursor that has not moved
 abbrev pub at_start : Choice → Choice
-at_start c = record c { cursor = record { place = 0; after_end = None; seen = 0; ahead = None } }
+at_start c = record c { cursor = start }
 
 -- the mode with such cursors: what it is but for how far its requests have come
 abbrev pub all_at_start : Mode → Mode

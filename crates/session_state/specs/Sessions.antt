@@ -8,8 +8,7 @@ use Rattle.protocol.specs.Client.{Client, State as ClientState, read_on, request
 use Rattle.protocol.specs.Client.State.{Negotiating as ClientNegotiating, Listing as ClientListing, Transfer as ClientTransfer, Ending as ClientEnding}
 use Rattle.catalog.specs.Places.{station_at, view_in, IsPlace}
 use Rattle.session_state.specs.declared.choices.Action.{Action}
-use Rattle.session_state.specs.declared.choices.Choice.{Choice}
-use Rattle.session_state.specs.declared.modes.Mode.{Mode}
+use Rattle.session_state.specs.Naming.{Choice, Mode}
 use Rattle.session_state.specs.declared.modes.Effect.{Effect}
 use Rattle.session_state.specs.declared.modes.Effect.TheVariants.{Done, Refused, Starts}
 use Rattle.session_state.specs.declared.session.State.{State}

@@ -8,10 +8,11 @@
 mod asked;
 pub mod choices;
 mod modes;
+mod named;
 mod refusals;
 mod replies;
 pub mod session;
 
-pub use choices::{Action, Choice, Cursor};
+pub use choices::{Action, Cursor, Entry};
 pub use refusals::NoRoom;
 pub use session::{Session, Settled, State};

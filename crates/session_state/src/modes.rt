@@ -1,36 +1,73 @@
 //! What was negotiated, in uni-station or multi-station mode, and what commands change of it.
-ghost use Rattle.std.specs.Prelude.{◌≡◌, ◌<◌, None, Some, length, option_map};
+ghost use Rattle.std.specs.Prelude.{◌≡◌, ◌<◌, [], IfOk, None, Some, length, map, option_map, slice_get};
 ghost use Rattle.protocol.specs.Catalog.{Config as ProtocolConfig};
 ghost use Rattle.protocol.specs.Session.{act, choices_of, choose_station, end_multi, select};
 ghost use Rattle.catalog.specs.Places.{station_at, view_in};
 ghost use Rattle.session_state.specs.Choices.{action_value, negotiated_in};
 ghost use Rattle.session_state.specs.Changes.{changed_by, outcome_after, selecting};
 
-use crate::choices::{Action, Choice, Cursor, Named};
+use crate::choices::{Action, Cursor, Entry};
+use crate::named::Named;
 use catalog::{Config, View};
-use selector::{Selector, Selectors};
-use std::mem;
+use protocol::record::Kind;
+use selector::Selector;
+use std::alloc::{AllocError, Global};
+use std::marker::Model;
 
-/// What was negotiated.
+/// What was negotiated: in uni-station mode the selectors of one station, the first that the client sees; in multi-station mode the
+/// stations that the client named.
 #[derive(Drop)]
-pub enum Mode {
-    /// One station, the first that the client sees, with these selectors.
-    Uni(Selectors),
-    /// The stations that the client named.
-    Multi(Named),
+pub struct Mode {
+    is_multi: bool,
+    named: Named,
+}
+
+impl Model for Mode {
+    ghost use Rattle.std.specs.Prelude.{◌≡◌, false};
+    ghost use Rattle.session_state.specs.Naming.{IsAlone, Mode as ModeValue, mode_of};
+
+    ghost Value = { ModeValue };
+
+    ghost view = { λ m. mode_of m.is_multi m.named };
+
+    ghost invariant = { λ m. m.is_multi ≡ false → IsAlone m.named };
 }
 
 impl Mode {
+    ghost use Rattle.protocol.specs.Record.{Facts};
+    ghost use Rattle.protocol.specs.Pattern.{passes};
+    ghost use Rattle.session_state.specs.Naming.{Choice as ChoiceValue, entry_of};
+    ghost use Rattle.session_state.specs.Naming.Mode.{Uni};
     ghost use Rattle.session_state.specs.Choices.{chosen_of, kept_in, passed_in};
 
-    /// The stations that were named, in that order.
-    pub fn choices(&self) -> &[Choice]
-        ensures { result.now ≡ chosen_of self.now }
+    /// Uni-station mode without selectors. Memory is taken here alone, and only for want of it this fails.
+    pub fn new(alloc: Global) -> Result<Mode, AllocError>
+        ensures { IfOk result (λ m. m ≡ Uni []) }
     {
-        match self {
-            Mode::Uni(_) => &[],
-            Mode::Multi(named) => named.choices(),
+        Ok(Mode {
+            is_multi: false,
+            named: Named::new(alloc)?,
+        })
+    }
+
+    /// The stations that were named, in that order, without their selectors.
+    pub fn choices(&self) -> &[Entry]
+        ensures { result.now ≡ map entry_of (chosen_of self.now) }
+    {
+        if self.is_multi {
+            self.named.choices()
+        } else {
+            &[]
         }
+    }
+
+    /// Whether a record with that location, channel and type passes the selectors of the i-th of them.
+    pub fn passes(&self, i: usize, location: &[u8; 2], channel: &[u8; 3], kind: Kind) -> bool
+        requires { i < length (chosen_of self.now) }
+        ensures { (c : ChoiceValue) (x : Facts) → slice_get (chosen_of self.now) i ≡ Some c → x.location ≡ location.now → x.channel ≡ channel.now → x.kind ≡ kind →
+            result ≡ passes c.selectors x }
+    {
+        self.is_multi && self.named.passes(i, location, channel, kind)
     }
 
     /// Keeps from which arrival on the i-th of them is wanted.
@@ -38,9 +75,8 @@ impl Mode {
         requires { i < length (chosen_of self.old) }
         ensures { self.new ≡ kept_in self.old i first }
     {
-        match self {
-            Mode::Uni(_) => {}
-            Mode::Multi(named) => named.keep(i, first),
+        if self.is_multi {
+            self.named.keep(i, first);
         }
     }
 
@@ -49,9 +85,8 @@ impl Mode {
         requires { i < length (chosen_of self.old) }
         ensures { self.new ≡ passed_in self.old i cursor }
     {
-        match self {
-            Mode::Uni(_) => {}
-            Mode::Multi(named) => named.pass(i, cursor),
+        if self.is_multi {
+            self.named.pass(i, cursor);
         }
     }
 }
@@ -86,41 +121,31 @@ fn name(mode: &mut Mode, config: &Config, found: Option<usize>) -> Effect
     ensures { outcome_after result (negotiated_in config.now mode.new)
         ≡ choose_station (choices_of (negotiated_in config.now mode.old)) (option_map (station_at config.now.entries) found) }
 {
-    match mode {
-        Mode::Uni(_) => {
-            let mut named = Named::new();
-            let effect = named.name(config, found);
-            *mode = Mode::Multi(named);
-            effect
-        }
-        Mode::Multi(named) => named.name(config, found),
+    if !mode.is_multi {
+        mode.named.forget();
+        mode.is_multi = true;
     }
+    mode.named.name(config, found)
 }
 
 fn clear(mode: &mut Mode) -> Effect
     ensures { (config : ProtocolConfig) → outcome_after result (negotiated_in config mode.new) ≡ select (negotiated_in config mode.old) None }
 {
-    match mode {
-        Mode::Uni(selectors) => {
-            selectors.clear();
-            Effect::Done
-        }
-        Mode::Multi(named) => named.clear(),
+    if mode.is_multi {
+        mode.named.clear()
+    } else {
+        mode.named.clear_at(0);
+        Effect::Done
     }
 }
 
 fn add(mode: &mut Mode, selector: Selector) -> Effect
     ensures { (config : ProtocolConfig) → outcome_after result (negotiated_in config mode.new) ≡ selecting (negotiated_in config mode.old) (Some selector) }
 {
-    match mode {
-        Mode::Uni(selectors) => {
-            if selectors.add(selector).is_ok() {
-                Effect::Done
-            } else {
-                Effect::Refused
-            }
-        }
-        Mode::Multi(named) => named.add_selector(selector),
+    if mode.is_multi {
+        mode.named.add_selector(selector)
+    } else {
+        mode.named.add_at(0, selector)
     }
 }
 
@@ -128,31 +153,26 @@ fn add(mode: &mut Mode, selector: Selector) -> Effect
 fn act(mode: &mut Mode, view: &View, action: Action) -> Effect
     ensures { (config : ProtocolConfig) → outcome_after result (negotiated_in config mode.new) ≡ act (view_in config view.now) (negotiated_in config mode.old) (action_value action) }
 {
-    match mode {
-        Mode::Uni(selectors) => match view.places().first() {
-            Some(place) => {
-                let selectors = mem::replace(selectors, Selectors::new());
-                *mode = Mode::Multi(Named::of(Choice {
-                    place: *place,
-                    selectors,
-                    action: Some(action),
-                    first: 0,
-                    cursor: Cursor::default(),
-                }));
-                Effect::Starts
-            }
-            None => Effect::Refused,
-        },
-        Mode::Multi(named) => named.act(action),
+    if mode.is_multi {
+        return mode.named.act(action);
+    }
+    match view.places().first() {
+        Some(place) => {
+            mode.named.ask_alone(*place, action);
+            mode.is_multi = true;
+            Effect::Starts
+        }
+        None => Effect::Refused,
     }
 }
 
 fn finish(mode: &Mode) -> Effect
     ensures { (config : ProtocolConfig) → outcome_after result (negotiated_in config mode.now) ≡ end_multi (negotiated_in config mode.now) }
 {
-    match mode {
-        Mode::Uni(_) => Effect::Refused,
-        Mode::Multi(named) => named.finish(),
+    if mode.is_multi {
+        mode.named.finish()
+    } else {
+        Effect::Refused
     }
 }
 

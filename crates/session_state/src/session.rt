@@ -1,16 +1,17 @@
 //! One client's side of the server.
-ghost use Rattle.std.specs.Prelude.{◌≡◌, ◌≢◌, ◌≤◌, ◌<◌, ◌+◌, ◌-◌, ◌&&◌, IfOk, OnErr, List, [], ◌∷◌, ◌++◌, length, drop, nat_lt, not, is_ok, is_some, true, false, codes, ℕ, Some, slice_get};
+ghost use Rattle.std.specs.Prelude.{◌≡◌, ◌≢◌, ◌≤◌, ◌<◌, ◌+◌, ◌-◌, ◌&&◌, IfOk, OnErr, List, [], ◌∷◌, ◌++◌, length, drop, map, nat_lt, not, is_ok, is_some, true, false, codes, ℕ, Some, slice_get};
 ghost use Rattle.protocol.specs.History.{Arrival};
 ghost use Rattle.protocol.specs.Client.{read_on, received, offered, after_take, cut, new_client, is_ending, is_nothing};
 
-use crate::choices::{Choice, Cursor};
+use crate::choices::{Cursor, Entry};
 use crate::modes::Mode;
 use crate::refusals::NoRoom;
 use crate::replies::{Waiting, put_bytes};
 use arrayvec::ArrayVec;
 use catalog::{Config, View};
-use selector::Selectors;
+use protocol::record::Kind;
 use sl_lines::LineCutter;
+use std::alloc::{AllocError, Global};
 use std::marker::Model;
 
 mod reading;
@@ -82,27 +83,33 @@ impl Model for Session {
 /// What others see of a session.
 impl Session {
     ghost use Rattle.protocol.specs.Catalog.{Config as ProtocolConfig};
+    ghost use Rattle.protocol.specs.Record.{Facts};
+    ghost use Rattle.protocol.specs.Pattern.{passes};
+    ghost use Rattle.session_state.specs.Naming.{Choice as ChoiceValue, entry_of};
     ghost use Rattle.session_state.specs.Choices.{chosen_of};
     ghost use Rattle.session_state.specs.Sessions.{client_in};
     ghost use Rattle.session_state.specs.declared.session.State.TheVariants.{Negotiating, Starting};
 
     /// The session of a client that has just come, with what it sees.
-    pub fn new(view: View) -> Session
-        ensures client { (config : ProtocolConfig) (h : List Arrival) → client_in config h result ≡ new_client }
-        ensures places { result.places ≡ view }
-        ensures settled { result.state ≢ Starting }
-        ensures negotiates { result.state ≡ Negotiating }
+    ///
+    /// All memory that it will need is taken here, and only for want of it this fails.
+    pub fn new(alloc: Global, view: View) -> Result<Session, AllocError>
+        ensures client { IfOk result (λ s. (config : ProtocolConfig) (h : List Arrival) → client_in config h s ≡ new_client) }
+        ensures places { IfOk result (λ s. s.places ≡ view) }
+        ensures settled { IfOk result (λ s. s.state ≢ Starting) }
+        ensures negotiates { IfOk result (λ s. s.state ≡ Negotiating) }
     {
-        Session {
+        let mode = Mode::new(alloc)?;
+        Ok(Session {
             view,
-            mode: Mode::Uni(Selectors::new()),
+            mode,
             state: State::Negotiating,
             cutter: LineCutter::new(),
             unread: ArrayVec::new(),
             read: 0,
             waiting: ArrayVec::new(),
             sent: 0,
-        }
+        })
     }
 
     /// How many bytes may be received, from 0 to 1,024.
@@ -134,11 +141,28 @@ impl Session {
         self.state
     }
 
-    /// The stations that were named, in that order. Those with an action are the requests of a transfer.
-    pub fn choices(&self) -> &[Choice]
-        ensures { result.now ≡ chosen_of self.now.mode }
+    /// The stations that were named, in that order, without their selectors. Those with an action are the requests of a transfer.
+    pub fn choices(&self) -> &[Entry]
+        ensures { result.now ≡ map entry_of (chosen_of self.now.mode) }
     {
         self.mode.choices()
+    }
+
+    /// The i-th of them.
+    pub fn choice(&self, i: usize) -> &Entry
+        requires { i < length (chosen_of self.now.mode) }
+        ensures { (c : ChoiceValue) → slice_get (chosen_of self.now.mode) i ≡ Some c → result.now ≡ entry_of c }
+    {
+        &self.mode.choices()[i]
+    }
+
+    /// Whether a record with that location, channel and type passes the selectors of the i-th named station.
+    pub fn passes(&self, i: usize, location: &[u8; 2], channel: &[u8; 3], kind: Kind) -> bool
+        requires { i < length (chosen_of self.now.mode) }
+        ensures { (c : ChoiceValue) (x : Facts) → slice_get (chosen_of self.now.mode) i ≡ Some c → x.location ≡ location.now → x.channel ≡ channel.now → x.kind ≡ kind →
+            result ≡ passes c.selectors x }
+    {
+        self.mode.passes(i, location, channel, kind)
     }
 
     /// Whether nothing waits.
@@ -166,7 +190,7 @@ impl Session {
 /// What others do with a session.
 impl Session {
     ghost use Rattle.protocol.specs.Catalog.{Config as ProtocolConfig, listing};
-    ghost use Rattle.session_state.specs.declared.choices.Choice.{Choice as ChoiceValue};
+    ghost use Rattle.session_state.specs.Naming.{Choice as ChoiceValue};
     ghost use Rattle.session_state.specs.Choices.{chosen_of, kept_in};
     ghost use Rattle.session_state.specs.Sessions.{client_in, sitting_view, line_made, is_listing, HasPlaces, HasFirsts, Comes, KeepsTransfer, but_for_cursors, never_starts};
     ghost use Rattle.session_state.specs.declared.session.State.TheVariants.{Negotiating, Listing, Starting, Transfer, Ending};

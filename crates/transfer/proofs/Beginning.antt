@@ -12,10 +12,10 @@ use Rattle.station_ring.proofs.Growing.{held_at-low}
 use Rattle.held_records.specs.Holdings.{Holdings, IsBehind, IsBefore}
 use Rattle.session_state.specs.declared.choices.Action.{Action}
 use Rattle.session_state.specs.declared.choices.Action.TheVariants.{Data, Fetch, Time}
-use Rattle.session_state.specs.declared.choices.Choice.{Choice}
+use Rattle.session_state.specs.Naming.{Choice}
 use Rattle.session_state.specs.declared.choices.Cursor.{Cursor}
-use Rattle.session_state.specs.declared.modes.Mode.{Mode}
-use Rattle.session_state.specs.declared.modes.Mode.TheVariants.{Uni, Multi}
+use Rattle.session_state.specs.Naming.{Mode}
+use Rattle.session_state.specs.Naming.Mode.{Uni, Multi}
 use Rattle.session_state.specs.declared.session.State.{State}
 use Rattle.session_state.specs.declared.session.State.TheVariants.{Negotiating, Listing, Starting, Transfer, Ending}
 use Rattle.session_state.specs.Choices.{all_at_start, at_start, choices_in, chosen_of, negotiated_in, request_in}

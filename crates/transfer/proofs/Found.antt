@@ -10,7 +10,7 @@ use Rattle.station_ring.specs.Rings.{Holding, held_at}
 use Rattle.held_records.specs.Holdings.{Holdings, holdings_of}
 use Rattle.held_records.proofs.Walks.{walk_all}
 use Rattle.session_state.specs.declared.choices.Action.{Action}
-use Rattle.session_state.specs.declared.choices.Choice.{Choice}
+use Rattle.session_state.specs.Naming.{Choice}
 use Rattle.session_state.specs.Choices.{request_in}
 use Rattle.transfer.specs.declared.choosing.First.{First}
 use Rattle.transfer.specs.Choosing.{comes_before}

@@ -7,9 +7,9 @@ use Rattle.protocol.specs.Session.{wish_of}
 use Rattle.protocol.specs.Client.{request_of}
 use Rattle.protocol.specs.Client.State.{Transfer as ClientTransfer}
 use Rattle.held_records.specs.Holdings.{Holdings, holdings_of}
-use Rattle.session_state.specs.declared.choices.Choice.{Choice}
-use Rattle.session_state.specs.declared.modes.Mode.{Mode}
-use Rattle.session_state.specs.declared.modes.Mode.TheVariants.{Uni, Multi}
+use Rattle.session_state.specs.Naming.{Choice}
+use Rattle.session_state.specs.Naming.{Mode}
+use Rattle.session_state.specs.Naming.Mode.{Uni, Multi}
 use Rattle.session_state.specs.declared.session.State.TheVariants.{Starting}
 use Rattle.session_state.specs.Choices.{choices_in, chosen_of, kept_at, kept_in}
 use Rattle.session_state.specs.Sessions.{Sitting, client_in, HasFirst, HasFirsts}

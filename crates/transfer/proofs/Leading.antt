@@ -11,7 +11,7 @@ use Rattle.catalog.specs.Places.{station_at, HasDistinctCodes}
 use Rattle.station_ring.specs.declared.held.Held.{Held}
 use Rattle.session_state.specs.declared.choices.Action.{Action}
 use Rattle.session_state.specs.declared.choices.Action.TheVariants.{Data, Fetch, Time}
-use Rattle.session_state.specs.declared.choices.Choice.{Choice}
+use Rattle.session_state.specs.Naming.{Choice}
 use Rattle.session_state.specs.declared.session.State.TheVariants.{Transfer, Ending}
 use Rattle.session_state.specs.Choices.{chosen_of, request_in}
 use Rattle.session_state.specs.Sessions.{Sitting, client_in}

@@ -12,3 +12,4 @@ pub mod Beginning
 pub mod Going
 pub mod Asked
 pub mod Waits
+pub mod EntryLemmas

@@ -13,7 +13,7 @@ use Rattle.station_ring.specs.Rings.{Holding, last_of}
 use Rattle.held_records.specs.Holdings.{Holdings, holdings_of, held_of, ring_of, arrivals_of}
 use Rattle.held_records.proofs.Stations.{ring_is, station_is_nowhere}
 use Rattle.session_state.specs.declared.choices.Action.{Action}
-use Rattle.session_state.specs.declared.choices.Choice.{Choice}
+use Rattle.session_state.specs.Naming.{Choice}
 use Rattle.session_state.specs.Choices.{request_in}
 use Rattle.transfer.specs.Wanting.{wants_held}
 use Rattle.transfer.specs.Choosing.{least_of, comes_before}

@@ -16,7 +16,7 @@ use Rattle.held_records.specs.Holdings.{Holdings, holdings_of, ring_of, IsArriva
 use Rattle.transfer.proofs.Nexts.{ring-within}
 use Rattle.held_records.proofs.Stations.{ring_is, same_codes}
 use Rattle.session_state.specs.declared.choices.Action.{Action}
-use Rattle.session_state.specs.declared.choices.Choice.{Choice}
+use Rattle.session_state.specs.Naming.{Choice}
 use Rattle.session_state.specs.Choices.{request_in}
 use Rattle.transfer.specs.Choosing.{IsArrived}
 

@@ -8,7 +8,7 @@ use Rattle.held_records.proofs.Places.{oldest-first, any-here}
 use Rattle.station_ring.specs.declared.held.Held.{Held}
 use Rattle.station_ring.specs.Rings.{Holding, IsHolding, first_place, held_at, oldest_place}
 use Rattle.station_ring.proofs.Growing.{held_at-low}
-use Rattle.session_state.specs.declared.choices.Choice.{Choice}
+use Rattle.session_state.specs.Naming.{Choice}
 use Rattle.session_state.specs.declared.choices.Cursor.{Cursor}
 use Rattle.transfer.specs.declared.wanting.Found.{Found}
 use Rattle.transfer.specs.declared.wanting.Found.TheVariants.{Wanted, AfterEnd, Unwanted}

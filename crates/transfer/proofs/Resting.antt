@@ -7,7 +7,7 @@ use Rattle.protocol.proofs.Found.{both}
 use Rattle.station_ring.specs.Rings.{Holding}
 use Rattle.held_records.specs.Holdings.{Holdings}
 use Rattle.session_state.specs.declared.choices.Action.{Action}
-use Rattle.session_state.specs.declared.choices.Choice.{Choice}
+use Rattle.session_state.specs.Naming.{Choice}
 use Rattle.session_state.specs.declared.choices.Cursor.{Cursor}
 use Rattle.session_state.specs.Choices.{chosen_of}
 use Rattle.session_state.specs.Sessions.{Sitting, but_for_cursors}

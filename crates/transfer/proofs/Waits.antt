@@ -17,7 +17,7 @@ use Rattle.held_records.proofs.Stations.{ring_is, station_is_nowhere}
 use Rattle.held_records.proofs.Walks.{holds_after-nowhere, holds_after-ring, walk_all}
 use Rattle.session_state.specs.declared.choices.Action.{Action}
 use Rattle.session_state.specs.declared.choices.Action.TheVariants.{Data, Fetch, Time}
-use Rattle.session_state.specs.declared.choices.Choice.{Choice}
+use Rattle.session_state.specs.Naming.{Choice}
 use Rattle.session_state.specs.declared.session.State.TheVariants.{Transfer}
 use Rattle.session_state.specs.Choices.{chosen_of, request_in}
 use Rattle.session_state.specs.Sessions.{Sitting, client_in}

@@ -11,7 +11,7 @@ use Rattle.catalog.specs.Places.{station_at}
 use Rattle.station_ring.specs.declared.held.Held.{Held}
 use Rattle.held_records.specs.Holdings.{held_of, ring_of, summary_of}
 use Rattle.session_state.specs.declared.choices.Action.{Action}
-use Rattle.session_state.specs.declared.choices.Choice.{Choice}
+use Rattle.session_state.specs.Naming.{Choice}
 use Rattle.session_state.specs.Choices.{action_value}
 use Rattle.transfer.specs.Wanting.{facts_of, is_in_window_of, wants_held}
 use Rattle.transfer.proofs.Positions.{same_first, first_from}

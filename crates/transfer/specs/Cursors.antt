@@ -7,9 +7,10 @@ use Rattle.station_ring.specs.Rings.{Holding, IsHolding, first_place, held_at}
 use Rattle.held_records.specs.Holdings.{Holdings, IsBefore, place_from}
 use Rattle.session_state.specs.declared.choices.Action.{Action}
 use Rattle.session_state.specs.declared.choices.Action.TheVariants.{Data, Fetch, Time}
-use Rattle.session_state.specs.declared.choices.Choice.{Choice}
+use Rattle.session_state.specs.Naming.{Choice}
 use Rattle.session_state.specs.declared.choices.Cursor.{Cursor}
-use Rattle.session_state.specs.declared.modes.Mode.{Mode}
+use Rattle.session_state.specs.declared.choices.Entry.{Entry}
+use Rattle.session_state.specs.Naming.{Mode}
 use Rattle.session_state.specs.declared.session.State.TheVariants.{Transfer}
 use Rattle.session_state.specs.Choices.{chosen_of}
 use Rattle.session_state.specs.Sessions.{Sitting}
@@ -123,6 +124,11 @@ abbrev pub request_cursors : List Choice → List ℕ
 request_cursors [] = []
 request_cursors (c ∷ cs) = if is_some c.action then c.cursor.place ∷ request_cursors cs else request_cursors cs
 
--- the same of a session's mode
+-- the same of their entries
+abbrev pub entry_cursors : List Entry → List ℕ
+entry_cursors [] = []
+entry_cursors (e ∷ es) = if is_some e.action then e.cursor.place ∷ entry_cursors es else entry_cursors es
+
+-- those of a session's mode
 abbrev pub cursors_of : Mode → List ℕ
 cursors_of mode = request_cursors (chosen_of mode)

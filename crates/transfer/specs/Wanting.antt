@@ -8,7 +8,7 @@ use Rattle.station_ring.specs.declared.held.Held.{Held}
 use Rattle.station_ring.specs.declared.held.Summary.{Summary}
 use Rattle.station_ring.specs.Rings.{Holding, held_at}
 use Rattle.session_state.specs.declared.choices.Action.{Action}
-use Rattle.session_state.specs.declared.choices.Choice.{Choice}
+use Rattle.session_state.specs.Naming.{Choice}
 use Rattle.session_state.specs.Choices.{action_value}
 
 -- the facts of which so much is kept; what is not kept is empty

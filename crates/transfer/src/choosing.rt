@@ -1,5 +1,5 @@
 //! What is sent next.
-ghost use Rattle.std.specs.Prelude.{◌≡◌, ◌≢◌, ◌≤◌, ◌<◌, ◌+◌, [], ◌∷◌, List, ℕ, codes, length, slice_get, filter_map, option_map, IfSome, Some, None, true, false, not, ℤ, Option};
+ghost use Rattle.std.specs.Prelude.{◌≡◌, ◌≢◌, ◌≤◌, ◌<◌, ◌+◌, [], ◌∷◌, List, ℕ, codes, length, map, slice_get, filter_map, option_map, IfSome, Some, None, true, false, not, ℤ, Option};
 ghost use Rattle.std.specs.List.{list_all};
 ghost use Rattle.protocol.specs.Catalog.{Config as ProtocolConfig};
 ghost use Rattle.protocol.specs.History.{Arrival, next as next_position, is_over, holds_after};
@@ -9,6 +9,7 @@ ghost use Rattle.protocol.specs.Packet.{packet};
 ghost use Rattle.station_ring.specs.declared.held.Held.{Held};
 ghost use Rattle.station_ring.specs.Rings.{Holding, held_at, number_at};
 ghost use Rattle.held_records.specs.Holdings.{holdings_of};
+ghost use Rattle.session_state.specs.Naming.{Choice, entry_of};
 ghost use Rattle.session_state.specs.Choices.{all_at_start, chosen_of, request_in};
 ghost use Rattle.session_state.specs.Sessions.{client_in, but_for_cursors};
 ghost use Rattle.session_state.specs.declared.session.State.TheVariants.{Starting, Transfer, Ending};
@@ -22,7 +23,7 @@ ghost use Rattle.transfer.specs.Choosing.{answer_of, is_over_of, comes_before, i
 use crate::wanting::{Candidate, cursor_in, has_passed_its_end, unasked};
 use catalog::Config;
 use held_records::{Rings, arrivals_by_place};
-use session_state::{Action, Choice, Cursor, Session, State};
+use session_state::{Action, Cursor, Entry, Session, State};
 use sl_packet::frame;
 
 /// What an offer in a transfer leads to.
@@ -48,25 +49,27 @@ fn is_unsent(ahead: Option<u64>, next: u64) -> bool
 
 /// Whether the cursor of a named station still tells what its request is to send: nothing was pushed to the station's ring since it
 /// was looked at, and the record at the cursor was not sent. No record is looked at.
-fn is_fresh(choice: &Choice, rings: &Rings, next: u64) -> bool
-    ensures { result ≡ true → PassedIn rings.now next choice.now → RestsIn rings.now next choice.now }
+fn is_fresh(entry: &Entry, rings: &Rings, next: u64) -> bool
+    ensures { result ≡ true → (c : Choice) → entry_of c ≡ entry.now → PassedIn rings.now next c → RestsIn rings.now next c }
 {
-    match rings.ring(choice.place) {
-        Some(ring) if choice.cursor.seen == ring.pushes() => is_unsent(choice.cursor.ahead, next),
-        Some(_ring) => choice.action.is_none(),
+    match rings.ring(entry.place) {
+        Some(ring) if entry.cursor.seen == ring.pushes() => is_unsent(entry.cursor.ahead, next),
+        Some(_ring) => entry.action.is_none(),
         None => false,
     }
 }
 
-/// How far the request for a named station comes that passes what it doesn't want.
-fn cursor_of(choice: &Choice, rings: &Rings, next: u64) -> Cursor
-    ensures { PassedIn rings.now next choice.now → RestsIn rings.now next (record choice.now { cursor = result }) }
+/// How far the request for the i-th named station comes that passes what it doesn't want.
+fn cursor_of(session: &Session, i: usize, rings: &Rings, next: u64) -> Cursor
+    requires { i < length (chosen_of session.now.mode) }
+    ensures { (c : Choice) → slice_get (chosen_of session.now.mode) i ≡ Some c → PassedIn rings.now next c → RestsIn rings.now next (record c { cursor = result }) }
 {
-    if choice.action.is_none() {
+    let entry = session.choice(i);
+    if entry.action.is_none() {
         return unasked();
     }
-    match rings.ring(choice.place) {
-        Some(ring) => cursor_in(ring, choice, next),
+    match rings.ring(entry.place) {
+        Some(ring) => cursor_in(ring, session, i, next),
         None => unasked(),
     }
 }
@@ -78,8 +81,8 @@ fn pass_unwanted(session: &mut Session, rings: &Rings, next: u64)
 {
     let count = session.choices().len();
     for i in 0..count {
-        if !is_fresh(&session.choices()[i], rings, next) {
-            let cursor = cursor_of(&session.choices()[i], rings, next);
+        if !is_fresh(session.choice(i), rings, next) {
+            let cursor = cursor_of(session, i, rings, next);
             session.pass(i, cursor);
         }
     }
@@ -114,12 +117,12 @@ fn earlier(best: Option<First>, index: usize, ahead: Option<u64>) -> Option<Firs
 }
 
 /// The request whose record ahead came first, where all have passed what they don't want. No ring is looked at.
-fn earliest(choices: &[Choice], rings: &Rings) -> Option<First>
-    ensures { LeadsSoFar rings.now choices.now (length choices.now) result }
+fn earliest(entries: &[Entry], rings: &Rings) -> Option<First>
+    ensures { (cs : List Choice) → map entry_of cs ≡ entries.now → LeadsSoFar rings.now cs (length cs) result }
 {
     let mut best = None;
-    for (index, choice) in choices.iter().enumerate() {
-        best = earlier(best, index, choice.cursor.ahead);
+    for (index, entry) in entries.iter().enumerate() {
+        best = earlier(best, index, entry.cursor.ahead);
     }
     best
 }
@@ -133,15 +136,15 @@ enum Overview {
 }
 
 /// Looks over all requests, and at no record.
-fn look(choices: &[Choice], rings: &Rings, next: u64) -> Overview
-    ensures { IsOverview rings.now next choices.now result }
+fn look(entries: &[Entry], rings: &Rings, next: u64) -> Overview
+    ensures { (cs : List Choice) → map entry_of cs ≡ entries.now → IsOverview rings.now next cs result }
 {
     let mut best = None;
-    for (index, choice) in choices.iter().enumerate() {
-        if !is_fresh(choice, rings, next) {
+    for (index, entry) in entries.iter().enumerate() {
+        if !is_fresh(entry, rings, next) {
             return Overview::Stale;
         }
-        best = earlier(best, index, choice.cursor.ahead);
+        best = earlier(best, index, entry.cursor.ahead);
     }
     Overview::Fresh(best)
 }
@@ -162,19 +165,19 @@ fn rest(session: &mut Session, rings: &Rings, next: u64) -> Option<First>
 }
 
 /// The record ahead of a request, as it is held.
-fn candidate(choices: &[Choice], first: First, rings: &Rings) -> Option<Candidate>
-    requires { IsAhead choices.now first.index first.stamp }
-    ensures index { IfSome result (λ c. c.index < length choices.now) }
+fn candidate(session: &Session, first: First, rings: &Rings) -> Option<Candidate>
+    requires { IsAhead (chosen_of session.now.mode) first.index first.stamp }
+    ensures index { IfSome result (λ c. c.index < length (chosen_of session.now.mode)) }
     ensures held { IfSome result (λ c. HoldsThere rings.now c.station c.place c.position) }
-    ensures position { (next : ℕ) → OfAll (RestsIn rings.now next) choices.now → option_map (λ c. c.position) result ≡ Some first.stamp }
+    ensures position { (next : ℕ) → OfAll (RestsIn rings.now next) (chosen_of session.now.mode) → option_map (λ c. c.position) result ≡ Some first.stamp }
 {
-    let choice = &choices[first.index];
-    let ring = rings.ring(choice.place)?;
-    let held = ring.get(choice.cursor.place)?;
+    let entry = session.choice(first.index);
+    let ring = rings.ring(entry.place)?;
+    let held = ring.get(entry.cursor.place)?;
     Some(Candidate {
         index: first.index,
-        station: choice.place,
-        place: choice.cursor.place,
+        station: entry.place,
+        place: entry.cursor.place,
         position: held.stamp,
     })
 }
@@ -191,19 +194,19 @@ fn found_next(session: &mut Session, rings: &Rings, next: u64) -> Option<Candida
     ensures none { OfAll (PassedIn rings.now next) (chosen_of session.old.mode) → result ≡ None → OfAll (HasNothing rings.now next) (chosen_of session.new.mode) }
 {
     match rest(session, rings, next) {
-        Some(first) => candidate(session.choices(), first, rings),
+        Some(first) => candidate(session, first, rings),
         None => None,
     }
 }
 
 /// Whether nothing more can come for a named station whose request has passed all: it is asked for nothing, by FETCH, or by TIME
 /// with an end after which a held record of the station starts.
-fn is_over(choice: &Choice, rings: &Rings) -> bool
-    ensures more { (next : ℕ) → RestsIn rings.now next choice.now → IsReached rings.now choice.now → result ≡ false → MayCome rings.now choice.now }
-    ensures over { (next : ℕ) → RestsIn rings.now next choice.now → IsReached rings.now choice.now → (config : ProtocolConfig) (h : List Arrival) → rings.now ≡ holdings_of config h →
-        result ≡ is_over_of h (station_at config.entries choice.now.place) choice.now.action }
+fn is_over(entry: &Entry, rings: &Rings) -> bool
+    ensures more { (c : Choice) → entry_of c ≡ entry.now → (next : ℕ) → RestsIn rings.now next c → IsReached rings.now c → result ≡ false → MayCome rings.now c }
+    ensures over { (c : Choice) → entry_of c ≡ entry.now → (next : ℕ) → RestsIn rings.now next c → IsReached rings.now c → (config : ProtocolConfig) (h : List Arrival) → rings.now ≡ holdings_of config h →
+        result ≡ is_over_of h (station_at config.entries c.place) c.action }
 {
-    match choice.action {
+    match entry.action {
         None => true,
         Some(
             Action::Data {
@@ -228,31 +231,31 @@ fn is_over(choice: &Choice, rings: &Rings) -> bool
                 begin: _begin,
                 last: Some(_last),
             },
-        ) => is_past_its_end(choice, rings),
+        ) => is_past_its_end(entry, rings),
     }
 }
 
 /// Whether a record of a named station is held that starts after the end of TIME, where its request has passed all.
-fn is_past_its_end(choice: &Choice, rings: &Rings) -> bool
-    ensures ring { (next : ℕ) (begin : Option ℤ) (last : ℤ) → choice.now.action ≡ Some (Time begin (Some last)) → RestsIn rings.now next choice.now → IsReached rings.now choice.now →
-        result ≡ starts_after (slice_get rings.now.rings choice.now.place) begin last }
-    ensures history { (next : ℕ) (begin : Option ℤ) (last : ℤ) → choice.now.action ≡ Some (Time begin (Some last)) → RestsIn rings.now next choice.now → IsReached rings.now choice.now → (config : ProtocolConfig) (h : List Arrival) → rings.now ≡ holdings_of config h →
-        result ≡ holds_after (station_at config.entries choice.now.place) last h }
+fn is_past_its_end(entry: &Entry, rings: &Rings) -> bool
+    ensures ring { (c : Choice) → entry_of c ≡ entry.now → (next : ℕ) (begin : Option ℤ) (last : ℤ) → c.action ≡ Some (Time begin (Some last)) → RestsIn rings.now next c → IsReached rings.now c →
+        result ≡ starts_after (slice_get rings.now.rings c.place) begin last }
+    ensures history { (c : Choice) → entry_of c ≡ entry.now → (next : ℕ) (begin : Option ℤ) (last : ℤ) → c.action ≡ Some (Time begin (Some last)) → RestsIn rings.now next c → IsReached rings.now c → (config : ProtocolConfig) (h : List Arrival) → rings.now ≡ holdings_of config h →
+        result ≡ holds_after (station_at config.entries c.place) last h }
 {
-    match rings.ring(choice.place) {
-        Some(ring) => has_passed_its_end(ring, choice),
+    match rings.ring(entry.place) {
+        Some(ring) => has_passed_its_end(ring, entry),
         None => false,
     }
 }
 
 /// Whether nothing more can come for any request, where all have passed all.
-fn is_complete(choices: &[Choice], rings: &Rings) -> bool
-    ensures more { (next : ℕ) → OfAll (RestsIn rings.now next) choices.now → OfAll (IsReached rings.now) choices.now → result ≡ false → MoreMayCome rings.now choices.now }
-    ensures complete { (next : ℕ) → OfAll (RestsIn rings.now next) choices.now → OfAll (IsReached rings.now) choices.now → (config : ProtocolConfig) (h : List Arrival) → rings.now ≡ holdings_of config h →
-        result ≡ list_all (is_over h) (filter_map (request_in config) choices.now) }
+fn is_complete(entries: &[Entry], rings: &Rings) -> bool
+    ensures more { (cs : List Choice) → map entry_of cs ≡ entries.now → (next : ℕ) → OfAll (RestsIn rings.now next) cs → OfAll (IsReached rings.now) cs → result ≡ false → MoreMayCome rings.now cs }
+    ensures complete { (cs : List Choice) → map entry_of cs ≡ entries.now → (next : ℕ) → OfAll (RestsIn rings.now next) cs → OfAll (IsReached rings.now) cs → (config : ProtocolConfig) (h : List Arrival) → rings.now ≡ holdings_of config h →
+        result ≡ list_all (is_over h) (filter_map (request_in config) cs) }
 {
-    for choice in choices {
-        if !is_over(choice, rings) {
+    for entry in entries {
+        if !is_over(entry, rings) {
             return false;
         }
     }
@@ -284,7 +287,7 @@ fn pass_one(session: &mut Session, rings: &Rings, index: usize, next: u64)
     ensures same { but_for_cursors session.new ≡ but_for_cursors session.old }
     ensures passed { OfAll (PassedIn rings.now next) (chosen_of session.old.mode) → OfAll (PassedIn rings.now next) (chosen_of session.new.mode) }
 {
-    let cursor = cursor_of(&session.choices()[index], rings, next);
+    let cursor = cursor_of(session, index, rings, next);
     session.pass(index, cursor);
 }
 

@@ -2,7 +2,7 @@
 ghost use Rattle.std.specs.Prelude.{◌≡◌, ◌<◌, Some, is_some, length, slice_get};
 ghost use Rattle.transfer.specs.Cursors.{cursors_of};
 
-use session_state::{Choice, Session};
+use session_state::{Entry, Session};
 
 /// The cursor of the i-th request of a session in a transfer: the place in its station's ring before which it wants nothing more.
 /// A named station that is asked for nothing is no request.
@@ -14,10 +14,10 @@ pub fn cursor(session: &Session, i: usize) -> u64
     ensures { Some result ≡ slice_get (cursors_of session.now.mode) i }
 {
     let mut left = i;
-    for choice in session.choices() {
-        if is_request(choice) {
+    for entry in session.choices() {
+        if is_request(entry) {
             if left == 0 {
-                return choice.cursor.place;
+                return entry.cursor.place;
             }
             left -= 1;
         }
@@ -26,8 +26,8 @@ pub fn cursor(session: &Session, i: usize) -> u64
 }
 
 /// Whether something is asked of a named station.
-fn is_request(choice: &Choice) -> bool
-    ensures { result ≡ is_some choice.now.action }
+fn is_request(entry: &Entry) -> bool
+    ensures { result ≡ is_some entry.now.action }
 {
-    choice.action.is_some()
+    entry.action.is_some()
 }

@@ -4,7 +4,7 @@ ghost use Rattle.protocol.specs.Catalog.{Config as ProtocolConfig};
 ghost use Rattle.protocol.specs.Client.{offered};
 ghost use Rattle.protocol.specs.History.{Arrival};
 ghost use Rattle.held_records.specs.Holdings.{Holdings, holdings_of};
-ghost use Rattle.session_state.specs.declared.choices.Choice.{Choice as ChoiceValue};
+ghost use Rattle.session_state.specs.Naming.{Choice as ChoiceValue};
 ghost use Rattle.session_state.specs.declared.session.State.TheVariants.{Transfer};
 ghost use Rattle.session_state.specs.Choices.{chosen_of};
 ghost use Rattle.session_state.specs.Sessions.{Sitting, client_in};

@@ -5,6 +5,7 @@ ghost use Rattle.protocol.specs.History.{Arrival, first_wanted};
 ghost use Rattle.catalog.specs.Places.{station_at};
 ghost use Rattle.station_ring.specs.Rings.{Holding, first_place};
 ghost use Rattle.held_records.specs.Holdings.{IsBefore, holdings_of, place_from};
+ghost use Rattle.session_state.specs.Naming.{Choice, entry_of};
 ghost use Rattle.session_state.specs.Choices.{action_value, chosen_of};
 ghost use Rattle.session_state.specs.Sessions.{client_in, but_for_cursors, HasFirst};
 ghost use Rattle.transfer.specs.Cursors.{ArePassed, BeginsIn, IsAtBegin, OfAll, StartsIn, begin_place};
@@ -12,7 +13,7 @@ ghost use Rattle.session_state.specs.declared.session.State.TheVariants.{Startin
 
 use crate::wanting::unasked;
 use held_records::Rings;
-use session_state::{Action, Choice, Cursor, Session};
+use session_state::{Action, Cursor, Entry, Session};
 use sl_packet::Seq;
 use station_ring::{Ring, places_found};
 
@@ -117,13 +118,13 @@ fn begin_in(ring: &Ring, action: Action) -> Cursor
 }
 
 /// The cursor of the request for a named station that begins.
-fn cursor_of(choice: &Choice, rings: &Rings) -> Cursor
-    ensures { StartsIn rings.now (record choice.now { cursor = result }) }
+fn cursor_of(entry: &Entry, rings: &Rings) -> Cursor
+    ensures { (c : Choice) → entry_of c ≡ entry.now → StartsIn rings.now (record c { cursor = result }) }
 {
-    let Some(action) = choice.action else {
+    let Some(action) = entry.action else {
         return unasked();
     };
-    match rings.ring(choice.place) {
+    match rings.ring(entry.place) {
         Some(ring) => begin_in(ring, action),
         None => unasked(),
     }
@@ -137,20 +138,20 @@ fn place_cursors(session: &mut Session, rings: &Rings)
 {
     let count = session.choices().len();
     for i in 0..count {
-        let cursor = cursor_of(&session.choices()[i], rings);
+        let cursor = cursor_of(session.choice(i), rings);
         session.pass(i, cursor);
     }
 }
 
 /// The position from which on a request for a named station wants records, where something is asked of it.
-fn first_of(choice: &Choice, rings: &Rings) -> u64
-    ensures before { BeginsIn rings.now (record choice.now { first = result }) }
-    ensures first { (config : ProtocolConfig) (h : List Arrival) → rings.now ≡ holdings_of config h →
-        HasFirst config h (record choice.now { first = result }) }
+fn first_of(entry: &Entry, rings: &Rings) -> u64
+    ensures before { (c : Choice) → entry_of c ≡ entry.now → BeginsIn rings.now (record c { first = result }) }
+    ensures first { (c : Choice) → entry_of c ≡ entry.now → (config : ProtocolConfig) (h : List Arrival) → rings.now ≡ holdings_of config h →
+        HasFirst config h (record c { first = result }) }
 {
-    match choice.action {
-        Some(action) => first_wanted(rings, choice.place, action),
-        None => choice.first,
+    match entry.action {
+        Some(action) => first_wanted(rings, entry.place, action),
+        None => entry.first,
     }
 }
 
@@ -171,7 +172,7 @@ pub fn start(session: &mut Session, rings: &Rings)
     let _ = session.state();
     let count = session.choices().len();
     for i in 0..count {
-        let first = first_of(&session.choices()[i], rings);
+        let first = first_of(session.choice(i), rings);
         session.keep(i, first);
     }
     session.enter();

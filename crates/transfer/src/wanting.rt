@@ -1,14 +1,16 @@
 //! Which held records a request wants.
-ghost use Rattle.std.specs.Prelude.{◌≡◌, ◌≤◌, ℕ, find, option_map, IfSome, Some, None, is_some};
+ghost use Rattle.std.specs.Prelude.{◌≡◌, ◌≤◌, ◌<◌, ℕ, find, length, option_map, slice_get, IfSome, Some, None, is_some};
 ghost use Rattle.std.specs.List.{list_any};
 ghost use Rattle.protocol.specs.History.{ends_from, starts_by};
+ghost use Rattle.session_state.specs.Choices.{chosen_of};
+ghost use Rattle.session_state.specs.Naming.{Choice, entry_of};
 ghost use Rattle.station_ring.specs.declared.held.Held.{Held as HeldValue};
 ghost use Rattle.station_ring.specs.Rings.{held_at};
 ghost use Rattle.transfer.specs.Wanting.{facts_of, is_in_window_of, wants_held, HoldsRecord};
 ghost use Rattle.transfer.specs.Cursors.{is_after_end, HasPassed, RestsAt};
 ghost use Rattle.transfer.specs.Founds.{found_of};
 
-use session_state::{Action, Choice, Cursor};
+use session_state::{Action, Cursor, Entry, Session};
 use sl_time::Tick;
 use station_ring::{Held, Ring, Summary};
 
@@ -33,10 +35,10 @@ fn starts_by(last: Option<Tick>, summary: &Summary) -> bool
 }
 
 /// Whether a record lies within what is asked of its station; where nothing is asked none does.
-fn is_in_window(choice: &Choice, summary: &Summary) -> bool
-    ensures { result ≡ is_in_window_of choice.now.action (facts_of summary.now) }
+fn is_in_window(entry: &Entry, summary: &Summary) -> bool
+    ensures { result ≡ is_in_window_of entry.now.action (facts_of summary.now) }
 {
-    match choice.action {
+    match entry.action {
         None => false,
         Some(
             Action::Data {
@@ -54,18 +56,17 @@ fn is_in_window(choice: &Choice, summary: &Summary) -> bool
     }
 }
 
-/// Whether the request for a named station wants a held record, where `next` is the first arrival that may still be sent.
-fn wants(choice: &Choice, next: u64, held: &Held) -> bool
-    ensures { result ≡ wants_held choice.now next held.now }
+/// Whether the request for the i-th named station wants a held record, where `next` is the first arrival that may still be sent.
+fn wants(session: &Session, i: usize, next: u64, held: &Held) -> bool
+    requires { i < length (chosen_of session.now.mode) }
+    ensures { (c : Choice) → slice_get (chosen_of session.now.mode) i ≡ Some c → result ≡ wants_held c next held.now }
 {
+    let entry = session.choice(i);
+    let summary = &held.summary;
     next <= held.stamp
-        && choice.first <= held.stamp
-        && choice.selectors.passes(
-            &held.summary.location,
-            &held.summary.channel,
-            held.summary.kind,
-        )
-        && is_in_window(choice, &held.summary)
+        && entry.first <= held.stamp
+        && session.passes(i, &summary.location, &summary.channel, summary.kind)
+        && is_in_window(entry, summary)
 }
 
 /// A held record that a request wants: the request's index among the named stations, the place of its station in the configuration,
@@ -79,10 +80,10 @@ pub struct Candidate {
 }
 
 /// Whether a record starts after the end of TIME, where one is asked.
-fn is_after_end(choice: &Choice, summary: &Summary) -> bool
-    ensures { (x : HeldValue) → x.summary ≡ summary.now → result ≡ is_after_end choice.now.action x }
+fn is_after_end(entry: &Entry, summary: &Summary) -> bool
+    ensures { (x : HeldValue) → x.summary ≡ summary.now → result ≡ is_after_end entry.now.action x }
 {
-    match choice.action {
+    match entry.action {
         None => false,
         Some(
             Action::Data {
@@ -122,34 +123,37 @@ enum Found {
     Unwanted,
 }
 
-fn found_at(ring: &Ring, place: u64, choice: &Choice, next: u64) -> Found
-    ensures { (x : HeldValue) → held_at ring.now place ≡ Some x → result ≡ found_of choice.now next x }
+fn found_at(ring: &Ring, place: u64, session: &Session, i: usize, next: u64) -> Found
+    requires { i < length (chosen_of session.now.mode) }
+    ensures { (c : Choice) (x : HeldValue) → slice_get (chosen_of session.now.mode) i ≡ Some c → held_at ring.now place ≡ Some x → result ≡ found_of c next x }
 {
     let Some(held) = ring.get(place) else {
         return Found::Unwanted;
     };
-    if wants(choice, next, held) {
+    if wants(session, i, next, held) {
         Found::Wanted
-    } else if is_after_end(choice, &held.summary) {
+    } else if is_after_end(session.choice(i), &held.summary) {
         Found::AfterEnd
     } else {
         Found::Unwanted
     }
 }
 
-/// How far a request comes that passes what it doesn't want: to the first record from its cursor on that it wants, else to the
+/// How far the request for the i-th named station comes that passes what it doesn't want: to the first record from its cursor on that it wants, else to the
 /// end. A cursor that was overrun goes on at the oldest record.
-pub fn cursor_in(ring: &Ring, choice: &Choice, next: u64) -> Cursor
-    ensures { HasPassed ring.now next choice.now choice.now.cursor → RestsAt ring.now next choice.now result }
+pub fn cursor_in(ring: &Ring, session: &Session, i: usize, next: u64) -> Cursor
+    requires { i < length (chosen_of session.now.mode) }
+    ensures { (c : Choice) → slice_get (chosen_of session.now.mode) i ≡ Some c → HasPassed ring.now next c c.cursor → RestsAt ring.now next c result }
 {
     ring.holds_its_last();
+    let entry = session.choice(i);
     let Some(oldest) = ring.oldest() else {
-        return at_end(ring, choice.cursor.after_end);
+        return at_end(ring, entry.cursor.after_end);
     };
-    let mut after_end = choice.cursor.after_end;
-    let start = choice.cursor.place.max(oldest);
+    let mut after_end = entry.cursor.after_end;
+    let start = entry.cursor.place.max(oldest);
     for place in start..ring.pushes() {
-        match found_at(ring, place, choice, next) {
+        match found_at(ring, place, session, i, next) {
             Found::Wanted => return at_record(ring, place, after_end),
             Found::AfterEnd => after_end = Some(place),
             Found::Unwanted => {}
@@ -205,12 +209,12 @@ fn stamp_at(ring: &Ring, place: u64) -> Option<u64>
 }
 
 /// Whether a record is held that starts after the end of TIME, of a request that has passed all.
-pub fn has_passed_its_end(ring: &Ring, choice: &Choice) -> bool
-    ensures { (next : ℕ) → HasPassed ring.now next choice.now choice.now.cursor → choice.now.cursor.place ≡ ring.now.pushes →
-        result ≡ list_any (is_after_end choice.now.action) ring.now.held }
+pub fn has_passed_its_end(ring: &Ring, entry: &Entry) -> bool
+    ensures { (c : Choice) → entry_of c ≡ entry.now → (next : ℕ) → HasPassed ring.now next c c.cursor → c.cursor.place ≡ ring.now.pushes →
+        result ≡ list_any (is_after_end c.action) ring.now.held }
 {
     ring.holds_its_last();
-    match choice.cursor.after_end {
+    match entry.cursor.after_end {
         Some(place) => is_held(ring, place),
         None => false,
     }

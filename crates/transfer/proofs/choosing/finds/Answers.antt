@@ -1,13 +1,11 @@
-use Rattle.std.proofs.Common.{◌≡◌, ◌∙◌, ap, refl, sym, subst, not, filter_map, false, []}
-use Rattle.std.specs.List.{list_all}
-use Rattle.protocol.specs.History.{is_over}
+use Rattle.std.proofs.Common.{◌≡◌, ◌∙◌, ap, refl, sym, not, false, []}
 use Rattle.protocol.specs.Client.{Client, is_nothing, offered}
 use Rattle.protocol.proofs.Found.{both}
-use Rattle.session_state.specs.Choices.{chosen_of, request_in}
+use Rattle.session_state.specs.Choices.{chosen_of}
 use Rattle.session_state.specs.Sessions.{Sitting, client_in}
 use Rattle.session_state.specs.declared.session.State.TheVariants.{Transfer}
-use Rattle.transfer.specs.Cursors.{ArePassed, IsReached, OfAll, RestsIn}
-use Rattle.transfer.specs.Sleeping.{HasNothing, MoreMayCome, Sleeps}
+use Rattle.transfer.specs.Cursors.{ArePassed, OfAll}
+use Rattle.transfer.specs.Sleeping.{HasNothing, Sleeps}
 use Rattle.transfer.proofs.Beginning.{client-same}
 use Rattle.transfer.proofs.Going.{passed-all, same-passes}
 use Rattle.transfer.proofs.Waits.{all-reached, offers-end, offers-nothing, offers-packet, sleeps-so}
@@ -44,10 +42,9 @@ waitless c = ap (λ (s : Sitting). s.waiting) c.found_next.ensures.same ∙ c.re
 sleeps : (c : goal.After-is_complete) → ArePassed c.args.rings.now c.args.session.now → c.is_complete.result ≡ false → Sleeps c.args.rings.now c.found_next.new.session
 sleeps c passed not_all =
     let rests = c.found_next.ensures.rest (passed-all c.args.rings.now c.args.session.now passed c.in-Transfer.next (sym c.in-Transfer.ensures)) in
-    let lent = subst (OfAll (RestsIn c.args.rings.now c.in-Transfer.next)) (sym c.choices.ensures) rests in
-    let reached = subst (OfAll (IsReached c.args.rings.now)) (sym c.choices.ensures) (all-reached c.args.rings.now c.in-Transfer.next _ (nothing c passed)) in
+    let reached = all-reached c.args.rings.now c.in-Transfer.next _ (nothing c passed) in
     sleeps-so c.args.rings.now c.found_next.new.session c.in-Transfer.next (transferring c) (waitless c) (nothing c passed)
-    (subst (MoreMayCome c.args.rings.now) c.choices.ensures (c.is_complete.ensures.more c.in-Transfer.next lent reached not_all))
+    (c.is_complete.ensures.more _ (sym c.choices.ensures) c.in-Transfer.next rests reached not_all)
 
 pub returns-in-None-clause-sleeps : goal.returns-in-None-clause-sleeps
 returns-in-None-clause-sleeps c = λ transfers passed not_all. sleeps c passed not_all
@@ -57,10 +54,9 @@ returns-in-None-clause-answer c = λ transfers passed config h holds.
     let a = c.found_next.new.session in
     let q = c.in-Transfer.next in
     let rests = c.found_next.ensures.rest (passed-all c.args.rings.now c.args.session.now passed q (sym c.in-Transfer.ensures)) in
-    let lent = subst (OfAll (RestsIn c.args.rings.now q)) (sym c.choices.ensures) rests in
-    let reached = subst (OfAll (IsReached c.args.rings.now)) (sym c.choices.ensures) (all-reached c.args.rings.now q _ (nothing c passed)) in
+    let reached = all-reached c.args.rings.now q _ (nothing c passed) in
     let none = c.in-None.ensures.position (passed-all c.args.rings.now c.args.session.now passed q (sym c.in-Transfer.ensures)) config h holds in
-    let over = c.is_complete.ensures.complete q lent reached config h holds ∙ ap (λ cs. list_all (is_over h) (filter_map (request_in config) cs)) c.choices.ensures in
+    let over = c.is_complete.ensures.complete _ (sym c.choices.ensures) q rests reached config h holds in
     let here : c.is_complete.result ≡ not (is_nothing (offered h (client_in config h a)).waiting) =
     both c.is_complete.result
     (λ y. y ∙ ap not (sym (offers-end config h a q (transferring c) (waitless c) (sym none) (sym over ∙ y))))

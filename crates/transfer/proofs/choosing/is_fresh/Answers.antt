@@ -1,7 +1,7 @@
 use Rattle.std.proofs.Common.{◌∙◌, sym}
-use Rattle.transfer.proofs.Found.{fresh-rests}
+use Rattle.transfer.proofs.EntryLemmas.{fresh-entry}
 use Rattle.transfer.proofs.choosing.is_fresh.Goals as goal
 
 pub returns-in-Some : goal.returns-in-Some
-returns-in-Some c = λ unsent passed.
-    fresh-rests c.args.rings.now c.args.next c.args.choice.now c.in-Some.ring.now (sym c.in-Some.ensures.ring) (c.if-choice-pushes.true ∙ c.pushes.ensures) (sym c.is_unsent.ensures ∙ unsent) passed
+returns-in-Some c = λ unsent x same passed.
+    fresh-entry c.args.rings.now c.args.next x c.in-Some.ring.now c.args.entry.now same (sym c.in-Some.ensures.ring) (c.if-entry-pushes.true ∙ c.pushes.ensures) (sym c.is_unsent.ensures ∙ unsent) passed

@@ -1,7 +1,8 @@
-use Rattle.std.proofs.Common.{subst}
-use Rattle.transfer.specs.Cursors.{OfAll, PassedIn, RestsIn}
+use Rattle.std.proofs.Common.{sym}
 use Rattle.transfer.proofs.choosing.rest.Goals as goal
 
 pub returns-in-Fresh-clause-rest : goal.returns-in-Fresh-clause-rest
-returns-in-Fresh-clause-rest c = λ all.
-    subst (λ cs. OfAll (PassedIn c.args.rings.now c.args.next) cs → OfAll (RestsIn c.args.rings.now c.args.next) cs) c.choices.ensures c.in-Fresh.ensures.rests all
+returns-in-Fresh-clause-rest c = (c.in-Fresh.ensures _ (sym c.choices.ensures)).rests
+
+pub returns-in-Fresh-clause-first : goal.returns-in-Fresh-clause-first
+returns-in-Fresh-clause-first c = (c.in-Fresh.ensures _ (sym c.choices.ensures)).leads

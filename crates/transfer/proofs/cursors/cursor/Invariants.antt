@@ -1,9 +1,9 @@
 use Rattle.std.proofs.Common.{◌≡◌, ◌<◌, drop, length, slice_get}
-use Rattle.transfer.specs.Cursors.{request_cursors}
+use Rattle.transfer.specs.Cursors.{entry_cursors}
 use Rattle.transfer.proofs.cursors.cursor.Given as goal
 
 -- The request that is looked for is among the rest.
-abbrev pub invariant-loop-choice : goal.invariant-loop-choice
-invariant-loop-choice l =
-    (slice_get (request_cursors (drop l.choice-index l.choice-items)) l.left ≡ slice_get (request_cursors l.choice-items) l.i)
-    × (l.left < length (request_cursors (drop l.choice-index l.choice-items)))
+abbrev pub invariant-loop-entry : goal.invariant-loop-entry
+invariant-loop-entry l =
+    (slice_get (entry_cursors (drop l.entry-index l.entry-items)) l.left ≡ slice_get (entry_cursors l.entry-items) l.i)
+    × (l.left < length (entry_cursors (drop l.entry-index l.entry-items)))

@@ -1,17 +1,22 @@
-use Rattle.std.proofs.Common.{◌≡◌, ◌∙◌, ◌<◌, ◌≤◌, arith, length, slice_index_or, subst, ap, sym}
+use Rattle.std.proofs.Common.{◌∙◌, ◌<◌, ◌≤◌, arith, length, subst, ap, sym}
 use Rattle.session_state.specs.Choices.{chosen_of}
 use Rattle.session_state.specs.Sessions.{Sitting}
 use Rattle.transfer.specs.Cursors.{BeginsIn, OfAll}
 use Rattle.transfer.proofs.Beginning.{client-same, starts-passed}
+use Rattle.transfer.proofs.EntryLemmas.{choice-there, item-is}
 use Rattle.transfer.proofs.Keeping.{all-begin, has-firsts, keeps-on, one-begin, one-first}
 use Rattle.transfer.proofs.starting.start.Goals as goal
 
 pub loop-i-preserved : goal.loop-i-preserved
 loop-i-preserved c =
-    let within : c.loop-i.i < length (chosen_of c.loop-i.session.mode) = omega (arith, c.loop-i-test.true, c.loop-i.invariant.2, c.loop-i.invariant.0.count) in (
+    let within : c.loop-i.i < length (chosen_of c.loop-i.session.mode) = omega (arith, c.loop-i-test.true, c.loop-i.invariant.2, c.loop-i.invariant.0.count) in
+    let cs = chosen_of c.loop-i.session.mode in
+    let x = choice-there cs c.loop-i.i within in
+    let entry = sym (c.choice.ensures x.0 x.1) in
+    let item = item-is cs c.loop-i.i x.0 x.1 in (
       keeps-on c.args.rings.now c.loop-i.session c.keep.new.self c.args.session.now c.loop-i.i c.first_of-first.result c.requires c.keep.ensures
-          (one-first c.args.rings.now (chosen_of c.loop-i.session.mode) c.loop-i.i c.first_of-first.result c.index-choices-i.result within (subst (λ cs. c.index-choices-i.result ≡ slice_index_or cs c.loop-i.i c.index-choices-i.result) c.choices.ensures c.index-choices-i.is) c.first_of-first.ensures.first)
-          (one-begin c.args.rings.now (chosen_of c.loop-i.session.mode) c.loop-i.i c.first_of-first.result c.index-choices-i.result within (subst (λ cs. c.index-choices-i.result ≡ slice_index_or cs c.loop-i.i c.index-choices-i.result) c.choices.ensures c.index-choices-i.is) c.first_of-first.ensures.before)
+          (one-first c.args.rings.now cs c.loop-i.i c.first_of-first.result x.0 within item (c.first_of-first.ensures.first x.0 entry))
+          (one-begin c.args.rings.now cs c.loop-i.i c.first_of-first.result x.0 within item (c.first_of-first.ensures.before x.0 entry))
           c.loop-i.invariant.0,
       omega (arith, c.loop-i-test.true),
       c.loop-i.invariant.2,

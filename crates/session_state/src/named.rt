@@ -1,0 +1,296 @@
+//! The stations that a client named, with the selectors of each.
+ghost use Rattle.std.specs.Prelude.{◌≡◌, ◌<◌, ◌∷◌, [], None, Some, IfOk, IfSome, length, map, option_map, slice_get, slice_set, filter_map, is_some, position};
+ghost use Rattle.std.specs.List.{list_any};
+ghost use Rattle.protocol.specs.Catalog.{Config as ProtocolConfig, has_codes};
+ghost use Rattle.protocol.specs.Session.{act_multi, choose_known, choose_station, current_choice, end_with, select_multi, wish_of};
+ghost use Rattle.protocol.specs.Session.Negotiated.{Multi as NegotiatedMulti};
+ghost use Rattle.protocol.specs.Record.{Facts};
+ghost use Rattle.protocol.specs.Pattern.{passes};
+ghost use Rattle.catalog.specs.Places.{station_at};
+ghost use Rattle.session_state.specs.Naming.{Choice, blank, entry_of, begun, choice_of};
+ghost use Rattle.session_state.specs.Choices.{action_value, choices_in, has_action, is_of_station, is_entry_of_station, kept_at, passed_at};
+ghost use Rattle.session_state.specs.Changes.{all_selectors, outcome_after, selecting_in, widened, widening};
+
+use crate::choices::{Action, Cursor, Entry, act_at, keep_at, pass_at, put, replace};
+use crate::modes::Effect;
+use catalog::Config;
+use protocol::record::Kind;
+use selector::{Pool, Selector};
+use std::alloc::{AllocError, Global};
+use std::marker::Model;
+
+/// How many stations a client may name.
+const CAPACITY: usize = 255;
+
+/// The network and station code at a place of the configuration; both are empty where nothing is there.
+fn codes_at(config: &Config, place: usize) -> (&[u8], &[u8])
+    ensures network { result.0.now ≡ (station_at config.now.entries place).network }
+    ensures code { result.1.now ≡ (station_at config.now.entries place).code }
+{
+    match config.stations().get(place) {
+        Some(station) => (station.network(), station.code()),
+        None => (&[], &[]),
+    }
+}
+
+/// Whether the station at a place has the codes of that at another.
+fn is_same_station(config: &Config, named: usize, place: usize) -> bool
+    ensures { result ≡ has_codes (station_at config.now.entries place).network (station_at config.now.entries place).code (station_at config.now.entries named) }
+{
+    let (network, code) = codes_at(config, place);
+    let (other_network, other_code) = codes_at(config, named);
+    other_network == network && other_code == code
+}
+
+/// The place among the entries of the first that is of the station at a place of the configuration.
+fn position_among(entries: &[Entry], config: &Config, place: usize) -> Option<usize>
+    ensures { result ≡ position (is_entry_of_station config.now (station_at config.now.entries place)) entries.now }
+{
+    entries
+        .iter()
+        .position(|entry| is_same_station(config, entry.place, place))
+}
+
+/// Whether some station has an action.
+fn are_asked(entries: &[Entry]) -> bool
+    ensures { result ≡ list_any (λ e. is_some e.action) entries.now }
+{
+    entries.iter().any(|entry| entry.action.is_some())
+}
+
+/// The stations that a client named, each with its selectors, and which of them is the current one. There are at most 255, with 64
+/// selectors each and 1,024 together. Memory for all of them is taken when it is made, and not later.
+#[derive(Drop)]
+pub struct Named {
+    entries: Vec<Entry>,
+    current: Option<usize>,
+    pool: Pool,
+}
+
+impl Model for Named {
+    ghost use Rattle.std.specs.Vec.{vec_capacity};
+    ghost use Rattle.session_state.specs.Naming.{Naming, IsNaming, choices_with};
+
+    ghost Value = { Naming };
+
+    ghost view = { λ n. record { choices = choices_with n.entries.items n.pool; current = n.current } };
+
+    ghost invariant = { λ n. IsNaming n.entries.items n.current n.pool (vec_capacity n.entries) };
+}
+
+impl Named {
+    /// One station, as yet without a place, which is the current one. Only for want of memory this fails.
+    pub fn new(alloc: Global) -> Result<Named, AllocError>
+        ensures { IfOk result (λ n. n ≡ record { choices = blank ∷ []; current = Some 0 }) }
+    {
+        let mut entries = Vec::with_capacity(alloc, CAPACITY)?;
+        let pool = Pool::new(alloc)?;
+        put(&mut entries, 0, None);
+        Ok(Named {
+            entries,
+            current: Some(0),
+            pool,
+        })
+    }
+
+    /// The stations without their selectors, in the order in which they were named.
+    pub fn choices(&self) -> &[Entry]
+        ensures { result.now ≡ map entry_of self.now.choices }
+    {
+        self.entries.as_slice()
+    }
+
+    /// Whether a record with that location, channel and type passes the selectors of the i-th station.
+    pub fn passes(&self, i: usize, location: &[u8; 2], channel: &[u8; 3], kind: Kind) -> bool
+        requires { i < length self.now.choices }
+        ensures { (c : Choice) (x : Facts) → slice_get self.now.choices i ≡ Some c → x.location ≡ location.now → x.channel ≡ channel.now → x.kind ≡ kind →
+            result ≡ passes c.selectors x }
+    {
+        let _ = &self.entries;
+        self.pool.passes(i, location, channel, kind)
+    }
+
+    /// No station, in place of the one that there is.
+    pub fn forget(&mut self)
+        requires { length self.old.choices ≡ 1 }
+        ensures { self.new ≡ record { choices = []; current = None } }
+    {
+        self.pool.clear(0);
+        self.entries.clear();
+        self.current = None;
+    }
+
+    /// What there is of the one station, with a place and an action, while none is the current one.
+    pub fn ask_alone(&mut self, place: usize, action: Action)
+        requires { length self.old.choices ≡ 1 }
+        ensures { (c : Choice) → slice_get self.old.choices 0 ≡ Some c →
+            self.new ≡ record { choices = choice_of (begun place (Some action)) c.selectors ∷ []; current = None } }
+    {
+        let _ = &self.pool;
+        replace(
+            self.entries.as_mut_slice(),
+            0,
+            Entry::new(place, Some(action)),
+        );
+        self.current = None;
+    }
+
+    /// The selectors of the i-th station are taken away.
+    pub fn clear_at(&mut self, i: usize)
+        requires { i < length self.old.choices }
+        ensures { (c : Choice) → slice_get self.old.choices i ≡ Some c →
+            self.new ≡ record self.old { choices = slice_set self.old.choices i (record c { selectors = [] }) } }
+    {
+        let _ = &self.entries;
+        self.pool.clear(i);
+    }
+
+    /// The i-th station has a selector more, where there is room.
+    pub fn add_at(&mut self, i: usize, selector: Selector) -> Effect
+        requires { i < length self.old.choices }
+        ensures new { (c : Choice) → slice_get self.old.choices i ≡ Some c →
+            self.new ≡ record self.old { choices = slice_set self.old.choices i (record c { selectors = widened (all_selectors self.old.choices) c.selectors selector }) } }
+        ensures effect { (c : Choice) → slice_get self.old.choices i ≡ Some c → result ≡ widening (all_selectors self.old.choices) c.selectors }
+    {
+        let _ = &self.entries;
+        match self.pool.add(i, selector) {
+            Ok(()) => Effect::Done,
+            Err(_) => Effect::Refused,
+        }
+    }
+
+    fn set_current(&mut self, current: Option<usize>)
+        requires { IfSome current (λ i. i < length self.old.choices) }
+        ensures { self.new ≡ record self.old { current = current } }
+    {
+        let _ = &self.entries;
+        self.current = current;
+    }
+
+    /// A station that was not named before becomes the current one, where there is room.
+    fn add(&mut self, place: usize) -> Effect
+        ensures { (config : ProtocolConfig) → outcome_after result (NegotiatedMulti (choices_in config self.new.choices) self.new.current)
+            ≡ choose_known (station_at config.entries place) (choices_in config self.old.choices) None }
+    {
+        let i = self.entries.len();
+        if i >= CAPACITY {
+            self.current = None;
+            return Effect::Refused;
+        }
+        put(&mut self.entries, place, None);
+        self.current = Some(i);
+        Effect::Done
+    }
+
+    /// The place among the stations of the first that is the station at a place of the configuration.
+    fn position_of(&self, config: &Config, place: usize) -> Option<usize>
+        ensures { result ≡ position (is_of_station config.now (station_at config.now.entries place)) self.now.choices }
+    {
+        position_among(self.choices(), config, place)
+    }
+
+    /// The station, where one was found, becomes the current one; else none is.
+    #[tactic(auto, using(crate::proofs::Choosing::naming_lemmas))]
+    pub fn name(&mut self, config: &Config, found: Option<usize>) -> Effect
+        ensures { outcome_after result (NegotiatedMulti (choices_in config.now self.new.choices) self.new.current)
+            ≡ choose_station (choices_in config.now self.old.choices) (option_map (station_at config.now.entries) found) }
+    {
+        let Some(place) = found else {
+            self.set_current(None);
+            return Effect::Refused;
+        };
+        match self.position_of(config, place) {
+            Some(i) => {
+                self.set_current(Some(i));
+                Effect::Done
+            }
+            None => self.add(place),
+        }
+    }
+
+    /// The current station's selectors are taken away.
+    pub fn clear(&mut self) -> Effect
+        ensures { (config : ProtocolConfig) → outcome_after result (NegotiatedMulti (choices_in config self.new.choices) self.new.current)
+            ≡ select_multi (choices_in config self.old.choices) self.old.current None (current_choice (choices_in config self.old.choices) self.old.current) }
+    {
+        match self.current {
+            Some(i) => {
+                self.clear_at(i);
+                Effect::Done
+            }
+            None => Effect::Refused,
+        }
+    }
+
+    /// The current station has a selector more, where there is room.
+    pub fn add_selector(&mut self, selector: Selector) -> Effect
+        ensures { (config : ProtocolConfig) → outcome_after result (NegotiatedMulti (choices_in config self.new.choices) self.new.current)
+            ≡ selecting_in (choices_in config self.old.choices) self.old.current (Some selector) (current_choice (choices_in config self.old.choices) self.old.current) }
+    {
+        match self.current {
+            Some(i) => self.add_at(i, selector),
+            None => Effect::Refused,
+        }
+    }
+
+    /// The i-th station's action, in place of an earlier one.
+    fn act_for(&mut self, i: usize, action: Action)
+        requires { i < length self.old.choices }
+        ensures { (c : Choice) → slice_get self.old.choices i ≡ Some c →
+            self.new ≡ record self.old { choices = slice_set self.old.choices i (record c { action = Some action }) } }
+    {
+        let _ = &self.pool;
+        act_at(self.entries.as_mut_slice(), i, action);
+    }
+
+    /// The current station's action, in place of an earlier one.
+    pub fn act(&mut self, action: Action) -> Effect
+        ensures { (config : ProtocolConfig) → outcome_after result (NegotiatedMulti (choices_in config self.new.choices) self.new.current)
+            ≡ act_multi (choices_in config self.old.choices) self.old.current (action_value action) (current_choice (choices_in config self.old.choices) self.old.current) }
+    {
+        match self.current {
+            Some(i) => {
+                self.act_for(i, action);
+                Effect::Done
+            }
+            None => Effect::Refused,
+        }
+    }
+
+    /// Whether some station has an action.
+    fn is_asked(&self) -> bool
+        ensures { result ≡ list_any has_action self.now.choices }
+    {
+        are_asked(self.choices())
+    }
+
+    /// A transfer starts where a station has an action.
+    pub fn finish(&self) -> Effect
+        ensures { (config : ProtocolConfig) → outcome_after result (NegotiatedMulti (choices_in config self.now.choices) self.now.current)
+            ≡ end_with (choices_in config self.now.choices) self.now.current (filter_map wish_of (choices_in config self.now.choices)) }
+    {
+        if self.is_asked() {
+            Effect::Starts
+        } else {
+            Effect::Refused
+        }
+    }
+
+    /// Keeps from which arrival on the i-th station's records are wanted.
+    pub fn keep(&mut self, i: usize, first: u64)
+        requires { i < length self.old.choices }
+        ensures { self.new ≡ record self.old { choices = kept_at i first self.old.choices (slice_get self.old.choices i) } }
+    {
+        let _ = &self.pool;
+        keep_at(self.entries.as_mut_slice(), i, first);
+    }
+
+    /// Keeps how far the transfer has come in the ring of the i-th station.
+    pub fn pass(&mut self, i: usize, cursor: Cursor)
+        requires { i < length self.old.choices }
+        ensures { self.new ≡ record self.old { choices = passed_at i cursor self.old.choices (slice_get self.old.choices i) } }
+    {
+        let _ = &self.pool;
+        pass_at(self.entries.as_mut_slice(), i, cursor);
+    }
+}

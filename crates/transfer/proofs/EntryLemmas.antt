@@ -1,0 +1,53 @@
+-- The named stations behind the entries that a session lends.
+use Rattle.std.proofs.Common.{◌≡◌, ℕ, ◌<◌, zero, suc, true, List, [], ◌∷◌, length, map, get_or, slice_get, slice_index_or, Some, unwrap_or, refl, sym, ap, subst, ◌∙◌, arith}
+use Rattle.station_ring.specs.Rings.{Holding}
+use Rattle.held_records.specs.Holdings.{Holdings}
+use Rattle.session_state.specs.declared.choices.Entry.{Entry}
+use Rattle.session_state.specs.Naming.{Choice, entry_of}
+use Rattle.transfer.specs.Cursors.{PassedIn, RestsIn}
+use Rattle.transfer.specs.Firsts.{is_unsent}
+use Rattle.transfer.proofs.Found.{fresh-rests}
+
+-- A named station stands at that place, and has that entry.
+pub record IsEntryAt (cs : List Choice) (i : ℕ) (e : Entry) : Type 0 where
+  pub choice : Choice
+  pub there : slice_get cs i ≡ Some choice
+  pub entry : entry_of choice ≡ e
+  pub item : choice ≡ get_or cs i choice
+  pub within : i < length cs
+
+entry-in : (cs : List Choice) (i : ℕ) (e : Entry) → i < length (map entry_of cs) → e ≡ slice_index_or (map entry_of cs) i e → IsEntryAt cs i e
+entry-in [] i e low is = absurd (omega arith)
+entry-in (c ∷ cs) zero e low is = record { choice = c; there = refl; entry = sym is; item = refl; within = omega arith }
+entry-in (c ∷ cs) (suc i) e low is =
+    let later = entry-in cs i e (omega arith) is in
+    let within : i < length cs = later.within in
+    record { choice = later.choice; there = later.there; entry = later.entry; item = later.item; within = omega (arith, within) }
+
+pub entry-at : (cs : List Choice) (es : List Entry) (i : ℕ) (e : Entry) → map entry_of cs ≡ es → i < length es → e ≡ slice_index_or es i e → IsEntryAt cs i e
+entry-at cs es i e same low is =
+    entry-in cs i e (subst (λ xs. i < length xs) (sym same) low) (subst (λ xs. e ≡ slice_index_or xs i e) (sym same) is)
+
+length-entries : (cs : List Choice) → length (map entry_of cs) ≡ length cs
+length-entries [] = refl
+length-entries (c ∷ cs) = ap suc (length-entries cs)
+
+pub same-length : (cs : List Choice) (es : List Entry) → map entry_of cs ≡ es → length cs ≡ length es
+same-length cs es same = sym (length-entries cs) ∙ ap length same
+
+-- a named station that is there
+pub choice-there : (cs : List Choice) (i : ℕ) → i < length cs → (c : Choice) × (slice_get cs i ≡ Some c)
+choice-there [] i h = absurd (omega arith)
+choice-there (c ∷ cs) zero h = (c, refl)
+choice-there (c ∷ cs) (suc i) h = choice-there cs i (omega arith)
+
+pub item-is : (cs : List Choice) (i : ℕ) (c : Choice) → slice_get cs i ≡ Some c → c ≡ get_or cs i c
+item-is [] i c e = absurd cc
+item-is (x ∷ cs) zero c e = sym (ap (λ o. unwrap_or o c) e)
+item-is (x ∷ cs) (suc i) c e = item-is cs i c e
+
+-- What a fresh entry tells of its station.
+pub fresh-entry : (rings : Holdings) (next : ℕ) (c : Choice) (r : Holding) (e : Entry) → entry_of c ≡ e → slice_get rings.rings e.place ≡ Some r → e.cursor.seen ≡ r.pushes → is_unsent next e.cursor.ahead ≡ true → PassedIn rings next c → RestsIn rings next c
+fresh-entry rings next c r e same =
+    subst (λ (y : Entry). slice_get rings.rings y.place ≡ Some r → y.cursor.seen ≡ r.pushes → is_unsent next y.cursor.ahead ≡ true → PassedIn rings next c → RestsIn rings next c) same
+    (fresh-rests rings next c r)
