@@ -1,13 +1,14 @@
 -- Rows of bits that are written one after the other.
-use Rattle.std.proofs.Common.{◌≡◌, ℕ, zero, suc, ◌+◌, ◌<◌, ◌≤◌, ◌==◌, ◌||◌, ◌&&◌, Bool, true, false, List, [], ◌∷◌, Option, Some, length, drop, slice_get, slice_set, slice_index_or, refl, sym, ap, ap₂, subst, ◌∙◌, arith, eqb-true}
+use Rattle.std.proofs.Common.{map, ◌≡◌, ℕ, zero, suc, ◌+◌, ◌<◌, ◌≤◌, ◌==◌, ◌||◌, ◌&&◌, Bool, true, false, List, [], ◌∷◌, Option, Some, length, drop, slice_get, slice_set, slice_index_or, refl, sym, ap, ap₂, subst, ◌∙◌, arith, eqb-true}
 use Rattle.std.specs.Prelude.{◌≢◌, is_some}
 use Rattle.std.proofs.lemmas.Bool.{eqb-false}
 use Rattle.std.proofs.lemmas.List.{drop_more}
 use Rattle.protocol.proofs.Found.{both}
 use Rattle.slot_rows.specs.declared.row.Row.{Row}
 use Rattle.slot_rows.specs.Rows.{bit_of, HasRoom}
-use Rattle.session_state.specs.Naming.{Choice}
-use Rattle.server_core.specs.Marks.{Elsewhere, KeepsRows, RoomBy, asked, bit_by}
+use Rattle.session_state.specs.declared.choices.Entry.{Entry}
+use Rattle.session_state.specs.Naming.{Choice, entry_of}
+use Rattle.server_core.specs.Marks.{Elsewhere, KeepsRows, RoomBy, asked, asked_of, bit_by}
 
 -- ---- one row is written
 
@@ -66,39 +67,39 @@ bit-here now place slot new lt = ap (λ (o : Option Row). bit_by o slot) (set-he
 pub bit-there : (now : List Row) (place other slot : ℕ) (new : Row) → other ≢ place → bit_by (slice_get (slice_set now place new) other) slot ≡ bit_by (slice_get now other) slot
 bit-there now place other slot new apart = ap (λ (o : Option Row). bit_by o slot) (set-there now place other new apart)
 
--- ---- what is asked of stations
+-- ---- what is asked_of of stations
 
 -- a request and those after it
-asked-on : (cs : List Choice) (i place : ℕ) (c d : Choice) → i < length cs → c ≡ slice_index_or cs i d → asked place (drop i cs) ≡ ((is_some c.action && c.place == place) || asked place (drop (i + 1) cs))
-asked-on cs i place c d lt is = ap (asked place) (drop_more cs i d lt) ∙ ap (λ (x : Choice). asked place (x ∷ drop (i + 1) cs)) (sym is)
+asked-on : (cs : List Entry) (i place : ℕ) (c d : Entry) → i < length cs → c ≡ slice_index_or cs i d → asked_of place (drop i cs) ≡ ((is_some c.action && c.place == place) || asked_of place (drop (i + 1) cs))
+asked-on cs i place c d lt is = ap (asked_of place) (drop_more cs i d lt) ∙ ap (λ (x : Entry). asked_of place (x ∷ drop (i + 1) cs)) (sym is)
 
 true-or : (a b : Bool) → b ≡ true → (a || b) ≡ true
 true-or true b e = refl
 true-or false b e = e
 
--- A bit that is set is one that was asked for.
-pub set-asked : (cs : List Choice) (i place : ℕ) (c d : Choice) (before now : Bool) → i < length cs → c ≡ slice_index_or cs i d → is_some c.action ≡ true → (place ≡ c.place → now ≡ true) → (place ≢ c.place → now ≡ before) →
-    (now || asked place (drop (i + 1) cs)) ≡ (before || asked place (drop i cs))
+-- A bit that is set is one that was asked_of for.
+pub set-asked : (cs : List Entry) (i place : ℕ) (c d : Entry) (before now : Bool) → i < length cs → c ≡ slice_index_or cs i d → is_some c.action ≡ true → (place ≡ c.place → now ≡ true) → (place ≢ c.place → now ≡ before) →
+    (now || asked_of place (drop (i + 1) cs)) ≡ (before || asked_of place (drop i cs))
 set-asked cs i place c d before now lt is acts here there =
     both (c.place == place)
-    (λ yes. ap (λ (b : Bool). b || asked place (drop (i + 1) cs)) (here (sym (eqb-true c.place place yes)))
-    ∙ sym (true-or before (asked place (drop i cs))
-    (asked-on cs i place c d lt is ∙ ap₂ (λ (a b : Bool). (a && b) || asked place (drop (i + 1) cs)) acts yes)))
+    (λ yes. ap (λ (b : Bool). b || asked_of place (drop (i + 1) cs)) (here (sym (eqb-true c.place place yes)))
+    ∙ sym (true-or before (asked_of place (drop i cs))
+    (asked-on cs i place c d lt is ∙ ap₂ (λ (a b : Bool). (a && b) || asked_of place (drop (i + 1) cs)) acts yes)))
     (λ no. ap₂ (λ (a b : Bool). a || b) (there (λ e. eqb-false c.place place no (sym e)))
-    (sym (asked-on cs i place c d lt is ∙ ap₂ (λ (a b : Bool). (a && b) || asked place (drop (i + 1) cs)) acts no)))
+    (sym (asked-on cs i place c d lt is ∙ ap₂ (λ (a b : Bool). (a && b) || asked_of place (drop (i + 1) cs)) acts no)))
 
--- A bit of which nothing is asked is kept.
-pub kept-asked : (cs : List Choice) (i place : ℕ) (c d : Choice) (before : Bool) → i < length cs → c ≡ slice_index_or cs i d → (is_some c.action && c.place == place) ≡ false →
-    (before || asked place (drop (i + 1) cs)) ≡ (before || asked place (drop i cs))
-kept-asked cs i place c d before lt is none = ap (λ (b : Bool). before || b) (sym (asked-on cs i place c d lt is ∙ ap (λ (b : Bool). b || asked place (drop (i + 1) cs)) none))
+-- A bit of which nothing is asked_of is kept.
+pub kept-asked : (cs : List Entry) (i place : ℕ) (c d : Entry) (before : Bool) → i < length cs → c ≡ slice_index_or cs i d → (is_some c.action && c.place == place) ≡ false →
+    (before || asked_of place (drop (i + 1) cs)) ≡ (before || asked_of place (drop i cs))
+kept-asked cs i place c d before lt is none = ap (λ (b : Bool). before || b) (sym (asked-on cs i place c d lt is ∙ ap (λ (b : Bool). b || asked_of place (drop (i + 1) cs)) none))
 
 -- ---- the requests before one have their bits
 
-pub record Adds (slot : ℕ) (cs : List Choice) (i : ℕ) (before now : List Row) : Type 0 where
+pub record Adds (slot : ℕ) (cs : List Entry) (i : ℕ) (before now : List Row) : Type 0 where
   pub kept : KeepsRows (Elsewhere slot) before now
-  pub added : (place : ℕ) → place < length now → (bit_by (slice_get now place) slot || asked place (drop i cs)) ≡ (bit_by (slice_get before place) slot || asked place cs)
+  pub added : (place : ℕ) → place < length now → (bit_by (slice_get now place) slot || asked_of place (drop i cs)) ≡ (bit_by (slice_get before place) slot || asked_of place cs)
 
-module _ (slot : ℕ) (cs : List Choice) (i : ℕ) (before now : List Row) (c d : Choice) (lt : i < length cs) (is : c ≡ slice_index_or cs i d) (adds : Adds slot cs i before now) where
+module _ (slot : ℕ) (cs : List Entry) (i : ℕ) (before now : List Row) (c d : Entry) (lt : i < length cs) (is : c ≡ slice_index_or cs i d) (adds : Adds slot cs i before now) where
   pub adds-set : (old new : Row) → is_some c.action ≡ true → c.place < length now → slice_get now c.place ≡ Some old → bit_of new slot ≡ true → Writes (Elsewhere slot) old new → Adds slot cs (i + 1) before (slice_set now c.place new)
   adds-set old new acts inside there here writes = record {
     kept = keeps-on (Elsewhere slot) before now c.place old new there inside writes adds.kept;
@@ -127,12 +128,17 @@ or-false true b e = refl
 or-false false b e = e
 
 -- At the end all are added.
-pub adds-all : (slot : ℕ) (cs : List Choice) (i : ℕ) (before now : List Row) → length cs ≤ i → Adds slot cs i before now → (place : ℕ) → place < length now → bit_by (slice_get now place) slot ≡ (bit_by (slice_get before place) slot || asked place cs)
+pub adds-all : (slot : ℕ) (cs : List Entry) (i : ℕ) (before now : List Row) → length cs ≤ i → Adds slot cs i before now → (place : ℕ) → place < length now → bit_by (slice_get now place) slot ≡ (bit_by (slice_get before place) slot || asked_of place cs)
 adds-all slot cs i before now le adds place within =
-    sym (or-false (bit_by (slice_get now place) slot) (asked place (drop i cs)) (ap (asked place) (all-dropped cs i le))) ∙ adds.added place within
+    sym (or-false (bit_by (slice_get now place) slot) (asked_of place (drop i cs)) (ap (asked_of place) (all-dropped cs i le))) ∙ adds.added place within
   where
-    all-dropped : (xs : List Choice) (n : ℕ) → length xs ≤ n → drop n xs ≡ []
+    all-dropped : (xs : List Entry) (n : ℕ) → length xs ≤ n → drop n xs ≡ []
     all-dropped [] zero le = refl
     all-dropped [] (suc n) le = refl
     all-dropped (x ∷ xs) zero le = absurd (omega (arith, le))
     all-dropped (x ∷ xs) (suc n) le = all-dropped xs n (omega (arith, le))
+
+-- what is asked for by the entries that a session lends
+pub asked_entries : (place : ℕ) (cs : List Choice) → asked_of place (map entry_of cs) ≡ asked place cs
+asked_entries place [] = refl
+asked_entries place (c ∷ cs) = ap (λ (b : Bool). (is_some c.action && c.place == place) || b) (asked_entries place cs)

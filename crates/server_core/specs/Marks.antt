@@ -7,6 +7,7 @@ use Rattle.slot_rows.specs.declared.row.Row.{Row}
 use Rattle.slot_rows.specs.Rows.{bit_of, HasRoom}
 use Rattle.protocol.specs.Catalog.{Config, listing}
 use Rattle.held_records.specs.Holdings.{Holdings}
+use Rattle.session_state.specs.declared.choices.Entry.{Entry}
 use Rattle.session_state.specs.Naming.{Choice}
 use Rattle.session_state.specs.declared.session.State.{State}
 use Rattle.session_state.specs.declared.session.State.TheVariants.{Negotiating, Listing, Starting, Transfer, Ending}
@@ -27,6 +28,10 @@ use Rattle.server_core.specs.Standing.{Serving, mark_at}
 -- Something is asked of the station at a place.
 abbrev pub asked : ℕ → List Choice → Bool
 asked place choices = list_any (λ c. is_some c.action && c.place == place) choices
+
+-- the same of entries
+abbrev pub asked_of : ℕ → List Entry → Bool
+asked_of place entries = list_any (λ e. is_some e.action && e.place == place) entries
 
 -- The session is in a transfer with a request for the station at a place.
 abbrev pub asks : ℕ → Sitting → Bool

@@ -96,7 +96,7 @@ impl Marks {
     {
         match settled {
             Settled::Rest => {}
-            Settled::Start => requests::keep(self.rows.as_mut_slice(), slot, session.choices()),
+            Settled::Start => requests::keep(self.rows.as_mut_slice(), slot, session),
         }
         self.sending.put(slot, is_sending(session));
         self.marked.set(slot);

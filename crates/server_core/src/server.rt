@@ -85,8 +85,9 @@ impl Server {
         ensures err { OnErr result (self.new ≡ self.old) }
     {
         let view = self.config.view(alloc, address)?;
+        let session = Session::new(alloc, view)?;
         self.marks.reserve(self.clients.next_slot())?;
-        let number = self.clients.open(Session::new(view), address)?;
+        let number = self.clients.open(session, address)?;
         Ok(Client::new(number))
     }
 

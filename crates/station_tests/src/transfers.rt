@@ -339,7 +339,7 @@ fn a_choice_tells_what_waits(rt: HostRuntime) -> Result<(), Fail> {
 /// The cursor of the first named station, where it is asked for something.
 fn first_cursor(session: &Session) -> Option<u64> {
     match session.choices().first() {
-        Some(choice) if choice.action.is_some() => Some(cursor(session, 0)),
+        Some(entry) if entry.action.is_some() => Some(cursor(session, 0)),
         _ => None,
     }
 }

@@ -1,8 +1,9 @@
 //! The rows of the stations: who asks for which.
 ghost use Rattle.std.specs.Prelude.{◌≡◌, ◌<◌, ◌||◌, ℕ, length, slice_get, false, IfOk, OnOk};
-ghost use Rattle.server_core.specs.Marks.{Anywhere, Elsewhere, KeepsRows, RoomBy, asked, bit_by};
+ghost use Rattle.session_state.specs.Choices.{chosen_of};
+ghost use Rattle.server_core.specs.Marks.{Anywhere, Elsewhere, KeepsRows, RoomBy, asked, asked_of, bit_by};
 
-use session_state::Choice;
+use session_state::{Entry, Session};
 use slot_rows::Row;
 use std::alloc::{AllocError, Global};
 
@@ -39,10 +40,10 @@ fn clear(rows: &mut [Row], slot: usize)
 }
 
 /// Sets a slot's bit in the row of each station for which something is asked.
-fn add(rows: &mut [Row], slot: usize, choices: &[Choice])
+fn add(rows: &mut [Row], slot: usize, choices: &[Entry])
     requires { (place : ℕ) → RoomBy (slice_get rows.old place) slot }
     ensures added { (place : ℕ) → place < length rows.new → bit_by (slice_get rows.new place) slot
-        ≡ (bit_by (slice_get rows.old place) slot || asked place choices.now) }
+        ≡ (bit_by (slice_get rows.old place) slot || asked_of place choices.now) }
     ensures kept { KeepsRows (Elsewhere slot) rows.old rows.new }
 {
     for choice in choices {
@@ -52,13 +53,14 @@ fn add(rows: &mut [Row], slot: usize, choices: &[Choice])
     }
 }
 
-/// A slot's bit is set in the rows of the stations for which something is asked, and in no other row.
-pub fn keep(rows: &mut [Row], slot: usize, choices: &[Choice])
+/// A slot's bit is set in the rows of the stations for which a session asks something, and in no other row.
+#[tactic(auto, using(crate::proofs::Rows::asked_entries))]
+pub fn keep(rows: &mut [Row], slot: usize, session: &Session)
     requires { (place : ℕ) → RoomBy (slice_get rows.old place) slot }
     ensures asked { (place : ℕ) → place < length rows.new →
-        bit_by (slice_get rows.new place) slot ≡ asked place choices.now }
+        bit_by (slice_get rows.new place) slot ≡ asked place (chosen_of session.now.mode) }
     ensures kept { KeepsRows (Elsewhere slot) rows.old rows.new }
 {
     clear(rows, slot);
-    add(rows, slot, choices);
+    add(rows, slot, session.choices());
 }

@@ -35,7 +35,7 @@ returns-in_err-reserve-clause-err c =
 
 pub invariant_of-self-in_err-number : goal.invariant_of-self-in_err-number
 invariant_of-self-in_err-number c =
-    let settled : IsSettled c.self.inside.config c.self.inside.rings c.new.result = record { places = subst (λ (p : List ℕ). All (IsPlace c.self.inside.config) p) (sym c.new.ensures.places) c.in_ok-view.ensures.places; started = c.new.ensures.settled; passed = none-passed c.self.inside.rings c.new.result (λ next e. absurd (let t : Negotiating ≡ Transfer next = sym c.new.ensures.negotiates ∙ e in cc)) } in (
+    let settled : IsSettled c.self.inside.config c.self.inside.rings c.in_ok-session.session = record { places = subst (λ (p : List ℕ). All (IsPlace c.self.inside.config) p) (sym c.in_ok-session.ensures.places) c.in_ok-view.ensures.places; started = c.in_ok-session.ensures.settled; passed = none-passed c.self.inside.rings c.in_ok-session.session (λ next e. absurd (let t : Negotiating ≡ Transfer next = sym c.in_ok-session.ensures.negotiates ∙ e in cc)) } in (
       c.open.ensures.table,
       c.open.ensures.settled c.self.inside.config c.self.inside.rings c.self.invariant.1 settled,
       c.self.invariant.2,
@@ -60,34 +60,34 @@ returns-in_err-number-clause-err c =
 
 pub invariant_of-self-2 : goal.invariant_of-self-2
 invariant_of-self-2 c =
-    let settled : IsSettled c.self.inside.config c.self.inside.rings c.new.result = record { places = subst (λ (p : List ℕ). All (IsPlace c.self.inside.config) p) (sym c.new.ensures.places) c.in_ok-view.ensures.places; started = c.new.ensures.settled; passed = none-passed c.self.inside.rings c.new.result (λ next e. absurd (let t : Negotiating ≡ Transfer next = sym c.new.ensures.negotiates ∙ e in cc)) } in (
+    let settled : IsSettled c.self.inside.config c.self.inside.rings c.in_ok-session.session = record { places = subst (λ (p : List ℕ). All (IsPlace c.self.inside.config) p) (sym c.in_ok-session.ensures.places) c.in_ok-view.ensures.places; started = c.in_ok-session.ensures.settled; passed = none-passed c.self.inside.rings c.in_ok-session.session (λ next e. absurd (let t : Negotiating ≡ Transfer next = sym c.in_ok-session.ensures.negotiates ∙ e in cc)) } in (
       c.open.ensures.table,
       c.open.ensures.settled c.self.inside.config c.self.inside.rings c.self.invariant.1 settled,
       c.self.invariant.2,
-      marked-opens c.self.inside.config c.self.inside.rings c.reserve.new.self c.self.inside.clients.slots c.open.new.self.slots c.self.inside.clients.slots.vacant_key c.new.result
+      marked-opens c.self.inside.config c.self.inside.rings c.reserve.new.self c.self.inside.clients.slots c.open.new.self.slots c.self.inside.clients.slots.vacant_key c.in_ok-session.session
           (marked-roomier c.self.inside.config c.self.inside.rings c.self.inside.marks c.reserve.new.self c.self.inside.clients.slots c.reserve.ensures.kept c.self.invariant.3)
-          c.in_ok-number.ensures.vacant (subst (HasRooms c.reserve.new.self) c.next_slot.ensures c.in_ok-reserve.ensures.room) c.new.ensures.negotiates
-          (ap (λ (x : Client). x.waiting) (c.new.ensures.client c.self.inside.config [])) c.in_ok-number.ensures.slots,
+          c.in_ok-number.ensures.vacant (subst (HasRooms c.reserve.new.self) c.next_slot.ensures c.in_ok-reserve.ensures.room) c.in_ok-session.ensures.negotiates
+          (ap (λ (x : Client). x.waiting) (c.in_ok-session.ensures.client c.self.inside.config [])) c.in_ok-number.ensures.slots,
       c.reserve.ensures.kept.rows.count ∙ c.self.invariant.4,
       c.self.invariant.5,
-      current-same c.self.inside.config (sessions_of c.self.inside.clients ++ Some c.new.result ∷ [])
+      current-same c.self.inside.config (sessions_of c.self.inside.clients ++ Some c.in_ok-session.session ∷ [])
           (sessions_of c.open.new.self) (addresses_of c.self.inside.clients ++ Some (ipv4_bits c.args.address) ∷ [])
           (addresses_of c.open.new.self)
           c.in_ok-number.ensures.opened c.in_ok-number.ensures.came
           (current-opens c.self.inside.config (sessions_of c.self.inside.clients) (addresses_of c.self.inside.clients)
-          c.new.result (ipv4_bits c.args.address)
+          c.in_ok-session.session (ipv4_bits c.args.address)
           (sessions-counted c.self.inside.clients ∙ sym (addresses-counted c.self.inside.clients))
-          (current-new c.self.inside.config (ipv4_bits c.args.address) c.new.result
-          (ap (λ p. view_in c.self.inside.config p) c.new.ensures.places ∙ c.in_ok-view.ensures.view))
+          (current-new c.self.inside.config (ipv4_bits c.args.address) c.in_ok-session.session
+          (ap (λ p. view_in c.self.inside.config p) c.in_ok-session.ensures.places ∙ c.in_ok-view.ensures.view))
           c.self.invariant.6),
     )
 
 pub returns-clause-ok : goal.returns-clause-ok
 returns-clause-ok c = λ config w stands.
     with-marks _ (marks_of c.open.new.self c.reserve.new.self) config _
-    (open-stands (serving c.self.inside.config c.self.inside.rings c.self.inside.clients) (serving c.self.inside.config c.self.inside.rings c.open.new.self) c.new.result (ipv4_bits c.args.address) refl refl c.in_ok-number.ensures.opened c.in_ok-number.ensures.came
+    (open-stands (serving c.self.inside.config c.self.inside.rings c.self.inside.clients) (serving c.self.inside.config c.self.inside.rings c.open.new.self) c.in_ok-session.session (ipv4_bits c.args.address) refl refl c.in_ok-number.ensures.opened c.in_ok-number.ensures.came
     (addresses-counted c.self.inside.clients ∙ sym (sessions-counted c.self.inside.clients))
-    (ap (λ p. view_in c.self.inside.config p) c.new.ensures.places ∙ c.in_ok-view.ensures.view) (c.new.ensures.client c.self.inside.config) config w
+    (ap (λ p. view_in c.self.inside.config p) c.in_ok-session.ensures.places ∙ c.in_ok-view.ensures.view) (c.in_ok-session.ensures.client c.self.inside.config) config w
     (found c.self.inside.config c.self.inside.rings c.self.inside.clients c.self.inside.clients (marks_of c.self.inside.clients c.self.inside.marks) c.args.self.now config w c.self.view_is refl refl stands))
 
 pub returns-clause-number : goal.returns-clause-number
