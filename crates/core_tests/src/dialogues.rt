@@ -8,6 +8,7 @@ use test_centre::CENTRE;
 
 mod arrivals;
 mod commands;
+mod limits;
 mod marks;
 mod reloads;
 mod stations;

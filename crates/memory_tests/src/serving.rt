@@ -70,12 +70,30 @@ pub fn server(alloc: Global) -> Result<Trial, Fault> {
     }
 }
 
-/// Whether a client that came before a refused one is served, and the next one has the number of the refused one and sees what
-/// it may.
+/// What a client is answered that comes after a refused one: it may ask for patterns, and sees what it may.
+static NEXT: [(&[u8], &[u8]); 5] = [
+    (b"HELLO\r", GREETING),
+    (b"SELECT BHZ\r", b"OK\r\n"),
+    (b"STATION APE GE\r", b"ERROR\r\n"),
+    (b"STATION WLF GE\r", b"OK\r\n"),
+    (b"SELECT BHZ\r", b"OK\r\n"),
+];
+
+/// Whether a client is answered so.
+fn is_answered(server: &mut Server, client: Client) -> Result<bool, Fault> {
+    let mut is_right = true;
+    for (line, answer) in NEXT.iter() {
+        server.receive(client, line)?;
+        is_right = takes(server, client, answer)? && is_right;
+    }
+    Ok(is_right)
+}
+
+/// Whether a client that came before a refused one is served, and the next one has the number of the refused one and is answered
+/// as any other.
 fn is_unharmed(server: &mut Server, first: Client, next: Client) -> Result<bool, Fault> {
-    let is_right = next.number() == 1 && is_greeted(server, first)? && is_greeted(server, next)?;
-    server.receive(next, b"STATION APE GE\r")?;
-    Ok(is_right && takes(server, next, b"ERROR\r\n")? && is_served(server, first)?)
+    let is_right = next.number() == 1 && is_greeted(server, first)? && is_answered(server, next)?;
+    Ok(is_right && is_served(server, first)?)
 }
 
 /// A second client opens. Where it is refused, the next one has its number, and the first one is served all the same.

@@ -5,6 +5,7 @@
 pub mod draws;
 pub mod history;
 pub mod lines;
+pub mod many;
 pub mod moments;
 pub mod patterns;
 pub mod plain;

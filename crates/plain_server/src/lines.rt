@@ -14,6 +14,9 @@ static ODD_PATTERNS: [&[u8]; 20] = [
     b"0BHZ", b"000BHZ", b"HH-", b"B.Z", b"!!HZ", b"BH\xff", b"?", b"B?Z.?",
 ];
 
+/// Patterns of which a client asks for many.
+static CHANNELS: [&[u8]; 6] = [b"BH?", b"BH?", b"BHZ", b"LHZ", b"!HH?", b"!E"];
+
 static NUMBERS: [&[u8]; 20] = [
     b"000000", b"0", b"1", b"2", b"3", b"4", b"FFFFFC", b"FFFFFD", b"FFFFFE", b"FFFFFF", b"fffffe",
     b"ffffff", b"1F", b"20", b"FE", b"FF", b"100", b"21", b"x", b"0000000",
@@ -164,11 +167,10 @@ pub fn request(
         put(draws, named, out)?;
     }
     for _ in 0..draws.below(3) {
-        let wanted = pattern(draws);
-        put(draws, [b"SELECT", wanted, b""], out)?;
+        let one = pattern(draws);
+        put(draws, [b"SELECT", one, b""], out)?;
     }
-    let asked = action(draws);
-    put(draws, asked, out)
+    wanted(draws, out)
 }
 
 /// The end of a negotiation.
@@ -176,13 +178,38 @@ pub fn end(draws: &mut Draws, out: &mut Vec<u8>) -> Result<(), AllocError> {
     put(draws, [b"END", b"", b""], out)
 }
 
-/// Many bytes: sixteen patterns and one more, or a line that is too long, or nearly so.
+/// So many SELECTs of one pattern, and one of another. With 64 of them these are at most 800 bytes.
+pub fn patterns(draws: &mut Draws, count: usize, out: &mut Vec<u8>) -> Result<(), AllocError> {
+    let channel = draws.text(&CHANNELS);
+    for _ in 0..count {
+        out.extend_from_slice(b"SELECT ")?;
+        out.extend_from_slice(channel)?;
+        out.push(b'\r')?;
+    }
+    let other = pattern(draws);
+    put(draws, [b"SELECT", other, b""], out)
+}
+
+/// A SELECT that removes the patterns.
+pub fn no_patterns(draws: &mut Draws, out: &mut Vec<u8>) -> Result<(), AllocError> {
+    put(draws, [b"SELECT", b"", b""], out)
+}
+
+/// A station by its code and network.
+pub fn named(draws: &mut Draws, site: &Site, out: &mut Vec<u8>) -> Result<(), AllocError> {
+    put(draws, [b"STATION", site.code, site.network], out)
+}
+
+/// What is wanted of a station.
+pub fn wanted(draws: &mut Draws, out: &mut Vec<u8>) -> Result<(), AllocError> {
+    let asked = action(draws);
+    put(draws, asked, out)
+}
+
+/// Many bytes: a pattern more than a station may have, or a line that is too long, or nearly so.
 pub fn many(draws: &mut Draws, out: &mut Vec<u8>) -> Result<(), AllocError> {
     if draws.is_one_of(2) {
-        for _ in 0..17 {
-            out.extend_from_slice(b"SELECT BH?\r")?;
-        }
-        return Ok(());
+        return patterns(draws, 64, out);
     }
     out.extend_from_slice(b"HELLO")?;
     for _ in 0..draws.number(&[250, 251, 252, 1018, 1018, 1019]) {

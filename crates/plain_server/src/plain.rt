@@ -74,6 +74,14 @@ impl Plain {
         }
     }
 
+    /// How many stations a client has named, and how many patterns these have together.
+    pub fn named(&self, client: usize) -> (usize, usize) {
+        match self.visitors.get(client) {
+            Some(visitor) => (visitor.stations(), visitor.together()),
+            None => (0, 0),
+        }
+    }
+
     pub fn close(&mut self, client: usize) {
         if let Some(visitor) = self.visitors.get_mut(client) {
             visitor.close();

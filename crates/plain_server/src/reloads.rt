@@ -104,6 +104,13 @@ fn push_all(
     Ok(())
 }
 
+/// The text of a centre with some lists.
+pub fn text_of(alloc: Global, centre: &Centre, lists: &Lists) -> Result<Vec<u8>, AllocError> {
+    let mut text = Vec::new(alloc);
+    push_all(&mut text, centre, lists, Difference::Nothing)?;
+    Ok(text)
+}
+
 fn drawn_difference(draws: &mut Draws) -> Difference {
     match draws.below(16) {
         0 => Difference::Title,

@@ -7,6 +7,15 @@ use crate::words::{Action, Command, command_of};
 use std::alloc::{AllocError, Global};
 use std::collections::VecDeque;
 
+/// How many stations a client may name.
+const STATIONS: usize = 255;
+
+/// How many patterns a station may have.
+const PATTERNS: usize = 64;
+
+/// How many patterns the stations of a client may have together.
+const TOGETHER: usize = 1024;
+
 #[derive(Clone, Copy, Drop, PartialEq, Eq)]
 pub enum Stage {
     /// It asks and is answered.
@@ -41,13 +50,19 @@ pub struct Visitor {
     position: usize,
 }
 
-/// Adds a pattern, or takes all away; false where it is none, or there is no room.
-fn is_changed(patterns: &mut Vec<Vec<u8>>, pattern: Option<Vec<u8>>) -> Result<bool, AllocError> {
+/// Adds a pattern to those of a station, or takes all of these away. False if it is not valid, or if there is no room while
+/// all stations have so many together.
+fn is_changed(
+    patterns: &mut Vec<Vec<u8>>,
+    together: usize,
+    pattern: Option<Vec<u8>>,
+) -> Result<bool, AllocError> {
     let Some(text) = pattern else {
         patterns.clear();
         return Ok(true);
     };
-    if patterns.len() >= 16 || !is_pattern(text.as_slice()) {
+    let has_room = patterns.len() < PATTERNS && together < TOGETHER;
+    if !has_room || !is_pattern(text.as_slice()) {
         return Ok(false);
     }
     patterns.push(text)?;
@@ -180,6 +195,20 @@ impl Visitor {
         requests.iter().position(|request| request.site == site)
     }
 
+    /// How many stations were named.
+    pub fn stations(&self) -> usize {
+        self.requests.len()
+    }
+
+    /// How many patterns the stations that were named have together.
+    pub fn together(&self) -> usize {
+        let mut count: usize = 0;
+        for request in self.requests.as_slice() {
+            count = count.saturating_add(request.patterns.len());
+        }
+        count
+    }
+
     fn add_request(&mut self, site: usize) -> Result<(), AllocError> {
         self.requests.push(Request {
             site,
@@ -200,7 +229,7 @@ impl Visitor {
         self.patterns.clear();
         let mut current = None;
         if let Some(site) = self.find(history, Some(code), network) {
-            if self.named(site).is_none() {
+            if self.named(site).is_none() && self.requests.len() < STATIONS {
                 self.add_request(site)?;
             }
             current = self.named(site);
@@ -210,13 +239,14 @@ impl Visitor {
     }
 
     fn select(&mut self, pattern: Option<Vec<u8>>) -> Result<(), AllocError> {
+        let together = self.together();
         let mut is_done = false;
         if !self.is_multi {
-            is_done = is_changed(&mut self.patterns, pattern)?;
+            is_done = is_changed(&mut self.patterns, together, pattern)?;
         } else if let Some(place) = self.current
             && let Some(request) = self.requests.get_mut(place)
         {
-            is_done = is_changed(&mut request.patterns, pattern)?;
+            is_done = is_changed(&mut request.patterns, together, pattern)?;
         }
         self.answer_whether(is_done)
     }

@@ -9,6 +9,8 @@ mod dialogues;
 #[cfg(test)]
 mod failures;
 #[cfg(test)]
+mod largest_plan;
+#[cfg(test)]
 mod packets;
 #[cfg(test)]
 mod words;

@@ -13,6 +13,8 @@ mod moments;
 #[cfg(test)]
 mod packets;
 #[cfg(test)]
+mod pools;
+#[cfg(test)]
 mod selectors;
 #[cfg(test)]
 mod sequence_numbers;

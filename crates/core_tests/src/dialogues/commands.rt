@@ -117,21 +117,3 @@ fn patterns_are_taken_or_refused(rt: HostRuntime) -> Result<(), Fail> {
     assert_eq!(rt; answers(alloc, inside(), sent)?.as_slice(), wanted);
     Ok(())
 }
-
-#[test]
-fn a_list_has_16_patterns(rt: HostRuntime) -> Result<(), Fail> {
-    let alloc = rt.alloc();
-    let mut text = Vec::new(alloc);
-    let mut wanted = Vec::new(alloc);
-    for _ in 0..16 {
-        text.extend_from_slice(b"SELECT BHZ\r")?;
-        wanted.extend_from_slice(b"OK\r\n")?;
-    }
-    text.extend_from_slice(b"SELECT BHZ\rSELECT\rSELECT BHZ\r")?;
-    wanted.extend_from_slice(b"ERROR\r\nOK\r\nOK\r\n")?;
-    assert_eq!(rt;
-        answers(alloc, outside(), text.as_slice())?.as_slice(),
-        wanted.as_slice()
-    );
-    Ok(())
-}

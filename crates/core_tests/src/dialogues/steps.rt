@@ -212,7 +212,7 @@ fn is_same(one: &Handed, other: &Handed) -> bool {
 }
 
 /// The first place where what was handed is not what is wanted.
-fn first_difference(handed: &[Handed], wanted: &[Handed]) -> Option<usize> {
+pub fn first_difference(handed: &[Handed], wanted: &[Handed]) -> Option<usize> {
     for (place, (one, other)) in handed.iter().zip(wanted.iter()).enumerate() {
         if !is_same(one, other) {
             return Some(place);

@@ -102,7 +102,7 @@ impl Maker {
         let mut bytes = Vec::new(self.alloc);
         lines::many(&mut self.draws, &mut bytes)?;
         self.send(client, bytes)?;
-        let count = self.draws.number(&[0, 1, 2, 18]);
+        let count = self.draws.number(&[0, 1, 1, 2, 2, 2, 20, 66]);
         self.takes(client, count)
     }
 

@@ -44,3 +44,21 @@ pub fn run(alloc: Global, centre: &Centre, steps: &[Step]) -> Result<Vec<Given>,
     }
     Ok(given)
 }
+
+/// How many stations a client has named at most in a list of steps, and how many patterns its stations had together at most.
+pub fn most_named(
+    alloc: Global,
+    centre: &Centre,
+    steps: &[Step],
+    client: usize,
+) -> Result<(usize, usize), AllocError> {
+    let mut plain = Plain::new(alloc, centre);
+    let mut given = Vec::new(alloc);
+    let mut most = (0, 0);
+    for next in steps {
+        step(&mut plain, next, &mut given)?;
+        let (stations, patterns) = plain.named(client);
+        most = (stations.max(most.0), patterns.max(most.1));
+    }
+    Ok(most)
+}
