@@ -52,6 +52,7 @@ calls() {
     row "$(round 1000 arrive 65536)" "$((small_ring * 105 / 100))" 'the same, a full ring of 65,536' 'at most 1.05 times that'
     row "$(round 1000 packets 1 65536)" 1200 'an offer and the taking of it, FETCH of a full ring of 65,536' ''
     row "$(round 1000 packets 32 65536)" 8000 'the same with 32 requests, records coming round' ''
+    row "$(round 1000 packets 255 256)" 6000 'the same with 255 requests, full rings of 256' ''
     row "$(round 1000 idle 32 65536)" 2700 'an offer that is Idle, 32 requests, full rings of 65,536' ''
     none=$(server passed 0 10)
     one=$(server passed 1 10)
@@ -62,6 +63,7 @@ calls() {
 
 # Clients that wait: what one costs that is asked for, that a record does not wake, and that a turn passes by.
 sleepers() {
+    row "$(round 1000 visits)" 20000 'a client that opens and is closed' ''
     row "$(round 1000 ready)" 120 'whether a client is ready that is not marked' ''
     alone=$(round 1000 apart 0)
     row "$(($(round 1000 apart 10000) - alone))" 1500 'more for an arrival while 10,000 clients wait at another station' "than with none: $alone"
@@ -93,9 +95,9 @@ subprocess.run(sys.argv[1:], check=True, stdout=subprocess.DEVNULL)
 print(resource.getrusage(resource.RUSAGE_CHILDREN).ru_maxrss)' "$top/crates/server_bench/out/server_bench" "$@"
 }
 
-# What clients keep. A client that is kept by mistake would show in the second figure as 10 KiB.
+# What clients keep. A client that is kept by mistake would show in the second figure as 36 KiB.
 memory() {
-    row "$((($(peak crowd 10001) - $(peak crowd 1)) * 1024 / 10000))" 12288 'bytes of a client that is open, by the peak of 10,000' ''
+    row "$((($(peak crowd 10001) - $(peak crowd 1)) * 1024 / 10000))" 36864 'bytes of a client that is open, by the peak of 10,000' ''
     row "$(($(peak visits 1000000) - $(peak visits 1000)))" 256 'KiB more after a million clients, one after the other' 'after a thousand of them'
 }
 

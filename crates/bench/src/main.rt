@@ -9,8 +9,7 @@
 mod pools;
 mod reading;
 
-use mseed_header::{Header, Kind, RecordFault};
-use selector::{Selector, Selectors};
+use mseed_header::{Header, RecordFault};
 use sl_lines::{Line, LineCutter, Order, command};
 use sl_packet::Seq;
 use std::env;
@@ -107,33 +106,6 @@ fn read_headers(rounds: u64) -> u64 {
     sum
 }
 
-/// Sixteen selectors: fifteen of other channels, and one that a channel BH with any last letter matches.
-fn sixteen() -> Selectors {
-    let mut selectors = Selectors::new();
-    for letter in b'A'..=b'O' {
-        if let Some(selector) = Selector::parse(&[b'B', b'L', letter]) {
-            let _ = selectors.add(selector);
-        }
-    }
-    if let Some(selector) = Selector::parse(b"BH?") {
-        let _ = selectors.add(selector);
-    }
-    selectors
-}
-
-/// Asks of records of one channel after the other whether they pass.
-fn ask_selectors(rounds: u64) -> u64 {
-    let selectors = sixteen();
-    let mut channel = *b"BHZ";
-    let mut sum: u64 = 0;
-    for _ in 0..rounds {
-        channel[2] = 65 + (sum % 26) as u8;
-        let is_passed = selectors.passes(b"00", &channel, Kind::D);
-        sum = sum.wrapping_add(1 + u64::from(is_passed));
-    }
-    sum
-}
-
 /// Reads a number's digits and writes those of the next one, from FFFF00 on.
 fn count_on(rounds: u64) -> u64 {
     let mut digits = *b"FFFF00";
@@ -162,8 +134,8 @@ fn main(rt: HostRuntime) -> anyhow::Result<()> {
     let sum = match words[1].as_str() {
         "command" => read_commands(line, rounds),
         "lines" => cut_lines(line, rounds),
-        "selectors" => ask_selectors(rounds),
-        "pool" => pools::ask_pool(rt.alloc(), rounds)?,
+        "selectors" => pools::ask_alone(rt.alloc(), rounds)?,
+        "pool" => pools::ask_full(rt.alloc(), rounds)?,
         "number" => count_on(rounds),
         "packets" => reading::list_packets(rt.alloc(), &sample(), rounds)?,
         _ => read_headers(rounds),

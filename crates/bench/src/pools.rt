@@ -16,13 +16,19 @@ fn add(pool: &mut Pool, list: usize, text: &[u8])
     }
 }
 
-/// A pool that holds 1,024 selectors: 63 in each of sixteen lists, and in one the sixteen of the program.
-fn full_pool(alloc: Global) -> Result<Pool, AllocError> {
+/// A pool of sixteen selectors: fifteen of other channels, and one that a channel BH with any last letter matches.
+fn small_pool(alloc: Global) -> Result<Pool, AllocError> {
     let mut pool = Pool::new(alloc)?;
     for letter in b'A'..=b'O' {
         add(&mut pool, ASKED, &[b'B', b'L', letter]);
     }
     add(&mut pool, ASKED, b"BH?");
+    Ok(pool)
+}
+
+/// A pool that holds 1,024 selectors: the same sixteen, and 63 in each of sixteen other lists.
+fn full_pool(alloc: Global) -> Result<Pool, AllocError> {
+    let mut pool = small_pool(alloc)?;
     for list in 0..17 {
         if list != ASKED {
             for _ in 0..63 {
@@ -33,9 +39,8 @@ fn full_pool(alloc: Global) -> Result<Pool, AllocError> {
     Ok(pool)
 }
 
-/// Asks of records of one channel after the other whether they pass a list of a full pool.
-pub fn ask_pool(alloc: Global, rounds: u64) -> Result<u64, AllocError> {
-    let pool = full_pool(alloc)?;
+/// Asks of records of one channel after the other whether they pass the list.
+fn ask(pool: &Pool, rounds: u64) -> u64 {
     let mut channel = *b"BHZ";
     let mut sum: u64 = 0;
     for _ in 0..rounds {
@@ -43,5 +48,15 @@ pub fn ask_pool(alloc: Global, rounds: u64) -> Result<u64, AllocError> {
         let is_passed = pool.passes(ASKED, b"00", &channel, Kind::D);
         sum = sum.wrapping_add(1 + u64::from(is_passed));
     }
-    Ok(sum)
+    sum
+}
+
+/// The list in a pool that holds nothing else.
+pub fn ask_alone(alloc: Global, rounds: u64) -> Result<u64, AllocError> {
+    Ok(ask(&small_pool(alloc)?, rounds))
+}
+
+/// The list in a full pool.
+pub fn ask_full(alloc: Global, rounds: u64) -> Result<u64, AllocError> {
+    Ok(ask(&full_pool(alloc)?, rounds))
 }

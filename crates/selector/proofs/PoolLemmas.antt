@@ -1,5 +1,5 @@
 -- The lists of a pool: what an insert and a cut do to each of them.
-use Rattle.std.proofs.Common.{◌≡◌, ℕ, zero, suc, ◌+◌, ◌-◌, ◌<◌, ◌≤◌, ◌⊎◌, inl, inr, List, [], ◌∷◌, ◌++◌, length, get_or, set, take, drop, slice_range, sum_by, All, replicate, refl, sym, subst, ap, ap₂, ◌∙◌, arith, append_assoc, length-append, length-set, zero-add}
+use Rattle.std.proofs.Common.{◌≡◌, ℕ, zero, suc, ◌+◌, ◌-◌, ◌<◌, ◌≤◌, ◌⊎◌, inl, inr, List, [], ◌∷◌, ◌++◌, length, get_or, set, take, drop, slice_range, replicate, refl, sym, subst, ap, ap₂, ◌∙◌, arith, append_assoc, length-append, length-set, zero-add}
 use Rattle.std.specs.Prelude.{◌≢◌, Result, is_ok, true, if◌then◌else◌}
 use Rattle.std.specs.List.{insert}
 use Rattle.std.proofs.lemmas.List.{get_or-replicate, length-take-le, length-drop, take_at, drop-append-le, drop-take, drop-drop}

@@ -5,6 +5,6 @@ pub mod list;
 pub mod pattern;
 pub mod pool;
 
-pub use list::{Full, Selectors};
+pub use list::Full;
 pub use pattern::Selector;
 pub use pool::Pool;

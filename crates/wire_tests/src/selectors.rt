@@ -1,7 +1,8 @@
 //! Patterns, and lists of them.
 use protocol::record::Kind;
 use protocol::report::Report;
-use selector::{Full, Selector, Selectors};
+use selector::{Full, Pool, Selector};
+use std::alloc::Global;
 
 const PLACE: &[u8; 2] = b"00";
 
@@ -15,16 +16,27 @@ fn matches(text: &[u8], location: &[u8; 2], channel: &[u8; 3], kind: Kind) -> Op
     Some(Selector::parse(text)?.matches(location, channel, kind))
 }
 
-fn list_of(texts: &[&[u8]]) -> Option<Selectors> {
-    let mut selectors = Selectors::new();
+/// Adds patterns to the first list of a pool. Whether all are patterns, and have room.
+fn are_added(pool: &mut Pool, texts: &[&[u8]]) -> bool {
     for text in texts {
-        selectors.add(Selector::parse(text)?).ok()?;
+        let is_added = match Selector::parse(text) {
+            Some(selector) => pool.add(0, selector).is_ok(),
+            None => false,
+        };
+        if !is_added {
+            return false;
+        }
     }
-    Some(selectors)
+    true
 }
 
-fn passes(texts: &[&[u8]], channel: &[u8; 3], kind: Kind) -> Option<bool> {
-    Some(list_of(texts)?.passes(PLACE, channel, kind))
+/// Whether a list of patterns lets a record pass.
+fn passes(alloc: Global, texts: &[&[u8]], channel: &[u8; 3], kind: Kind) -> Option<bool> {
+    let mut pool = Pool::new(alloc).ok()?;
+    if !are_added(&mut pool, texts) {
+        return None;
+    }
+    Some(pool.passes(0, PLACE, channel, kind))
 }
 
 /// Texts, and whether they are patterns.
@@ -131,45 +143,10 @@ static PASSES: [(&[&[u8]], &[u8; 3], Kind, bool); 9] = [
 fn lists_let_pass_what_they_choose_and_do_not_negate(rt: HostRuntime) {
     for (row, &(texts, channel, kind, is_passed)) in PASSES.iter().enumerate() {
         assert!(rt;
-            passes(texts, channel, kind) == Some(is_passed),
+            passes(rt.alloc(), texts, channel, kind) == Some(is_passed),
             "in row {row}"
         );
     }
-}
-
-/// Whether a pattern is added to a list, where a text is one.
-fn is_added(selectors: &mut Selectors, text: &[u8]) -> Option<bool> {
-    Some(selectors.add(Selector::parse(text)?).is_ok())
-}
-
-/// A list of fifteen patterns of BHZ and one of no events.
-fn sixteen() -> Selectors {
-    let mut selectors = Selectors::new();
-    for _ in 0..15 {
-        let _added = is_added(&mut selectors, b"BHZ");
-    }
-    let _added = is_added(&mut selectors, b"!E");
-    selectors
-}
-
-#[test]
-fn the_seventeenth_is_refused_and_changes_nothing(rt: HostRuntime) {
-    let mut selectors = sixteen();
-    assert_eq!(rt; selectors.len(), 16);
-    assert_eq!(rt; is_added(&mut selectors, b"LHZ"), Some(false));
-    assert_eq!(rt; selectors.len(), 16);
-    assert!(rt; selectors.passes(PLACE, b"BHZ", Kind::D));
-    assert!(rt; !selectors.passes(PLACE, b"BHZ", Kind::E));
-    assert!(rt; !selectors.passes(PLACE, b"LHZ", Kind::D));
-}
-
-#[test]
-fn a_list_is_cleared(rt: HostRuntime) {
-    let mut selectors = sixteen();
-    assert!(rt; !selectors.is_empty());
-    selectors.clear();
-    assert!(rt; selectors.is_empty());
-    assert!(rt; selectors.passes(PLACE, b"LHZ", Kind::E));
 }
 
 #[test]

@@ -1,4 +1,4 @@
-use Rattle.std.proofs.Common.{◌≡◌, ◌<◌, ◌≤◌, ◌+◌, ◌⊎◌, inl, inr, length, get_or, refl, true, false, not, ap, ◌∙◌, arith, set, [], ◌∷◌, ◌++◌, subst}
+use Rattle.std.proofs.Common.{◌≡◌, ◌≤◌, ◌+◌, ◌⊎◌, inl, inr, length, get_or, refl, not, ap, ◌∙◌, arith, set, [], ◌∷◌, ◌++◌, subst}
 use Rattle.std.specs.Prelude.{◌≢◌}
 use Rattle.std.specs.List.{insert}
 use Rattle.selector.specs.Pools.{HasRoom, list_at, together}

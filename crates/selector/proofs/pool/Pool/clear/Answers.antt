@@ -1,4 +1,4 @@
-use Rattle.std.proofs.Common.{◌≡◌, ◌<◌, length, ap, ◌∙◌, arith, set, []}
+use Rattle.std.proofs.Common.{◌≡◌, length, ap, ◌∙◌, arith, set, []}
 use Rattle.selector.proofs.PoolLemmas.{end_fits, few_after, laid-emptied, view-emptied}
 use Rattle.selector.proofs.pool.Pool.clear.Goals as goal
 

@@ -1,4 +1,4 @@
-use Rattle.std.proofs.Common.{◌≡◌, ◌+◌, ◌≤◌, get_or, length, slice_range, ap, sym, ◌∙◌, arith}
+use Rattle.std.proofs.Common.{◌≡◌, ◌+◌, ◌≤◌, get_or, length, slice_range, ap, ◌∙◌, arith}
 use Rattle.selector.specs.Matching.{passes_parts}
 use Rattle.selector.specs.Pools.{list_at}
 use Rattle.selector.proofs.Passing.{passes_by_parts}
