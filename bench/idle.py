@@ -1,5 +1,6 @@
 #!/usr/bin/env python3
-"""Counts the system calls that a server makes while nothing happens, and while it has no descriptors left for its clients.
+"""Counts the system calls that a server makes while nothing happens, while clients that it closed keep their ends open, and while it
+has no descriptors left for its clients.
 
 It starts servers on loopback and ends them, prints a line a figure, and fails if one is above its limit. It needs strace.
 """
@@ -75,6 +76,22 @@ def idle():
         server.wait()
 
 
+def lingering():
+    """Clients that said BYE and do not close their end: the server waits for them, and does nothing meanwhile."""
+    ports = free_ports()
+    server = serving(ports)
+    try:
+        clients = [say_hello(ports[0]) for _ in range(10)]
+        answered = told(greeted(clients), 10, 10, "clients are answered, and say BYE")
+        for client in clients:
+            client.sendall(b"BYE\r")
+        time.sleep(1)
+        return all([answered, told(calls_a_second(server), 1, 20, "system calls a second while their ends stay open")])
+    finally:
+        server.kill()
+        server.wait()
+
+
 def crowded():
     """100 clients at a server that may have 64 descriptors."""
     ports = free_ports()
@@ -95,4 +112,4 @@ def crowded():
 
 if __name__ == "__main__":
     subprocess.run([f"{TOP}/seedlinkd", "--help"], stdout=subprocess.DEVNULL, check=True)
-    sys.exit(0 if all([idle(), crowded()]) else 1)
+    sys.exit(0 if all([idle(), lingering(), crowded()]) else 1)

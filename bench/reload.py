@@ -87,7 +87,7 @@ def told(holds, what):
     return holds
 
 
-def run(path, ports, server):
+def run(path, ports, server, errors):
     """Plays it all. Whether all was as it has to be."""
     feed = load.dial(ports[1])
     near, far = reader(ports[0], NEAR), reader(ports[0], FAR)
@@ -109,7 +109,8 @@ def run(path, ports, server):
     seen.append(told(taken(near, length) == stream[2 * length :], "it goes on after two texts that are refused"))
     seen.append(told(is_refused(ports[0], FAR), "and the lists are as they were"))
     server.kill()
-    lines = server.stderr.read().decode().splitlines()
+    errors.seek(0)
+    lines = errors.read().decode().splitlines()
     for line in ("seedlinkd: 20 Toml", "seedlinkd: 34 Different"):
         seen.append(told(line in lines, f"standard error has `{line}`"))
     report = re.compile(rf"seedlinkd: clients \d+, feeds 1, records {3 * HALF}, refused 0")
@@ -123,12 +124,14 @@ if __name__ == "__main__":
         put(config, CONFIG.format(capacity=8192, access=EVERYBODY))
         ports = wire.free_ports()
         words = [*wire.serve_words(config)(*ports), "--turns", "100000", "--reread", "3", "--report", "4"]
-        server = subprocess.Popen(words, stderr=subprocess.PIPE)
-        try:
-            for port in ports:
-                wire.listens(port)
-            holds = run(config, ports, server)
-        finally:
-            server.kill()
-            server.wait()
+        # into a file, since a pipe that nobody reads would hold the server up once it is full
+        with open(f"{folder}/errors", "w+b") as errors:
+            server = subprocess.Popen(words, stderr=errors)
+            try:
+                for port in ports:
+                    wire.listens(port)
+                holds = run(config, ports, server, errors)
+            finally:
+                server.kill()
+                server.wait()
     sys.exit(0 if holds else 1)

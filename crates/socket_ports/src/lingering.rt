@@ -10,56 +10,71 @@ const MOST: usize = 1_024;
 /// How many blocks of a peer that goes on sending are passed over.
 const BLOCKS: u8 = 16;
 
+/// A connection that lingers, and whether its peer was told the end. That is done once: each time would be an event again.
+#[derive(Drop)]
+struct Ending {
+    connection: Connection,
+    is_told: bool,
+}
+
 #[derive(Drop)]
 pub struct Lingering {
-    connections: Vec<Connection>,
+    endings: Vec<Ending>,
 }
 
 impl Lingering {
     pub fn new(alloc: Global) -> Lingering {
         Lingering {
-            connections: Vec::new(alloc),
+            endings: Vec::new(alloc),
         }
     }
 
     /// Keeps a connection that was shut until its bytes are sent and the peer has ended it too.
-    pub fn keep(&mut self, mut connection: Connection, pool: &mut Pool) {
-        if !stays(&mut connection, pool) {
+    pub fn keep(&mut self, connection: Connection, pool: &mut Pool) {
+        let mut ending = Ending {
+            connection,
+            is_told: false,
+        };
+        if !stays(&mut ending, pool) {
             return;
         }
-        if self.connections.len() >= MOST {
+        if self.endings.len() >= MOST {
             self.drop_oldest();
         }
         // Where there is no memory to keep it, it is dropped.
-        let _ = self.connections.push(connection);
+        let _ = self.endings.push(ending);
     }
 
     /// Drops the one that was shut first, so that its descriptor is free.
     pub fn drop_oldest(&mut self) {
-        if !self.connections.is_empty() {
-            let _oldest = self.connections.remove(0);
+        if !self.endings.is_empty() {
+            let _oldest = self.endings.remove(0);
         }
     }
 
     /// An event came of one of them.
     pub fn mark(&mut self, number: u64, over: bool, writable: bool, pool: &mut Pool) {
-        let Some(at) = self.connections.iter().position(|c| c.number == number) else {
+        let Some(at) = self
+            .endings
+            .iter()
+            .position(|e| e.connection.number == number)
+        else {
             return;
         };
-        let Some(connection) = self.connections.get_mut(at) else {
+        let Some(ending) = self.endings.get_mut(at) else {
             return;
         };
-        let _ = connection.mark(true, over, writable, pool);
-        if !stays(connection, pool) && at < self.connections.len() {
-            let _gone = self.connections.remove(at);
+        let _ = ending.connection.mark(true, over, writable, pool);
+        if !stays(ending, pool) && at < self.endings.len() {
+            let _gone = self.endings.remove(at);
         }
     }
 
     /// How many bytes they have not sent.
     pub fn unsent_count(&self) -> usize {
         let mut count = 0usize;
-        for connection in self.connections.iter() {
-            count = count.saturating_add(connection.unsent_count());
+        for ending in self.endings.iter() {
+            count = count.saturating_add(ending.connection.unsent_count());
         }
         count
     }
@@ -67,18 +82,23 @@ impl Lingering {
 
 /// Whether a connection that was shut still has something to wait for. Once all is sent the peer is told the end, and what it
 /// sends is passed over: a connection that is closed with bytes unread would lose those that are on their way to the peer.
-fn stays(connection: &mut Connection, pool: &mut Pool) -> bool {
-    connection.flush(pool);
-    if connection.has_failed() {
+fn stays(ending: &mut Ending, pool: &mut Pool) -> bool {
+    ending.connection.flush(pool);
+    if ending.connection.has_failed() {
         return false;
     }
-    if connection.unsent_count() > 0 {
+    if ending.connection.unsent_count() > 0 {
         return true;
     }
-    if connection.stream().shutdown(Shutdown::Write).is_err() {
-        return false;
+    tells_the_end(ending) && goes_on(&ending.connection)
+}
+
+/// Tells the peer the end, where that was not done yet. Whether it has been told.
+fn tells_the_end(ending: &mut Ending) -> bool {
+    if !ending.is_told {
+        ending.is_told = ending.connection.stream().shutdown(Shutdown::Write).is_ok();
     }
-    goes_on(connection)
+    ending.is_told
 }
 
 /// Whether the peer has not ended yet. One that goes on sending is not waited for.
