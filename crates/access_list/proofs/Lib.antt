@@ -1,4 +1,4 @@
-mod Dots
-mod MaskBits
-mod Walks
-mod SameTokens
+mod OctetLemmas
+mod MaskLemmas
+mod ParseLemmas
+mod SameLemmas

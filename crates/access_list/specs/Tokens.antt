@@ -1,5 +1,6 @@
 -- The list of addresses and masks that a text spells.
-use Rattle.std.specs.Prelude.{ℕ, ◌+◌, ◌-◌, ◌^◌, Bool, ◌||◌, nat_le, ◌==◌, if◌then◌else◌, List, [], ◌∷◌, take, drop, position, Option, Some, None, option_and_then, Result, Ok, Err}
+use Rattle.std.specs.Prelude.{ℕ, ◌+◌, ◌-◌, ◌^◌, Bool, ◌||◌, nat_le, ◌==◌, if◌then◌else◌, List, [], ◌∷◌, take, drop}
+use Rattle.std.specs.Prelude.{position, Option, Some, None, option_and_then, Result, Ok, Err}
 use Rattle.protocol.specs.Access.{Token}
 use Rattle.protocol.specs.Pieces.{split, without_empty}
 use Rattle.protocol.specs.Time.{digits_between}

@@ -8,8 +8,8 @@ ghost use Rattle.access_list.specs.Addresses.{address_of, is_dot, octet_of, octe
 use decimal::number;
 use std::net::Ipv4Addr;
 
-/// The address that a text spells: four decimal numbers 0 to 255 of one to three digits each, joined by dots. Leading zeros
-/// are allowed, as in `010.000.0.7`. None where it is anything else.
+/// The address that a text spells: four decimal numbers 0 to 255 of one to three digits each, joined by dots. Leading
+/// zeros are allowed, as in `010.000.0.7`. None where it is anything else.
 pub fn address(text: &[u8]) -> Option<Ipv4Addr>
     ensures { option_map ipv4_bits result ≡ address_of text.now }
 {
@@ -18,7 +18,7 @@ pub fn address(text: &[u8]) -> Option<Ipv4Addr>
 }
 
 /// The four numbers of an address.
-#[tactic(auto, using(crate::proofs::Dots::octets_cut))]
+#[tactic(auto, using(crate::proofs::OctetLemmas::octets_cut))]
 fn octets(text: &[u8]) -> Option<[u8; 4]>
     ensures { result ≡ octets_of text.now }
 {

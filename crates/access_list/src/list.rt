@@ -32,15 +32,15 @@ impl AccessList {
     ghost use Rattle.access_list.specs.Tokens.{list_of};
     ghost use Rattle.access_list.specs.declared.fault.AccessFault.TheVariants.{OutOfMemory};
 
-    /// The list that a text spells. Any number of spaces and commas separate its tokens, and nothing else does. A token is an
-    /// address, which is that address alone, or an address, `/` and a mask: a number 0 to 32 of one or two digits, which is
-    /// that many leading one-bits, or four numbers joined by dots.
+    /// The list that a text spells. Any number of spaces and commas separate its tokens, and nothing else does. A token
+    /// is an address, which is that address alone, or an address, `/` and a mask: a number 0 to 32 of one or two
+    /// digits, which is that many leading one-bits, or four numbers joined by dots.
     ///
-    /// It fails with the fault of the first bad token: Address where the part before its first `/` is no address, and else
-    /// Mask where the part after it is no mask. It fails with OutOfMemory only where there is no memory.
+    /// It fails with the fault of the first bad token: Address where the part before its first `/` is no address, and
+    /// else Mask where the part after it is no mask. It fails with OutOfMemory only where there is no memory.
     ///
-    /// The list allows an address exactly where one of its tokens has the same bit as the address in each of the 32 bits in
-    /// which its mask is one.
+    /// The list allows an address exactly where one of its tokens has the same bit as the address in each of the 32
+    /// bits in which its mask is one.
     pub fn parse(alloc: Global, text: &[u8]) -> Result<AccessList, AccessFault>
         ensures ok { IfOk result (λ list. list_of text.now ≡ Ok list) }
         ensures words { IfOk result (λ list. (a : ℕ) → (allows list a ≡ true) ↔ IsAllowed list a) }
@@ -70,15 +70,16 @@ impl AccessList {
         Ok(AccessList { tokens: copy })
     }
 
-    /// Whether some token of the list has the bits of the address wherever its mask is one. An empty list allows nobody.
+    /// Whether some token of the list has the bits of the address wherever its mask is one. An empty list allows
+    /// nobody.
     pub fn allows(&self, address: Ipv4Addr) -> bool
         ensures { result ≡ allows self.now (ipv4_bits address) }
     {
         is_allowed(self.tokens.as_slice(), address.to_bits())
     }
 
-    /// Whether another list has the same tokens in the same order. Then it allows the same addresses; one of other tokens, or of
-    /// the same in another order, may also allow the same.
+    /// Whether another list has the same tokens in the same order. Then it allows the same addresses; one of other
+    /// tokens, or of the same in another order, may also allow the same.
     pub fn is_same(&self, other: &AccessList) -> bool
         ensures { (result ≡ true) ↔ (self.now ≡ other.now) }
     {
@@ -101,7 +102,7 @@ fn is_allowed(tokens: &[Token], address: u32) -> bool
 }
 
 /// Whether two lists have the same tokens in the same order.
-#[tactic(auto, using(crate::proofs::SameTokens::same_lemmas))]
+#[tactic(auto, using(crate::proofs::SameLemmas::same_lemmas))]
 fn are_same(tokens: &[Token], others: &[Token]) -> bool
     ensures { (result ≡ true) ↔ (tokens.now ≡ others.now) }
 {

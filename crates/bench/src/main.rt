@@ -1,9 +1,9 @@
-//! Does one piece of work many times, so that its instructions can be counted: `bench command ROUNDS LINE` reads a line as a
-//! command, `bench lines ROUNDS LINE` cuts it out of bytes first, `bench header ROUNDS` reads the header of a record,
-//! `bench selectors ROUNDS` asks sixteen selectors whether a record passes, `bench pool ROUNDS` asks the same sixteen in a pool that
-//! holds 1,024, `bench number ROUNDS` reads a sequence number and
-//! writes the one that follows, and `bench packets ROUNDS` reads packets and lists them. It prints a sum of what was read, so that no
-//! work can be left out.
+//! Does one piece of work many times, so that its instructions can be counted: `bench command ROUNDS LINE` reads a
+//! line as a command, `bench lines ROUNDS LINE` cuts it out of bytes first, `bench header ROUNDS` reads the header
+//! of a record, `bench selectors ROUNDS` asks sixteen selectors whether a record passes, `bench pool ROUNDS` asks
+//! the same sixteen in a pool that holds 1,024, `bench number ROUNDS` reads a sequence number and writes the one
+//! that follows, and `bench packets ROUNDS` reads packets and lists them. It prints a sum of what was read, so that
+//! no work can be left out.
 #![tactic(auto)]
 
 mod pools;
@@ -92,8 +92,8 @@ fn told(read: Result<Header<'_>, RecordFault>) -> u64 {
     }
 }
 
-/// Goes over four records, of which the last sum picks the next one and changes another, so that none is known before it is
-/// read.
+/// Goes over four records, of which the last sum picks the next one and changes another, so that none is known
+/// before it is read.
 fn read_headers(rounds: u64) -> u64 {
     let mut records = [sample(); 4];
     let mut sum: u64 = 0;

@@ -1,13 +1,16 @@
 -- Stations that two configurations open to the same addresses.
-use Rattle.std.proofs.Common.{◌≡◌, ◌↔◌, ℕ, zero, suc, ◌+◌, ◌<◌, ◌≤◌, ◌==◌, nat_le, Bool, true, false, true≢false, not, List, [], ◌∷◌, ◌++◌, length, map, filter, Option, Some, None, option_map, unwrap_or, slice_get, refl, sym, ap, ap₂, ◌∙◌, subst, arith, add-one, eqb-true, length-append}
+use Rattle.std.proofs.Common.{◌≡◌, ◌↔◌, ℕ, zero, suc, ◌+◌, ◌<◌, ◌≤◌, ◌==◌, nat_le, Bool, true, false, true≢false, not}
+use Rattle.std.proofs.Common.{List, [], ◌∷◌, ◌++◌, length, map, filter, Option, Some, None, option_map, unwrap_or}
+use Rattle.std.proofs.Common.{slice_get, refl, sym, ap, ap₂, ◌∙◌, subst, arith, add-one, eqb-true, length-append}
 use Rattle.std.specs.List.{list_all}
 use Rattle.std.proofs.lemmas.Bool.{and_parts, eqb-false}
 use Rattle.std.proofs.lemmas.List.Folds.{list_all-append}
 use Rattle.protocol.specs.Access.{Token}
 use Rattle.protocol.specs.Catalog.{Config, Entry, Station, sees, view_of, is_same_but_for_access}
 use Rattle.protocol.proofs.Configs.{configurations_compared}
-use Rattle.protocol.proofs.Found.{both}
-use Rattle.catalog.specs.Changes.{are_same_tokens, is_same_token, is_same_list, has_same_list_in, is_changed_at, places_below, changed_places, few, sees_at, is_same_answer, is_alike_at, is_alike}
+use Rattle.protocol.proofs.FoundLemmas.{both}
+use Rattle.catalog.specs.Changes.{are_same_tokens, is_same_token, is_same_list, has_same_list_in, is_changed_at}
+use Rattle.catalog.specs.Changes.{places_below, changed_places, few, sees_at, is_same_answer, is_alike_at, is_alike}
 
 -- ---- lists
 number_self : (n : ℕ) → (n == n) ≡ true

@@ -1,8 +1,8 @@
-mod Distinct
-mod Elements
-mod Finds
-mod Indexing
-mod ReadOn
-mod Views
-mod SameStations
+mod DistinctLemmas
+mod ElementLemmas
+mod FindLemmas
+mod IndexLemmas
+mod ReadLemmas
+mod ViewLemmas
+mod SameLemmas
 mod ChangesLemmas

@@ -1,6 +1,7 @@
 -- Which stations two configurations open to other addresses.
 -- This project's own.
-use Rattle.std.specs.Prelude.{ℕ, zero, suc, Bool, true, false, not, ◌&&◌, ◌==◌, nat_le, if◌then◌else◌, List, [], ◌∷◌, ◌++◌, length, Option, Some, None, option_map, unwrap_or, slice_get}
+use Rattle.std.specs.Prelude.{ℕ, zero, suc, Bool, true, false, not, ◌&&◌, ◌==◌, nat_le, if◌then◌else◌, List, [], ◌∷◌}
+use Rattle.std.specs.Prelude.{◌++◌, length, Option, Some, None, option_map, unwrap_or, slice_get}
 use Rattle.std.specs.List.{list_all}
 use Rattle.protocol.specs.Access.{Token}
 use Rattle.protocol.specs.Catalog.{Config, Entry, sees}

@@ -10,7 +10,8 @@ use Rattle.catalog.specs.declared.index.Codes.{Codes}
 
 -- the network's code decides, and then the station's
 abbrev pub codes_cmp : Codes → Codes → Ordering
-codes_cmp x y = ordering_then (slice_cmp nat_cmp x.network.items y.network.items) (slice_cmp nat_cmp x.code.items y.code.items)
+codes_cmp x y = ordering_then (slice_cmp nat_cmp x.network.items y.network.items)
+    (slice_cmp nat_cmp x.code.items y.code.items)
 
 -- the key that these codes are
 abbrev pub key : List ℕ → List ℕ → Codes

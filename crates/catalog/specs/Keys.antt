@@ -1,5 +1,6 @@
 -- What a key of a TOML table holds, where it has to be there and where it may be missing.
-use Rattle.std.specs.Prelude.{ℕ, ◌&&◌, nat_le, ℤ, pos, negsuc, List, [], ◌∷◌, Option, Some, None, Result, Ok, Err, option_map}
+use Rattle.std.specs.Prelude.{ℕ, ◌&&◌, nat_le, ℤ, pos, negsuc, List, [], ◌∷◌, Option, Some, None, Result, Ok, Err}
+use Rattle.std.specs.Prelude.{option_map}
 use Rattle.toml.specs.Data.{Data, Items, no_items, item, Members, get_member, as_str, as_integer, as_array, as_table}
 use Rattle.catalog.specs.Steps.{◌>>=◌, of_kind, within_if}
 use Rattle.catalog.specs.declared.fault.ConfigFault.{ConfigFault}

@@ -24,4 +24,5 @@ SameCodes s t = (s.network ≡ t.network) × (s.code ≡ t.code)
 
 -- no station has the codes of another place's; at a place that is not there they are empty
 abbrev pub HasDistinctCodes : List Entry → Type 0
-HasDistinctCodes entries = (i j : ℕ) → i < length entries → SameCodes (station_at entries i) (station_at entries j) → i ≡ j
+HasDistinctCodes entries = (i j : ℕ) → i < length entries → SameCodes (station_at entries i) (station_at entries j)
+    → i ≡ j

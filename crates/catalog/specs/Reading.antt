@@ -1,12 +1,14 @@
--- What the text of a configuration says: the settings of a server, or the first step of the reading that fails.
--- The configuration is TOML; its table is that which the reader of TOML's own definition gives. Left out: other keys, which are
--- ignored.
-use Rattle.std.specs.Prelude.{ℕ, Bool, ◌&&◌, nat_le, is_some, if◌then◌else◌, List, [], ◌∷◌, ◌++◌, length, Option, Some, None, Result, Ok, Err, codes}
+-- What the text of a configuration says: the settings of a server, or the first step of the reading that fails. The
+-- configuration is TOML; its table is that which the reader of TOML's own definition gives. Left out: other keys, which
+-- are ignored.
+use Rattle.std.specs.Prelude.{ℕ, Bool, ◌&&◌, nat_le, is_some, if◌then◌else◌, List, [], ◌∷◌, ◌++◌, length, Option, Some}
+use Rattle.std.specs.Prelude.{None, Result, Ok, Err, codes}
 use Rattle.std.specs.List.{list_all, list_any}
 use Rattle.toml.specs.Data.{Data, Members, as_table}
 use Rattle.protocol.specs.Catalog.{Config, Entry, Station, has_codes}
 use Rattle.catalog.specs.Keys.{elements_at, table_in}
-use Rattle.catalog.specs.Settings.{access_of, title_of, connections_of, network_of, code_of, description_of, capacity_of, first_of}
+use Rattle.catalog.specs.Settings.{access_of, title_of, connections_of, network_of, code_of, description_of}
+use Rattle.catalog.specs.Settings.{capacity_of, first_of}
 use Rattle.catalog.specs.Steps.{◌>>=◌, within_if}
 use Rattle.catalog.specs.declared.fault.ConfigFault.{ConfigFault}
 use Rattle.catalog.specs.declared.fault.ConfigFault.TheVariants.{Toml, Missing, Duplicate}

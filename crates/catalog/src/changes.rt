@@ -29,8 +29,8 @@ impl Model for Changes {
 }
 
 impl Changes {
-    /// Compares the own access lists of all stations, token by token, and lists the stations whose lists differ; `None` if
-    /// these are more than 256. The configurations' global lists are not compared. It doesn't allocate.
+    /// Compares the own access lists of all stations, token by token, and lists the stations whose lists differ; `None`
+    /// if these are more than 256. The configurations' global lists are not compared. It doesn't allocate.
     pub fn between(old: &Config, new: &Config) -> Option<Changes>
         ensures { result ≡ few (changed_places old.now.entries new.now.entries) }
     {
@@ -38,9 +38,9 @@ impl Changes {
         Some(Changes { places })
     }
 
-    /// Whether both configurations answer an address the same at each of these stations, and at any station without a list
-    /// of its own. If so, if these are all stations whose lists differ, and if the configurations differ in nothing but access
-    /// lists, the address sees the same under both.
+    /// Whether both configurations answer an address the same at each of these stations, and at any station without a
+    /// list of its own. If so, if these are all stations whose lists differ, and if the configurations differ in
+    /// nothing but access lists, the address sees the same under both.
     #[tactic(auto, using(crate::proofs::ChangesLemmas::same_view))]
     pub fn spare(&self, old: &Config, new: &Config, address: Ipv4Addr) -> bool
         ensures value { result ≡ is_alike old.now new.now self.now (ipv4_bits address) }

@@ -10,7 +10,7 @@ use std::alloc::{AllocError, Global};
 use std::net::Ipv4Addr;
 
 /// Whether two lists have the same stations in the same order, whoever may use them.
-#[tactic(auto, using(crate::proofs::SameStations::same_lemmas))]
+#[tactic(auto, using(crate::proofs::SameLemmas::same_lemmas))]
 pub(crate) fn are_same(stations: &[Station], others: &[Station]) -> bool
     ensures { result ≡ are_same_stations (map (λ e. e.station) stations.now) (map (λ e. e.station) others.now) }
 {
@@ -26,7 +26,7 @@ pub(crate) fn are_same(stations: &[Station], others: &[Station]) -> bool
 }
 
 /// Whether the stations that an address may use are those at these places, in the same order.
-#[tactic(auto, using(crate::proofs::SameStations::seen_lemmas))]
+#[tactic(auto, using(crate::proofs::SameLemmas::seen_lemmas))]
 pub(crate) fn are_seen(
     stations: &[Station],
     global: &Option<AccessList>,

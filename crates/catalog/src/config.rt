@@ -1,5 +1,6 @@
 //! What a server is set up with.
-ghost use Rattle.std.specs.Prelude.{◌≡◌, ◌≢◌, ◌≤◌, All, length, slice_get, option_map, unwrap_or, false, IfOk, IfErr, OnOk, Ok, Err, Some, None};
+ghost use Rattle.std.specs.Prelude.{◌≡◌, ◌≢◌, ◌≤◌, All, length, slice_get, option_map, unwrap_or, false, IfOk, IfErr};
+ghost use Rattle.std.specs.Prelude.{OnOk, Ok, Err, Some, None};
 ghost use Rattle.std.specs.List.{position};
 ghost use Rattle.std.specs.Str.{IsUtf8};
 ghost use Rattle.std.specs.Net.Addr.{ipv4_bits};
@@ -58,7 +59,8 @@ fn table_of(alloc: Global, bytes: &[u8]) -> Result<Table, ConfigFault>
     ensures ok { IfOk result (λ table. parse_document bytes.now ≡ Some (table_view table)) }
     ensures text { OnOk result (IsUtf8 bytes.now) }
     ensures toml { IfErr result (λ e. e ≢ ConfigFault.OutOfMemory → e ≡ ConfigFault.Toml) }
-    ensures fault { IfErr result (λ e. e ≢ ConfigFault.OutOfMemory → IsUtf8 bytes.now → parse_document bytes.now ≡ None) }
+    ensures fault { IfErr result (λ e. e ≢ ConfigFault.OutOfMemory → IsUtf8 bytes.now
+        → parse_document bytes.now ≡ None) }
 {
     match toml::table_from_slice(alloc, bytes) {
         Ok(table) => Ok(table),
@@ -73,10 +75,10 @@ fn table_of(alloc: Global, bytes: &[u8]) -> Result<Table, ConfigFault>
 }
 
 impl Config {
-    /// Reads the text of a configuration, which is TOML in UTF-8. Its keys are judged in this order, and the first that fails
-    /// is told: `title`, `access`, `max_connections`, `station`, and then for each station in order `network`, `code`,
-    /// `description`, `capacity`, `first`, `access`, and whether an earlier station has the same network and code. Other keys
-    /// are ignored.
+    /// Reads the text of a configuration, which is TOML in UTF-8. Its keys are judged in this order, and the first that
+    /// fails is told: `title`, `access`, `max_connections`, `station`, and then for each station in order `network`,
+    /// `code`, `description`, `capacity`, `first`, `access`, and whether an earlier station has the same network and
+    /// code. Other keys are ignored.
     ///
     /// - `title` has 1 to 100 bytes of printable ASCII.
     /// - `access`, of the server or of a station, is a list of addresses and masks, and may be missing.
@@ -87,13 +89,14 @@ impl Config {
     /// - `capacity` is 1 to 65,536.
     /// - `first` has 1 to 6 hexadecimal digits of either case, and is 0 where it is missing.
     ///
-    /// It fails with Toml where the bytes are no UTF-8 or no TOML; with Missing where a key that has to be there is missing, or
-    /// one has a value of another kind; with Limit where a value is outside these limits; with Access where an access list is
-    /// refused; with Duplicate; and with OutOfMemory only where there is no memory.
+    /// It fails with Toml where the bytes are no UTF-8 or no TOML; with Missing where a key that has to be there is
+    /// missing, or one has a value of another kind; with Limit where a value is outside these limits; with Access where
+    /// an access list is refused; with Duplicate; and with OutOfMemory only where there is no memory.
     pub fn read(alloc: Global, bytes: &[u8]) -> Result<Config, ConfigFault>
         ensures ok { IfOk result (λ config. config_read (parse_document bytes.now) ≡ Ok config) }
         ensures text { OnOk result (IsUtf8 bytes.now) }
-        ensures fault { IfErr result (λ e. e ≢ ConfigFault.OutOfMemory → IsUtf8 bytes.now → config_read (parse_document bytes.now) ≡ Err e) }
+        ensures fault { IfErr result (λ e. e ≢ ConfigFault.OutOfMemory → IsUtf8 bytes.now
+            → config_read (parse_document bytes.now) ≡ Err e) }
         ensures no_text { IfErr result (λ e. e ≢ ConfigFault.OutOfMemory → ¬ IsUtf8 bytes.now → e ≡ ConfigFault.Toml) }
     {
         let table = table_of(alloc, bytes)?;
@@ -151,15 +154,16 @@ impl Config {
         self.index.place_of(network, code)
     }
 
-    /// No two of its stations have the same network and code, and none has empty ones: a call that does nothing, for its contract.
+    /// No two of its stations have the same network and code, and none has empty ones: a call that does nothing, for
+    /// its contract.
     pub fn codes_are_distinct(&self)
         ensures { HasDistinctCodes self.now.entries }
     {
         let _ = &self.stations;
     }
 
-    /// Whether an address may use the station at a place: the station's own list decides, without one the global list, and
-    /// without either everybody may. At a place without a station nobody sees anything.
+    /// Whether an address may use the station at a place: the station's own list decides, without one the global list,
+    /// and without either everybody may. At a place without a station nobody sees anything.
     pub fn sees(&self, place: usize, address: Ipv4Addr) -> bool
         ensures { result ≡ unwrap_or (option_map (λ e. sees e.access self.now.access (ipv4_bits address))
             (slice_get self.now.entries place)) false }
@@ -181,7 +185,7 @@ impl Config {
     }
 
     /// What an address sees: the stations that it may use, in order. Only memory can lack.
-    #[tactic(auto, using(crate::proofs::Views::view_lemmas))]
+    #[tactic(auto, using(crate::proofs::ViewLemmas::view_lemmas))]
     pub fn view(&self, alloc: Global, address: Ipv4Addr) -> Result<View, AllocError>
         ensures view { IfOk result (λ v. view_in self.now v ≡ view_of self.now (ipv4_bits address)) }
         ensures places { IfOk result (λ v. All (IsPlace self.now) v) }
@@ -202,8 +206,8 @@ impl Config {
         are_seen(self.stations(), &self.access, address, view.places())
     }
 
-    /// Whether another configuration is the same but for the lists of addresses, the server's and the stations': the same
-    /// title and limit of connections, and the same stations in the same order.
+    /// Whether another configuration is the same but for the lists of addresses, the server's and the stations': the
+    /// same title and limit of connections, and the same stations in the same order.
     pub fn is_same_but_for_access(&self, new: &Config) -> bool
         ensures { result ≡ is_same_but_for_access self.now new.now }
     {

@@ -3,7 +3,8 @@ ghost use Rattle.std.specs.Prelude.{◌≡◌, ◌≢◌, ◌≤◌, map, option
 ghost use Rattle.toml.specs.View.{table_view, view};
 ghost use Rattle.toml.specs.Data.{get_member};
 ghost use Rattle.catalog.specs.Steps.{within_if};
-ghost use Rattle.catalog.specs.Keys.{text_in, number_in, elements_in, table_in, text_at, text_if_any, number_at, number_if_any, elements_at, number_up_to};
+ghost use Rattle.catalog.specs.Keys.{text_in, number_in, elements_in, table_in, text_at, text_if_any, number_at};
+ghost use Rattle.catalog.specs.Keys.{number_if_any, elements_at, number_up_to};
 
 use crate::fault::ConfigFault;
 use std::alloc::Global;
@@ -38,7 +39,7 @@ fn number_in(value: &Value) -> Result<i64, ConfigFault>
 }
 
 /// The elements of the array that a value is.
-#[tactic(auto, using(crate::proofs::Elements::elements_items))]
+#[tactic(auto, using(crate::proofs::ElementLemmas::elements_items))]
 fn elements_in(value: &Value) -> Result<&[Value], ConfigFault>
     ensures ok { IfOk result (λ values. elements_in (view value.now) ≡ Ok (map view values.now)) }
     ensures fault { IfErr result (λ e. elements_in (view value.now) ≡ Err e) }

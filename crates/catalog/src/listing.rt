@@ -3,7 +3,8 @@ ghost use Rattle.std.specs.Prelude.{◌≡◌, ◌≢◌, ◌≤◌, [], length,
 ghost use Rattle.std.specs.List.{list_all};
 ghost use Rattle.toml.specs.View.{table_view, view};
 ghost use Rattle.catalog.specs.Places.{HasDistinctCodes};
-ghost use Rattle.catalog.specs.Reading.{is_few, is_repeated, is_table, station_of, station_values, stations_of, stations_read};
+ghost use Rattle.catalog.specs.Reading.{is_few, is_repeated, is_table, station_of, station_values, stations_of};
+ghost use Rattle.catalog.specs.Reading.{stations_read};
 
 use crate::fault::ConfigFault;
 use crate::keys::{elements_at, table_in};
@@ -26,7 +27,7 @@ pub fn stations_of(alloc: Global, table: &Table) -> Result<Vec<Station>, ConfigF
 }
 
 /// The values that describe the stations.
-#[tactic(auto, using(crate::proofs::Elements::values_lemmas), unfolding(crate::specs::Reading::station_values))]
+#[tactic(auto, using(crate::proofs::ElementLemmas::values_lemmas), unfolding(crate::specs::Reading::station_values))]
 fn station_values(table: &Table) -> Result<&[Value], ConfigFault>
     ensures ok { IfOk result (λ values. station_values (table_view table.now) ≡ Ok (map view values.now)) }
     ensures fault { IfErr result (λ e. station_values (table_view table.now) ≡ Err e) }
@@ -56,7 +57,7 @@ fn are_tables(values: &[Value]) -> bool
 }
 
 /// The stations that values describe.
-#[tactic(auto, using(crate::proofs::Distinct::distinct_lemmas))]
+#[tactic(auto, using(crate::proofs::DistinctLemmas::distinct_lemmas))]
 fn stations_read(alloc: Global, values: &[Value]) -> Result<Vec<Station>, ConfigFault>
     ensures ok { IfOk result (λ stations. stations_read [] (map view values.now) ≡ Ok stations.items) }
     ensures distinct { IfOk result (λ stations. HasDistinctCodes stations.items) }

@@ -1,7 +1,8 @@
 //! The settings that a configuration's table and a station's table have: a function a key.
 ghost use Rattle.std.specs.Prelude.{◌≡◌, ◌≢◌, ◌≤◌, length, IfOk, IfErr, Ok, Err};
 ghost use Rattle.toml.specs.View.{table_view};
-ghost use Rattle.catalog.specs.Settings.{access_spelled, access_of, title_of, connections_of, network_of, code_of, description_of, capacity_of, first_of};
+ghost use Rattle.catalog.specs.Settings.{access_spelled, access_of, title_of, connections_of, network_of, code_of};
+ghost use Rattle.catalog.specs.Settings.{description_of, capacity_of, first_of};
 
 use crate::fault::ConfigFault;
 use crate::keys::{copied_if, number_at, number_if_any, number_up_to, text_at, text_if_any};

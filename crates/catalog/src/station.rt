@@ -15,8 +15,8 @@ use std::marker::Model;
 use std::net::Ipv4Addr;
 use toml::Table;
 
-/// A station that the server has, and who may use it. In a contract it is its settings with the addresses of its own list,
-/// where it has one.
+/// A station that the server has, and who may use it. In a contract it is its settings with the addresses of its own
+/// list, where it has one.
 #[derive(Drop)]
 pub struct Station {
     network: Vec<u8>,
@@ -159,8 +159,8 @@ impl Station {
         })
     }
 
-    /// Whether an address may use it, where the global list is this: its own list decides, without one the global list, and
-    /// without either everybody may.
+    /// Whether an address may use it, where the global list is this: its own list decides, without one the global list,
+    /// and without either everybody may.
     pub(crate) fn is_open_to(&self, global: &Option<AccessList>, address: Ipv4Addr) -> bool
         ensures { result ≡ sees self.now.access global.now (ipv4_bits address) }
     {

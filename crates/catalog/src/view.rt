@@ -38,9 +38,9 @@ impl View {
         self.places.as_slice()
     }
 
-    /// The place of the first of its stations that has these codes, byte for byte (SeedLink 3, STATION). Without a network
-    /// it is the first with that code. A view with places that the configuration doesn't have finds nothing.
-    #[tactic(auto, using(crate::proofs::Finds::find_station_fits))]
+    /// The place of the first of its stations that has these codes, byte for byte (SeedLink 3, STATION). Without a
+    /// network it is the first with that code. A view with places that the configuration doesn't have finds nothing.
+    #[tactic(auto, using(crate::proofs::FindLemmas::find_station_fits))]
     pub fn find(&self, config: &Config, code: &[u8], network: Option<&[u8]>) -> Option<usize>
         ensures found { All (IsPlace config.now) self.now → option_map (station_at config.now.entries) result
             ≡ find_station (view_in config.now self.now) code.now (option_map (λ n. n.now) network.entry) }
@@ -71,7 +71,8 @@ fn find_in(
     network: Option<&[u8]>,
 ) -> Option<usize>
     requires { All (IsWithin stations.now) places.now }
-    ensures found { option_map (station_at stations.now) result ≡ find (fits code.now (option_map (λ n. n.now) network.entry)) (map (station_at stations.now) places.now) }
+    ensures found { option_map (station_at stations.now) result
+        ≡ find (fits code.now (option_map (λ n. n.now) network.entry)) (map (station_at stations.now) places.now) }
     ensures place { IfSome result (λ p. IsWithin stations.now p) }
 {
     for place in places {

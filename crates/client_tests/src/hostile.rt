@@ -31,8 +31,8 @@ fn is_well<R: Net>(rt: &R, centre: &mut Centre) -> Result<bool, Fail> {
     Ok(centre.answers(&mut client, b"HELLO\r", GREETING)?)
 }
 
-/// A client asks for records that don't fit into what the system holds for it, reads a part of a packet and goes: the system
-/// tells the server that the connection was reset, since bytes were not read.
+/// A client asks for records that don't fit into what the system holds for it, reads a part of a packet and goes: the
+/// system tells the server that the connection was reset, since bytes were not read.
 fn reset<R: Net>(rt: &R, centre: &mut Centre) -> Result<bool, Fail> {
     let mut client = centre.client(rt)?;
     let is_asked = centre.answers(&mut client, b"STATION WLF GE\rDATA\rEND\r", b"OK\r\nOK\r\n")?;

@@ -1,5 +1,5 @@
-//! Tests of other people's clients over sockets on loopback: what slinktool and programs that stand on libslink send, readers that
-//! are many, slow or gone, and those that misbehave. Nothing but tests.
+//! Tests of other people's clients over sockets on loopback: what slinktool and programs that stand on libslink send,
+//! readers that are many, slow or gone, and those that misbehave. Nothing but tests.
 #![tactic(auto)]
 
 #[cfg(test)]

@@ -1,5 +1,5 @@
-//! Dialogues as slinktool and other programs on libslink send them: each command ends with CR, and the next one waits for the
-//! answer, but for the last one.
+//! Dialogues as slinktool and other programs on libslink send them: each command ends with CR, and the next one waits
+//! for the answer, but for the last one.
 use loopback::{CENTRE, Centre, GREETING, packet, record};
 use std::io;
 use std::io::{Read, Write};

@@ -66,7 +66,8 @@ fn read_packets<S: Read>(centre: &mut Centre, client: &mut S) -> Result<Came, Fa
     Ok(came)
 }
 
-/// What a client reads that asks for all records and reads none until they have come; None if its commands are not answered.
+/// What a client reads that asks for all records and reads none until they have come; None if its commands are not
+/// answered.
 fn read_late<R: Net>(rt: &R, centre: &mut Centre) -> Result<Option<Came>, Fail> {
     let mut client = centre.client(rt)?;
     if !centre.answers(&mut client, b"STATION WLF GE\rDATA\rEND\r", b"OK\r\nOK\r\n")? {

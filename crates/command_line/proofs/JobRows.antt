@@ -1,7 +1,8 @@
 -- Worked words of a command line.
 use Rattle.std.specs.Prelude.{◌≡◌, refl, ℕ, List, [], ◌∷◌, Some, None, true, false, codes}
 use Rattle.clap.specs.Words.{Text, fault_of}
-use Rattle.clap.specs.declared.error.ErrorKind.TheVariants.{DisplayVersion, MissingRequiredArgument, UnknownArgument, ValueValidation}
+use Rattle.clap.specs.declared.error.ErrorKind.TheVariants.{DisplayVersion, MissingRequiredArgument, UnknownArgument}
+use Rattle.clap.specs.declared.error.ErrorKind.TheVariants.{ValueValidation}
 use Rattle.clap.proofs.OnLiterals.{clap_on_literals}
 use Rattle.command_line.specs.Jobs.{job_of, program_app}
 use Rattle.command_line.specs.Jobs.Asked.{Check, Replay, Serve, Feed, Read}
@@ -29,7 +30,8 @@ serve_words =
     codes "seedlinkd" ∷ codes "serve" ∷ codes "c.toml" ∷ codes "--listen" ∷ codes "127.0.0.1:18000" ∷ codes "--feed"
     ∷ codes "127.0.0.1:18001" ∷ []
 
-pub serve_asked : job_of serve_words ≡ Some (Serve (codes "c.toml") (codes "127.0.0.1:18000") (codes "127.0.0.1:18001") None None None)
+pub serve_asked : job_of serve_words
+    ≡ Some (Serve (codes "c.toml") (codes "127.0.0.1:18000") (codes "127.0.0.1:18001") None None None)
 unfolding clap_on_literals
 serve_asked = refl
 
@@ -39,7 +41,8 @@ serve_taken = refl
 
 abbrev turns_words : List Text
 turns_words =
-    codes "seedlinkd" ∷ codes "serve" ∷ codes "--turns" ∷ codes "20" ∷ codes "c" ∷ codes "--feed=b" ∷ codes "--listen=a" ∷ []
+    codes "seedlinkd" ∷ codes "serve" ∷ codes "--turns" ∷ codes "20" ∷ codes "c" ∷ codes "--feed=b" ∷ codes "--listen=a"
+    ∷ []
 
 pub turns_asked : job_of turns_words ≡ Some (Serve (codes "c") (codes "a") (codes "b") (Some 20) None None)
 unfolding clap_on_literals
@@ -47,14 +50,16 @@ turns_asked = refl
 
 abbrev reread_words : List Text
 reread_words =
-    codes "seedlinkd" ∷ codes "serve" ∷ codes "--report=9" ∷ codes "--reread" ∷ codes "600" ∷ codes "c" ∷ codes "--feed=b"
+    codes "seedlinkd" ∷ codes "serve" ∷ codes "--report=9" ∷ codes "--reread" ∷ codes "600" ∷ codes "c"
+    ∷ codes "--feed=b"
     ∷ codes "--listen=a" ∷ []
 
 pub reread_asked : job_of reread_words ≡ Some (Serve (codes "c") (codes "a") (codes "b") None (Some 600) (Some 9))
 unfolding clap_on_literals
 reread_asked = refl
 
-pub feed_asked : job_of (codes "seedlinkd" ∷ codes "feed" ∷ codes "a" ∷ codes "f" ∷ []) ≡ Some (Feed (codes "a") (codes "f"))
+pub feed_asked : job_of (codes "seedlinkd" ∷ codes "feed" ∷ codes "a" ∷ codes "f" ∷ [])
+    ≡ Some (Feed (codes "a") (codes "f"))
 unfolding clap_on_literals
 feed_asked = refl
 
@@ -87,12 +92,14 @@ unfolding clap_on_literals
 one_text_too_few = refl
 
 pub one_text_too_many :
-    fault_of program_app (codes "seedlinkd" ∷ codes "replay" ∷ codes "a" ∷ codes "b" ∷ codes "c" ∷ []) ≡ UnknownArgument ∷ []
+    fault_of program_app (codes "seedlinkd" ∷ codes "replay" ∷ codes "a" ∷ codes "b" ∷ codes "c" ∷ [])
+    ≡ UnknownArgument ∷ []
 unfolding clap_on_literals
 one_text_too_many = refl
 
 pub no_turns :
-    fault_of program_app (codes "seedlinkd" ∷ codes "serve" ∷ codes "c" ∷ codes "--listen=a" ∷ codes "--feed=b" ∷ codes "--turns=0" ∷ [])
+    fault_of program_app (codes "seedlinkd" ∷ codes "serve" ∷ codes "c" ∷ codes "--listen=a" ∷ codes "--feed=b"
+    ∷ codes "--turns=0" ∷ [])
     ≡ ValueValidation ∷ []
 unfolding clap_on_literals
 no_turns = refl

@@ -8,10 +8,12 @@ use Rattle.command_line.specs.Jobs.{HelpIs, IsJob, IsTold, is_shown, job_of, pro
 use Rattle.command_line.specs.declared.job.WordsFault.{WordsFault}
 use Rattle.command_line.specs.declared.job.WordsFault.TheVariants.{OutOfMemory, Refused}
 
-pub is_told : (kinds : Kinds) (k : ErrorKind) (fault : WordsFault) → HelpIs (is_shown k) fault → (k ≡ kind.OutOfMemory → fault ≡ OutOfMemory)
+pub is_told : (kinds : Kinds) (k : ErrorKind) (fault : WordsFault) → HelpIs (is_shown k) fault
+    → (k ≡ kind.OutOfMemory → fault ≡ OutOfMemory)
     → (k ≡ kind.OutOfMemory) ⊎ IsAmong k kinds → IsTold kinds fault
 is_told kinds k OutOfMemory help memory among = tt
-is_told kinds k (Refused text is_help) help memory (inl e) = let no : Refused text is_help ≡ OutOfMemory = memory e in absurd cc
+is_told kinds k (Refused text is_help) help memory (inl e) = let no : Refused text is_help ≡ OutOfMemory =
+    memory e in absurd cc
 is_told kinds k (Refused text is_help) help memory (inr a) = inr (k, a, help)
 
 -- `clap` says of this program which kinds there are
@@ -24,7 +26,8 @@ unfolding clap_on_literals
 program_takes_plain_words = refl
 
 -- Words with which `clap` finds no fault are refused for want of memory alone.
-pub only_memory : (kinds : Kinds) (k : ErrorKind) → kinds ≡ [] → (k ≡ kind.OutOfMemory) ⊎ IsAmong k kinds → k ≡ kind.OutOfMemory
+pub only_memory : (kinds : Kinds) (k : ErrorKind) → kinds ≡ [] → (k ≡ kind.OutOfMemory) ⊎ IsAmong k kinds
+    → k ≡ kind.OutOfMemory
 only_memory kinds k none (inl e) = e
 only_memory [] k none (inr a) = elim a [ ]
 only_memory (x ∷ xs) k none (inr a) = absurd cc

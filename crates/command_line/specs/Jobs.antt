@@ -1,5 +1,5 @@
--- What the words of a command line ask, by the definitions of `clap`: which subcommand they name, and which text or number
--- stands at each of its arguments.
+-- What the words of a command line ask, by the definitions of `clap`: which subcommand they name, and which text or
+-- number stands at each of its arguments.
 use Rattle.std.specs.Prelude.{◌≡◌, ◌⊎◌, ◌||◌, ℕ, Bool, true, false, List, [], ◌∷◌, Option, Some, None, option_map, map}
 use Rattle.std.specs.Prelude.{if◌then◌else◌, codes, nat_lt, IsSome}
 use Rattle.std.specs.Option.{option_map_or}
@@ -68,7 +68,8 @@ fetch_rule = record (new_rule (codes "fetch")) { long = Some (codes "fetch"); ac
 -- `read A:P WANT.. [--fetch] [--output FILE]`
 abbrev pub read_app : App
 read_app =
-    with_rule (with_rule (with_rule (with_rule (new_app (codes "read")) (wanted (codes "SERVER"))) wants_rule) fetch_rule)
+    with_rule
+    (with_rule (with_rule (with_rule (new_app (codes "read")) (wanted (codes "SERVER"))) wants_rule) fetch_rule)
     (option false (codes "output"))
 
 -- the program, which wants a subcommand
@@ -194,8 +195,9 @@ abbrev pub HelpIs : Bool → WordsFault → Type 0
 HelpIs asked OutOfMemory = Unit {0}
 HelpIs asked (Refused text is_help) = is_help ≡ asked
 
--- Words are told as help where that is what they ask, by the kinds of refusal that `clap` has for them, and as a mistake
--- where that is what they are, or where it has none and they are no job all the same.
+-- Words are told as help where that is what they ask, by the kinds of refusal that `clap` has for them, and as a
+-- mistake where that is what they are, or where it has none and they are no job all the same.
 abbrev pub IsTold : Kinds → WordsFault → Type 0
 IsTold kinds OutOfMemory = Unit {0}
-IsTold kinds (Refused text is_help) = ((kinds ≡ []) × (is_help ≡ false)) ⊎ ((k : ErrorKind) × IsAmong k kinds × (is_help ≡ is_shown k))
+IsTold kinds (Refused text is_help) = ((kinds ≡ []) × (is_help ≡ false))
+    ⊎ ((k : ErrorKind) × IsAmong k kinds × (is_help ≡ is_shown k))

@@ -2,7 +2,8 @@
 ghost use Rattle.std.specs.Prelude.{◌≡◌, Some, false, IfOk};
 ghost use Rattle.clap.specs.Words.{app_of, rule_of, with_rule, with_subcommand};
 ghost use Rattle.clap.specs.declared.Command.TheViews.{out-Command as fields_of};
-ghost use Rattle.command_line.specs.Jobs.{addressed_app, check_app, feed_app, fetch_rule, named_app, option, program_app, read_app, replay_app, serve_app, turns_rule, wanted, wants_rule};
+ghost use Rattle.command_line.specs.Jobs.{addressed_app, check_app, feed_app, fetch_rule, named_app, option};
+ghost use Rattle.command_line.specs.Jobs.{program_app, read_app, replay_app, serve_app, turns_rule, wanted, wants_rule};
 
 use clap::builder::ValueParser;
 use clap::{Arg, ArgAction, Command};

@@ -1,7 +1,8 @@
 //! The words of the command line.
 ghost use Rattle.std.specs.Prelude.{◌≡◌, [], Some, false, IfOk, IfErr, map, option_map, string_bytes};
 ghost use Rattle.clap.specs.Words.{all_of, fault_of, first_of, found_of, kind_of, rows_of, subcommand_rows_of};
-ghost use Rattle.command_line.specs.Jobs.{HelpIs, IsJob, IsTold, asked, asked_by, check_asked, feed_asked, is_shown, job_of, program_app, read_asked, replay_asked, serve_asked, turns_in};
+ghost use Rattle.command_line.specs.Jobs.{HelpIs, IsJob, IsTold, asked, asked_by, check_asked, feed_asked, is_shown};
+ghost use Rattle.command_line.specs.Jobs.{job_of, program_app, read_asked, replay_asked, serve_asked, turns_in};
 ghost use Rattle.command_line.specs.declared.job.WordsFault.TheVariants.{OutOfMemory};
 
 use crate::commands::program;
@@ -19,7 +20,8 @@ fn text_at<'a>(arguments: &ArgMatches<'a>, name: &str) -> Option<&'a str>
 
 /// All texts of an argument, where it has some.
 fn texts_at<'m, 'a>(arguments: &'m ArgMatches<'a>, name: &str) -> Option<&'m [&'a str]>
-    ensures { option_map (λ s. map (λ text. text.now) s.now) result ≡ all_of name.now (rows_of (found_of arguments.now)) }
+    ensures { option_map (λ s. map (λ text. text.now) s.now) result
+        ≡ all_of name.now (rows_of (found_of arguments.now)) }
 {
     arguments.get_strs(name)
 }
@@ -147,8 +149,8 @@ fn refused(alloc: Global, error: clap::Error) -> WordsFault
     }
 }
 
-/// What the user is told of words that `clap` takes and that are no job: a number with a sign, or with leading zeros beyond
-/// ten digits.
+/// What the user is told of words that `clap` takes and that are no job: a number with a sign, or with leading zeros
+/// beyond ten digits.
 fn no_number(alloc: Global) -> WordsFault
     ensures { HelpIs false result }
 {
@@ -163,11 +165,11 @@ fn no_number(alloc: Global) -> WordsFault
 
 /// The job that a command line asks for. Its first word is the program's name.
 ///
-/// Which words name which job is said by the definitions of `clap`: at Ok `clap` finds no fault with the words, so that no
-/// word is left over, and each text and number of the job is the one that stands at its place.
+/// Which words name which job is said by the definitions of `clap`: at Ok `clap` finds no fault with the words, so that
+/// no word is left over, and each text and number of the job is the one that stands at its place.
 ///
-/// It fails with Refused if the words are no job, with the text that `clap` has for the user and whether that is help or
-/// the version, and with OutOfMemory only if there is no memory.
+/// It fails with Refused if the words are no job, with the text that `clap` has for the user and whether that is help
+/// or the version, and with OutOfMemory only if there is no memory.
 pub fn read_words<'a>(alloc: Global, words: &'a [String]) -> Result<Job<'a>, WordsFault>
     ensures ok { IfOk result (λ job. job_of (map string_bytes words.entry.now) ≡ Some (asked job)) }
     ensures taken { IfOk result (λ job. fault_of program_app (map string_bytes words.entry.now) ≡ []) }

@@ -60,8 +60,8 @@ fn joined(alloc: Global, takes: &[Handed]) -> Result<Vec<u8>, Fail> {
     Ok(all)
 }
 
-/// All that the client of an address is handed by so many takes of 520 bytes after it sent these pieces, at a server of that
-/// configuration.
+/// All that the client of an address is handed by so many takes of 520 bytes after it sent these pieces, at a server of
+/// that configuration.
 fn bytes_at(
     alloc: Global,
     text: &[u8],

@@ -1,5 +1,5 @@
-//! Tests of the whole core: worked dialogues, and random lists of events, at the server and at a small plain server written for
-//! this alone. Nothing but tests.
+//! Tests of the whole core: worked dialogues, and random lists of events, at the server and at a small plain server
+//! written for this alone. Nothing but tests.
 #![tactic(auto)]
 
 #[cfg(test)]

@@ -50,8 +50,8 @@ static WIDE: Size = Size {
     arrivals: 150,
 };
 
-/// A list of steps by its number: first the short ones, then the long ones, whose stations hold up to 50 records, then those
-/// with very many clients, and those with very many patterns and stations.
+/// A list of steps by its number: first the short ones, then the long ones, whose stations hold up to 50 records, then
+/// those with very many clients, and those with very many patterns and stations.
 #[derive(Drop)]
 struct Scene {
     centre: Centre,
@@ -134,7 +134,8 @@ fn show(rt: &HostRuntime, list: u64, length: usize) -> Result<(), Fail> {
     Ok(())
 }
 
-/// The first of some lists over which the servers hand something else, and after how many steps. These steps are printed.
+/// The first of some lists over which the servers hand something else, and after how many steps. These steps are
+/// printed.
 fn first_difference(rt: &HostRuntime, lists: Range<u64>) -> Result<Option<(u64, usize)>, Fail> {
     for list in lists {
         if let Some(length) = differs_after(rt.alloc(), list)? {

@@ -1,1 +1,1 @@
-mod Digits
+mod DigitLemmas

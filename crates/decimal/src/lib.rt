@@ -4,8 +4,8 @@
 ghost use Rattle.std.specs.Prelude.{◌≡◌, ◌<◌, ◌≤◌, ◌^◌, IfSome, length};
 ghost use Rattle.protocol.specs.Time.{decimal_digit, decimal_number, digits_between};
 
-/// The number that `least` to `most` decimal digits spell, where `most` is ten at most: it is below 10^`most`. None where there
-/// are fewer digits or more, and where a byte is no digit.
+/// The number that `least` to `most` decimal digits spell, where `most` is ten at most: it is below 10^`most`. None
+/// where there are fewer digits or more, and where a byte is no digit.
 pub fn number(digits: &[u8], least: usize, most: usize) -> Option<usize>
     requires { most ≤ 10 }
     ensures value { result ≡ digits_between least most digits.now }

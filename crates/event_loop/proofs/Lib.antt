@@ -1,13 +1,13 @@
-mod Reading
-mod Going
-mod Steps
-mod Writing
-mod TurnMade
-mod Handing
-mod Places
-mod Hears
-mod Feeds
-mod FeedSteps
-mod SeatPasses
-mod AllPasses
-pub mod Serving
+mod ReadLemmas
+mod DeedLemmas
+mod StepLemmas
+mod WriteLemmas
+mod TurnLemmas
+mod HandsLemmas
+mod TableLemmas
+mod HearLemmas
+mod FeedLemmas
+mod FeedStepLemmas
+mod SeatPassLemmas
+mod PassesLemmas
+pub mod ServesLemmas

@@ -1,11 +1,12 @@
 -- The pass over a feed's port: its reads, and the records that become whole.
 -- The loop is this project's own.
-use Rattle.std.specs.Prelude.{◌≡◌, ℕ, zero, suc, ◌+◌, ◌-◌, ◌^◌, ◌≤◌, ◌==◌, Bool, true, false, ◌&&◌, if◌then◌else◌, List, [], ◌∷◌, length, map, Option, Some, None, is_some}
+use Rattle.std.specs.Prelude.{◌≡◌, ℕ, zero, suc, ◌+◌, ◌-◌, ◌^◌, ◌≤◌, ◌==◌, Bool, true, false, ◌&&◌, if◌then◌else◌, List}
+use Rattle.std.specs.Prelude.{[], ◌∷◌, length, map, Option, Some, None, is_some}
 use Rattle.protocol.specs.Catalog.{Config}
 use Rattle.protocol.specs.Streams.{FeedRead, feed_from}
 use Rattle.protocol.specs.World.{Event, World, world_from, accepted, step}
 use Rattle.protocol.specs.World.Event.{Arrive}
-use Rattle.server_core.specs.Standing.{Serving, StandsAt}
+use Rattle.server_core.specs.ServerValues.{ServerValue, StandsAt}
 use Rattle.event_loop.specs.declared.seat.Role.TheVariants.{Feed as FeedRole}
 use Rattle.event_loop.specs.declared.seat.Seat.{Seat}
 use Rattle.ports.specs.Calls.Given.{Piece, Nothing, TheEnd, Failure}
@@ -51,7 +52,8 @@ abbrev pub world_fed : Config → World → List (List ℕ) → World
 world_fed config w records = world_from config w (map Arrive (countable config w records))
 
 -- The records arrived, and the refused ones among them were counted.
-pub record Arrives (config : Config) (w : World) (records : List (List ℕ)) (server' : Serving) (dropped dropped' : ℕ) : Type 0 where
+pub record Arrives (config : Config) (w : World) (records : List (List ℕ)) (server' : ServerValue)
+    (dropped dropped' : ℕ) : Type 0 where
   pub stands : StandsAt server' config (world_fed config w records)
   pub counted : dropped' ≡ refused_more dropped (refusals config w records)
 
@@ -63,7 +65,8 @@ fed rest bytes = feed_from (record { records = []; rest = rest }) bytes
 
 -- a feed's seat
 abbrev pub feed_seat : (port : ℕ) → (rest : List ℕ) → (readable writable : Bool) → Seat
-feed_seat port rest readable writable = record { port = port; role = FeedRole rest; readable = readable; writable = writable }
+feed_seat port rest readable writable =
+    record { port = port; role = FeedRole rest; readable = readable; writable = writable }
 
 -- the count, with so many refused records
 abbrev pub feed_tally : (happenings dropped : ℕ) → Tally
@@ -72,16 +75,18 @@ feed_tally happenings dropped = record { happenings = happenings; dropped = drop
 -- the deed that a piece is: it is at most so many bytes, and these records became whole by it
 abbrev pub piece_read : Config → World → (port most : ℕ) → (rest bytes : List ℕ) → Deed
 piece_read config w port most rest bytes =
-    ReadsFeed port most (Piece bytes) (countable config w (fed rest bytes).records) (refusals config w (fed rest bytes).records)
+    ReadsFeed port most (Piece bytes) (countable config w (fed rest bytes).records)
+    (refusals config w (fed rest bytes).records)
 
--- The reads of a pass over a feed's port, of at most so many, lead to a world and a seat; there is none once the port is shut. Each
--- is made while the port may be read, and of at most 512 bytes.
+-- The reads of a pass over a feed's port, of at most so many, lead to a world and a seat; there is none once the port
+-- is shut. Each is made while the port may be read, and of at most 512 bytes.
 pub data FeedReads (config : Config) : ℕ → World → Seat → List Deed → World → Option Seat → Type 0 where
   enough : {w : World} {s : Seat} → FeedReads config zero w s [] w (Some s)
   not_readable : {n : ℕ} {w : World} {s : Seat} → s.readable ≡ false → FeedReads config (suc n) w s [] w (Some s)
   piece : {n : ℕ} {w w' : World} {s : Seat} {o : Option Seat} {ds : List Deed} (most : ℕ) (rest bytes : List ℕ) →
       s.readable ≡ true → most ≤ 512 → s.role ≡ FeedRole rest →
-      FeedReads config n (beyond config w (piece_read config w s.port most rest bytes)) (record s { role = FeedRole (fed rest bytes).rest }) ds w' o →
+      FeedReads config n (beyond config w (piece_read config w s.port most rest bytes))
+      (record s { role = FeedRole (fed rest bytes).rest }) ds w' o →
       FeedReads config (suc n) w s (piece_read config w s.port most rest bytes ∷ ds) w' o
   later : {n : ℕ} {w : World} {s : Seat} (most : ℕ) → s.readable ≡ true → most ≤ 512 →
       FeedReads config (suc n) w s (ReadsFeed s.port most Nothing [] 0 ∷ []) w (Some (unreadable s))

@@ -2,7 +2,7 @@
 use Rattle.std.specs.Prelude.{◌≡◌, ℕ, suc, Bool, if◌then◌else◌, List, ◌++◌, Option, Some, None}
 use Rattle.protocol.specs.Catalog.{Config}
 use Rattle.protocol.specs.World.{World}
-use Rattle.server_core.specs.Standing.{Serving, StandsAt}
+use Rattle.server_core.specs.ServerValues.{ServerValue, StandsAt}
 use Rattle.event_loop.specs.declared.seat.Seat.{Seat}
 use Rattle.event_loop.specs.declared.passes.Went.{Went}
 use Rattle.event_loop.specs.declared.passes.Went.TheVariants.{On, Stop, Over}
@@ -29,9 +29,9 @@ Step R config w s s' deeds On = GoesOn R config w s s' deeds
 Step R config w s s' deeds Stop = Ends R config w s deeds (Some s')
 Step R config w s s' deeds Over = Ends R config w s deeds None
 
--- The calls that were made are these deeds', the server stands for the world after them, the count is theirs, and each write was of
--- all that waited for its client.
-pub record Does (config : Config) (w : World) (calls calls' : Option (List Call)) (server' : Serving) (t t' : Tally)
+-- The calls that were made are these deeds', the server stands for the world after them, the count is theirs, and each
+-- write was of all that waited for its client.
+pub record Does (config : Config) (w : World) (calls calls' : Option (List Call)) (server' : ServerValue) (t t' : Tally)
     (deeds : List Deed) : Type 0 where
   pub tells : Tells calls calls' (calls_in deeds)
   pub stands : StandsAt server' config (world_beyond config w deeds)
@@ -40,22 +40,24 @@ pub record Does (config : Config) (w : World) (calls calls' : Option (List Call)
 
 -- One step of a pass was made.
 pub record Once (R : Kind Seat (Option Seat)) (config : Config) (w : World) (calls calls' : Option (List Call))
-    (server' : Serving) (t t' : Tally) (s s' : Seat) (went : Went) : Type 0 where
+    (server' : ServerValue) (t t' : Tally) (s s' : Seat) (went : Went) : Type 0 where
   pub deeds : List Deed
   pub does : Does config w calls calls' server' t t' deeds
   pub how : Step R config w s s' deeds went
 
 -- So many steps are left.
-pub record SoFar {S O : Type 0} (R : Kind S O) (limit left : ℕ) (config : Config) (w : World) (calls calls' : Option (List Call))
-    (server' : Serving) (t t' : Tally) (s s' : S) : Type 0 where
+pub record SoFar {S O : Type 0} (R : Kind S O) (limit left : ℕ) (config : Config) (w : World)
+    (calls calls' : Option (List Call))
+    (server' : ServerValue) (t t' : Tally) (s s' : S) : Type 0 where
   pub deeds : List Deed
   pub does : Does config w calls calls' server' t t' deeds
   pub how : (ds : List Deed) (w' : World) (o : O) →
       R left (world_beyond config w deeds) s' ds w' o → R limit w s (deeds ++ ds) w' o
 
 -- All was done, with an outcome.
-pub record Whole {S O : Type 0} (R : Kind S O) (limit : ℕ) (config : Config) (w : World) (calls calls' : Option (List Call))
-    (server' : Serving) (t t' : Tally) (s : S) (o : O) : Type 0 where
+pub record Whole {S O : Type 0} (R : Kind S O) (limit : ℕ) (config : Config) (w : World)
+    (calls calls' : Option (List Call))
+    (server' : ServerValue) (t t' : Tally) (s : S) (o : O) : Type 0 where
   pub deeds : List Deed
   pub does : Does config w calls calls' server' t t' deeds
   pub how : R limit w s deeds (world_beyond config w deeds) o

@@ -1,6 +1,7 @@
 -- What a loop hears of its ports, and which ports are open after it.
 -- The loop is this project's own. Left out: why a new port is turned away.
-use Rattle.std.specs.Prelude.{◌≡◌, ℕ, zero, suc, ◌<◌, ◌==◌, nat_lt, Bool, true, false, if◌then◌else◌, List, [], ◌∷◌, map, count_by, length, Ok, Err}
+use Rattle.std.specs.Prelude.{◌≡◌, ℕ, zero, suc, ◌<◌, ◌==◌, nat_lt, Bool, true, false, if◌then◌else◌, List, [], ◌∷◌}
+use Rattle.std.specs.Prelude.{map, count_by, length, Ok, Err}
 use Rattle.std.specs.List.{list_any}
 use Rattle.std.specs.declared.net.ipv4_addr.Ipv4Addr.{Ipv4Addr}
 use Rattle.protocol.specs.Catalog.{Config}
@@ -32,9 +33,9 @@ abbrev pub is_seated : ℕ → List Seat → Bool
 is_seated port seats = list_any (λ s. s.port == port) seats
 
 -- a new seat among the others, by rising number
-abbrev pub seated : Seat → List Seat → List Seat
-seated new [] = new ∷ []
-seated new (s ∷ seats) = if nat_lt new.port s.port then new ∷ s ∷ seats else s ∷ seated new seats
+abbrev pub open_client : Seat → List Seat → List Seat
+open_client new [] = new ∷ []
+open_client new (s ∷ seats) = if nat_lt new.port s.port then new ∷ s ∷ seats else s ∷ open_client new seats
 
 -- a port that has just joined
 abbrev pub joining : (port : ℕ) → Role → Seat
@@ -79,18 +80,22 @@ heard seats end = record { seats = seats; end = end }
 -- What is heard, of at most so many happenings, leads to a world and the seats after it.
 pub data Hearing (config : Config) (most : ℕ) : ℕ → World → List Seat → List Deed → World → Heard → Type 0 where
   enough : {w : World} {ss : List Seat} → Hearing config most zero w ss [] w (heard ss Limit)
-  quiet : {n : ℕ} {w : World} {ss : List Seat} → Hearing config most (suc n) w ss (Hears (Ok Quiet) ∷ []) w (heard ss Quieted)
-  fault : {n : ℕ} {w : World} {ss : List Seat} (f : PortFault) → Hearing config most (suc n) w ss (Hears (Err f) ∷ []) w (heard ss Faulted)
-  marks : {n : ℕ} {w w' : World} {ss : List Seat} {ds : List Deed} {o : Heard} (happening : Happening) → is_old happening ss ≡ true →
+  quiet : {n : ℕ} {w : World} {ss : List Seat}
+      → Hearing config most (suc n) w ss (Hears (Ok Quiet) ∷ []) w (heard ss Quieted)
+  fault : {n : ℕ} {w : World} {ss : List Seat} (f : PortFault)
+      → Hearing config most (suc n) w ss (Hears (Err f) ∷ []) w (heard ss Faulted)
+  marks : {n : ℕ} {w w' : World} {ss : List Seat} {ds : List Deed} {o : Heard} (happening : Happening)
+      → is_old happening ss ≡ true →
       Hearing config most n w (marked happening ss) ds w' o →
       Hearing config most (suc n) w ss (Hears (Ok happening) ∷ ds) w' o
   opens : {n : ℕ} {w w' : World} {ss : List Seat} {ds : List Deed} {o : Heard} (port : ℕ) (address : Ipv4Addr) →
       is_seated port ss ≡ false → clients_in ss < most →
-      Hearing config most n (beyond config w (Opens port address)) (seated (joining port (ClientRole (length w.connections))) ss) ds w' o →
+      Hearing config most n (beyond config w (Opens port address))
+      (open_client (joining port (ClientRole (length w.connections))) ss) ds w' o →
       Hearing config most (suc n) w ss (Opens port address ∷ ds) w' o
   feeds : {n : ℕ} {w w' : World} {ss : List Seat} {ds : List Deed} {o : Heard} (port : ℕ) →
       is_seated port ss ≡ false → feeds_in ss < 16 →
-      Hearing config most n w (seated (joining port (FeedRole [])) ss) ds w' o →
+      Hearing config most n w (open_client (joining port (FeedRole [])) ss) ds w' o →
       Hearing config most (suc n) w ss (Feeds port ∷ ds) w' o
   turns_away : {n : ℕ} {w w' : World} {ss : List Seat} {ds : List Deed} {o : Heard} (port : ℕ) (address : Ipv4Addr) →
       is_seated port ss ≡ false → Hearing config most n w ss ds w' o →

@@ -1,6 +1,7 @@
 -- How a loop goes through its ports: each port's pass by itself.
 -- The loop is this project's own.
-use Rattle.std.specs.Prelude.{◌≡◌, ℕ, zero, suc, ◌≤◌, ◌<◌, Bool, true, false, List, [], ◌∷◌, ◌++◌, length, Option, Some, None, option_map, unwrap_or, Ok, Err, slice_get}
+use Rattle.std.specs.Prelude.{◌≡◌, ℕ, zero, suc, ◌≤◌, ◌<◌, Bool, true, false, List, [], ◌∷◌, ◌++◌, length, Option, Some}
+use Rattle.std.specs.Prelude.{None, option_map, unwrap_or, Ok, Err, slice_get}
 use Rattle.protocol.specs.Catalog.{Config}
 use Rattle.protocol.specs.Client.{Client, offered}
 use Rattle.protocol.specs.World.{World, world_from, client_of, taken_by}
@@ -44,8 +45,8 @@ unwritable s = record s { writable = false }
 abbrev pub MayRead : World → ℕ → Seat → Type 0
 MayRead w k s = (s.role ≡ ClientRole k) × (s.readable ≡ true) × (0 < room_in w k)
 
--- The reads of a pass over the port of client k, of at most so many, lead to a world and a seat; there is none once the port is
--- shut. Each is made while the port may be read, and of no more bytes than the client may send.
+-- The reads of a pass over the port of client k, of at most so many, lead to a world and a seat; there is none once the
+-- port is shut. Each is made while the port may be read, and of no more bytes than the client may send.
 pub data ClientReads (config : Config) (k : ℕ) : ℕ → World → Seat → List Deed → World → Option Seat → Type 0 where
   -- so many were made
   enough : {w : World} {s : Seat} → ClientReads config k zero w s [] w (Some s)
@@ -62,9 +63,11 @@ pub data ClientReads (config : Config) (k : ℕ) : ℕ → World → Seat → Li
       ClientReads config k (suc n) w s (Reads k s.port most Nothing ∷ []) w (Some (unreadable s))
   -- nothing more, or a failure: the port is shut
   closed : {n : ℕ} {w : World} {s : Seat} (most : ℕ) → MayRead w k s → most ≤ room_in w k →
-      ClientReads config k (suc n) w s (Reads k s.port most TheEnd ∷ Closes k s.port ∷ []) (beyond config w (Closes k s.port)) None
+      ClientReads config k (suc n) w s (Reads k s.port most TheEnd ∷ Closes k s.port ∷ [])
+      (beyond config w (Closes k s.port)) None
   failed : {n : ℕ} {w : World} {s : Seat} (most : ℕ) → MayRead w k s → most ≤ room_in w k →
-      ClientReads config k (suc n) w s (Reads k s.port most Failure ∷ Closes k s.port ∷ []) (beyond config w (Closes k s.port)) None
+      ClientReads config k (suc n) w s (Reads k s.port most Failure ∷ Closes k s.port ∷ [])
+      (beyond config w (Closes k s.port)) None
 
 -- A port of a client may be written to, and all that waits for the client is offered to it.
 pub record MayWrite (w : World) (k : ℕ) (s : Seat) (bytes : List ℕ) : Type 0 where
@@ -91,9 +94,11 @@ pub data ClientWrites (config : Config) (k : ℕ) : ℕ → World → Seat → L
       ClientWrites config k (suc n) w s (Writes k s.port bytes (Ok (Took count)) ∷ ds) w' o
   -- none were
   took_none : {n : ℕ} {w : World} {s : Seat} (bytes : List ℕ) → MayWrite w k s bytes →
-      ClientWrites config k (suc n) w s (Writes k s.port bytes (Ok (Took 0)) ∷ []) (beyond config w (Writes k s.port bytes (Ok (Took 0)))) (Some s)
+      ClientWrites config k (suc n) w s (Writes k s.port bytes (Ok (Took 0)) ∷ [])
+      (beyond config w (Writes k s.port bytes (Ok (Took 0)))) (Some s)
   later : {n : ℕ} {w : World} {s : Seat} (bytes : List ℕ) → MayWrite w k s bytes →
-      ClientWrites config k (suc n) w s (Writes k s.port bytes (Ok LaterPut) ∷ []) (beyond config w (Writes k s.port bytes (Ok LaterPut))) (Some (unwritable s))
+      ClientWrites config k (suc n) w s (Writes k s.port bytes (Ok LaterPut) ∷ [])
+      (beyond config w (Writes k s.port bytes (Ok LaterPut))) (Some (unwritable s))
   failed : {n : ℕ} {w : World} {s : Seat} (bytes : List ℕ) (fault : PortFault) → MayWrite w k s bytes →
       ClientWrites config k (suc n) w s (Writes k s.port bytes (Err fault) ∷ Closes k s.port ∷ [])
       (world_from config w (events_of (Writes k s.port bytes (Err fault)) ++ events_of (Closes k s.port))) None
@@ -104,7 +109,8 @@ WritesAfter config k limit w None ds w' o = (ds ≡ []) × (w' ≡ w) × (o ≡ 
 WritesAfter config k limit w (Some s) ds w' o = ClientWrites config k limit w s ds w' o
 
 -- the pass over a client's port: its reads, and then its writes
-pub record ClientPass (config : Config) (k limit : ℕ) (w : World) (s : Seat) (ds : List Deed) (w' : World) (o : Option Seat) : Type 0 where
+pub record ClientPass (config : Config) (k limit : ℕ) (w : World) (s : Seat) (ds : List Deed) (w' : World)
+    (o : Option Seat) : Type 0 where
   pub reads : List Deed
   pub writes : List Deed
   pub between : World

@@ -3,7 +3,7 @@
 use Rattle.std.specs.Prelude.{◌≡◌, ℕ, ◌<◌, ◌≤◌, false, if◌then◌else◌, List, [], ◌++◌, length, slice_index_or, Option}
 use Rattle.protocol.specs.Catalog.{Config}
 use Rattle.protocol.specs.World.{World}
-use Rattle.server_core.specs.Standing.{Serving}
+use Rattle.server_core.specs.ServerValues.{ServerValue}
 use Rattle.event_loop.specs.declared.seat.Role.TheVariants.{Feed as FeedRole}
 use Rattle.event_loop.specs.declared.seat.Seat.{Seat}
 use Rattle.ports.specs.Calls.{Call}
@@ -70,7 +70,8 @@ tally_hark t Quiet = t
 tally_hark t Fault = t
 
 -- One call of `next` was heard.
-pub record HearsOnce (config : Config) (most : ℕ) (w : World) (calls calls' : Option (List Call)) (server' : Serving)
+pub record HearsOnce (config : Config) (most : ℕ) (w : World) (calls calls' : Option (List Call))
+    (server' : ServerValue)
     (t : Tally) (ss ss' : List Seat) (hark : Hark) : Type 0 where
   pub deeds : List Deed
   pub does : Does config w calls calls' server' t (tally_hark t hark) deeds
@@ -83,7 +84,8 @@ CountsFault old new Quiet = new ≡ old
 CountsFault old new Fault = IsMore old new 1
 
 -- All was heard.
-abbrev pub WholeHearing : Config → (most limit : ℕ) → World → (calls calls' : Option (List Call)) → Serving → Tally → (ss ss' : List Seat) → End → Type 0
+abbrev pub WholeHearing : Config → (most limit : ℕ) → World → (calls calls' : Option (List Call)) → ServerValue → Tally
+    → (ss ss' : List Seat) → End → Type 0
 WholeHearing config most limit w calls calls' server' t ss ss' end =
     Whole (HeardBy config most) limit config w calls calls' server' no_tally t ss (heard ss' end)
 
@@ -101,15 +103,18 @@ heard_end report = if report.quiet then Quieted else Limit
 -- ---- passes, one after the other
 
 -- So far these seats stay, and these are left.
-pub record PassesSoFar (limit : ℕ) (config : Config) (w : World) (calls calls' : Option (List Call)) (server' : Serving)
+pub record PassesSoFar (limit : ℕ) (config : Config) (w : World) (calls calls' : Option (List Call))
+    (server' : ServerValue)
     (t t' : Tally) (ss before left : List Seat) : Type 0 where
   pub deeds : List Deed
   pub does : Does config w calls calls' server' t t' deeds
   pub how : (ds : List Deed) (w' : World) (ss' : List Seat) →
-      Passes config limit (world_beyond config w deeds) left ds w' ss' → Passes config limit w ss (deeds ++ ds) w' (before ++ ss')
+      Passes config limit (world_beyond config w deeds) left ds w' ss'
+      → Passes config limit w ss (deeds ++ ds) w' (before ++ ss')
 
 -- All passes were made.
-pub record PassesAll (limit : ℕ) (config : Config) (w : World) (calls calls' : Option (List Call)) (server' : Serving)
+pub record PassesAll (limit : ℕ) (config : Config) (w : World) (calls calls' : Option (List Call))
+    (server' : ServerValue)
     (t t' : Tally) (ss ss' : List Seat) : Type 0 where
   pub deeds : List Deed
   pub does : Does config w calls calls' server' t t' deeds

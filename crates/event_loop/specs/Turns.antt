@@ -1,10 +1,10 @@
--- A turn of a loop: what it hears, and then each open port's pass, by rising number; and what each client is handed by it.
--- The loop is this project's own.
+-- A turn of a loop: what it hears, and then each open port's pass, by rising number; and what each client is handed by
+-- it. The loop is this project's own.
 use Rattle.std.specs.Prelude.{◌≡◌, ℕ, if◌then◌else◌, List, [], ◌∷◌, ◌++◌, flat_map, Option, Some, None}
 use Rattle.protocol.specs.Catalog.{Config}
 use Rattle.protocol.specs.World.{Event, World, config_after, world_after}
 use Rattle.protocol.specs.Alone.{alone, own_view, seen}
-use Rattle.server_core.specs.Standing.{Serving}
+use Rattle.server_core.specs.ServerValues.{ServerValue}
 use Rattle.event_loop.specs.declared.seat.Role.{Role}
 use Rattle.event_loop.specs.declared.seat.Role.TheVariants.{Client as ClientRole, Feed as FeedRole}
 use Rattle.event_loop.specs.declared.seat.Seat.{Seat}
@@ -60,9 +60,11 @@ abbrev pub bytes_alone : Config → List Event → ℕ → List ℕ
 bytes_alone config events k = flat_map (λ t. t.bytes) (alone (own_view config events k) (seen config events k))
 
 -- A client's port takes what a client alone is handed, from its own events and the arrivals that it sees: at whatever
--- configuration the server began, and whatever events, with new configurations among them, led to this one and to this world.
+-- configuration the server began, and whatever events, with new configurations among them, led to this one and to this
+-- world.
 abbrev pub HandsAsAlone : Config → World → List Deed → Type 0
-HandsAsAlone config w deeds = (first : Config) (h : List Event) → config_after first h ≡ config → world_after first h ≡ w →
+HandsAsAlone config w deeds = (first : Config) (h : List Event) → config_after first h ≡ config
+    → world_after first h ≡ w →
     (k : ℕ) → bytes_alone first (h ++ events_in deeds) k ≡ bytes_alone first h k ++ taken_in k deeds
 
 -- the count that a turn answers
@@ -74,7 +76,8 @@ abbrev pub end_of : Turned → End
 end_of turned = if turned.quiet then Quieted else Limit
 
 -- A turn was made.
-pub record Turns (config : Config) (most limit : ℕ) (w : World) (calls calls' : Option (List Call)) (server' : Serving)
+pub record Turns (config : Config) (most limit : ℕ) (w : World) (calls calls' : Option (List Call))
+    (server' : ServerValue)
     (seats seats' : List Seat) (turned : Turned) : Type 0 where
   pub deeds : List Deed
   pub does : Does config w calls calls' server' no_tally (tally_of turned) deeds
@@ -82,7 +85,8 @@ pub record Turns (config : Config) (most limit : ℕ) (w : World) (calls calls' 
   pub isolation : HandsAsAlone config w deeds
 
 -- A turn that failed heard a fault, and went through no port.
-pub record Fails (config : Config) (most limit : ℕ) (w : World) (calls calls' : Option (List Call)) (server' : Serving)
+pub record Fails (config : Config) (most limit : ℕ) (w : World) (calls calls' : Option (List Call))
+    (server' : ServerValue)
     (seats seats' : List Seat) : Type 0 where
   pub deeds : List Deed
   pub counts : Tally

@@ -2,7 +2,7 @@
 ghost use Rattle.std.specs.Prelude.{◌≡◌, ℕ, ◌<◌, ◌≤◌, Bool, [], ◌∷◌, length};
 ghost use Rattle.protocol.specs.Catalog.{Config};
 ghost use Rattle.protocol.specs.World.{World};
-ghost use Rattle.server_core.specs.Standing.{StandsAt};
+ghost use Rattle.server_core.specs.ServerValues.{StandsAt};
 ghost use Rattle.event_loop.specs.Deeds.{Tally};
 ghost use Rattle.event_loop.specs.Feeding.{Arrives, FeedReads, fed, feed_seat, feed_tally};
 ghost use Rattle.event_loop.specs.Going.{Once, Whole, if_open};
@@ -95,7 +95,8 @@ pub fn read_feed<P: Ports>(
     ensures goes { (writable : Bool) (happenings : ℕ) (config : Config) (w : World) → StandsAt server.old config w →
         Whole (FeedReads config) limit config w (P.calls ports.old) (P.calls ports.new) server.new
         (feed_tally happenings dropped.old) (feed_tally happenings dropped.new)
-        (feed_seat port cutter.old readable.old writable) (if_open result (feed_seat port cutter.new readable.new writable)) }
+        (feed_seat port cutter.old readable.old writable)
+        (if_open result (feed_seat port cutter.new readable.new writable)) }
 {
     let mut left = limit;
     'reads: while left > 0 {

@@ -3,7 +3,7 @@ ghost use Rattle.std.specs.Prelude.{◌≡◌, ◌≤◌, ℕ, List, [], ◌∷�
 ghost use Rattle.std.specs.declared.option.Option.{Option};
 ghost use Rattle.protocol.specs.Catalog.{Config};
 ghost use Rattle.protocol.specs.World.{World};
-ghost use Rattle.server_core.specs.Standing.{StandsAt};
+ghost use Rattle.server_core.specs.ServerValues.{StandsAt};
 ghost use Rattle.sl_io.specs.Counts.{IsMore};
 ghost use Rattle.ports.specs.Calls.{Call, Tells};
 ghost use Rattle.ports.specs.Calls.Call.{Next};
@@ -12,7 +12,8 @@ ghost use Rattle.event_loop.specs.Deeds.{Tally, no_tally};
 ghost use Rattle.event_loop.specs.Going.{Whole};
 ghost use Rattle.event_loop.specs.Hearing.{heard};
 ghost use Rattle.event_loop.specs.Hearing.End.{Faulted};
-ghost use Rattle.event_loop.specs.Tables.{IsTable, HearsOnce, HeardBy, WholeHearing, CountsFault, tally_heard_by, heard_end};
+ghost use Rattle.event_loop.specs.Tables.{IsTable, HearsOnce, HeardBy, WholeHearing, CountsFault, tally_heard_by};
+ghost use Rattle.event_loop.specs.Tables.{heard_end};
 
 use crate::seat::{Role, Seat, Unfinished};
 use crate::table::{clients, feeds, mark_readable, mark_writable, place_of};
@@ -44,8 +45,8 @@ pub struct Report {
     pub quiet: bool,
 }
 
-// A client's port joins: a seat is made and the client opened; or else the port is shut, and nothing came of it. The place of the
-// seat is reserved first, so that no client is opened that could have no seat.
+// A client's port joins: a seat is made and the client opened; or else the port is shut, and nothing came of it. The
+// place of the seat is reserved first, so that no client is opened that could have no seat.
 fn join_client<P: Ports>(
     server: &mut Server,
     ports: &mut P,
@@ -120,7 +121,8 @@ fn hear_once<P: Ports>(
     ensures table { IsTable most seats.new.items }
     ensures failures { CountsFault (P.failures ports.old) (P.failures ports.new) result }
     ensures goes { (t : Tally) (config : Config) (w : World) → StandsAt server.old config w →
-        HearsOnce config most w (P.calls ports.old) (P.calls ports.new) server.new t seats.old.items seats.new.items result }
+        HearsOnce config most w (P.calls ports.old)
+        (P.calls ports.new) server.new t seats.old.items seats.new.items result }
 {
     match ports.next() {
         Ok(Happening::Joined(port, address)) => {
@@ -156,9 +158,11 @@ pub fn hear<P: Ports>(
     requires { IsTable most seats.old.items }
     ensures table { IsTable most seats.new.items }
     ensures ok { IfOk result (λ report. (config : Config) (w : World) → StandsAt server.old config w →
-        WholeHearing config most limit w (P.calls ports.old) (P.calls ports.new) server.new (tally_heard_by report) seats.old.items seats.new.items (heard_end report)) }
+        WholeHearing config most limit w (P.calls ports.old) (P.calls ports.new) server.new
+        (tally_heard_by report) seats.old.items seats.new.items (heard_end report)) }
     ensures failed { OnErr result ((config : Config) (w : World) → StandsAt server.old config w →
-        (t : Tally) × WholeHearing config most limit w (P.calls ports.old) (P.calls ports.new) server.new t seats.old.items seats.new.items Faulted) }
+        (t : Tally) × WholeHearing config most limit w (P.calls ports.old)
+        (P.calls ports.new) server.new t seats.old.items seats.new.items Faulted) }
     ensures failures { OnErr result (IsMore (P.failures ports.old) (P.failures ports.new) 1) }
 {
     let mut left = limit;

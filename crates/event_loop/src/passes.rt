@@ -7,7 +7,7 @@ ghost use Rattle.protocol.specs.World.Event.{Close, Take};
 ghost use Rattle.ports.specs.Calls.{Tells};
 ghost use Rattle.ports.specs.Calls.Call.{Shut};
 ghost use Rattle.server_core.specs.Refusals.{offer_of};
-ghost use Rattle.server_core.specs.Standing.{StandsAt};
+ghost use Rattle.server_core.specs.ServerValues.{StandsAt};
 ghost use Rattle.server_core.specs.declared.client.Offer.TheVariants.{Idle};
 ghost use Rattle.event_loop.specs.Deeds.{Tally};
 ghost use Rattle.event_loop.specs.Passes.{ClientReads, ClientWrites, client_at, room_in};
@@ -31,7 +31,8 @@ pub enum Went {
 // A client's port is shut, and the client is closed.
 fn shut<P: Ports>(server: &mut Server, ports: &mut P, client: Client, port: u64)
     ensures call { Tells (P.calls ports.old) (P.calls ports.new) (Shut port ∷ []) }
-    ensures stands { (config : Config) (w : World) → StandsAt server.old config w → StandsAt server.new config (step config w (Close client)) }
+    ensures stands { (config : Config) (w : World) → StandsAt server.old config w
+        → StandsAt server.new config (step config w (Close client)) }
 {
     ports.shut(port);
     let _ = server.close(client);
@@ -50,7 +51,8 @@ fn read_piece<P: Ports>(
     requires some { 0 < length piece.old }
     requires fits { (config : Config) (w : World) → StandsAt server.old config w → length piece.old ≤ room_in w client }
     ensures goes { (t : Tally) (config : Config) (w : World) → StandsAt server.old config w →
-        Once (ClientReads config client) config w (P.calls ports.old) (P.calls ports.new) server.new t t seat.old seat.new result }
+        Once (ClientReads config client) config w (P.calls ports.old)
+        (P.calls ports.new) server.new t t seat.old seat.new result }
     ensures role { seat.new.role ≡ Role.Client client }
     ensures port { seat.new.port ≡ seat.old.port }
 {
@@ -85,7 +87,8 @@ fn read_once<P: Ports>(
     requires role { seat.old.role ≡ Role.Client client }
     requires buffer { 0 < length buffer.old }
     ensures goes { (t : Tally) (config : Config) (w : World) → StandsAt server.old config w →
-        Once (ClientReads config client) config w (P.calls ports.old) (P.calls ports.new) server.new t t seat.old seat.new result }
+        Once (ClientReads config client) config w (P.calls ports.old)
+        (P.calls ports.new) server.new t t seat.old seat.new result }
     ensures role { seat.new.role ≡ Role.Client client }
     ensures port { seat.new.port ≡ seat.old.port }
 {
@@ -131,7 +134,8 @@ pub fn read_client<P: Ports>(
 fn write_once<P: Ports>(server: &mut Server, ports: &mut P, client: Client, seat: &mut Seat) -> Went
     requires role { seat.old.role ≡ Role.Client client }
     ensures goes { (t : Tally) (config : Config) (w : World) → StandsAt server.old config w →
-        Once (ClientWrites config client) config w (P.calls ports.old) (P.calls ports.new) server.new t t seat.old seat.new result }
+        Once (ClientWrites config client) config w (P.calls ports.old)
+        (P.calls ports.new) server.new t t seat.old seat.new result }
     ensures role { seat.new.role ≡ Role.Client client }
     ensures port { seat.new.port ≡ seat.old.port }
 {
@@ -203,7 +207,8 @@ pub fn write_client<P: Ports>(
 ) -> bool
     requires role { seat.old.role ≡ Role.Client client }
     ensures goes { (t : Tally) (config : Config) (w : World) → StandsAt server.old config w →
-        Whole (ClientWrites config client) limit config w (P.calls ports.old) (P.calls ports.new) server.new t t seat.old
+        Whole (ClientWrites config client) limit config w (P.calls ports.old)
+        (P.calls ports.new) server.new t t seat.old
         (if_open result seat.new) }
     ensures role { seat.new.role ≡ Role.Client client }
     ensures port { seat.new.port ≡ seat.old.port }

@@ -7,8 +7,8 @@ use server_core::Client;
 use std::alloc::{AllocError, Global};
 use std::marker::Model;
 
-/// The bytes of a feed's unfinished record. They are kept apart from the feed's seat, so that a client's seat, of which there may
-/// be thousands, has no room for them. In a contract it is these bytes.
+/// The bytes of a feed's unfinished record. They are kept apart from the feed's seat, so that a client's seat, of which
+/// there may be thousands, has no room for them. In a contract it is these bytes.
 #[derive(Drop)]
 pub struct Unfinished {
     pub cutter: Box<FeedCutter>,

@@ -3,7 +3,7 @@ ghost use Rattle.std.specs.Prelude.{◌≡◌, ◌≤◌, ℕ, [], IfOk, MatchRe
 ghost use Rattle.protocol.specs.Catalog.{Config as ProtocolConfig, is_same_but_for_access};
 ghost use Rattle.protocol.specs.World.{World, config_by, empty_world, step};
 ghost use Rattle.protocol.specs.World.Event.{Reload};
-ghost use Rattle.server_core.specs.Standing.{StandsAt};
+ghost use Rattle.server_core.specs.ServerValues.{StandsAt};
 ghost use Rattle.sl_io.specs.Counts.{IsMore};
 ghost use Rattle.event_loop.specs.Deeds.{Tally, refused_more};
 ghost use Rattle.event_loop.specs.Feeding.{feed_tally};
@@ -27,7 +27,8 @@ use thiserror::Error;
 /// How many bytes a client's read asks for at most: as many as a client ever has room for.
 const CLIENT_READ: usize = 1024;
 
-/// How many bytes a feed's read asks for at most: one record, so that no feed brings more records in a pass than a client takes.
+/// How many bytes a feed's read asks for at most: one record, so that no feed brings more records in a pass than a
+/// client takes.
 const FEED_READ: usize = 512;
 
 /// What a turn did.
@@ -149,11 +150,12 @@ impl<P: Ports + Drop> Loop<P> {
 }
 
 impl<P: Ports> Loop<P> {
-    /// Takes up to `limit` happenings, or until Quiet; then goes through the open ports by rising number. Each port's pass reads
-    /// while the port may be read, up to `limit` times, and on a client's port then offers and writes, up to `limit` times.
+    /// Takes up to `limit` happenings, or until Quiet; then goes through the open ports by rising number. Each port's
+    /// pass reads while the port may be read, up to `limit` times, and on a client's port then offers and writes, up to
+    /// `limit` times.
     ///
-    /// It fails with 40 Poll only if the ports could not say what happened. What was done before it in the turn stands, and a
-    /// further turn goes on.
+    /// It fails with 40 Poll only if the ports could not say what happened. What was done before it in the turn stands,
+    /// and a further turn goes on.
     pub fn turn(&mut self, limit: usize) -> Result<Turned, LoopFault>
         ensures ok { IfOk result (λ turned. (config : ProtocolConfig) (w : World) → StandsAt self.old.server config w →
             Turns config self.old.most limit w (P.calls self.old.ports) (P.calls self.new.ports) self.new.server
@@ -194,9 +196,10 @@ impl<P: Ports> Loop<P> {
         })
     }
 
-    /// A new configuration comes into force, as at the server: clients whose address has another view under it than at their
-    /// open are cut, and all others go on. It fails with 34 Different where it differs from the present one in more than
-    /// the lists of addresses, and then nothing changes. No port is called: what a turn hands next is of the new lists.
+    /// A new configuration comes into force, as at the server: clients whose address has another view under it than at
+    /// their open are cut, and all others go on. It fails with 34 Different where it differs from the present one in
+    /// more than the lists of addresses, and then nothing changes. No port is called: what a turn hands next is of the
+    /// new lists.
     pub fn reload(&mut self, config: Config) -> Result<(), ReloadFault>
         ensures stands { (old : ProtocolConfig) (w : World) → StandsAt self.old.server old w →
             StandsAt self.new.server (config_by old (Reload config)) (step old w (Reload config)) }
@@ -241,7 +244,8 @@ impl<P: Ports> Loop<P> {
 
     /// How many records arrived, from all feeds: those that the server accepted.
     pub fn arrivals(&self) -> u64
-        ensures { (config : ProtocolConfig) (w : World) → StandsAt self.now.server config w → result ≡ length w.history }
+        ensures { (config : ProtocolConfig) (w : World) → StandsAt self.now.server config w
+            → result ≡ length w.history }
     {
         self.server.arrivals()
     }

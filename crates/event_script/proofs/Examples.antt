@@ -8,7 +8,8 @@ use Rattle.protocol.specs.World.Event.{Bytes, Take, Close, Arrive, Reload}
 use Rattle.protocol.proofs.Vectors.{sample}
 use Rattle.catalog.specs.Keys.{text_at, text_if_any, number_at, number_if_any, elements_at}
 use Rattle.catalog.specs.Reading.{config_of, stations_of, station_values, station_of, entry_of}
-use Rattle.catalog.specs.Settings.{title_of, access_of, connections_of, network_of, code_of, description_of, capacity_of, first_of}
+use Rattle.catalog.specs.Settings.{title_of, access_of, connections_of, network_of, code_of, description_of}
+use Rattle.catalog.specs.Settings.{capacity_of, first_of}
 use Rattle.event_script.specs.Script.{config_told, event_of}
 
 -- ---- lines
@@ -99,7 +100,8 @@ abbrev small : Station
 small = record { network = codes "GE"; code = codes "A"; description = []; capacity = 1; first = 0 }
 
 -- the text has a title and that station
-pub reload : event_of (codes "reload 7469746c653d2254220a5b5b73746174696f6e5d5d0a6e6574" ++ codes "776f726b3d224745220a636f64653d2241220a646573637269" ++ codes "7074696f6e3d22220a63617061636974793d310a")
+pub reload : event_of (codes "reload 7469746c653d2254220a5b5b73746174696f6e5d5d0a6e6574"
+    ++ codes "776f726b3d224745220a636f64653d2241220a646573637269" ++ codes "7074696f6e3d22220a63617061636974793d310a")
     ≡ Some (Reload (record {
       title = codes "T";
       max_connections = 100;

@@ -1,12 +1,13 @@
 -- A record by pairs of hexadecimal digits.
-use Rattle.std.proofs.Common.{◌≡◌, ℕ, ◌*◌, true, List, length, nat_le, Some, None, Result, Ok, Err, refl, sym, ◌∙◌, arith, ◌==◌}
+use Rattle.std.proofs.Common.{◌≡◌, ℕ, ◌*◌, true, List, length, nat_le, Some, None, Result, Ok, Err, refl, sym, ◌∙◌}
+use Rattle.std.proofs.Common.{arith, ◌==◌}
 use Rattle.std.specs.Result.{result_ok}
 use Rattle.std.proofs.lemmas.Bool.{eq-eqb, eqb-true}
 use Rattle.std.proofs.lemmas.Bool.Decides.{nat_tests}
 use Rattle.hex.specs.Hex.{decode_of, decode_sized}
 use Rattle.hex.specs.declared.error.FromHexError.{FromHexError}
 use Rattle.hex.proofs.HexLemmas.{decode_of-ok, decode_sized-ok, decode_sized-twice}
-use Rattle.protocol.proofs.Found.{both}
+use Rattle.protocol.proofs.FoundLemmas.{both}
 use Rattle.event_script.specs.Script.{hex_record_of}
 
 made : (digits bytes : List ℕ) → decode_sized digits 512 ≡ Ok bytes → hex_record_of digits ≡ Some bytes
@@ -21,20 +22,24 @@ made digits bytes h =
 unread : (digits : List ℕ) (e fault : FromHexError) → decode_of digits ≡ Err e → hex_record_of digits ≡ None
 unread digits e fault read = both (nat_le 1 (length digits)) (λ y. rw (y, read)) (λ n. rw n)
 
-other : (digits bytes : List ℕ) (e : FromHexError) → decode_sized digits 512 ≡ Err e → decode_of digits ≡ Ok bytes → hex_record_of digits ≡ None
+other : (digits bytes : List ℕ) (e : FromHexError) → decode_sized digits 512 ≡ Err e → decode_of digits ≡ Ok bytes
+    → hex_record_of digits ≡ None
 other digits bytes e h read =
     both (nat_le 1 (length digits))
     (λ y. both (length bytes == 512)
-    (λ whole. let long : length digits ≡ 2 * 512 = omega (arith, (decode_of-ok digits bytes read).2, eqb-true (length bytes) 512 whole) in
+    (λ whole. let long : length digits ≡ 2 * 512 =
+    omega (arith, (decode_of-ok digits bytes read).2, eqb-true (length bytes) 512 whole) in
     let two : Err e ≡ Ok bytes = sym h ∙ decode_sized-twice digits 512 long ∙ read in absurd cc)
     (λ short. rw (y, read, short)))
     (λ n. rw n)
 
-unmade : (digits : List ℕ) (e : FromHexError) (r : Result (List ℕ) FromHexError) → decode_of digits ≡ r → decode_sized digits 512 ≡ Err e → hex_record_of digits ≡ None
+unmade : (digits : List ℕ) (e : FromHexError) (r : Result (List ℕ) FromHexError) → decode_of digits ≡ r
+    → decode_sized digits 512 ≡ Err e → hex_record_of digits ≡ None
 unmade digits e (Ok bytes) read h = other digits bytes e h read
 unmade digits e (Err fault) read h = unread digits fault e read
 
-found : (digits : List ℕ) (r : Result (List ℕ) FromHexError) → decode_sized digits 512 ≡ r → result_ok r ≡ hex_record_of digits
+found : (digits : List ℕ) (r : Result (List ℕ) FromHexError) → decode_sized digits 512 ≡ r
+    → result_ok r ≡ hex_record_of digits
 found digits (Ok bytes) h = sym (made digits bytes h)
 found digits (Err e) h = sym (unmade digits e (decode_of digits) refl h)
 

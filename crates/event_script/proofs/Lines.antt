@@ -1,5 +1,6 @@
 -- The lines of a text, one after the other, and the events so far.
-use Rattle.std.proofs.Common.{◌≡◌, ℕ, ◌+◌, ◌<◌, List, [], ◌∷◌, length, drop, get_or, ap, ◌∙◌, append-nil, drop-cons, add-one}
+use Rattle.std.proofs.Common.{◌≡◌, ℕ, ◌+◌, ◌<◌, List, [], ◌∷◌, length, drop, get_or, ap, ◌∙◌, append-nil, drop-cons}
+use Rattle.std.proofs.Common.{add-one}
 use Rattle.std.specs.Prelude.{Option, Some, None}
 use Rattle.protocol.specs.World.{Event}
 use Rattle.event_script.specs.Script.{events_of_lines}
@@ -10,7 +11,8 @@ abbrev pub left : List Event → List (List ℕ) → ℕ → Option (List Event)
 left es ls k = with_events es (events_of_lines (drop k ls))
 
 -- the line at hand
-at_hand : (ls : List (List ℕ)) (k : ℕ) (l : List ℕ) → k < length ls → l ≡ get_or ls k l → drop k ls ≡ l ∷ drop (k + 1) ls
+at_hand : (ls : List (List ℕ)) (k : ℕ) (l : List ℕ) → k < length ls → l ≡ get_or ls k l
+    → drop k ls ≡ l ∷ drop (k + 1) ls
 at_hand ls k l h e = rw (drop-cons ls k l h, ← e, add-one k)
 
 -- it is passed, or its event joins the others
@@ -22,7 +24,8 @@ left-more es fs ls k l h e more = ap (λ ms. with_events es (events_of_lines ms)
 -- it is no event
 pub left-fault : (es : List Event) (ls : List (List ℕ)) (k : ℕ) (l : List ℕ) → k < length ls → l ≡ get_or ls k l
     → events_of_lines (l ∷ drop (k + 1) ls) ≡ None → left es ls k ≡ None
-left-fault es ls k l h e none = ap (λ ms. with_events es (events_of_lines ms)) (at_hand ls k l h e) ∙ ap (with_events es) none
+left-fault es ls k l h e none = ap (λ ms. with_events es (events_of_lines ms)) (at_hand ls k l h e)
+    ∙ ap (with_events es) none
 
 -- no line is left
 pub left-end : (es : List Event) (ls : List (List ℕ)) (k : ℕ) → drop k ls ≡ [] → left es ls k ≡ Some es

@@ -6,7 +6,7 @@ use Rattle.std.specs.Str.{IsUtf8, is_utf8}
 use Rattle.std.proofs.lemmas.Str.{IsUtf8-from_is_utf8, is_utf8-from_IsUtf8}
 use Rattle.toml.specs.Parse.{parse_document}
 use Rattle.protocol.specs.Catalog.{Config}
-use Rattle.protocol.proofs.Found.{both}
+use Rattle.protocol.proofs.FoundLemmas.{both}
 use Rattle.catalog.specs.Reading.{config_read}
 use Rattle.catalog.specs.declared.fault.ConfigFault.{ConfigFault}
 use Rattle.catalog.specs.declared.fault.ConfigFault.TheVariants as config

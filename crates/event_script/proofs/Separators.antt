@@ -1,15 +1,18 @@
 -- Texts that lack a separator, and a text's parts between five of them.
-use Rattle.std.proofs.Common.{◌≡◌, ℕ, ◌+◌, ◌*◌, ◌<◌, ◌≤◌, true, false, true≢false, List, [], ◌∷◌, ◌++◌, length, take, drop, nat_lt, nat_le, option_map, Option, Some, None, refl, sym, ap, ◌∙◌, arith, ◌==◌, ◌&&◌}
+use Rattle.std.proofs.Common.{◌≡◌, ℕ, ◌+◌, ◌*◌, ◌<◌, ◌≤◌, true, false, true≢false, List, [], ◌∷◌, ◌++◌, length, take}
+use Rattle.std.proofs.Common.{drop, nat_lt, nat_le, option_map, Option, Some, None, refl, sym, ap, ◌∙◌, arith, ◌==◌}
+use Rattle.std.proofs.Common.{◌&&◌}
 use Rattle.std.specs.Prelude.{All, is_some}
 use Rattle.std.specs.List.{join_with_byte, position_or_len, slice_split}
 use Rattle.std.proofs.lemmas.Bool.{eq-eqb, eqb-true, ltb-true, ltb-false}
 use Rattle.std.proofs.lemmas.Bool.Decides.{nat_tests}
 use Rattle.std.proofs.lemmas.List.Elements.{All-append, All-cons, All-nil, All-weaker}
-use Rattle.std.proofs.lemmas.List.Splits.{join_with_byte-slice_split, length-slice_split, slice_split_at, slice_split_first, slice_split_none}
+use Rattle.std.proofs.lemmas.List.Splits.{join_with_byte-slice_split, length-slice_split, slice_split_at}
+use Rattle.std.proofs.lemmas.List.Splits.{slice_split_first, slice_split_none}
 use Rattle.std.proofs.lemmas.List.Sums.{fails_before_first}
 use Rattle.protocol.specs.Made.{IsCodeByte}
 use Rattle.protocol.specs.Time.{decimal_digit, decimal_number}
-use Rattle.protocol.proofs.Found.{both}
+use Rattle.protocol.proofs.FoundLemmas.{both}
 use Rattle.event_script.specs.Script.{Cut, Six, cut_by, decimal_of, six_in, six_of}
 
 -- ---- texts without a separator
@@ -18,7 +21,8 @@ use Rattle.event_script.specs.Script.{Cut, Six, cut_by, decimal_of, six_in, six_
 abbrev pub Lacks : ℕ → List ℕ → Type 0
 Lacks s text = All (λ b. (b == s) ≡ false) text
 
-number_tail : (b n m : ℕ) (bs : List ℕ) (o : Option ℕ) → decimal_digit b ≡ o → decimal_number n (b ∷ bs) ≡ Some m → (v : ℕ) × (decimal_digit b ≡ Some v) × (decimal_number (10 * n + v) bs ≡ Some m)
+number_tail : (b n m : ℕ) (bs : List ℕ) (o : Option ℕ) → decimal_digit b ≡ o → decimal_number n (b ∷ bs) ≡ Some m
+    → (v : ℕ) × (decimal_digit b ≡ Some v) × (decimal_number (10 * n + v) bs ≡ Some m)
 number_tail b n m bs None none e = let no : None ≡ Some m = rw none at e in absurd cc
 number_tail b n m bs (Some v) some e = (v, some, rw some at e)
 
@@ -28,7 +32,8 @@ digits-lack s none (b ∷ bs) n m e =
     let tail = number_tail b n m bs (decimal_digit b) refl e in
     All-cons (λ x. (x == s) ≡ false) b bs
     (both (b == s)
-    (λ y. let same : decimal_digit b ≡ None = ap decimal_digit (eqb-true b s y) ∙ none in let two : Some tail.0 ≡ None = sym tail.1 ∙ same in absurd cc)
+    (λ y. let same : decimal_digit b ≡ None = ap decimal_digit (eqb-true b s y) ∙ none in let two : Some tail.0 ≡ None =
+    sym tail.1 ∙ same in absurd cc)
     (λ n. n))
     (digits-lack s none bs (10 * n + tail.0) m tail.2)
 
@@ -47,24 +52,30 @@ pub code-lacks_space : (code : List ℕ) → All IsCodeByte code → Lacks 32 co
 code-lacks_space code each = All-weaker IsCodeByte (λ b. (b == 32) ≡ false) space_is_no_code_byte code each
 
 -- a byte between two texts
-pub lacks-between : (s b : ℕ) (front rest : List ℕ) → (b == s) ≡ false → Lacks s front → Lacks s rest → Lacks s (front ++ b ∷ rest)
-lacks-between s b front rest e x y = All-append (λ c. (c == s) ≡ false) front (b ∷ rest) x (All-cons (λ c. (c == s) ≡ false) b rest e y)
+pub lacks-between : (s b : ℕ) (front rest : List ℕ) → (b == s) ≡ false → Lacks s front → Lacks s rest
+    → Lacks s (front ++ b ∷ rest)
+lacks-between s b front rest e x y =
+    All-append (λ c. (c == s) ≡ false) front (b ∷ rest) x (All-cons (λ c. (c == s) ≡ false) b rest e y)
 
 -- ---- six parts
 
 part-at : (s : ℕ) (front rest : List ℕ) (parts : List (List ℕ)) → Lacks s front → slice_split (λ b. b == s) rest ≡ parts
     → slice_split (λ b. b == s) (front ++ s ∷ rest) ≡ front ∷ parts
-part-at s front rest parts lacks e = slice_split_at (λ b. b == s) front s rest lacks (eq-eqb s s refl) ∙ ap (λ ps. front ∷ ps) e
+part-at s front rest parts lacks e = slice_split_at (λ b. b == s) front s rest lacks (eq-eqb s s refl)
+    ∙ ap (λ ps. front ∷ ps) e
 
 -- six texts that a separator joins are cut at it
-pub six-made : (s : ℕ) (x : Six) → Lacks s x.first → Lacks s x.second → Lacks s x.third → Lacks s x.fourth → Lacks s x.fifth → Lacks s x.sixth
+pub six-made : (s : ℕ) (x : Six) → Lacks s x.first → Lacks s x.second → Lacks s x.third → Lacks s x.fourth
+    → Lacks s x.fifth → Lacks s x.sixth
     → six_of s (join_with_byte s (x.first ∷ x.second ∷ x.third ∷ x.fourth ∷ x.fifth ∷ x.sixth ∷ [])) ≡ Some x
 six-made s x a b c d e f =
     ap six_in
-    (part-at s x.first _ _ a (part-at s x.second _ _ b (part-at s x.third _ _ c (part-at s x.fourth _ _ d (part-at s x.fifth _ _ e
+    (part-at s x.first _ _ a
+    (part-at s x.second _ _ b (part-at s x.third _ _ c (part-at s x.fourth _ _ d (part-at s x.fifth _ _ e
     (slice_split_none (λ b. b == s) x.sixth f))))))
 
-six-list : (parts : List (List ℕ)) (x : Six) → six_in parts ≡ Some x → parts ≡ x.first ∷ x.second ∷ x.third ∷ x.fourth ∷ x.fifth ∷ x.sixth ∷ []
+six-list : (parts : List (List ℕ)) (x : Six) → six_in parts ≡ Some x
+    → parts ≡ x.first ∷ x.second ∷ x.third ∷ x.fourth ∷ x.fifth ∷ x.sixth ∷ []
 six-list [] x e = absurd cc
 six-list (a ∷ []) x e = absurd cc
 six-list (a ∷ b ∷ []) x e = absurd cc
@@ -77,17 +88,27 @@ six-list (a ∷ b ∷ c ∷ d ∷ g ∷ h ∷ []) x e =
 six-list (a ∷ b ∷ c ∷ d ∷ g ∷ h ∷ i ∷ more) x e = absurd cc
 
 -- a text that is cut into six parts is their join
-pub six-whole : (s : ℕ) (text : List ℕ) (x : Six) → six_of s text ≡ Some x → text ≡ join_with_byte s (x.first ∷ x.second ∷ x.third ∷ x.fourth ∷ x.fifth ∷ x.sixth ∷ [])
-six-whole s text x e = sym (join_with_byte-slice_split s text) ∙ ap (join_with_byte s) (six-list (slice_split (λ b. b == s) text) x e)
+pub six-whole : (s : ℕ) (text : List ℕ) (x : Six) → six_of s text ≡ Some x
+    → text ≡ join_with_byte s (x.first ∷ x.second ∷ x.third ∷ x.fourth ∷ x.fifth ∷ x.sixth ∷ [])
+six-whole s text x e = sym (join_with_byte-slice_split s text)
+    ∙ ap (join_with_byte s) (six-list (slice_split (λ b. b == s) text) x e)
 
 -- ---- one cut after the other
 
 -- where there is a separator
-next-part : (s : ℕ) (text : List ℕ) (cut : Cut) → Some cut ≡ cut_by s text → slice_split (λ b. b == s) text ≡ cut.front ∷ slice_split (λ b. b == s) cut.rest
+next-part : (s : ℕ) (text : List ℕ) (cut : Cut) → Some cut ≡ cut_by s text
+    → slice_split (λ b. b == s) text ≡ cut.front ∷ slice_split (λ b. b == s) cut.rest
 next-part s text cut e =
     both (nat_lt (position_or_len (λ b. b == s) text) (length text))
-    (λ y. let is : Some cut ≡ Some (record { front = take (position_or_len (λ b. b == s) text) text; rest = drop (position_or_len (λ b. b == s) text + 1) text }) = rw y at e in
-    let same : cut ≡ record { front = take (position_or_len (λ b. b == s) text) text; rest = drop (position_or_len (λ b. b == s) text + 1) text } = cc in
+    (λ y. let is : Some cut ≡ Some
+    (record {
+      front = take (position_or_len (λ b. b == s) text) text;
+      rest = drop (position_or_len (λ b. b == s) text + 1) text;
+    }) = rw y at e in
+    let same : cut ≡ record {
+      front = take (position_or_len (λ b. b == s) text) text;
+      rest = drop (position_or_len (λ b. b == s) text + 1) text;
+    } = cc in
     rw same (slice_split_first (λ b. b == s) text 0 (ltb-true _ _ y)))
     (λ n. let none : Some cut ≡ None = rw n at e in absurd cc)
 
@@ -95,7 +116,12 @@ next-part s text cut e =
 last-part : (s : ℕ) (text : List ℕ) → None ≡ cut_by s text → slice_split (λ b. b == s) text ≡ text ∷ []
 last-part s text e =
     both (nat_lt (position_or_len (λ b. b == s) text) (length text))
-    (λ y. let some : None ≡ Some (record { front = take (position_or_len (λ b. b == s) text) text; rest = drop (position_or_len (λ b. b == s) text + 1) text }) = rw y at e in absurd cc)
+    (λ y. let some : None
+    ≡ Some
+    (record {
+      front = take (position_or_len (λ b. b == s) text) text;
+      rest = drop (position_or_len (λ b. b == s) text + 1) text;
+    }) = rw y at e in absurd cc)
     (λ n. let far : length text ≤ position_or_len (λ b. b == s) text = ltb-false _ _ n in
     slice_split_none (λ b. b == s) text (λ k d h. fails_before_first (λ b. b == s) text k d (omega arith)))
 
@@ -109,12 +135,14 @@ abbrev pub fronts : List Cut → List (List ℕ) → List (List ℕ)
 fronts [] parts = parts
 fronts (c ∷ cs) parts = c.front ∷ fronts cs parts
 
-parts-cut : (s : ℕ) (text : List ℕ) (cs : List Cut) (rest : List ℕ) → IsCutInto s text cs rest → slice_split (λ b. b == s) text ≡ fronts cs (slice_split (λ b. b == s) rest)
+parts-cut : (s : ℕ) (text : List ℕ) (cs : List Cut) (rest : List ℕ) → IsCutInto s text cs rest
+    → slice_split (λ b. b == s) text ≡ fronts cs (slice_split (λ b. b == s) rest)
 parts-cut s text [] rest e = ap (slice_split (λ b. b == s)) e
 parts-cut s text (c ∷ cs) rest e = next-part s text c e.0 ∙ ap (λ ps. c.front ∷ ps) (parts-cut s c.rest cs rest e.1)
 
 -- the parts of a text whose rest has no separator
-pub six-cut : (s : ℕ) (text : List ℕ) (cs : List Cut) (rest : List ℕ) → IsCutInto s text cs rest → None ≡ cut_by s rest → six_of s text ≡ six_in (fronts cs (rest ∷ []))
+pub six-cut : (s : ℕ) (text : List ℕ) (cs : List Cut) (rest : List ℕ) → IsCutInto s text cs rest → None ≡ cut_by s rest
+    → six_of s text ≡ six_in (fronts cs (rest ∷ []))
 six-cut s text cs rest e last = ap six_in (parts-cut s text cs rest e ∙ ap (fronts cs) (last-part s rest last))
 
 seven : (a b c d e f : List ℕ) (more : List (List ℕ)) → 0 < length more → six_in (a ∷ b ∷ c ∷ d ∷ e ∷ f ∷ more) ≡ None
@@ -122,14 +150,18 @@ seven a b c d e f [] h = absurd (omega arith)
 seven a b c d e f (g ∷ more) h = refl
 
 -- behind five cuts there is one more
-pub six-passed : (s : ℕ) (text : List ℕ) (a b c d e : Cut) (rest : List ℕ) (o : Option Cut) → IsCutInto s text (a ∷ b ∷ c ∷ d ∷ e ∷ []) rest → o ≡ cut_by s rest → is_some o ≡ true → six_of s text ≡ None
+pub six-passed : (s : ℕ) (text : List ℕ) (a b c d e : Cut) (rest : List ℕ) (o : Option Cut)
+    → IsCutInto s text (a ∷ b ∷ c ∷ d ∷ e ∷ []) rest → o ≡ cut_by s rest → is_some o ≡ true → six_of s text ≡ None
 six-passed s text a b c d e rest None cuts is some = absurd (true≢false (sym some))
 six-passed s text a b c d e rest (Some f) cuts is some =
-    ap six_in (parts-cut s text (a ∷ b ∷ c ∷ d ∷ e ∷ []) rest cuts ∙ ap (fronts (a ∷ b ∷ c ∷ d ∷ e ∷ [])) (next-part s rest f is))
-    ∙ seven a.front b.front c.front d.front e.front f.front (slice_split (λ x. x == s) f.rest) (omega (arith, length-slice_split (λ x. x == s) f.rest))
+    ap six_in (parts-cut s text (a ∷ b ∷ c ∷ d ∷ e ∷ []) rest cuts
+    ∙ ap (fronts (a ∷ b ∷ c ∷ d ∷ e ∷ [])) (next-part s rest f is))
+    ∙ seven a.front b.front c.front d.front e.front f.front (slice_split (λ x. x == s) f.rest)
+    (omega (arith, length-slice_split (λ x. x == s) f.rest))
 
 -- behind five cuts there is none
-pub six-ended : (s : ℕ) (text : List ℕ) (cs : List Cut) (rest : List ℕ) (o : Option Cut) → IsCutInto s text cs rest → o ≡ cut_by s rest → is_some o ≡ false → six_of s text ≡ six_in (fronts cs (rest ∷ []))
+pub six-ended : (s : ℕ) (text : List ℕ) (cs : List Cut) (rest : List ℕ) (o : Option Cut) → IsCutInto s text cs rest
+    → o ≡ cut_by s rest → is_some o ≡ false → six_of s text ≡ six_in (fronts cs (rest ∷ []))
 six-ended s text cs rest None cuts is none = six-cut s text cs rest cuts is
 six-ended s text cs rest (Some f) cuts is none = absurd (true≢false none)
 

@@ -1,10 +1,11 @@
 -- A text and its first space.
-use Rattle.std.proofs.Common.{◌≡◌, ℕ, suc, ◌+◌, ◌<◌, Bool, true, false, true≢false, List, [], ◌∷◌, ◌++◌, length, take, drop, nat_lt, Some, None, refl, ap, arith, add-one, length-append, eqb-true, ◌==◌}
+use Rattle.std.proofs.Common.{◌≡◌, ℕ, suc, ◌+◌, ◌<◌, Bool, true, false, true≢false, List, [], ◌∷◌, ◌++◌, length, take}
+use Rattle.std.proofs.Common.{drop, nat_lt, Some, None, refl, ap, arith, add-one, length-append, eqb-true, ◌==◌}
 use Rattle.std.specs.List.{list_any, position_or_len}
 use Rattle.std.proofs.lemmas.Bool.{ltb-true}
 use Rattle.std.proofs.lemmas.Bool.Decides.{nat_tests}
 use Rattle.std.proofs.lemmas.List.Folds.{list_any_none}
-use Rattle.protocol.proofs.Found.{both}
+use Rattle.protocol.proofs.FoundLemmas.{both}
 use Rattle.event_script.specs.Script.{Cut, cut_of, decimal_of}
 use Rattle.event_script.proofs.Separators.{number-lacks}
 
@@ -13,7 +14,8 @@ abbrev pub is_space : ℕ → Bool
 is_space b = b == 32
 
 -- where the first space stands
-seam : (text : List ℕ) → position_or_len is_space text < length text → text ≡ take (position_or_len is_space text) text ++ 32 ∷ drop (suc (position_or_len is_space text)) text
+seam : (text : List ℕ) → position_or_len is_space text < length text
+    → text ≡ take (position_or_len is_space text) text ++ 32 ∷ drop (suc (position_or_len is_space text)) text
 seam [] h = absurd (omega arith)
 seam (b ∷ bs) h =
     both (is_space b)
@@ -26,13 +28,21 @@ seam (b ∷ bs) h =
 pub cut-whole : (text : List ℕ) (cut : Cut) → cut_of text ≡ Some cut → text ≡ cut.front ++ 32 ∷ cut.rest
 cut-whole text cut e =
     both (nat_lt (position_or_len is_space text) (length text))
-    (λ y. let is : Some (record { front = take (position_or_len is_space text) text; rest = drop (position_or_len is_space text + 1) text }) ≡ Some cut = rw y at e in
-    let same : record { front = take (position_or_len is_space text) text; rest = drop (position_or_len is_space text + 1) text } ≡ cut = cc in
+    (λ y. let is : Some
+    (record {
+      front = take (position_or_len is_space text) text;
+      rest = drop (position_or_len is_space text + 1) text;
+    }) ≡ Some cut = rw y at e in
+    let same : record {
+      front = take (position_or_len is_space text) text;
+      rest = drop (position_or_len is_space text + 1) text;
+    } ≡ cut = cc in
     rw (← same, add-one) (seam text (ltb-true _ _ y)))
     (λ n. let none : None ≡ Some cut = rw n at e in absurd cc)
 
 -- the first space behind a front that has none
-space_behind : (front rest : List ℕ) → list_any is_space front ≡ false → position_or_len is_space (front ++ 32 ∷ rest) ≡ length front
+space_behind : (front rest : List ℕ) → list_any is_space front ≡ false
+    → position_or_len is_space (front ++ 32 ∷ rest) ≡ length front
 space_behind [] rest e = refl
 space_behind (b ∷ bs) rest e =
     both (is_space b)
@@ -48,9 +58,11 @@ drop_front [] rest = refl
 drop_front (b ∷ bs) rest = drop_front bs rest
 
 -- a front without a space, a space and a rest are cut there
-pub cut-made : (front rest : List ℕ) → list_any is_space front ≡ false → cut_of (front ++ 32 ∷ rest) ≡ Some (record { front = front; rest = rest })
+pub cut-made : (front rest : List ℕ) → list_any is_space front ≡ false
+    → cut_of (front ++ 32 ∷ rest) ≡ Some (record { front = front; rest = rest })
 cut-made front rest e =
-    let within : nat_lt (length front) (length (front ++ 32 ∷ rest)) ≡ true = grind (arith, nat_tests, length-append front (32 ∷ rest)) in
+    let within : nat_lt (length front) (length (front ++ 32 ∷ rest))
+    ≡ true = grind (arith, nat_tests, length-append front (32 ∷ rest)) in
     rw (space_behind front rest e, within, add-one, take_front front rest, drop_front front rest) refl
 
 -- a number has no space

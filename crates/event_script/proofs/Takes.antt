@@ -1,15 +1,18 @@
 -- The lines of takes, one after the other.
-use Rattle.std.proofs.Common.{◌≡◌, ℕ, ◌+◌, ◌<◌, List, ◌∷◌, ◌++◌, map, length, drop, get_or, sym, ap, ◌∙◌, append_assoc, drop-cons, add-one}
+use Rattle.std.proofs.Common.{◌≡◌, ℕ, ◌+◌, ◌<◌, List, ◌∷◌, ◌++◌, map, length, drop, get_or, sym, ap, ◌∙◌, append_assoc}
+use Rattle.std.proofs.Common.{drop-cons, add-one}
 use Rattle.server_core.specs.Runs.{handed_value}
 use Rattle.server_core.specs.declared.events.Handed.{Handed}
 use Rattle.event_script.specs.Output.{handed_line, output_of}
 
 -- the take at hand
-at_hand : (takes : List Handed) (k : ℕ) (take : Handed) → k < length takes → take ≡ get_or takes k take → drop k takes ≡ take ∷ drop (k + 1) takes
+at_hand : (takes : List Handed) (k : ℕ) (take : Handed) → k < length takes → take ≡ get_or takes k take
+    → drop k takes ≡ take ∷ drop (k + 1) takes
 at_hand takes k take h e = rw (drop-cons takes k take h, ← e, add-one k)
 
 -- the line of the take at hand joins the lines before it
-pub output-more : (takes : List Handed) (k : ℕ) (take : Handed) (text text' : List ℕ) → k < length takes → take ≡ get_or takes k take
+pub output-more : (takes : List Handed) (k : ℕ) (take : Handed) (text text' : List ℕ) → k < length takes
+    → take ≡ get_or takes k take
     → text' ≡ text ++ handed_line (handed_value take)
     → text ++ output_of (map handed_value (drop k takes)) ≡ text' ++ output_of (map handed_value (drop (k + 1) takes))
 output-more takes k take text text' h e more =

@@ -18,7 +18,8 @@ byte_of digits = option_and_then (up_to 255) (decimal_of digits)
 -- the start of six numbers that fit
 abbrev pub fitting_start_in : Six → Option Start
 fitting_start_in parts =
-    start_with (short_of parts.first) (short_of parts.second) (byte_of parts.third) (byte_of parts.fourth) (byte_of parts.fifth) (short_of parts.sixth)
+    start_with (short_of parts.first) (short_of parts.second) (byte_of parts.third) (byte_of parts.fourth)
+    (byte_of parts.fifth) (short_of parts.sixth)
 
 -- the start of a text whose numbers fit
 abbrev pub fitting_start_of : List ℕ → Option Start
@@ -27,4 +28,5 @@ fitting_start_of text = option_and_then fitting_start_in (six_of 44 text)
 -- the fields of words whose numbers fit
 abbrev pub fitting_fields_in : Six → Option Fields
 fitting_fields_in words =
-    fields_with words.first words.second words.fourth (location_of words.third) (fitting_start_of words.fifth) (short_of words.sixth)
+    fields_with words.first words.second words.fourth (location_of words.third) (fitting_start_of words.fifth)
+    (short_of words.sixth)

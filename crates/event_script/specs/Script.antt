@@ -1,5 +1,6 @@
 -- Scripts: a text that spells a list of events, a line an event, and the text of what each take is handed.
-use Rattle.std.specs.Prelude.{ℕ, ◌+◌, Bool, true, nat_le, ◌==◌, if◌then◌else◌, List, [], ◌∷◌, ◌++◌, length, take, drop, position, pos, Option, Some, None, option_map, option_and_then, codes}
+use Rattle.std.specs.Prelude.{ℕ, ◌+◌, Bool, true, nat_le, ◌==◌, if◌then◌else◌, List, [], ◌∷◌, ◌++◌, length, take, drop}
+use Rattle.std.specs.Prelude.{position, pos, Option, Some, None, option_map, option_and_then, codes}
 use Rattle.std.specs.List.{slice_split}
 use Rattle.std.specs.Result.{result_ok}
 use Rattle.std.specs.Str.{bytes_eq, is_utf8}
@@ -107,7 +108,8 @@ pub record Six : Type 0 where
 
 -- six parts, where there are as many
 abbrev pub six_in : List (List ℕ) → Option Six
-six_in (a ∷ b ∷ c ∷ d ∷ e ∷ f ∷ []) = Some (record { first = a; second = b; third = c; fourth = d; fifth = e; sixth = f })
+six_in (a ∷ b ∷ c ∷ d ∷ e ∷ f ∷ []) =
+    Some (record { first = a; second = b; third = c; fourth = d; fifth = e; sixth = f })
 six_in _ = None
 
 -- the parts of a text that has five separators
@@ -134,7 +136,8 @@ start_with _ _ _ _ _ _ = None
 -- of what stands between commas
 abbrev pub start_in : Six → Option Start
 start_in parts =
-    start_with (decimal_of parts.first) (decimal_of parts.second) (decimal_of parts.third) (decimal_of parts.fourth) (decimal_of parts.fifth) (decimal_of parts.sixth)
+    start_with (decimal_of parts.first) (decimal_of parts.second) (decimal_of parts.third) (decimal_of parts.fourth)
+    (decimal_of parts.fifth) (decimal_of parts.sixth)
 
 -- Y,D,H,M,S,F
 abbrev pub start_of : List ℕ → Option Start
@@ -148,8 +151,9 @@ word_of text = if nat_le 1 (length text) then Some text else None
 abbrev pub location_of : List ℕ → Option (List ℕ)
 location_of word = if bytes_eq word (codes "--") then Some [] else word_of word
 
--- The fields of which a line says the codes, the start and the count of samples. The others are the same for each line: the
--- sequence number 1, the quality D, 100 samples a second, the encoding 11, big order, no further blockette and no data.
+-- The fields of which a line says the codes, the start and the count of samples. The others are the same for each line:
+-- the sequence number 1, the quality D, 100 samples a second, the encoding 11, big order, no further blockette and no
+-- data.
 abbrev pub fields_told : (network station location channel : List ℕ) → Start → (samples : ℕ) → Fields
 fields_told network station location channel start samples =
     record {
@@ -182,7 +186,8 @@ fields_with network station channel _ _ _ = None
 
 -- NET STA LOC CHA Y,D,H,M,S,F SAMPLES, cut into words
 abbrev pub fields_in : Six → Option Fields
-fields_in words = fields_with words.first words.second words.fourth (location_of words.third) (start_of words.fifth) (decimal_of words.sixth)
+fields_in words = fields_with words.first words.second words.fourth (location_of words.third) (start_of words.fifth)
+    (decimal_of words.sixth)
 
 -- the fields that a text tells
 abbrev pub fields_of : List ℕ → Option Fields
@@ -221,8 +226,8 @@ named_event name rest =
 abbrev pub event_in : Cut → Option Event
 event_in cut = named_event cut.front cut.rest
 
--- The event of a line, without its end: `open ADDRESS`, `bytes C HEX`, `line C TEXT`, `take C N`, `close C`,
--- `arrive NET STA LOC CHA Y,D,H,M,S,F SAMPLES`, `arrive-hex HEX` or `reload HEX`. C is the number of a client, counted in the
+-- The event of a line, without its end: `open ADDRESS`, `bytes C HEX`, `line C TEXT`, `take C N`, `close C`, `arrive
+-- NET STA LOC CHA Y,D,H,M,S,F SAMPLES`, `arrive-hex HEX` or `reload HEX`. C is the number of a client, counted in the
 -- order of the lines `open` from 0.
 abbrev pub event_of : List ℕ → Option Event
 event_of line = option_and_then event_in (cut_of line)

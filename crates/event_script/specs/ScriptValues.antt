@@ -3,7 +3,8 @@ use Rattle.std.specs.Prelude.{◌≡◌, List, ◌++◌, Option, Some, None, Res
 use Rattle.protocol.specs.World.{Event as ProtocolEvent}
 use Rattle.server_core.specs.Runs.{event_value}
 use Rattle.server_core.specs.declared.events.Event.{Event}
-use Rattle.event_script.specs.Script.{Cut as ScriptCut, Addressed as ScriptAddressed, Six as ScriptSix, Start as ScriptStart}
+use Rattle.event_script.specs.Script.{Cut as ScriptCut, Addressed as ScriptAddressed, Six as ScriptSix}
+use Rattle.event_script.specs.Script.{Start as ScriptStart}
 use Rattle.event_script.specs.declared.cuts.Cut.{Cut}
 use Rattle.event_script.specs.declared.cuts.Addressed.{Addressed}
 use Rattle.event_script.specs.declared.cuts.Six.{Six}
@@ -21,11 +22,25 @@ addressed_value x = record { client = x.client; rest = x.rest.now }
 
 -- six parts of a text
 abbrev pub six_value : Six → ScriptSix
-six_value x = record { first = x.first.now; second = x.second.now; third = x.third.now; fourth = x.fourth.now; fifth = x.fifth.now; sixth = x.sixth.now }
+six_value x = record {
+  first = x.first.now;
+  second = x.second.now;
+  third = x.third.now;
+  fourth = x.fourth.now;
+  fifth = x.fifth.now;
+  sixth = x.sixth.now;
+}
 
 -- a start whose numbers fit
 abbrev pub start_value : Start → ScriptStart
-start_value x = record { year = x.year; day = x.day; hour = x.hour; minute = x.minute; second = x.second; fraction = x.fraction }
+start_value x = record {
+  year = x.year;
+  day = x.day;
+  hour = x.hour;
+  minute = x.minute;
+  second = x.second;
+  fraction = x.fraction;
+}
 
 -- a line is read as the event that it is, and refused as Script only where it is none
 abbrev pub IsRead : Option ProtocolEvent → Result Event ScriptFault → Type 0

@@ -32,7 +32,8 @@ fn read_line(alloc: Global, line: &[u8], events: &mut Vec<Event>) -> Result<(), 
     ensures ok { OnOk result ((ls : List (List ℕ)) →
         with_events (map event_value events.old.items) (events_of_lines (line.now ∷ ls))
         ≡ with_events (map event_value events.new.items) (events_of_lines ls)) }
-    ensures script { IfErr result (λ fault. fault ≡ Script → (ls : List (List ℕ)) → events_of_lines (line.now ∷ ls) ≡ None) }
+    ensures script { IfErr result (λ fault. fault ≡ Script → (ls : List (List ℕ))
+        → events_of_lines (line.now ∷ ls) ≡ None) }
 {
     if is_skipped(line) {
         return Ok(());
@@ -42,19 +43,21 @@ fn read_line(alloc: Global, line: &[u8], events: &mut Vec<Event>) -> Result<(), 
     Ok(())
 }
 
-/// The events of a script. Each line ends with a line feed, which the last may lack. A line is `open ADDRESS`,
-/// `bytes C HEX`, `line C TEXT`, `take C N`, `close C`, `arrive NET STA LOC CHA Y,D,H,M,S,F SAMPLES`, `arrive-hex HEX` or
-/// `reload HEX`, with one space between its words; an empty line and one that begins with `#` are skipped. All numbers have 1
-/// to 10 decimal digits. C is a client, counted by the lines `open` from 0, and N is at most 1,000,000. HEX is one or more
-/// pairs of hexadecimal digits in either case. TEXT is all that follows the space, and a carriage return is put behind it.
+/// The events of a script. Each line ends with a line feed, which the last may lack. A line is `open ADDRESS`, `bytes C
+/// HEX`, `line C TEXT`, `take C N`, `close C`, `arrive NET STA LOC CHA Y,D,H,M,S,F SAMPLES`, `arrive-hex HEX` or
+/// `reload HEX`, with one space between its words; an empty line and one that begins with `#` are skipped. All numbers
+/// have 1 to 10 decimal digits. C is a client, counted by the lines `open` from 0, and N is at most 1,000,000. HEX is
+/// one or more pairs of hexadecimal digits in either case. TEXT is all that follows the space, and a carriage return is
+/// put behind it.
 ///
-/// By `arrive` a record arrives that has the codes of a network, a station, a location (`--` is the empty code) and a channel,
-/// a start (year, day of the year, hour, minute, second and ten-thousandths) and a count of samples. Its sequence number is 1,
-/// its quality D, its rate 100 samples a second and its encoding 11, its numbers are in big-endian order, and it has no data.
-/// Fields that spell no record are a bad line. By `arrive-hex` any 512 bytes arrive.
+/// By `arrive` a record arrives that has the codes of a network, a station, a location (`--` is the empty code) and a
+/// channel, a start (year, day of the year, hour, minute, second and ten-thousandths) and a count of samples. Its
+/// sequence number is 1, its quality D, its rate 100 samples a second and its encoding 11, its numbers are in
+/// big-endian order, and it has no data. Fields that spell no record are a bad line. By `arrive-hex` any 512 bytes
+/// arrive.
 ///
-/// By `reload` a configuration is read again: its text is what HEX spells, as a file of one has it (`Config::read`). A text that
-/// is no configuration is a bad line. Whether the server takes the configuration is not asked here.
+/// By `reload` a configuration is read again: its text is what HEX spells, as a file of one has it (`Config::read`). A
+/// text that is no configuration is a bad line. Whether the server takes the configuration is not asked here.
 ///
 /// It fails with Script exactly where some line is none of these, memory aside.
 pub fn events_of(alloc: Global, text: &[u8]) -> Result<Vec<Event>, ScriptFault>
@@ -73,8 +76,8 @@ pub fn events_of(alloc: Global, text: &[u8]) -> Result<Vec<Event>, ScriptFault>
     Ok(events)
 }
 
-/// A law of the definitions: what is read of a line is the event that it is by the table of lines, and a line that stands in
-/// no row of it has no event.
+/// A law of the definitions: what is read of a line is the event that it is by the table of lines, and a line that
+/// stands in no row of it has no event.
 pub fn lines_by_the_table()
     ensures { ReadsByTheTable }
 {}

@@ -2,7 +2,8 @@
 ghost use Rattle.std.specs.Prelude.{option_map, option_and_then, Some};
 ghost use Rattle.protocol.specs.World.Event.{Open, Close, Arrive, Reload};
 ghost use Rattle.access_list.specs.Addresses.{address_of};
-ghost use Rattle.event_script.specs.Script.{addressed_of, bytes_in, decimal_of, event_of, hex_config_of, hex_record_of, line_in, named_event, record_of, take_in};
+ghost use Rattle.event_script.specs.Script.{addressed_of, bytes_in, decimal_of, event_of, hex_config_of, hex_record_of};
+ghost use Rattle.event_script.specs.Script.{line_in, named_event, record_of, take_in};
 ghost use Rattle.event_script.specs.ScriptValues.{IsRead};
 
 use crate::arrive::told_record;

@@ -52,7 +52,8 @@ pub(crate) fn byte(digits: &[u8]) -> Option<u8>
 
 /// The bytes of one or more pairs of hexadecimal digits of either case.
 pub(crate) fn hex_bytes(alloc: Global, digits: &[u8]) -> Result<Vec<u8>, ScriptFault>
-    ensures { MatchResult result (λ bytes. hex_of digits.now ≡ Some bytes.items) (λ fault. fault ≡ Script → hex_of digits.now ≡ None) }
+    ensures { MatchResult result (λ bytes. hex_of digits.now ≡ Some bytes.items)
+        (λ fault. fault ≡ Script → hex_of digits.now ≡ None) }
 {
     if digits.is_empty() {
         return Err(ScriptFault::Script);

@@ -41,9 +41,9 @@ fn push_line(alloc: Global, take: &Handed, text: &mut Vec<u8>) -> Result<(), All
     Ok(())
 }
 
-/// One line a take: the client's number in decimal, a space, and the bytes that it was handed, two hexadecimal digits each
-/// in lower case, or `-` for none; then ` end` where the client was told that its connection is over. Each line ends with
-/// a line feed. Only memory can lack.
+/// One line a take: the client's number in decimal, a space, and the bytes that it was handed, two hexadecimal digits
+/// each in lower case, or `-` for none; then ` end` where the client was told that its connection is over. Each line
+/// ends with a line feed. Only memory can lack.
 pub fn output_of(alloc: Global, takes: &[Handed]) -> Result<Vec<u8>, AllocError>
     ensures { IfOk result (λ text. text.items ≡ output_of (map handed_value takes.now)) }
 {

@@ -1,2 +1,2 @@
-mod Whole
-pub mod Cutting
+mod SendLemmas
+pub mod CutterLemmas

@@ -1,5 +1,5 @@
--- What one piece of a feed gives: the record that it makes whole, if it makes one whole, and what is left of the cutter.
--- The feed is this project's own.
+-- What one piece of a feed gives: the record that it makes whole, if it makes one whole, and what is left of the
+-- cutter. The feed is this project's own.
 use Rattle.std.specs.Prelude.{◌≡◌, ℕ, List, [], ◌∷◌, ◌++◌, Option, Some, None, ⊤}
 use Rattle.std.specs.Borrow.{Bor, MutBor, Fml}
 use mathlib.Core.Option.{none}

@@ -30,7 +30,8 @@ abbrev pub whole_part : List ℕ → List ℕ
 whole_part bytes = concat (feed_of bytes).records
 
 -- The sender stopped: by a read or by a write, as the counts of both say, or with nothing failed.
-abbrev pub StopsSending : SendFault → (failures failures' calls calls' : ℕ) → (write_failures write_failures' empty empty' : ℕ) → Type 0
+abbrev pub StopsSending : SendFault → (failures failures' calls calls' : ℕ)
+    → (write_failures write_failures' empty empty' : ℕ) → Type 0
 StopsSending Partial failures failures' calls calls' write_failures write_failures' empty empty' =
     (failures' ≡ failures) × (write_failures' ≡ write_failures) × (empty' ≡ empty)
 StopsSending Read failures failures' calls calls' write_failures write_failures' empty empty' =

@@ -9,8 +9,8 @@ const RECORD: usize = 512;
 /// What a piece of a feed gives.
 #[derive(Clone, Copy, Debug, PartialEq, Eq)]
 pub struct Feeding<'a> {
-    /// How many bytes of the piece were read: up to the last byte of the first record that becomes whole, and all of them where
-    /// none does.
+    /// How many bytes of the piece were read: up to the last byte of the first record that becomes whole, and all of
+    /// them where none does.
     pub used: usize,
     /// The record that became whole: in the piece itself, or in the cutter where it came in more than one piece.
     pub whole: Option<&'a [u8; 512]>,
@@ -24,8 +24,8 @@ fn put(buffer: &mut [u8; 512], start: usize, piece: &[u8])
     buffer[start..start + piece.len()].copy_from_slice(piece);
 }
 
-/// Cuts the bytes of a feed into records of 512 bytes, in whatever pieces they come. In a contract a cutter is the bytes of
-/// an unfinished record, fewer than 512.
+/// Cuts the bytes of a feed into records of 512 bytes, in whatever pieces they come. In a contract a cutter is the
+/// bytes of an unfinished record, fewer than 512.
 #[derive(Drop)]
 pub struct FeedCutter {
     /// The bytes of the unfinished record are its first ones.
@@ -87,8 +87,8 @@ impl FeedCutter {
         &self.buffer
     }
 
-    /// Reads the piece up to the end of the first record that becomes whole, and lends that record up to the next call. Where
-    /// none becomes whole, it reads and holds all of the piece.
+    /// Reads the piece up to the end of the first record that becomes whole, and lends that record up to the next call.
+    /// Where none becomes whole, it reads and holds all of the piece.
     pub fn feed<'a>(&'a mut self, piece: &'a [u8]) -> Feeding<'a>
         ensures used { result.used ≡ min (512 - length self.old) (length piece.now) }
         ensures read { (records : List (List ℕ)) → feed_from (feed_read records self.old) (take result.used piece.now)

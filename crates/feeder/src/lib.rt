@@ -1,5 +1,5 @@
-//! Records from a feeder, cut out of the bytes that come in any pieces, and sent on. A feed is this project's own: records of
-//! 512 bytes, one after the other. No call allocates.
+//! Records from a feeder, cut out of the bytes that come in any pieces, and sent on. A feed is this project's own:
+//! records of 512 bytes, one after the other. No call allocates.
 #![tactic(auto)]
 
 mod cutter;

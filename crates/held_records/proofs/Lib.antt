@@ -1,6 +1,6 @@
-pub mod Arrivals
-pub mod Numbers
-pub mod Places
-pub mod Stations
-pub mod Walks
-pub mod Beginnings
+pub mod ArrivalLemmas
+pub mod NumberLemmas
+pub mod PlaceLemmas
+pub mod RingsLemmas
+pub mod HistoryLemmas
+pub mod FirstLemmas

@@ -1,1 +1,1 @@
-pub mod Holdings
+pub mod Rings

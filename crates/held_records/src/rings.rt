@@ -1,12 +1,15 @@
 //! The rings of all stations.
-ghost use Rattle.std.specs.Prelude.{◌≡◌, ◌≢◌, ◌≤◌, ◌<◌, ◌^◌, ◌+◌, ◌-◌, [], ◌∷◌, ◌++◌, List, ℕ, length, map, take, slice_get, slice_set, option_map, IfOk, IfSome, Some, None, true, int_lt};
+ghost use Rattle.std.specs.Prelude.{◌≡◌, ◌≢◌, ◌≤◌, ◌<◌, ◌^◌, ◌+◌, ◌-◌, [], ◌∷◌, ◌++◌, List, ℕ, length, map, take};
+ghost use Rattle.std.specs.Prelude.{slice_get, slice_set, option_map, IfOk, IfSome, Some, None, true, int_lt};
 ghost use Rattle.protocol.specs.Catalog.{Config as ProtocolConfig, Station};
-ghost use Rattle.protocol.specs.History.{Arrival, is_of, number_at as number_in_history, oldest_held, held_with_number, from_number, holds_after};
+ghost use Rattle.protocol.specs.History.{Arrival, is_of, number_at as number_in_history, oldest_held, held_with_number};
+ghost use Rattle.protocol.specs.History.{from_number, holds_after};
 ghost use Rattle.std.specs.List.{list_any};
 ghost use Rattle.station_ring.specs.declared.held.Held.{Held};
 ghost use Rattle.catalog.specs.Places.{station_at, HasDistinctCodes};
-ghost use Rattle.station_ring.specs.Rings.{Holding, pushed, number_at, held_at, place_with};
-ghost use Rattle.held_records.specs.Holdings.{AllGrow, AreBehind, IsBefore, IsBehind, holdings_of, place_from, ring_of, summary_of};
+ghost use Rattle.station_ring.specs.Rings.{RingValue, pushed, number_at, held_at, place_with};
+ghost use Rattle.held_records.specs.Rings.{AllGrow, AreBehind, IsBefore, IsBehind, holdings_of, place_from, ring_of};
+ghost use Rattle.held_records.specs.Rings.{summary_of};
 
 use catalog::Config;
 use sl_packet::Seq;
@@ -23,9 +26,9 @@ pub struct Rings {
 }
 
 impl Model for Rings {
-    ghost use Rattle.held_records.specs.Holdings.{Holdings, AreBehind};
+    ghost use Rattle.held_records.specs.Rings.{RingsValue, AreBehind};
 
-    ghost Value = { Holdings };
+    ghost Value = { RingsValue };
 
     ghost view = { λ s. record { rings = s.rings.items; arrivals = s.arrivals } };
 
@@ -34,7 +37,7 @@ impl Model for Rings {
 
 impl Rings {
     /// Rings that hold nothing yet, one for each station. It fails only where there is no memory for them.
-    #[tactic(auto, unfolding(crate::specs::Holdings::holdings_of))]
+    #[tactic(auto, unfolding(crate::specs::RingsValue::holdings_of))]
     pub fn new(alloc: Global, config: &Config) -> Result<Rings, AllocError>
         ensures { IfOk result (λ rings. rings ≡ holdings_of config.now []) }
     {
@@ -46,10 +49,11 @@ impl Rings {
     }
 
     /// How many records arrived.
-    #[tactic(auto, unfolding(crate::specs::Holdings::holdings_of))]
+    #[tactic(auto, unfolding(crate::specs::RingsValue::holdings_of))]
     pub fn arrivals(&self) -> u64
         ensures value { result ≡ self.now.arrivals }
-        ensures count { (config : ProtocolConfig) (h : List Arrival) → self.now ≡ holdings_of config h → result ≡ length h }
+        ensures count { (config : ProtocolConfig) (h : List Arrival) → self.now ≡ holdings_of config h
+            → result ≡ length h }
         ensures behind { AreBehind result self.now.rings }
     {
         let _ = &self.rings;
@@ -91,7 +95,8 @@ impl Rings {
         number
     }
 
-    /// The position of the oldest held record of the station at a place, or that of the next arrival where none is held.
+    /// The position of the oldest held record of the station at a place, or that of the next arrival where none is
+    /// held.
     pub fn oldest_held(&self, place: usize) -> u64
         ensures { (config : ProtocolConfig) (h : List Arrival) → self.now ≡ holdings_of config h →
             result ≡ oldest_held (station_at config.entries place) h }
@@ -102,12 +107,13 @@ impl Rings {
         }
     }
 
-    /// The position of the held record with a number, of the station at a place; else that of the next arrival where the number
-    /// is the station's next one; else that of the oldest held record.
+    /// The position of the held record with a number, of the station at a place; else that of the next arrival where
+    /// the number is the station's next one; else that of the oldest held record.
     pub fn from_number(&self, place: usize, number: Seq) -> u64
         ensures position { (config : ProtocolConfig) (h : List Arrival) → self.now ≡ holdings_of config h →
             result ≡ from_number (station_at config.entries place) h number }
-        ensures before { (r : Holding) → slice_get self.now.rings place ≡ Some r → IsBefore r (place_from r number) result }
+        ensures before { (r : RingValue) → slice_get self.now.rings place ≡ Some r
+            → IsBefore r (place_from r number) result }
     {
         match self.ring(place) {
             Some(ring) => from_number(ring, number, self.arrivals),
@@ -138,9 +144,10 @@ fn push_at(
     requires there { place < length rings.old }
     requires behind { AreBehind arrivals rings.old }
     requires countable { arrivals < 2 ^ 64 - 1 }
-    ensures pushed { (r : Holding) → slice_get rings.old place ≡ Some r →
-        rings.new ≡ slice_set rings.old place (pushed r (record { stamp = arrivals; bytes = bytes.now; summary = summary })) }
-    ensures number { (r : Holding) → slice_get rings.old place ≡ Some r → result ≡ number_at r r.pushes }
+    ensures pushed { (r : RingValue) → slice_get rings.old place ≡ Some r →
+        rings.new ≡ slice_set rings.old place
+        (pushed r (record { stamp = arrivals; bytes = bytes.now; summary = summary })) }
+    ensures number { (r : RingValue) → slice_get rings.old place ≡ Some r → result ≡ number_at r r.pushes }
     ensures behind { AreBehind (arrivals + 1) rings.new }
     ensures grow { AllGrow rings.old rings.new }
     ensures others { (other : ℕ) → other ≢ place → slice_get rings.new other ≡ slice_get rings.old other }
@@ -150,7 +157,8 @@ fn push_at(
 
 /// The position of the oldest held record, or that of the next arrival where none is held.
 fn oldest_of(ring: &Ring, arrivals: u64) -> u64
-    ensures { (s : Station) (h : List Arrival) → ring.now ≡ ring_of s h → arrivals ≡ length h → result ≡ oldest_held s h }
+    ensures { (s : Station) (h : List Arrival) → ring.now ≡ ring_of s h → arrivals ≡ length h
+        → result ≡ oldest_held s h }
 {
     match ring.at_or_after(0) {
         Some((_place, held)) => held.stamp,
@@ -160,7 +168,8 @@ fn oldest_of(ring: &Ring, arrivals: u64) -> u64
 
 /// The position of the held record with a number.
 fn position_with(ring: &Ring, number: Seq) -> Option<u64>
-    ensures position { (s : Station) (h : List Arrival) → ring.now ≡ ring_of s h → result ≡ held_with_number s h number }
+    ensures position { (s : Station) (h : List Arrival) → ring.now ≡ ring_of s h
+        → result ≡ held_with_number s h number }
     ensures before { IfSome result (λ position. IsBefore ring.now (place_from ring.now number) position) }
     ensures none { result ≡ None → place_with ring.now number ≡ None }
 {
@@ -170,10 +179,11 @@ fn position_with(ring: &Ring, number: Seq) -> Option<u64>
     Some(held.stamp)
 }
 
-/// The position of the held record with a number; else that of the next arrival where the number is to be its; else that of the
-/// oldest held record.
+/// The position of the held record with a number; else that of the next arrival where the number is to be its; else
+/// that of the oldest held record.
 fn from_number(ring: &Ring, number: Seq, arrivals: u64) -> u64
-    ensures position { (s : Station) (h : List Arrival) → ring.now ≡ ring_of s h → arrivals ≡ length h → result ≡ from_number s h number }
+    ensures position { (s : Station) (h : List Arrival) → ring.now ≡ ring_of s h → arrivals ≡ length h
+        → result ≡ from_number s h number }
     ensures before { IsBehind arrivals ring.now → IsBefore ring.now (place_from ring.now number) result }
 {
     match position_with(ring, number) {

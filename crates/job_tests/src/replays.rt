@@ -153,8 +153,8 @@ fn crowded(alloc: Global) -> Result<String, Fail> {
     Ok(script)
 }
 
-// What is answered waits, so nothing is read. A piece of 1,025 bytes is refused as a whole, one of 1,024 fits, and then not
-// one byte more.
+// What is answered waits, so nothing is read. A piece of 1,025 bytes is refused as a whole, one of 1,024 fits, and
+// then not one byte more.
 #[test]
 fn a_client_has_room_for_1024_bytes(rt: HostRuntime) -> Result<(), Fail> {
     let script = crowded(rt.alloc())?;

@@ -78,8 +78,8 @@ fn serve_has_two_addresses_and_may_have_turns(rt: HostRuntime) -> Result<(), Fai
     Ok(())
 }
 
-/// What is read of `serve` with an option that counts turns, and a text for it: `turns`, `reread` and `report`. None where the
-/// words are refused.
+/// What is read of `serve` with an option that counts turns, and a text for it: `turns`, `reread` and `report`. None
+/// where the words are refused.
 fn counts(
     alloc: Global,
     option: &str,

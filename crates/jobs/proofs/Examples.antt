@@ -18,13 +18,19 @@ hello = codes "open 10.0.0.7\nline 0 HELLO\ntake 0 520\ntake 0 520\n"
 pub hello_read : events_of hello ≡ Some (Open 0x0a000007 ∷ Bytes 0 (codes "HELLO\r") ∷ Take 0 520 ∷ Take 0 520 ∷ [])
 hello_read = refl
 
-pub hello_written : replayed test_centre hello ≡ Some (codes "0 536565644c696e6b2076332e30202873746174696f6e20616363657373290d0a546573742043656e7472650d0a\n0 -\n")
+pub hello_written : replayed test_centre hello
+    ≡ Some
+    (codes
+    "0 536565644c696e6b2076332e30202873746174696f6e20616363657373290d0a546573742043656e7472650d0a\n0 -\n")
 unfolding hex_on_literals digits output_after
 hello_written = refl
 
 -- a take before its client opens; a command in pieces; an end
-pub bye_written : replayed test_centre (codes "take 0 5\nopen 10.0.0.7\nbytes 0 48454c\nbytes 0 4c4f0d\nbytes 0 0a\ntake 0 520\nline 0 BYE\ntake 0 1")
-    ≡ Some (codes "0 - end\n0 536565644c696e6b2076332e30202873746174696f6e20616363657373290d0a546573742043656e7472650d0a\n0 - end\n")
+pub bye_written : replayed test_centre
+    (codes "take 0 5\nopen 10.0.0.7\nbytes 0 48454c\nbytes 0 4c4f0d\nbytes 0 0a\ntake 0 520\nline 0 BYE\ntake 0 1")
+    ≡ Some
+    (codes
+    "0 - end\n0 536565644c696e6b2076332e30202873746174696f6e20616363657373290d0a546573742043656e7472650d0a\n0 - end\n")
 unfolding hex_on_literals digits output_after
 bye_written = refl
 

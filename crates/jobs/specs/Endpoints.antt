@@ -1,6 +1,7 @@
 -- An address with a port, as a text spells it.
 -- Endpoints are this project's own.
-use Rattle.std.specs.Prelude.{ℕ, ◌+◌, ◌==◌, Bool, nat_lt, if◌then◌else◌, List, take, drop, position, Option, Some, None, option_and_then}
+use Rattle.std.specs.Prelude.{ℕ, ◌+◌, ◌==◌, Bool, nat_lt, if◌then◌else◌, List, take, drop, position, Option, Some, None}
+use Rattle.std.specs.Prelude.{option_and_then}
 use Rattle.std.specs.Net.Addr.{ipv4_bits}
 use Rattle.protocol.specs.Time.{digits_between}
 use Rattle.access_list.specs.Addresses.{address_of}

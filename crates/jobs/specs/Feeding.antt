@@ -5,7 +5,8 @@ use Rattle.jobs.specs.declared.failure.Failure.{Failure}
 use Rattle.jobs.specs.declared.failure.Failure.TheVariants as failure
 
 -- A feed stopped as its sender says, and for nothing else.
-abbrev pub StopsFeeding : Failure → (failures failures' calls calls' : ℕ) → (write_failures write_failures' empty empty' : ℕ) → Type 0
+abbrev pub StopsFeeding : Failure → (failures failures' calls calls' : ℕ)
+    → (write_failures write_failures' empty empty' : ℕ) → Type 0
 StopsFeeding (failure.Send fault) failures failures' calls calls' write_failures write_failures' empty empty' =
     StopsSending fault failures failures' calls calls' write_failures write_failures' empty empty'
 StopsFeeding _ failures failures' calls calls' write_failures write_failures' empty empty' = ⊥

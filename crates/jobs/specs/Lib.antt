@@ -3,5 +3,5 @@ pub mod Faults
 pub mod Feeding
 pub mod Output
 pub mod Replaying
-pub mod Serving
+pub mod Serves
 pub mod Timetables

@@ -26,7 +26,11 @@ LeavesReader Script failures failures' calls calls' = failures' ≡ failures
 
 -- the writer's failures and empty writes, before and after, by the fault: one more of either at Write alone
 abbrev pub LeavesWriter : ReplayFault → ℕ → ℕ → ℕ → ℕ → Type 0
-LeavesWriter Write failures failures' empty_writes empty_writes' = StopsWriting failures failures' empty_writes empty_writes'
-LeavesWriter OutOfMemory failures failures' empty_writes empty_writes' = (failures' ≡ failures) × (empty_writes' ≡ empty_writes)
-LeavesWriter Read failures failures' empty_writes empty_writes' = (failures' ≡ failures) × (empty_writes' ≡ empty_writes)
-LeavesWriter Script failures failures' empty_writes empty_writes' = (failures' ≡ failures) × (empty_writes' ≡ empty_writes)
+LeavesWriter Write failures failures' empty_writes empty_writes' =
+    StopsWriting failures failures' empty_writes empty_writes'
+LeavesWriter OutOfMemory failures failures' empty_writes empty_writes' =
+    (failures' ≡ failures) × (empty_writes' ≡ empty_writes)
+LeavesWriter Read failures failures' empty_writes empty_writes' =
+    (failures' ≡ failures) × (empty_writes' ≡ empty_writes)
+LeavesWriter Script failures failures' empty_writes empty_writes' =
+    (failures' ≡ failures) × (empty_writes' ≡ empty_writes)

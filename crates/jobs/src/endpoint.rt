@@ -15,8 +15,8 @@ pub struct Endpoint {
 }
 
 impl Endpoint {
-    /// The endpoint that a text spells: four numbers 0 to 255 of one to three digits joined by dots, `:`, and a port 0 to 65535
-    /// of one to five digits. None for any other text.
+    /// The endpoint that a text spells: four numbers 0 to 255 of one to three digits joined by dots, `:`, and a port 0
+    /// to 65535 of one to five digits. None for any other text.
     pub fn parse(text: &[u8]) -> Option<Endpoint>
         ensures { option_map endpoint_value result ≡ endpoint_of text.now }
     {

@@ -1,7 +1,11 @@
 //! Why the program ends with status 1.
 ghost use Rattle.std.specs.Prelude.{◌≡◌};
 ghost use Rattle.jobs.specs.Faults.{failure_number, failure_name};
-ghost use Rattle.jobs.specs.declared.failure.Failure.TheVariants.{Config as ConfigFailure, Replay as ReplayFailure, Check as CheckFailure, Records as RecordsFailure, Listen as ListenFailure, Reload as ReloadFailure, Serve as ServeFailure, Send as SendFailure, Want as WantFailure, Packets as PacketsFailure};
+ghost use Rattle.jobs.specs.declared.failure.Failure.TheVariants.{Config as ConfigFailure, Replay as ReplayFailure};
+ghost use Rattle.jobs.specs.declared.failure.Failure.TheVariants.{Check as CheckFailure, Records as RecordsFailure};
+ghost use Rattle.jobs.specs.declared.failure.Failure.TheVariants.{Listen as ListenFailure, Reload as ReloadFailure};
+ghost use Rattle.jobs.specs.declared.failure.Failure.TheVariants.{Serve as ServeFailure, Send as SendFailure};
+ghost use Rattle.jobs.specs.declared.failure.Failure.TheVariants.{Want as WantFailure, Packets as PacketsFailure};
 
 use crate::faults::ReplayFault;
 use crate::serving::ServeFault;

@@ -16,15 +16,18 @@ use std::net::{Net, OpenStream, Shutdown};
 
 /// Sends the whole records that are left of a reader, and answers how many they are (2^64 - 1 if there are more).
 ///
-/// It stops with 41 if the reader ends inside a record: then all whole records were sent, and no byte of the rest. It stops with 42 and
-/// 43 only if a read or a write failed: then a beginning of the whole records was sent. It stops for no other cause.
+/// It stops with 41 if the reader ends inside a record: then all whole records were sent, and no byte of the rest.
+/// It stops with 42 and 43 only if a read or a write failed: then a beginning of the whole records was sent. It
+/// stops for no other cause.
 pub fn feed_records<R: Source, W: Sink>(records: &mut R, server: &mut W) -> Result<u64, Failure>
-    ensures count { IfOk result (λ n. IfSome (R.left records.old) (λ bytes. n ≡ capped (length (feed_of bytes).records))) }
+    ensures count { IfOk result (λ n.
+        IfSome (R.left records.old) (λ bytes. n ≡ capped (length (feed_of bytes).records))) }
     ensures ok { OnOk result (IfSome (R.left records.old) (λ bytes.
         Appends (W.written server.old) (W.written server.new) (whole_part bytes))) }
     ensures all { OnOk result (IfSome (R.left records.old) (λ bytes. (feed_of bytes).rest ≡ [])) }
     ensures partial { IfErr result (λ failure. failure_number failure ≡ 41 → IfSome (R.left records.old) (λ bytes.
-        Appends (W.written server.old) (W.written server.new) (whole_part bytes) × (0 < length (feed_of bytes).rest))) }
+        Appends (W.written server.old) (W.written server.new) (whole_part bytes)
+        × (0 < length (feed_of bytes).rest))) }
     ensures begun { OnErr result (IfSome (R.left records.old) (λ bytes.
         AppendsBeginning (W.written server.old) (W.written server.new) (whole_part bytes))) }
     ensures same { OnOk result ((R.failures records.new ≡ R.failures records.old)
@@ -39,7 +42,8 @@ pub fn feed_records<R: Source, W: Sink>(records: &mut R, server: &mut W) -> Resu
     }
 }
 
-/// Connects to a server's feed port, and sends the whole records that are left of a reader. Answers how many they are.
+/// Connects to a server's feed port, and sends the whole records that are left of a reader. Answers how many they
+/// are.
 pub fn feed<R: Net, S: Source>(rt: &R, server: Endpoint, records: &mut S) -> Result<u64, Failure> {
     let mut stream = Outer::new(connect(rt, server)?);
     let count = feed_records(records, &mut stream)?;

@@ -1,5 +1,5 @@
-//! Jobs over files and the standard output. Files are read in blocks, and what is written goes out in as few calls as the
-//! system takes.
+//! Jobs over files and the standard output. Files are read in blocks, and what is written goes out in as few calls as
+//! the system takes.
 use crate::failure::Failure;
 use crate::replaying::replay;
 use catalog::Config;

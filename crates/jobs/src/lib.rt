@@ -1,5 +1,5 @@
-//! The jobs of `seedlinkd`, over files, sockets and the standard output: a server, a feeder, a reader, a replay of a script and
-//! a check of records. Why they fail, and what the exit status is.
+//! The jobs of `seedlinkd`, over files, sockets and the standard output: a server, a feeder, a reader, a replay of a
+//! script and a check of records. Why they fail, and what the exit status is.
 #![tactic(auto)]
 
 mod activity;

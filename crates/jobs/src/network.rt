@@ -92,8 +92,8 @@ fn list<R: Net + AllocGlobal, O: Sink, P: Sink>(
     Ok(())
 }
 
-/// Asks a server for records, and writes a line for each packet to the standard output. With an output each record is added to that
-/// file. If the output is `-`, records go to the standard output, and lines to the standard error.
+/// Asks a server for records, and writes a line for each packet to the standard output. With an output each record is
+/// added to that file. If the output is `-`, records go to the standard output, and lines to the standard error.
 pub fn read_server<R: Files + Print + Eprint + Net + AllocGlobal>(
     rt: &R,
     server: &str,

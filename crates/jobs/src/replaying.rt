@@ -23,28 +23,35 @@ fn output_for(alloc: Global, config: Config, text: &[u8]) -> Result<Vec<u8>, Scr
     Ok(output)
 }
 
-/// Reads a script to its end, does its events at a new server with that configuration, and writes a line for each take. The
-/// output is made whole before its first byte is written, and written in as few calls as the writer takes.
+/// Reads a script to its end, does its events at a new server with that configuration, and writes a line for each
+/// take. The output is made whole before its first byte is written, and written in as few calls as the writer
+/// takes.
 ///
-/// It fails with Read where a read failed or 2^64 - 1 reads were made, with Script where the text is no script, with Write
-/// where a write failed or took no byte, and with OutOfMemory only where there is no memory. The writer is unchanged at all
-/// of them but Write, at which it was given a beginning of the output.
+/// It fails with Read where a read failed or 2^64 - 1 reads were made, with Script where the text is no script,
+/// with Write where a write failed or took no byte, and with OutOfMemory only where there is no memory. The writer
+/// is unchanged at all of them but Write, at which it was given a beginning of the output.
 pub fn replay<R: Source, W: Sink>(
     alloc: Global,
     config: Config,
     script: &mut R,
     out: &mut W,
 ) -> Result<(), ReplayFault>
-    ensures ok { OnOk result (IfSome (R.left script.old) (λ text. WritesAll (replayed config text) (W.written out.old) (W.written out.new))) }
+    ensures ok { OnOk result
+        (IfSome (R.left script.old)
+        (λ text. WritesAll (replayed config text) (W.written out.old) (W.written out.new))) }
     ensures write { IfErr result (λ fault. fault ≡ Write →
-        IfSome (R.left script.old) (λ text. WritesBeginning (replayed config text) (W.written out.old) (W.written out.new))) }
-    ensures script { IfErr result (λ fault. fault ≡ Script → IfSome (R.left script.old) (λ text. replayed config text ≡ None)) }
+        IfSome (R.left script.old)
+        (λ text. WritesBeginning (replayed config text) (W.written out.old) (W.written out.new))) }
+    ensures script { IfErr result (λ fault. fault ≡ Script
+        → IfSome (R.left script.old) (λ text. replayed config text ≡ None)) }
     ensures unchanged { IfErr result (λ fault. fault ≢ Write → out.new ≡ out.old) }
     ensures reader { MatchResult result (λ _. R.failures script.new ≡ R.failures script.old)
-        (λ fault. LeavesReader fault (R.failures script.old) (R.failures script.new) (R.calls script.old) (R.calls script.new)) }
+        (λ fault. LeavesReader fault (R.failures script.old) (R.failures script.new) (R.calls script.old)
+        (R.calls script.new)) }
     ensures writer { MatchResult result
         (λ _. (W.failures out.new ≡ W.failures out.old) × (W.empty_writes out.new ≡ W.empty_writes out.old))
-        (λ fault. LeavesWriter fault (W.failures out.old) (W.failures out.new) (W.empty_writes out.old) (W.empty_writes out.new)) }
+        (λ fault. LeavesWriter fault (W.failures out.old) (W.failures out.new) (W.empty_writes out.old)
+        (W.empty_writes out.new)) }
 {
     let text = match read_all(alloc, script) {
         Ok(text) => text,

@@ -80,8 +80,8 @@ fn run<R: Files + Eprint + AllocGlobal, P: Ports>(
     Ok(())
 }
 
-/// Runs a new server with the configuration that was read from a file over ports, as the timetable says, and gives the ports
-/// back.
+/// Runs a new server with the configuration that was read from a file over ports, as the timetable says, and gives the
+/// ports back.
 pub fn serve_by<R: Files + Eprint + AllocGlobal, P: Ports + Drop>(
     rt: &R,
     config: Config,

@@ -2,11 +2,11 @@
 ghost use Rattle.std.specs.Prelude.{◌≡◌, ◌≤◌, ◌+◌, IfOk, OnErr};
 ghost use Rattle.protocol.specs.Catalog.{Config as ProtocolConfig};
 ghost use Rattle.protocol.specs.World.{World};
-ghost use Rattle.server_core.specs.Standing.{StandsAt};
+ghost use Rattle.server_core.specs.ServerValues.{StandsAt};
 ghost use Rattle.event_loop.specs.Hearing.{clients_in, feeds_in};
 ghost use Rattle.event_loop.specs.Serves.{Serves};
 ghost use Rattle.jobs.specs.Faults.{serve_fault_number, serve_fault_name};
-ghost use Rattle.jobs.specs.Serving.{IsServed};
+ghost use Rattle.jobs.specs.Serves.{IsServed};
 ghost use Rattle.jobs.specs.declared.serving.ServeFault.TheVariants.{Poll};
 
 use catalog::Config;
@@ -54,8 +54,8 @@ impl From<LoopFault> for ServeFault {
     }
 }
 
-/// Has a server go on for so many turns. A turn that fails is passed over; sixteen in a row end them with their fault. What
-/// was done until then stands, and further turns go on. Nothing is allocated but where a port joins.
+/// Has a server go on for so many turns. A turn that fails is passed over; sixteen in a row end them with their fault.
+/// What was done until then stands, and further turns go on. Nothing is allocated but where a port joins.
 pub fn serve_block<P: Ports>(server: &mut Loop<P>, turns: u64) -> Result<(), LoopFault>
     ensures serves { (config : ProtocolConfig) (w : World) → StandsAt server.old.server config w →
         Serves config w (P.calls server.old.ports) (P.calls server.new.ports) server.new.server }
@@ -92,8 +92,8 @@ fn one_turn<P: Ports>(server: &mut Loop<P>, failures: u8) -> u8
     }
 }
 
-/// Runs a new server with that configuration over ports, for so many turns, and gives the ports back. A turn that fails is
-/// passed over; sixteen in a row end the server.
+/// Runs a new server with that configuration over ports, for so many turns, and gives the ports back. A turn that fails
+/// is passed over; sixteen in a row end the server.
 pub fn serve<P: Ports + Drop>(
     alloc: Global,
     config: Config,

@@ -1,5 +1,5 @@
-//! What the user is told, and the exit status: 0 where the job was done or help was asked for, 1 at a fault of input or of a
-//! device, and 2 where the words are none that the program takes.
+//! What the user is told, and the exit status: 0 where the job was done or help was asked for, 1 at a fault of input or
+//! of a device, and 2 where the words are none that the program takes.
 ghost use Rattle.std.specs.Prelude.{◌≡◌, ◌≢◌, false, true, map, string_bytes};
 ghost use Rattle.std.specs.Process.{exit_status};
 ghost use Rattle.command_line.specs.Jobs.{IsJob, IsMistake};
@@ -23,8 +23,8 @@ pub fn failed<R: Eprint>(rt: &R, failure: Failure) -> ExitCode
     ExitCode::FAILURE
 }
 
-/// Tells the user how words are taken: help on the standard output, or a mistake on the standard error. The status is 2 for
-/// a mistake. For help it is 0, or 1 where that could not be written.
+/// Tells the user how words are taken: help on the standard output, or a mistake on the standard error. The status is 2
+/// for a mistake. For help it is 0, or 1 where that could not be written.
 pub fn told<R: Print + Eprint>(rt: &R, text: &str, is_help: bool) -> ExitCode
     ensures mistake { is_help ≡ false → exit_status result ≡ 2 }
     ensures help { is_help ≡ true → exit_status result ≢ 2 }
@@ -39,8 +39,8 @@ pub fn told<R: Print + Eprint>(rt: &R, text: &str, is_help: bool) -> ExitCode
     }
 }
 
-/// Does the job that the words of a command line ask, of which the first is the program's name. The status is never 2 where
-/// they are a job, and never 0 where they are a mistake.
+/// Does the job that the words of a command line ask, of which the first is the program's name. The status is never 2
+/// where they are a job, and never 0 where they are a mistake.
 pub fn obey<R: Files + Print + Eprint + Net + AllocGlobal>(rt: &R, words: &[String]) -> ExitCode
     ensures job { IsJob (map string_bytes words.now) → exit_status result ≢ 2 }
     ensures mistake { IsMistake (map string_bytes words.now) → exit_status result ≢ 0 }

@@ -2,8 +2,8 @@
 ghost use Rattle.std.specs.Prelude.{◌≡◌, ◌<◌, min};
 ghost use Rattle.jobs.specs.Timetables.{is_due, turns_to};
 
-/// After how many turns a server ends, and at which multiples of a number of turns it reads its configuration again and tells
-/// what it has done. Without a number, or where that is 0, never.
+/// After how many turns a server ends, and at which multiples of a number of turns it reads its configuration again and
+/// tells what it has done. Without a number, or where that is 0, never.
 #[derive(Clone, Copy, Debug, PartialEq, Eq, Drop)]
 pub struct Timetable {
     pub turns: Option<usize>,

@@ -39,8 +39,8 @@ fn wanted(alloc: Global) -> Result<Vec<u8>, Fail> {
     Ok(all)
 }
 
-/// A client that asks for both stations, in pieces of so many bytes, and whose writes take at most so many; and their feed in
-/// pieces of so many.
+/// A client that asks for both stations, in pieces of so many bytes, and whose writes take at most so many; and their
+/// feed in pieces of so many.
 fn client_and_feed(
     alloc: Global,
     numbers: (u64, u64),

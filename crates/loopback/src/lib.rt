@@ -1,5 +1,6 @@
-//! What tests over sockets share: a server at ports of this machine that the system chose, clients and feeds that connect to it, and
-//! records. Both ends are in one process, and the server has a turn whenever a client finds nothing to read.
+//! What tests over sockets share: a server at ports of this machine that the system chose, clients and feeds that
+//! connect to it, and records. Both ends are in one process, and the server has a turn whenever a client finds nothing
+//! to read.
 #![tactic(auto)]
 
 mod centre;

@@ -44,8 +44,8 @@ fn has_all(taken: &[u8]) -> Result<bool, Fault> {
     Ok(is_right)
 }
 
-/// Whether the first client took all that it is to, or its port was shut before it took anything; without a feed it has the
-/// replies alone.
+/// Whether the first client took all that it is to, or its port was shut before it took anything; without a feed it has
+/// the replies alone.
 fn is_first_right(wires: &Wires) -> Result<bool, Fault> {
     let taken = wires.first.taken.as_slice();
     if wires.first.is_shut {
@@ -122,8 +122,8 @@ fn memory_ports(alloc: Global) -> Result<MemoryPorts, Fault> {
     Ok(MemoryPorts::new(alloc, script))
 }
 
-/// Turns over ports whose record may not grow: that call fails, and costs its port, or one turn its hearing and what it would
-/// have heard.
+/// Turns over ports whose record may not grow: that call fails, and costs its port, or one turn its hearing and what it
+/// would have heard.
 pub fn ports(alloc: Global) -> Result<Trial, Fault> {
     let config = Config::read(alloc, CENTRE)?;
     let mut all = Loop::new(alloc, config, memory_ports(alloc)?)?;

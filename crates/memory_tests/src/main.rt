@@ -1,9 +1,9 @@
 //! Makes one call that allocates, and looks at what comes of it where an allocation is refused.
 //!
-//! `memory_tests CALL`, where CALL is `parse`, `read`, `view`, `server`, `open`, `run`, `loop`, `turn`, `ports`, `reader` or `replay`. It
-//! prints `as it should be` where the call succeeds and gives what it is to give, or answers out of memory and nothing
-//! else, and leaves all as it was; else it prints what is wrong. Where an allocation before the call was refused, it ends
-//! with status 3 and says nothing. Without a CALL all of them are made.
+//! `memory_tests CALL`, where CALL is `parse`, `read`, `view`, `server`, `open`, `run`, `loop`, `turn`, `ports`,
+//! `reader` or `replay`. It prints `as it should be` where the call succeeds and gives what it is to give, or answers
+//! out of memory and nothing else, and leaves all as it was; else it prints what is wrong. Where an allocation before
+//! the call was refused, it ends with status 3 and says nothing. Without a CALL all of them are made.
 //!
 //! `tools/refuse_memory.py` refuses each allocation in turn.
 #![tactic(auto)]

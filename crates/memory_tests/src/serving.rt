@@ -89,8 +89,8 @@ fn is_answered(server: &mut Server, client: Client) -> Result<bool, Fault> {
     Ok(is_right)
 }
 
-/// Whether a client that came before a refused one is served, and the next one has the number of the refused one and is answered
-/// as any other.
+/// Whether a client that came before a refused one is served, and the next one has the number of the refused one and is
+/// answered as any other.
 fn is_unharmed(server: &mut Server, first: Client, next: Client) -> Result<bool, Fault> {
     let is_right = next.number() == 1 && is_greeted(server, first)? && is_answered(server, next)?;
     Ok(is_right && is_served(server, first)?)

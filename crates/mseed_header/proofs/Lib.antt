@@ -1,5 +1,5 @@
-pub mod Trimming
-pub mod Walk
-pub mod Readings
-pub mod Ranges
-pub mod Laying
+pub mod TrimLemmas
+pub mod ChainLemmas
+pub mod HeaderLemmas
+pub mod RangeLemmas
+pub mod LayoutLemmas

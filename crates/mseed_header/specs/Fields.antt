@@ -40,4 +40,5 @@ rest_in_range f = is_extra f.extra && (nat_le (length f.contents) 448 && list_al
 
 -- the facts have the codes of the fields
 abbrev pub has_codes_of : Spelled → Facts → Bool
-has_codes_of f x = bytes_eq x.network f.network && bytes_eq x.station f.station && bytes_eq x.location (padded 2 f.location) && bytes_eq x.channel (padded 3 f.channel)
+has_codes_of f x = bytes_eq x.network f.network && bytes_eq x.station f.station
+    && bytes_eq x.location (padded 2 f.location) && bytes_eq x.channel (padded 3 f.channel)

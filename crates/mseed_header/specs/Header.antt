@@ -1,5 +1,6 @@
 -- What a record says of itself, by what was read of it.
-use Rattle.std.specs.Prelude.{ℕ, ◌==◌, nat_lt, if◌then◌else◌, List, slice_range, ℤ, pos, ◌+ℤ◌, Option, Some, None, unwrap_or, Result, Ok, Err}
+use Rattle.std.specs.Prelude.{ℕ, ◌==◌, nat_lt, if◌then◌else◌, List, slice_range, ℤ, pos, ◌+ℤ◌, Option, Some, None}
+use Rattle.std.specs.Prelude.{unwrap_or, Result, Ok, Err}
 use Rattle.protocol.specs.declared.record.ByteOrder.{ByteOrder}
 use Rattle.protocol.specs.declared.record.Kind.{Kind}
 use Rattle.protocol.specs.declared.record.Kind.TheVariants.{D, L}
@@ -9,7 +10,8 @@ use Rattle.protocol.specs.Record.{Facts, word, trimmed, ticks_of, quotient}
 use Rattle.mseed_header.specs.declared.chain.Blockettes.{Blockettes}
 
 -- the facts, part by part
-abbrev pub facts : (network station location channel : List ℕ) (start stop : ℤ) (kind : Kind) (samples links : ℕ) → Facts
+abbrev pub facts : (network station location channel : List ℕ) (start stop : ℤ) (kind : Kind) (samples links : ℕ)
+    → Facts
 facts network station location channel start stop kind samples links =
     record {
       network = network;

@@ -33,7 +33,8 @@ pub fn kind_of_type(blockette: u16) -> Option<Kind>
     }
 }
 
-// Whether the blockette at an offset lies within the record: one of type 1000 has eight bytes, of any other four are read.
+// Whether the blockette at an offset lies within the record: one of type 1000 has eight bytes, of any other four are
+// read.
 fn fits(order: ByteOrder, record: &[u8; 512], at: usize) -> bool
     ensures { result ≡ spec_fits order «record».now at }
 {

@@ -1,6 +1,7 @@
 //! The codes of a record and its first bytes.
 ghost use Rattle.std.specs.Prelude.{◌≡◌, ◌≤◌, length};
-ghost use Rattle.protocol.specs.Record.{is_quality as spec_is_quality, is_sequence_byte as spec_is_sequence_byte, trimmed as spec_trimmed};
+ghost use Rattle.protocol.specs.Record.{is_quality as spec_is_quality, is_sequence_byte as spec_is_sequence_byte};
+ghost use Rattle.protocol.specs.Record.{trimmed as spec_trimmed};
 
 // A digit, a space or 0.
 pub fn is_sequence_byte(byte: u8) -> bool

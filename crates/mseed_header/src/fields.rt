@@ -1,7 +1,10 @@
 //! The fields of a record to be made.
 ghost use Rattle.std.specs.Prelude.{◌≡◌, ◌&&◌, length, nat_le, nat_lt};
 ghost use Rattle.std.specs.List.{list_all};
-ghost use Rattle.protocol.specs.Made.{has_codes_in_range as spec_has_codes_in_range, has_start_in_range as spec_has_start_in_range, is_code as spec_is_code, is_code_byte as spec_is_code_byte, is_extra as spec_is_extra, is_in_range as spec_is_in_range};
+ghost use Rattle.protocol.specs.Made.{has_codes_in_range as spec_has_codes_in_range};
+ghost use Rattle.protocol.specs.Made.{has_start_in_range as spec_has_start_in_range, is_code as spec_is_code};
+ghost use Rattle.protocol.specs.Made.{is_code_byte as spec_is_code_byte, is_extra as spec_is_extra};
+ghost use Rattle.protocol.specs.Made.{is_in_range as spec_is_in_range};
 ghost use Rattle.mseed_header.specs.Fields.{fields_value, head_in_range, rest_in_range};
 
 use crate::chain::kind_of_type;

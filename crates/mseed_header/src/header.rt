@@ -1,7 +1,10 @@
 //! What a record says of itself.
 ghost use Rattle.std.specs.Prelude.{◌≡◌, ◌≤ℤ◌, ◌≤◌, ◌<◌, ◌^◌, ◌+ℤ◌, IfSome, IsTrue, length, pos, slice_index, take};
 ghost use Rattle.std.specs.List.{list_all};
-ghost use Rattle.protocol.specs.Record.{has_date as spec_has_date, header_of, is_sequence_byte as spec_is_sequence_byte, read_in as spec_read_in, multiplier, word as spec_word};
+ghost use Rattle.protocol.specs.Record.{has_date as spec_has_date, header_of};
+ghost use Rattle.protocol.specs.Record.{is_sequence_byte as spec_is_sequence_byte, read_in as spec_read_in};
+ghost use Rattle.protocol.specs.Record.{multiplier};
+ghost use Rattle.protocol.specs.Record.{word as spec_word};
 ghost use Rattle.protocol.specs.Time.{btime_tick};
 ghost use Rattle.mseed_header.specs.Header.{facts_with, header_by as spec_header_by, kind_with};
 
@@ -34,7 +37,8 @@ impl<'a> Model for Header<'a> {
 
     ghost Value = { Facts };
 
-    ghost view = { λ h. facts h.network.now h.station.now h.location.now h.channel.now h.start h.end h.kind h.samples h.links };
+    ghost view = { λ h. facts h.network.now h.station.now h.location.now h.channel.now
+        h.start h.end h.kind h.samples h.links };
 
     ghost invariant = { λ h. (length h.station.now ≤ 5) × (length h.network.now ≤ 2) × (h.links ≤ 461) };
 }
@@ -110,7 +114,8 @@ impl<'a> Header<'a> {
 // The time of the start, or None where it is none of a day.
 fn start_of(order: ByteOrder, record: &[u8; 512]) -> Option<Tick>
     ensures value { result ≡ btime_tick (spec_word order «record».now 20) (spec_word order «record».now 22)
-        (slice_index «record».now 24) (slice_index «record».now 25) (slice_index «record».now 26) (spec_word order «record».now 28) }
+        (slice_index «record».now 24) (slice_index «record».now 25) (slice_index «record».now 26)
+        (spec_word order «record».now 28) }
     ensures bound { IfSome result (λ start. start ≤ℤ pos (2 ^ 60)) }
 {
     let year = word(order, record, 20);
@@ -220,7 +225,8 @@ fn read_in(order: ByteOrder, record: &[u8; 512]) -> Result<Header<'_>, RecordFau
 
 /// Reads a record: its header, or the first fault that it has (SEED Reference Manual 2.4, chapter 8).
 ///
-/// Numbers are big-endian where that reading has a year of 1900 to 2100 and a day of 1 to 366, and else little-endian.
+/// Numbers are big-endian where that reading has a year of 1900 to 2100 and a day of 1 to 366, and else
+/// little-endian.
 pub fn read(record: &[u8; 512]) -> Result<Header<'_>, RecordFault>
     ensures { result ≡ header_of «record».now }
 {

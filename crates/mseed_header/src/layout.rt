@@ -1,7 +1,9 @@
 //! The bytes of a record that is made.
 ghost use Rattle.std.specs.Prelude.{◌≡◌, ◌+◌, ◌-◌, ◌%◌, ◌≤◌, ◌++◌, IsTrue, length, replicate};
 ghost use Rattle.arrayvec.specs.ArrayVec.{array_vec_len};
-ghost use Rattle.protocol.specs.Made.{decimal, extra_bytes as spec_extra_bytes, has_codes_in_range, is_in_range, layout_of as spec_layout_of, short_bytes as spec_short_bytes, two_bytes as spec_two_bytes, word_order_byte};
+ghost use Rattle.protocol.specs.Made.{decimal, extra_bytes as spec_extra_bytes, has_codes_in_range, is_in_range};
+ghost use Rattle.protocol.specs.Made.{layout_of as spec_layout_of, short_bytes as spec_short_bytes};
+ghost use Rattle.protocol.specs.Made.{two_bytes as spec_two_bytes, word_order_byte};
 ghost use Rattle.mseed_header.specs.Fields.{fields_value};
 ghost use Rattle.mseed_header.specs.Layout.{blockettes_part, codes_part, places_part, rate_part, start_part};
 

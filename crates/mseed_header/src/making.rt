@@ -2,7 +2,9 @@
 ghost use Rattle.std.specs.Prelude.{◌≡◌, IsTrue, codes};
 ghost use Rattle.std.specs.Ordering.{int_eq};
 ghost use Rattle.std.specs.Result.{result_ok};
-ghost use Rattle.protocol.specs.Made.{has_codes_in_range, has_fields as spec_has_fields, has_start_in_range, is_in_range, made, reads_back as spec_reads_back, start_asked as spec_start_asked};
+ghost use Rattle.protocol.specs.Made.{has_codes_in_range, has_fields as spec_has_fields, has_start_in_range};
+ghost use Rattle.protocol.specs.Made.{is_in_range, made, reads_back as spec_reads_back};
+ghost use Rattle.protocol.specs.Made.{start_asked as spec_start_asked};
 ghost use Rattle.protocol.specs.Record.{header_of};
 ghost use Rattle.mseed_header.specs.Fields.{fields_value, has_codes_of};
 
@@ -83,12 +85,12 @@ fn reads_back(fields: &Fields<'_>, record: &[u8; 512]) -> bool
     }
 }
 
-/// Makes the record of fields, or answers that they spell none: one is out of its range, or the record would not be read
-/// as the fields (in little-endian order on the days 1, 256 and 257 of 2056, whose bytes are a date in big-endian order
-/// too).
+/// Makes the record of fields, or answers that they spell none: one is out of its range, or the record would not be
+/// read as the fields (in little-endian order on the days 1, 256 and 257 of 2056, whose bytes are a date in big-endian
+/// order too).
 ///
-/// The record is a header of 48 bytes, a blockette 1000, the extra blockette, and from 64 on the contents; other bytes are
-/// 0 (SEED Reference Manual 2.4, chapter 8).
+/// The record is a header of 48 bytes, a blockette 1000, the extra blockette, and from 64 on the contents; other bytes
+/// are 0 (SEED Reference Manual 2.4, chapter 8).
 pub fn make(fields: &Fields<'_>) -> Result<[u8; 512], FieldFault>
     ensures { result_ok result ≡ made (fields_value fields.now) }
 {

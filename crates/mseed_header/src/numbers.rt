@@ -1,6 +1,7 @@
 //! The numbers of a record, in either order of bytes.
 ghost use Rattle.std.specs.Prelude.{◌≡◌, ◌+◌, ◌≤◌, ◌<◌, length};
-ghost use Rattle.protocol.specs.Record.{has_date as spec_has_date, order_of as spec_order_of, signed, word as spec_word};
+ghost use Rattle.protocol.specs.Record.{has_date as spec_has_date, order_of as spec_order_of, signed};
+ghost use Rattle.protocol.specs.Record.{word as spec_word};
 ghost use Rattle.protocol.specs.Time.{is_day as spec_is_day};
 
 use byteorder::{BigEndian, ByteOrder as Endian, LittleEndian};

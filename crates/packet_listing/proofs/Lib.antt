@@ -1,2 +1,2 @@
-pub mod Listing
-pub mod Taking
+pub mod ReadLaws
+pub mod PieceLaws

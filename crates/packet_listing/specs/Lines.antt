@@ -45,7 +45,8 @@ refusal_at refusals want = unwrap_or (slice_get refusals want) []
 abbrev pub with_given : OutputValue → Given → OutputValue
 with_given o Hello = o
 with_given o (Refused want) = record o { lines = o.lines ++ refusal_at o.refusals want }
-with_given o (Packet packet) = record o { lines = o.lines ++ packet_line packet; records = o.records ++ record_of packet }
+with_given o (Packet packet) =
+    record o { lines = o.lines ++ packet_line packet; records = o.records ++ record_of packet }
 with_given o End = o
 
 -- all of them

@@ -37,9 +37,10 @@ records_given (g ∷ gs) = record_given g ++ records_given gs
 
 -- ---- at the end
 
--- Bytes `came` that bring the dialogue of the reader to its end. All that it asks by them was sent, and of all that they give the
--- lines and the records were written. What was read `behind` the end is dropped.
-pub record Ends (r : ReaderValue) (refusals : List (List ℕ)) (left left' sent sent' lines lines' records records' : Option (List ℕ)) : Type 0 where
+-- Bytes `came` that bring the dialogue of the reader to its end. All that it asks by them was sent, and of all that
+-- they give the lines and the records were written. What was read `behind` the end is dropped.
+pub record Ends (r : ReaderValue) (refusals : List (List ℕ))
+    (left left' sent sent' lines lines' records records' : Option (List ℕ)) : Type 0 where
   pub came : List ℕ
   pub behind : List ℕ
   pub read : Consumes left left' (came ++ behind)
@@ -66,9 +67,10 @@ is_told_before (Reader BadReply) = true
 is_told_before Read = true
 is_told_before Write = false
 
--- Bytes `came`. A beginning of what the reader asks by them was sent, and of all that they give the lines and the records were
--- written.
-pub record StopsAt (fault : ListingFault) (r : ReaderValue) (refusals : List (List ℕ)) (left left' sent sent' lines lines' records records' : Option (List ℕ)) : Type 0 where
+-- Bytes `came`. A beginning of what the reader asks by them was sent, and of all that they give the lines and the
+-- records were written.
+pub record StopsAt (fault : ListingFault) (r : ReaderValue) (refusals : List (List ℕ))
+    (left left' sent sent' lines lines' records records' : Option (List ℕ)) : Type 0 where
   pub came : List ℕ
   pub read : Consumes left left' came
   pub why : IsWhy fault (read_on r came).stage

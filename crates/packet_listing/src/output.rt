@@ -112,7 +112,8 @@ impl Output {
 
     /// The line of a want that is refused.
     fn put_refused(&mut self, want: usize) -> Result<(), AllocError>
-        ensures { OnOk result (self.new ≡ record self.old { lines = self.old.lines ++ refusal_at self.old.refusals want }) }
+        ensures { OnOk result
+            (self.new ≡ record self.old { lines = self.old.lines ++ refusal_at self.old.refusals want }) }
     {
         self.lines
             .extend_from_slice(refusal_at(&self.refusals, want))

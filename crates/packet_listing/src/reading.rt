@@ -1,5 +1,7 @@
 //! A reader over a connection.
-ghost use Rattle.std.specs.Prelude.{◌≡◌, ◌≢◌, ◌⊎◌, ◌+◌, ◌<◌, ◌≤◌, [], drop, length, IfOk, OnOk, OnErr, IfErr, IfSome, IfNone, MatchOption, take, true, false};
+ghost use Rattle.std.specs.Prelude.{◌≡◌, ◌≢◌, ◌⊎◌, ◌+◌, ◌<◌, ◌≤◌, [], drop, length, IfOk, OnOk, OnErr, IfErr};
+ghost use Rattle.std.specs.Prelude.{IfSome};
+ghost use Rattle.std.specs.Prelude.{IfNone, MatchOption, take, true, false};
 ghost use Rattle.std.specs.Io.KnownBytes.{Appends, Consumes, Keeps};
 ghost use Rattle.sl_io.specs.Counts.{IsMore, StopsWriting};
 ghost use Rattle.slreader.specs.declared.fault.ReaderFault.TheVariants.{Limit, OutOfMemory};
@@ -24,8 +26,10 @@ const BLOCK: usize = 65_536;
 
 /// Writes all that is asked and was not sent.
 fn send<W: Sink>(core: &mut ReaderCore, writer: &mut W) -> Result<(), WriteFault>
-    ensures written { OnOk result (Appends (W.written writer.old) (W.written writer.new) (drop core.old.sent core.old.asked)) }
-    ensures sent { OnOk result (core.new ≡ record core.old { sent = core.old.sent + length (drop core.old.sent core.old.asked) }) }
+    ensures written { OnOk result (Appends (W.written writer.old) (W.written writer.new)
+        (drop core.old.sent core.old.asked)) }
+    ensures sent { OnOk result
+        (core.new ≡ record core.old { sent = core.old.sent + length (drop core.old.sent core.old.asked) }) }
     ensures quiet { OnOk result (IsQuiet (W.failures writer.old) (W.failures writer.new)
         (W.empty_writes writer.old) (W.empty_writes writer.new)) }
     ensures stopped { OnErr result (StopsWriting (W.failures writer.old) (W.failures writer.new)
@@ -79,7 +83,8 @@ fn write_output<O: Sink, P: Sink>(
 fn take_piece(core: &mut ReaderCore, output: &mut Output, piece: &[u8]) -> Result<bool, ReaderFault>
     requires plan { core.old.stage ≢ Failed Limit }
     ensures taken { IfOk result (λ is_over. Takes core.old core.new output.old output.new piece.now is_over) }
-    ensures failed { IfErr result (λ fault. fault ≢ OutOfMemory → FailsIn core.old core.new output.old output.new piece.now fault) }
+    ensures failed { IfErr result (λ fault. fault ≢ OutOfMemory
+        → FailsIn core.old core.new output.old output.new piece.now fault) }
     ensures plan { IfErr result (λ fault. fault ≢ Limit) }
 {
     let mut left = piece;
@@ -104,10 +109,12 @@ fn take_piece(core: &mut ReaderCore, output: &mut Output, piece: &[u8]) -> Resul
 fn read_block<R: Source>(reader: &mut R, block: &mut [u8]) -> Option<usize>
     requires { 0 < length block.old }
     ensures bound { IfSome result (λ count. count ≤ length block.new) }
-    ensures consumed { IfSome result (λ count. Consumes (R.left reader.old) (R.left reader.new) (take count block.new)) }
+    ensures consumed { IfSome result
+        (λ count. Consumes (R.left reader.old) (R.left reader.new) (take count block.new)) }
     ensures kept { IfNone result (Keeps (R.left reader.old) (R.left reader.new)) }
     ensures call { IsMore (R.calls reader.old) (R.calls reader.new) 1 }
-    ensures ended { MatchOption result (EndsReading (R.failures reader.old) (R.failures reader.new) (R.left reader.new))
+    ensures ended { MatchOption result
+        (EndsReading (R.failures reader.old) (R.failures reader.new) (R.left reader.new))
         (λ _. R.failures reader.new ≡ R.failures reader.old) }
 {
     match reader.read(block) {
@@ -119,7 +126,8 @@ fn read_block<R: Source>(reader: &mut R, block: &mut [u8]) -> Option<usize>
 
 /// Sends what was asked last: an answer may come before its command was sent.
 fn finish<W: Sink>(core: &mut ReaderCore, writer: &mut W) -> Result<(), ListingFault>
-    ensures written { OnOk result (Appends (W.written writer.old) (W.written writer.new) (drop core.old.sent core.old.asked)) }
+    ensures written { OnOk result (Appends (W.written writer.old) (W.written writer.new)
+        (drop core.old.sent core.old.asked)) }
     ensures quiet { OnOk result (IsQuiet (W.failures writer.old) (W.failures writer.new)
         (W.empty_writes writer.old) (W.empty_writes writer.new)) }
     ensures fault { IfErr result (λ fault. fault ≡ ListingFault.Write) }
@@ -157,7 +165,8 @@ fn read_blocks<R: Source, W: Sink, O: Sink, P: Sink>(
         (EndsReads (R.failures reader.old) (R.failures reader.new)
         (R.calls reader.old) (R.calls reader.new) (R.left reader.new))
         (R.failures reader.new ≡ R.failures reader.old)
-        (IsQuiet (W.failures writer.old) (W.failures writer.new) (W.empty_writes writer.old) (W.empty_writes writer.new)
+        (IsQuiet (W.failures writer.old) (W.failures writer.new) (W.empty_writes writer.old)
+        (W.empty_writes writer.new)
         × IsQuiet (O.failures out.old) (O.failures out.new) (O.empty_writes out.old) (O.empty_writes out.new)
         × IsQuiet (P.failures records.old) (P.failures records.new)
         (P.empty_writes records.old) (P.empty_writes records.new))
@@ -199,10 +208,10 @@ fn read_blocks<R: Source, W: Sink, O: Sink, P: Sink>(
 }
 
 /// Asks a server for what a plan wants, and lists what it sends (SeedLink 3), a line a packet: `SEQ NET STA LOC CHA
-/// TYPE START END SAMPLES`, with the six digits of its number in upper case and the rest as in the listing of a file
-/// of records, or `SEQ unreadable` where its record can't be read; and `refused NET STA` for a want that the server
-/// refuses. The record of each packet, 512 bytes, is written to `records` as it came. It ends with the end of the
-/// transfer.
+/// TYPE START END SAMPLES`, with the six digits of its number in upper case and the rest as in the listing of a
+/// file of records, or `SEQ unreadable` where its record can't be read; and `refused NET STA` for a want that the
+/// server refuses. The record of each packet, 512 bytes, is written to `records` as it came. It ends with the end
+/// of the transfer.
 ///
 /// All that is asked is sent before each read, and all that is told is written before each read, so that nothing is
 /// held back while it waits. A read takes up to 64 KiB. After a fault all that was told before it is written, where
@@ -230,7 +239,8 @@ pub fn read_over<R: Source, W: Sink, O: Sink, P: Sink>(
         (EndsReads (R.failures reader.old) (R.failures reader.new)
         (R.calls reader.old) (R.calls reader.new) (R.left reader.new))
         (R.failures reader.new ≡ R.failures reader.old)
-        (IsQuiet (W.failures writer.old) (W.failures writer.new) (W.empty_writes writer.old) (W.empty_writes writer.new)
+        (IsQuiet (W.failures writer.old) (W.failures writer.new) (W.empty_writes writer.old)
+        (W.empty_writes writer.new)
         × IsQuiet (O.failures out.old) (O.failures out.new) (O.empty_writes out.old) (O.empty_writes out.new)
         × IsQuiet (P.failures records.old) (P.failures records.new)
         (P.empty_writes records.old) (P.empty_writes records.new))

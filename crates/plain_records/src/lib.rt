@@ -1,5 +1,5 @@
-//! Records read by a plain program, which was written from docs/PROFILE.md and the SEED Reference Manual 2.4 (chapter 8) and
-//! shares no code with the server; and random records, right, half right and wrong. For tests alone.
+//! Records read by a plain program, which was written from docs/PROFILE.md and the SEED Reference Manual 2.4 (chapter
+//! 8) and shares no code with the server; and random records, right, half right and wrong. For tests alone.
 #![tactic(auto)]
 
 mod drawing;

@@ -1,7 +1,8 @@
 //! What a record says, or the first fault that it has.
 use protocol::record::RecordFault;
 
-/// What a record says. The codes are the record's own bytes, the times ticks of 0.0001 s since 1970, the kind its letter.
+/// What a record says. The codes are the record's own bytes, the times ticks of 0.0001 s since 1970, the kind its
+/// letter.
 #[derive(Drop)]
 pub struct Said<'a> {
     pub network: &'a [u8],

@@ -62,8 +62,8 @@ fn lists(alloc: Global, count: usize) -> Result<&'static [Lists], AllocError> {
     Ok(lists.leak())
 }
 
-/// A configuration of so many stations, up to 1,000: GE S000, GE S001 and so on. GE S003, GE S013 and so on are open to the
-/// second address alone, and the others to everybody.
+/// A configuration of so many stations, up to 1,000: GE S000, GE S001 and so on. GE S003, GE S013 and so on are open to
+/// the second address alone, and the others to everybody.
 pub fn centre(alloc: Global, count: usize) -> Result<Centre, AllocError> {
     let mut centre = Centre {
         text: b"",

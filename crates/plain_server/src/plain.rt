@@ -93,8 +93,8 @@ impl Plain {
         self.history.add(arrival)
     }
 
-    /// A configuration is read again. One that differs in more than its lists changes nothing. Else each client that sees
-    /// something else by it than when it came is cut.
+    /// A configuration is read again. One that differs in more than its lists changes nothing. Else each client that
+    /// sees something else by it than when it came is cut.
     pub fn reload(&mut self, reload: &Reload) {
         let Some(seen) = reload.seen else {
             return;

@@ -4,8 +4,8 @@ use crate::history::push_digits;
 use crate::sites::{Centre, Lists, Seen, Site};
 use std::alloc::{AllocError, Global};
 
-/// A configuration, and which addresses may use each station by it; none where it differs from the one before in more than its
-/// lists of addresses.
+/// A configuration, and which addresses may use each station by it; none where it differs from the one before in more
+/// than its lists of addresses.
 #[derive(Drop)]
 pub struct Reload {
     pub text: Vec<u8>,

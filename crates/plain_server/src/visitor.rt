@@ -50,8 +50,8 @@ pub struct Visitor {
     position: usize,
 }
 
-/// Adds a pattern to those of a station, or takes all of these away. False if it is not valid, or if there is no room while
-/// all stations have so many together.
+/// Adds a pattern to those of a station, or takes all of these away. False if it is not valid, or if there is no room
+/// while all stations have so many together.
 fn is_changed(
     patterns: &mut Vec<Vec<u8>>,
     together: usize,

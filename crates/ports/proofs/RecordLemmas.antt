@@ -3,6 +3,7 @@ use Rattle.std.proofs.Common.{◌≡◌, ℕ, List, [], ◌∷◌, ◌++◌, ref
 use Rattle.ports.specs.Calls.{Call}
 use Rattle.ports.specs.Records.{PortValue, with_call, after_calls}
 
-pub after_calls-append : (port : ℕ) (v : PortValue) (xs ys : List Call) → after_calls port v (xs ++ ys) ≡ after_calls port (after_calls port v xs) ys
+pub after_calls-append : (port : ℕ) (v : PortValue) (xs ys : List Call)
+    → after_calls port v (xs ++ ys) ≡ after_calls port (after_calls port v xs) ys
 after_calls-append port v [] ys = refl
 after_calls-append port v (x ∷ xs) ys = after_calls-append port (with_call port v x) xs ys

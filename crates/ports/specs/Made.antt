@@ -6,7 +6,8 @@ use Rattle.ports.specs.declared.memory_ports.log.Made.{Made}
 use Rattle.ports.specs.declared.memory_ports.log.Made.TheVariants.{Next, Read, Write, Shut}
 use Rattle.ports.specs.declared.memory_ports.log.Log.{Log}
 use Rattle.ports.specs.Calls.{Given, Call}
-use Rattle.ports.specs.Calls.Given.{Piece as GivenPiece, Nothing as GivenNothing, TheEnd as GivenTheEnd, Failure as GivenFailure}
+use Rattle.ports.specs.Calls.Given.{Piece as GivenPiece, Nothing as GivenNothing, TheEnd as GivenTheEnd}
+use Rattle.ports.specs.Calls.Given.{Failure as GivenFailure}
 use Rattle.ports.specs.Calls.Call.{Next as CallNext, Read as CallRead, Write as CallWrite, Shut as CallShut}
 
 -- what a read gave

@@ -85,12 +85,14 @@ impl<P: Ports> Ports for FailingPorts<P> {
     fn read(&mut self, port: u64, buffer: &mut [u8]) -> Result<Got, PortFault>
         requires { 0 < length buffer.old }
         ensures bound { IsGiven result (length buffer.new) }
-        ensures call { Tells (told self.old.log) (told self.new.log) (Read port (length buffer.new) (given result buffer.new) ∷ []) }
+        ensures call { Tells (told self.old.log) (told self.new.log)
+            (Read port (length buffer.new) (given result buffer.new) ∷ []) }
         ensures failure { CountsFailure self.old.log.failures self.new.log.failures result }
         ensures fails { self.old.due ≡ 1 → IsErr result }
         ensures reaches_nothing { self.old.due ≡ 1 → self.new.inner ≡ self.old.inner }
         ensures passed_on { self.old.due ≢ 1 → IsSome (told self.new.log) →
-            Tells (P.calls self.old.inner) (P.calls self.new.inner) (Read port (length buffer.new) (given result buffer.new) ∷ [])
+            Tells (P.calls self.old.inner) (P.calls self.new.inner)
+            (Read port (length buffer.new) (given result buffer.new) ∷ [])
             × CountsFailure (P.failures self.old.inner) (P.failures self.new.inner) result }
         ensures due { self.new.due ≡ self.old.due - 1 }
     {

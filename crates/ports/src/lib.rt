@@ -1,5 +1,6 @@
-//! Ports: where clients and feeds join, what comes from them and what they take. A loop over a server is stated over this trait
-//! alone, so that it is the same over memory and over sockets. Ports may tell all calls with their answers: those in memory do.
+//! Ports: where clients and feeds join, what comes from them and what they take. A loop over a server is stated over
+//! this trait alone, so that it is the same over memory and over sockets. Ports may tell all calls with their answers:
+//! those in memory do.
 #![tactic(auto)]
 
 ghost use Rattle.std.specs.Prelude.{ℕ, ◌≡◌, ◌<◌, List, [], ◌∷◌, length};
@@ -16,8 +17,8 @@ pub use answers::{Got, Happening, PortFault, Put};
 pub use failing_ports::FailingPorts;
 pub use memory_ports::{MemoryPorts, PortScript, ReadAnswer, Script, WriteAnswer};
 
-/// Where clients and feeds join, each at a port of its own number. No port joins twice. The count of failures is a number below
-/// 2^64 that goes on at 0 after 2^64 - 1: a call fails only with one failure more.
+/// Where clients and feeds join, each at a port of its own number. No port joins twice. The count of failures is a
+/// number below 2^64 that goes on at 0 after 2^64 - 1: a call fails only with one failure more.
 pub trait Ports {
     // All calls and their answers, if the ports tell them.
     ghost calls: { Self → Option (List Call) };
@@ -34,7 +35,8 @@ pub trait Ports {
     fn read(&mut self, port: u64, buffer: &mut [u8]) -> Result<Got, PortFault>
         requires { 0 < length buffer.old }
         ensures bound { IsGiven result (length buffer.new) }
-        ensures call { Tells (calls self.old) (calls self.new) (Read port (length buffer.new) (given result buffer.new) ∷ []) }
+        ensures call { Tells (calls self.old) (calls self.new)
+            (Read port (length buffer.new) (given result buffer.new) ∷ []) }
         ensures failure { CountsFailure (failures self.old) (failures self.new) result };
 
     /// Hands a beginning of the bytes, of which there is at least one, to a port.

@@ -16,8 +16,8 @@ pub use port_record::PortRecord;
 pub(crate) use port_record::record_of;
 pub use script::{PortScript, ReadAnswer, Script, WriteAnswer};
 
-/// Ports in memory. They answer by a script, and keep each call with its answer. Once there was no memory to keep one, which
-/// is a failure of that call, they tell their calls no more.
+/// Ports in memory. They answer by a script, and keep each call with its answer. Once there was no memory to keep one,
+/// which is a failure of that call, they tell their calls no more.
 #[derive(Drop)]
 pub struct MemoryPorts {
     script: Script,
@@ -45,7 +45,8 @@ impl MemoryPorts {
 
     /// The bytes that a port gave, the bytes that it took, and whether it was shut. It fails only for want of memory.
     pub fn record(&self, alloc: Global, port: u64) -> Result<PortRecord, AllocError>
-        ensures { IfOk result (λ r. (calls : List Call) → told self.now.log ≡ Some calls → record_value r ≡ port_record port calls) }
+        ensures { IfOk result (λ r. (calls : List Call) → told self.now.log ≡ Some calls
+            → record_value r ≡ port_record port calls) }
     {
         record_of(alloc, self.log.made(), port)
     }

@@ -1,11 +1,12 @@
 -- A field without the spaces at its end is the code in it, and ticks are rounded down.
-use Rattle.std.proofs.Common.{le_antisymm, ◌≡◌, ℕ, zero, suc, ◌<◌, ◌≤◌, ◌==◌, nat_lt, List, [], ◌∷◌, ◌++◌, replicate, ℤ, pos, negsuc, eqb-true, ne_eqb, refl, ap, subst, arith}
+use Rattle.std.proofs.Common.{le_antisymm, ◌≡◌, ℕ, zero, suc, ◌<◌, ◌≤◌, ◌==◌, nat_lt, List, [], ◌∷◌, ◌++◌, replicate, ℤ}
+use Rattle.std.proofs.Common.{pos, negsuc, eqb-true, ne_eqb, refl, ap, subst, arith}
 use Rattle.std.proofs.lemmas.Bool.{eqb-false}
 use Rattle.std.proofs.Math.Nat.{div-mul-le_self, le-div_iff_mul-le}
 use Rattle.protocol.specs.Record.{cons_trimmed, trimmed, signed, multiplier, Ratio, ticks_for, ticks_of, quotient, word}
 use Rattle.protocol.specs.declared.record.ByteOrder.{ByteOrder}
 use Rattle.protocol.specs.Reading.{Not, IsCodeIn, IsRoundedDown}
-use Rattle.protocol.proofs.Found.{both}
+use Rattle.protocol.proofs.FoundLemmas.{both}
 
 -- ---- codes
 no_last : (b : ℕ) (front : List ℕ) → Not (b ≡ 32) → Not (b ∷ [] ≡ front ++ 32 ∷ [])
@@ -13,7 +14,8 @@ no_last b [] other e = other cc
 no_last b (c ∷ []) other e = absurd cc
 no_last b (c ∷ d ∷ front) other e = absurd cc
 
-no_last_behind : (b c : ℕ) (code front : List ℕ) → ((front' : List ℕ) → Not (c ∷ code ≡ front' ++ 32 ∷ [])) → Not (b ∷ c ∷ code ≡ front ++ 32 ∷ [])
+no_last_behind : (b c : ℕ) (code front : List ℕ) → ((front' : List ℕ) → Not (c ∷ code ≡ front' ++ 32 ∷ []))
+    → Not (b ∷ c ∷ code ≡ front ++ 32 ∷ [])
 no_last_behind b c code [] none e = absurd cc
 no_last_behind b c code (d ∷ front) none e = none front (let same : c ∷ code ≡ front ++ 32 ∷ [] = cc in same)
 
@@ -48,10 +50,12 @@ trimmed-spaces : (n : ℕ) → trimmed (replicate n 32) ≡ []
 trimmed-spaces zero = refl
 trimmed-spaces (suc n) = rw (trimmed-spaces n)
 
-trimmed-padded : (code : List ℕ) (n : ℕ) → ((front : List ℕ) → Not (code ≡ front ++ 32 ∷ [])) → trimmed (code ++ replicate n 32) ≡ code
+trimmed-padded : (code : List ℕ) (n : ℕ) → ((front : List ℕ) → Not (code ≡ front ++ 32 ∷ []))
+    → trimmed (code ++ replicate n 32) ≡ code
 trimmed-padded [] n none = trimmed-spaces n
 trimmed-padded (b ∷ []) n none = rw (trimmed-spaces n, ne_eqb b 32 (λ e. none [] (ap (λ x. x ∷ []) e)))
-trimmed-padded (b ∷ c ∷ code) n none = rw (trimmed-padded (c ∷ code) n (λ front e. none (b ∷ front) (ap (λ l. b ∷ l) e)))
+trimmed-padded (b ∷ c ∷ code) n none =
+    rw (trimmed-padded (c ∷ code) n (λ front e. none (b ∷ front) (ap (λ l. b ∷ l) e)))
 
 pub code-trimmed : (field code : List ℕ) → IsCodeIn field code → trimmed field ≡ code
 code-trimmed field code c = subst (λ l. trimmed l ≡ code) c.padded (trimmed-padded code c.spaces c.no_space_last)
@@ -77,7 +81,8 @@ under_positive n (negsuc f) (pos m) some = some
 under_positive n (negsuc f) (negsuc m) some = omega arith
 
 pub ticks_under : (o : ByteOrder) (r : List ℕ) → 0 < (ticks_of o r).under
-ticks_under o r = under_positive (word o r 30) (signed (word o r 32)) (multiplier (word o r 34)) (multiplier_nonzero (word o r 34))
+ticks_under o r = under_positive (word o r 30) (signed (word o r 32)) (multiplier (word o r 34))
+    (multiplier_nonzero (word o r 34))
 
 pub rounded_down : (x : Ratio) → 0 < x.under → IsRoundedDown x (quotient x)
 rounded_down x positive = record {

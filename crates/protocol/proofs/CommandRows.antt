@@ -1,5 +1,6 @@
 -- The table of commands, row by row.
-use Rattle.std.proofs.Common.{◌≡◌, ◌≤◌, ◌<◌, ℕ, true, false, length, nat_le, arith, List, [], ◌∷◌, Option, Some, None, ℤ, refl, sym, ap, ◌∙◌, subst, inl, inr}
+use Rattle.std.proofs.Common.{◌≡◌, ◌≤◌, ◌<◌, ℕ, true, false, length, nat_le, arith, List, [], ◌∷◌, Option, Some, None}
+use Rattle.std.proofs.Common.{ℤ, refl, sym, ap, ◌∙◌, subst, inl, inr}
 use Rattle.std.specs.Prelude.{◌↔◌, ◌⊎◌, codes}
 use Rattle.std.proofs.lemmas.Bool.Decides.{leb_tells}
 use Rattle.std.specs.Str.{bytes_eq}
@@ -9,10 +10,14 @@ use Rattle.protocol.specs.Packet.{number_of}
 use Rattle.protocol.specs.Lines.{Line}
 use Rattle.protocol.specs.Lines.Line.{Text, TooLong}
 use Rattle.protocol.specs.Reading.{Not}
-use Rattle.protocol.specs.Command.{Command, words, uppercased, with_begin, with_number, numbered, window, since, timed, alone, station_command, select_command, named, command_of_words, command_of, IsNamed, IsRow, AsksFor, Asks}
+use Rattle.protocol.specs.Command.{Command, words, uppercased, with_begin, with_number, numbered, window, since, timed}
+use Rattle.protocol.specs.Command.{alone, station_command, select_command, named, command_of_words, command_of, IsNamed}
+use Rattle.protocol.specs.Command.{IsRow, AsksFor, Asks}
 use Rattle.protocol.specs.Command.Command.{Hello, Cat, Bye, End, Data, Fetch, Bad}
-use Rattle.protocol.specs.Command.IsRow.{blank, hello, cat, bye, end, station, station_and_network, select, select_pattern, data_, data_number, data_begin, fetch, fetch_number, fetch_begin, time, time_begin, time_window}
-use Rattle.protocol.proofs.Found.{both}
+use Rattle.protocol.specs.Command.IsRow.{blank, hello, cat, bye, end, station, station_and_network, select}
+use Rattle.protocol.specs.Command.IsRow.{select_pattern, data_, data_number, data_begin, fetch, fetch_number}
+use Rattle.protocol.specs.Command.IsRow.{fetch_begin, time, time_begin, time_window}
+use Rattle.protocol.proofs.FoundLemmas.{both}
 use Rattle.protocol.proofs.Words.{words_law}
 
 -- ---- the words of a row are read as its command
@@ -59,12 +64,14 @@ select_row w e (pattern ∷ x ∷ ws) = inr refl
 module _ (w : List ℕ) (make : Option ℕ → Option ℤ → Command)
     (none : IsRow (w ∷ []) (make None None))
     (one : (number : List ℕ) (n : ℕ) → number_of number ≡ Some n → IsRow (w ∷ number ∷ []) (make (Some n) None))
-    (two : (number begin : List ℕ) (n : ℕ) (b : ℤ) → number_of number ≡ Some n → time_of begin ≡ Some b → IsRow (w ∷ number ∷ begin ∷ []) (make (Some n) (Some b))) where
+    (two : (number begin : List ℕ) (n : ℕ) (b : ℤ) → number_of number ≡ Some n → time_of begin ≡ Some b
+    → IsRow (w ∷ number ∷ begin ∷ []) (make (Some n) (Some b))) where
   number_row : (number : List ℕ) (o : Option ℕ) → number_of number ≡ o → HasRow (w ∷ number ∷ []) (with_number make o)
   number_row number (Some n) e = inl (one number n e)
   number_row number None e = inr refl
 
-  begin_row : (number begin : List ℕ) (o : Option ℕ) (t : Option ℤ) → number_of number ≡ o → time_of begin ≡ t → HasRow (w ∷ number ∷ begin ∷ []) (with_begin make o t)
+  begin_row : (number begin : List ℕ) (o : Option ℕ) (t : Option ℤ) → number_of number ≡ o → time_of begin ≡ t
+      → HasRow (w ∷ number ∷ begin ∷ []) (with_begin make o t)
   begin_row number begin (Some n) (Some b) e f = inl (two number begin n b e f)
   begin_row number begin (Some n) None e f = inr refl
   begin_row number begin None t e f = inr refl
@@ -75,11 +82,13 @@ module _ (w : List ℕ) (make : Option ℕ → Option ℤ → Command)
   numbered_row (number ∷ begin ∷ []) = begin_row number begin (number_of number) (time_of begin) refl refl
   numbered_row (number ∷ begin ∷ x ∷ ws) = inr refl
 
-since_row : (w begin : List ℕ) (t : Option ℤ) → IsNamed (codes "TIME") w → time_of begin ≡ t → HasRow (w ∷ begin ∷ []) (since t)
+since_row : (w begin : List ℕ) (t : Option ℤ) → IsNamed (codes "TIME") w → time_of begin ≡ t
+    → HasRow (w ∷ begin ∷ []) (since t)
 since_row w begin (Some b) e f = inl (time_begin w begin b e f)
 since_row w begin None e f = inr refl
 
-window_row : (w begin last : List ℕ) (t u : Option ℤ) → IsNamed (codes "TIME") w → time_of begin ≡ t → time_of last ≡ u → HasRow (w ∷ begin ∷ last ∷ []) (window t u)
+window_row : (w begin last : List ℕ) (t u : Option ℤ) → IsNamed (codes "TIME") w → time_of begin ≡ t → time_of last ≡ u
+    → HasRow (w ∷ begin ∷ last ∷ []) (window t u)
 window_row w begin last (Some b) (Some l) e f g = inl (time_window w begin last b l e f g)
 window_row w begin last (Some b) None e f g = inr refl
 window_row w begin last None u e f g = inr refl
@@ -95,17 +104,23 @@ is_name name text e = (bytes_eq-Decides name text).0 e
 
 named_row : (w : List ℕ) (ws : List (List ℕ)) → HasRow (w ∷ ws) (named (uppercased w) ws)
 named_row w ws =
-    both (bytes_eq (uppercased w) (codes "HELLO")) (λ y. rw y (alone_row w Hello (hello w (is_name _ _ y)) ws)) (λ n1. rw n1
+    both (bytes_eq (uppercased w) (codes "HELLO")) (λ y. rw y (alone_row w Hello (hello w (is_name _ _ y)) ws))
+    (λ n1. rw n1
     (both (bytes_eq (uppercased w) (codes "CAT")) (λ y. rw y (alone_row w Cat (cat w (is_name _ _ y)) ws)) (λ n2. rw n2
     (both (bytes_eq (uppercased w) (codes "BYE")) (λ y. rw y (alone_row w Bye (bye w (is_name _ _ y)) ws)) (λ n3. rw n3
     (both (bytes_eq (uppercased w) (codes "END")) (λ y. rw y (alone_row w End (end w (is_name _ _ y)) ws)) (λ n4. rw n4
     (both (bytes_eq (uppercased w) (codes "STATION")) (λ y. rw y (station_row w (is_name _ _ y) ws)) (λ n5. rw n5
     (both (bytes_eq (uppercased w) (codes "SELECT")) (λ y. rw y (select_row w (is_name _ _ y) ws)) (λ n6. rw n6
     (both (bytes_eq (uppercased w) (codes "DATA"))
-    (λ y. let e = is_name (uppercased w) (codes "DATA") y in rw y (numbered_row w Data (data_ w e) (λ number n is. data_number w number n e is) (λ number begin n b is starts. data_begin w number begin n b e is starts) ws)) (λ n7. rw n7
+    (λ y. let e = is_name (uppercased w) (codes "DATA") y in rw y
+    (numbered_row w Data (data_ w e) (λ number n is. data_number w number n e is)
+    (λ number begin n b is starts. data_begin w number begin n b e is starts) ws)) (λ n7. rw n7
     (both (bytes_eq (uppercased w) (codes "FETCH"))
-    (λ y. let e = is_name (uppercased w) (codes "FETCH") y in rw y (numbered_row w Fetch (fetch w e) (λ number n is. fetch_number w number n e is) (λ number begin n b is starts. fetch_begin w number begin n b e is starts) ws)) (λ n8. rw n8
-    (both (bytes_eq (uppercased w) (codes "TIME")) (λ y. rw y (timed_row w (is_name _ _ y) ws)) (λ n9. rw n9 (inr refl))))))))))))))))))
+    (λ y. let e = is_name (uppercased w) (codes "FETCH") y in rw y
+    (numbered_row w Fetch (fetch w e) (λ number n is. fetch_number w number n e is)
+    (λ number begin n b is starts. fetch_begin w number begin n b e is starts) ws)) (λ n8. rw n8
+    (both (bytes_eq (uppercased w) (codes "TIME")) (λ y. rw y (timed_row w (is_name _ _ y) ws))
+    (λ n9. rw n9 (inr refl))))))))))))))))))
 
 read_row : (ws : List (List ℕ)) → HasRow ws (command_of_words ws)
 read_row [] = inl blank
@@ -154,7 +169,8 @@ short_law : (bytes : List ℕ) (c : Command) → length bytes ≤ 256 → nat_le
 short_law bytes c fits holds = (
   λ e. inl (fits, (words bytes, (words_law bytes (words bytes)).0 refl, (table_law (words bytes) c).0 (sym asked ∙ e))),
   λ h. elim h [
-    | inl (_, (ws, has, asks_for)) ↦ asked ∙ ap command_of_words ((words_law bytes ws).1 has) ∙ (table_law ws c).1 asks_for
+    | inl (_, (ws, has, asks_for)) ↦ asked ∙ ap command_of_words ((words_law bytes ws).1 has)
+        ∙ (table_law ws c).1 asks_for
     | inr (more, _) ↦ absurd (omega (arith, fits, more))
   ],
 )

@@ -1,18 +1,24 @@
 -- A record's facts, or its first fault, are what is read.
-use Rattle.std.proofs.Common.{◌≡◌, ℕ, ◌+◌, ◌<◌, false, ◌==◌, List, take, Option, Some, None, Result, Ok, Err, slice_index, slice_range, pos, ◌+ℤ◌, eqb-true, refl, sym, ap, subst, inl, inr, ⊎_elim, arith, ◌∙◌}
+use Rattle.std.proofs.Common.{◌≡◌, ℕ, ◌+◌, ◌<◌, false, ◌==◌, List, take, Option, Some, None, Result, Ok, Err}
+use Rattle.std.proofs.Common.{slice_index, slice_range, pos, ◌+ℤ◌, eqb-true, refl, sym, ap, subst, inl, inr, ⊎_elim}
+use Rattle.std.proofs.Common.{arith, ◌∙◌}
 use Rattle.std.specs.Prelude.{All, ◌⊎◌, ◌↔◌, if◌then◌else◌}
 use Rattle.std.specs.List.{list_all}
 use Rattle.std.specs.Bool.{Decides}
 use Rattle.std.proofs.lemmas.Bool.{eqb-false, cases_order}
 use Rattle.std.proofs.lemmas.Bool.Decides.{not_from_Decides, Decides-eqb}
 use Rattle.protocol.specs.declared.record.ByteOrder.{ByteOrder}
-use Rattle.protocol.specs.Record.{Facts, word, start_of, ticks_of, quotient, kind_of, trimmed, order_of, has_date, has_time, chain_of, first_of_type, facts_in, is_sequence_byte, is_quality, read_length, read_chain, read_in, header_of, fault_number}
+use Rattle.protocol.specs.Record.{Facts, word, start_of, ticks_of, quotient, kind_of, trimmed, order_of, has_date}
+use Rattle.protocol.specs.Record.{has_time, chain_of, first_of_type, facts_in, is_sequence_byte, is_quality}
+use Rattle.protocol.specs.Record.{read_length, read_chain, read_in, header_of, fault_number}
 use Rattle.protocol.specs.declared.record.RecordFault.{RecordFault}
 use Rattle.protocol.specs.declared.record.ByteOrder.TheVariants.{Big, Little}
 use Rattle.protocol.specs.declared.record.RecordFault.TheVariants.{Sequence, Quality, Time, Blockettes, No1000, Length}
-use Rattle.protocol.specs.Reading.{Not, IsSequenceByte, IsQuality, HasDate, IsOrderOf, IsLate, IsChain, IsFirst, Is1000, HasFacts, IsTrueOf, IsFirstFault}
-use Rattle.protocol.proofs.Found.{both}
-use Rattle.protocol.proofs.Decisions.{decides-all, decides-sequence_byte, decides-quality, decides-date, decides-time, late, some_fails, not_all, found_first, found_none, finds_first, finds_none}
+use Rattle.protocol.specs.Reading.{Not, IsSequenceByte, IsQuality, HasDate, IsOrderOf, IsLate, IsChain, IsFirst, Is1000}
+use Rattle.protocol.specs.Reading.{HasFacts, IsTrueOf, IsFirstFault}
+use Rattle.protocol.proofs.FoundLemmas.{both}
+use Rattle.protocol.proofs.TestLemmas.{decides-all, decides-sequence_byte, decides-quality, decides-date, decides-time}
+use Rattle.protocol.proofs.TestLemmas.{late, some_fails, not_all, found_first, found_none, finds_first, finds_none}
 use Rattle.protocol.proofs.Chains.{chain-sound, chain-complete}
 use Rattle.protocol.proofs.Codes.{trimmed-code, code-trimmed, ticks_under, rounded_down, rounded-same}
 use Rattle.protocol.proofs.KindRules.{kind_is, is_kind}
@@ -50,8 +56,10 @@ module _ (r : List ℕ) where
       let network : trimmed (slice_range r 18 20) ≡ x.network = code-trimmed _ _ h.network in
       let station : trimmed (slice_range r 8 13) ≡ x.station = code-trimmed _ _ h.station in
       let kind : kind_of h.order r h.offsets ≡ x.kind = is_kind h.order r h.offsets x.kind h.kind in
-      let ticks : quotient (ticks_of h.order r) ≡ h.ticks = rounded-same (ticks_of h.order r) h.ticks (ticks_under h.order r) h.are_ticks in
-      let stop : start_of h.order r +ℤ pos (quotient (ticks_of h.order r)) ≡ x.stop = rw (ticks, ← h.start) (sym h.stop) in
+      let ticks : quotient (ticks_of h.order r)
+      ≡ h.ticks = rounded-same (ticks_of h.order r) h.ticks (ticks_under h.order r) h.are_ticks in
+      let stop : start_of h.order r +ℤ pos (quotient (ticks_of h.order r))
+      ≡ x.stop = rw (ticks, ← h.start) (sym h.stop) in
       let same : facts_in h.order r h.offsets ≡ record {
         network = x.network;
         station = x.station;
@@ -73,7 +81,8 @@ module _ (r : List ℕ) where
         order-complete h.order h.is_order,
         (decides-time h.order r).1 h.not_late,
         chain-complete h.order r h.offsets h.is_chain,
-        finds_first (λ at. word h.order r at == 1000) (Is1000 h.order r) (decides-1000 h.order) h.offsets h.place_of_1000 h.is_1000,
+        finds_first (λ at. word h.order r at == 1000) (Is1000 h.order r)
+            (decides-1000 h.order) h.offsets h.place_of_1000 h.is_1000,
         h.length_byte,
       )
       (ap {B = Result Facts RecordFault} Ok (same_facts x h))
@@ -111,7 +120,8 @@ below_seven Blockettes = omega arith
 below_seven No1000 = omega arith
 below_seven Length = omega arith
 
-at_or_below : (g f : RecordFault) → fault_number g < fault_number f + 1 → (fault_number g ≡ fault_number f) ⊎ (fault_number g < fault_number f)
+at_or_below : (g f : RecordFault) → fault_number g < fault_number f + 1
+    → (fault_number g ≡ fault_number f) ⊎ (fault_number g < fault_number f)
 at_or_below g f low = grind arith
 
 module _ (r : List ℕ) where
@@ -124,7 +134,8 @@ module _ (r : List ℕ) where
 
   one_more : (f : RecordFault) → NoneBefore (fault_number f) → Not (IsTrueOf r f) → NoneBefore (fault_number f + 1)
   one_more f before no_fault g low =
-      ⊎_elim (λ same. subst (λ k. Not (IsTrueOf r k)) (sym (one_number g f same)) no_fault) (λ less. before g less) (at_or_below g f low)
+      ⊎_elim (λ same. subst (λ k. Not (IsTrueOf r k)) (sym (one_number g f same)) no_fault) (λ less. before g less)
+      (at_or_below g f low)
 
   -- what shows that a fault isn't there
   no_quality_fault : IsQuality (slice_index r 6) → Not (IsTrueOf r Quality)
@@ -132,28 +143,39 @@ module _ (r : List ℕ) where
 
   no_time_fault : (o : ByteOrder) → IsOrderOf r o → Not (IsLate o r) → Not (IsTrueOf r Time)
   no_time_fault o is in_time (inl none) = none o is
-  no_time_fault o is in_time (inr (o', is', is_late)) = in_time (subst (λ k. IsLate k r) (one_order r o o' is is') is_late)
+  no_time_fault o is in_time (inr (o', is', is_late)) =
+      in_time (subst (λ k. IsLate k r) (one_order r o o' is is') is_late)
 
-  no_chain_fault : (o : ByteOrder) (offsets : List ℕ) → IsOrderOf r o → IsChain o r offsets → Not (IsTrueOf r Blockettes)
-  no_chain_fault o offsets is chain (o', is', none) = none offsets (subst (λ k. IsChain k r offsets) (sym (one_order r o o' is is')) chain)
+  no_chain_fault : (o : ByteOrder) (offsets : List ℕ) → IsOrderOf r o → IsChain o r offsets
+      → Not (IsTrueOf r Blockettes)
+  no_chain_fault o offsets is chain (o', is', none) =
+      none offsets (subst (λ k. IsChain k r offsets) (sym (one_order r o o' is is')) chain)
 
-  one_chain : (o o' : ByteOrder) (offsets offsets' : List ℕ) → IsOrderOf r o → IsOrderOf r o' → IsChain o r offsets → IsChain o' r offsets' → offsets' ≡ offsets
+  one_chain : (o o' : ByteOrder) (offsets offsets' : List ℕ) → IsOrderOf r o → IsOrderOf r o' → IsChain o r offsets
+      → IsChain o' r offsets' → offsets' ≡ offsets
   one_chain o o' offsets offsets' is is' chain chain' =
       let e = chain-complete o r offsets chain in
       let e' = chain-complete o r offsets' (subst (λ k. IsChain k r offsets') (one_order r o o' is is') chain') in
       cc
 
-  no_1000_fault : (o : ByteOrder) (offsets : List ℕ) (at : ℕ) → IsOrderOf r o → IsChain o r offsets → IsFirst (Is1000 o r) offsets at → Not (IsTrueOf r No1000)
+  no_1000_fault : (o : ByteOrder) (offsets : List ℕ) (at : ℕ) → IsOrderOf r o → IsChain o r offsets
+      → IsFirst (Is1000 o r) offsets at → Not (IsTrueOf r No1000)
   no_1000_fault o offsets at is chain first (o', offsets', is', chain', none) =
       let e = finds_first (λ at. word o r at == 1000) (Is1000 o r) (decides-1000 r o) offsets at first in
-      let none' : All (λ at. Not (Is1000 o r at)) offsets = subst (λ k. All (λ at. Not (Is1000 k r at)) offsets) (one_order r o o' is is') (subst (λ l. All (λ at. Not (Is1000 o' r at)) l) (one_chain o o' offsets offsets' is is' chain chain') none) in
+      let none' : All (λ at. Not (Is1000 o r at)) offsets = subst (λ k. All (λ at. Not (Is1000 k r at)) offsets)
+      (one_order r o o' is is')
+      (subst (λ l. All (λ at. Not (Is1000 o' r at)) l) (one_chain o o' offsets offsets' is is' chain chain') none)
+      in
       let e' = finds_none (λ at. word o r at == 1000) (Is1000 o r) (decides-1000 r o) offsets none' in
       absurd cc
 
-  no_length_fault : (o : ByteOrder) (offsets : List ℕ) (at : ℕ) → IsOrderOf r o → IsChain o r offsets → IsFirst (Is1000 o r) offsets at → slice_index r (at + 6) ≡ 9 → Not (IsTrueOf r Length)
+  no_length_fault : (o : ByteOrder) (offsets : List ℕ) (at : ℕ) → IsOrderOf r o → IsChain o r offsets
+      → IsFirst (Is1000 o r) offsets at → slice_index r (at + 6) ≡ 9 → Not (IsTrueOf r Length)
   no_length_fault o offsets at is chain first nine (o', offsets', at', is', chain', first', other) =
       let e = finds_first (λ at. word o r at == 1000) (Is1000 o r) (decides-1000 r o) offsets at first in
-      let first'' : IsFirst (Is1000 o r) offsets at' = subst (λ k. IsFirst (Is1000 k r) offsets at') (one_order r o o' is is') (subst (λ l. IsFirst (Is1000 o' r) l at') (one_chain o o' offsets offsets' is is' chain chain') first') in
+      let first'' : IsFirst (Is1000 o r) offsets at' = subst (λ k. IsFirst (Is1000 k r) offsets at')
+      (one_order r o o' is is')
+      (subst (λ l. IsFirst (Is1000 o' r) l at') (one_chain o o' offsets offsets' is is' chain chain') first') in
       let e' = finds_first (λ at. word o r at == 1000) (Is1000 o r) (decides-1000 r o) offsets at' first'' in
       let same : at ≡ at' = cc in
       other (subst (λ k. slice_index r (k + 6) ≡ 9) same nine)
@@ -168,7 +190,9 @@ module _ (r : List ℕ) where
 
   module _ (sequence : All IsSequenceByte (take 6 r)) (quality : IsQuality (slice_index r 6)) where
     before_time : NoneBefore 3
-    before_time = one_more Quality (one_more Sequence none_at_all (λ fault. not_all IsSequenceByte (take 6 r) fault sequence)) (no_quality_fault quality)
+    before_time =
+        one_more Quality (one_more Sequence none_at_all (λ fault. not_all IsSequenceByte (take 6 r) fault sequence))
+        (no_quality_fault quality)
 
     module _ (o : ByteOrder) (is : IsOrderOf r o) (in_time : Not (IsLate o r)) where
       before_chain : NoneBefore 4
@@ -211,11 +235,27 @@ module _ (r : List ℕ) where
                 samples = refl;
                 links = refl;
               }))
-              (λ n. rw n (says_fault Length (o, offsets, at, is, chain, first, eqb-false (slice_index r (at + 6)) 9 n) before_length))
+              (λ n. rw n
+              (says_fault Length (
+                o,
+                offsets,
+                at,
+                is,
+                chain,
+                first,
+                eqb-false (slice_index r (at + 6)) 9 n,
+              ) before_length))
 
         says_1000 : (found : Option ℕ) → first_of_type o r 1000 offsets ≡ found → Says (read_length o r offsets found)
-        says_1000 None e = says_fault No1000 (o, offsets, is, chain, found_none (λ at. word o r at == 1000) (Is1000 o r) (decides-1000 r o) offsets e) before_1000
-        says_1000 (Some at) e = says_length at (found_first (λ at. word o r at == 1000) (Is1000 o r) (decides-1000 r o) offsets at e)
+        says_1000 None e = says_fault No1000 (
+          o,
+          offsets,
+          is,
+          chain,
+          found_none (λ at. word o r at == 1000) (Is1000 o r) (decides-1000 r o) offsets e,
+        ) before_1000
+        says_1000 (Some at) e =
+            says_length at (found_first (λ at. word o r at == 1000) (Is1000 o r) (decides-1000 r o) offsets at e)
 
       no_chain : chain_of o r ≡ None → (offsets : List ℕ) → Not (IsChain o r offsets)
       no_chain e offsets chain = let e' = chain-complete o r offsets chain in absurd cc
@@ -237,20 +277,30 @@ module _ (r : List ℕ) where
       (λ y. let sequence = (decides-all is_sequence_byte IsSequenceByte decides-sequence_byte (take 6 r)).0 y in
       both (is_quality (slice_index r 6))
       (λ q. rw (y, q) (says_order sequence ((decides-quality (slice_index r 6)).0 q) (order_of r) refl))
-      (λ n. rw (y, n) (says_fault Quality (not_from_Decides (is_quality (slice_index r 6)) (decides-quality (slice_index r 6)) n) (one_more Sequence none_at_all (λ fault. not_all IsSequenceByte (take 6 r) fault sequence)))))
-      (λ n. rw n (says_fault Sequence (some_fails is_sequence_byte IsSequenceByte decides-sequence_byte (take 6 r) n) none_at_all))
+      (λ n. rw (
+        y,
+        n,
+      ) (says_fault Quality (not_from_Decides (is_quality (slice_index r 6)) (decides-quality (slice_index r 6)) n)
+      (one_more Sequence none_at_all (λ fault. not_all IsSequenceByte (take 6 r) fault sequence)))))
+      (λ n. rw n
+      (says_fault Sequence (some_fails is_sequence_byte IsSequenceByte decides-sequence_byte (take 6 r) n)
+      none_at_all))
 
   says_of : (found : Result Facts RecordFault) → header_of r ≡ found → Says found
   says_of found e = subst Says e says
 
   -- facts exclude every fault
   pub facts_exclude : (x : Facts) → HasFacts r x → (f : RecordFault) → Not (IsTrueOf r f)
-  facts_exclude x h f fault = no_fault h.sequence h.quality h.order h.is_order h.not_late h.offsets h.is_chain h.place_of_1000 h.is_1000 h.length_byte f (below_seven f) fault
+  facts_exclude x h f fault =
+      no_fault h.sequence h.quality h.order h.is_order h.not_late h.offsets h.is_chain h.place_of_1000 h.is_1000
+      h.length_byte f (below_seven f) fault
 
   -- there is one first fault
   one_first : (f g : RecordFault) → IsFirstFault r f → IsFirstFault r g → g ≡ f
   one_first f g first first' =
-      ⊎_elim (λ same. one_number g f (sym same)) (λ apart. ⊎_elim (λ less. absurd (first'.none_before f less first.here)) (λ more. absurd (first.none_before g more first'.here)) apart)
+      ⊎_elim (λ same. one_number g f (sym same))
+      (λ apart. ⊎_elim (λ less. absurd (first'.none_before f less first.here))
+      (λ more. absurd (first.none_before g more first'.here)) apart)
       (cases_order (fault_number f) (fault_number g))
 
   fault_found : (f : RecordFault) (found : Result Facts RecordFault) → Says found → IsFirstFault r f → found ≡ Err f
@@ -264,7 +314,8 @@ module _ (r : List ℕ) where
   pub faults_law : (f : RecordFault) → (header_of r ≡ Err f) ↔ IsFirstFault r f
   faults_law f = (says_of (Err f), fault_found f (header_of r) says)
 
-says_either : (r : List ℕ) (found : Result Facts RecordFault) → Says r found → ((x : Facts) × HasFacts r x) ⊎ ((f : RecordFault) × IsFirstFault r f)
+says_either : (r : List ℕ) (found : Result Facts RecordFault) → Says r found
+    → ((x : Facts) × HasFacts r x) ⊎ ((f : RecordFault) × IsFirstFault r f)
 says_either r (Ok x) said = inl (x, said)
 says_either r (Err f) said = inr (f, said)
 

@@ -15,5 +15,6 @@ pub same_between_hidden : handed_to 0 (handed four_stations (parted 1 own_events
 same_between_hidden = refl
 
 -- and by itself
-pub same_alone : alone (own_view four_stations (parted 1 own_events) 0) (seen four_stations (parted 1 own_events) 0) ≡ taken
+pub same_alone : alone (own_view four_stations (parted 1 own_events) 0) (seen four_stations (parted 1 own_events) 0)
+    ≡ taken
 same_alone = refl

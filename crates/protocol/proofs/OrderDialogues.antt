@@ -1,4 +1,5 @@
--- A dialogue with two stations whose records are sent in the order of arrival, byte after byte, and the same beside hidden ones.
+-- A dialogue with two stations whose records are sent in the order of arrival, byte after byte, and the same beside
+-- hidden ones.
 use Rattle.std.specs.Prelude.{◌≡◌, refl, ℕ, List, [], ◌∷◌, ◌++◌, Some, codes, map}
 use Rattle.protocol.specs.Catalog.{Entry, Config}
 use Rattle.protocol.specs.Client.{Taken}
@@ -8,10 +9,21 @@ use Rattle.protocol.proofs.Dialogues.{insider, three_stations, record_at, ape_at
 
 -- the events of the client by itself
 abbrev pub own_events : List Event
-own_events = Open insider ∷ both_named ++ Arrive (ape_at 1) ∷ Arrive (wlf_at 1) ∷ Arrive (ape_at 2) ∷ Arrive (wlf_at 2) ∷ takes 2081 0 1
+own_events = Open insider ∷ both_named ++ Arrive (ape_at 1) ∷ Arrive (wlf_at 1) ∷ Arrive (ape_at 2) ∷ Arrive (wlf_at 2)
+    ∷ takes 2081 0 1
 
 abbrev pub shut : Entry
-shut = record { station = record { network = codes "ZZ"; code = codes "SHUT"; description = codes "Closed"; capacity = 1; first = 0 }; access = Some [] }
+shut =
+    record {
+      station = record {
+        network = codes "ZZ";
+        code = codes "SHUT";
+        description = codes "Closed";
+        capacity = 1;
+        first = 0;
+      };
+      access = Some [];
+    }
 
 abbrev pub four_stations : Config
 four_stations = record three_stations { entries = three_stations.entries ++ shut ∷ [] }

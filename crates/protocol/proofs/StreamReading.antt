@@ -1,5 +1,7 @@
 -- A stream of packets that is read byte by byte is read as the stream that it is.
-use Rattle.std.proofs.Common.{◌≡◌, ℕ, ◌+◌, ◌<◌, ◌≤◌, Bool, true, false, ◌==◌, true≢false, List, [], ◌∷◌, ◌++◌, length, refl, sym, ap, ◌∙◌, subst, arith, append_assoc, append-nil, length-append, eqb-true, ne_eqb, inl, inr}
+use Rattle.std.proofs.Common.{◌≡◌, ℕ, ◌+◌, ◌<◌, ◌≤◌, Bool, true, false, ◌==◌, true≢false, List, [], ◌∷◌, ◌++◌, length}
+use Rattle.std.proofs.Common.{refl, sym, ap, ◌∙◌, subst, arith, append_assoc, append-nil, length-append, eqb-true}
+use Rattle.std.proofs.Common.{ne_eqb, inl, inr}
 use Rattle.std.specs.Prelude.{All, ◌↔◌, codes}
 use Rattle.std.specs.List.{concat}
 use Rattle.std.specs.Str.{bytes_eq}
@@ -9,15 +11,17 @@ use Rattle.std.proofs.lemmas.List.Folds.{concat-append}
 use Rattle.std.proofs.lemmas.Slice.Eq.{bytes_eq-Decides}
 use Rattle.protocol.specs.Packet.{IsSomePacket}
 use Rattle.protocol.specs.Reading.{Not}
-use Rattle.protocol.specs.Streams.{end_mark, IsUnfinished, IsPacketStream, BeginsStream, may_continue, begins_end, Piece, piece_of, StreamRead, joined_piece, stream_byte, stream_from, stream_of}
+use Rattle.protocol.specs.Streams.{end_mark, IsUnfinished, IsPacketStream, BeginsStream, may_continue, begins_end}
+use Rattle.protocol.specs.Streams.{Piece, piece_of, StreamRead, joined_piece, stream_byte, stream_from, stream_of}
 use Rattle.protocol.specs.Streams.Piece.{WholePacket, TheEnd, Beginning, NoPiece}
 use Rattle.protocol.specs.Streams.StreamRead.{Going, Ended, NoStream}
-use Rattle.protocol.proofs.Found.{both}
-use Rattle.protocol.proofs.Framing.{packet_length, unfinished_short, nothing_unfinished, one_stream}
+use Rattle.protocol.proofs.FoundLemmas.{both}
+use Rattle.protocol.proofs.FrameLemmas.{packet_length, unfinished_short, nothing_unfinished, one_stream}
 use Rattle.protocol.proofs.PacketBytes.{packet_continues, whole_packet, begun_packet, may_continue-append}
 
 -- ---- pieces of the bytes
-pub stream_from-append : (r : StreamRead) (bytes more : List ℕ) → stream_from r (bytes ++ more) ≡ stream_from (stream_from r bytes) more
+pub stream_from-append : (r : StreamRead) (bytes more : List ℕ)
+    → stream_from r (bytes ++ more) ≡ stream_from (stream_from r bytes) more
 stream_from-append r [] more = refl
 stream_from-append r (b ∷ bytes) more = stream_from-append (stream_byte r b) bytes more
 
@@ -57,15 +61,19 @@ IsRead bytes (Going packets rest) = IsPacketStream bytes packets false rest
 IsRead bytes (Ended packets) = IsPacketStream bytes packets true []
 IsRead bytes NoStream = Unit {0}
 
-joins : (bytes : List ℕ) (packets : List (List ℕ)) (rest : List ℕ) (b : ℕ) → IsPacketStream bytes packets false rest → (p : Piece) → IsPiece (rest ++ b ∷ []) p → IsRead (bytes ++ b ∷ []) (joined_piece packets (rest ++ b ∷ []) p)
+joins : (bytes : List ℕ) (packets : List (List ℕ)) (rest : List ℕ) (b : ℕ) → IsPacketStream bytes packets false rest
+    → (p : Piece) → IsPiece (rest ++ b ∷ []) p → IsRead (bytes ++ b ∷ []) (joined_piece packets (rest ++ b ∷ []) p)
 joins bytes packets rest b so_far p is =
-    let whole : concat packets ++ (rest ++ b ∷ []) ≡ bytes ++ b ∷ [] = sym (append_assoc (concat packets) rest (b ∷ [])) ∙ ap (λ l. l ++ b ∷ []) so_far.whole in
+    let whole : concat packets ++ (rest ++ b ∷ []) ≡ bytes ++ b ∷ [] = sym (append_assoc (concat packets) rest (b ∷ []))
+    ∙ ap (λ l. l ++ b ∷ []) so_far.whole in
     by_piece p is whole
   where
-    by_piece : (p : Piece) → IsPiece (rest ++ b ∷ []) p → concat packets ++ (rest ++ b ∷ []) ≡ bytes ++ b ∷ [] → IsRead (bytes ++ b ∷ []) (joined_piece packets (rest ++ b ∷ []) p)
+    by_piece : (p : Piece) → IsPiece (rest ++ b ∷ []) p → concat packets ++ (rest ++ b ∷ []) ≡ bytes ++ b ∷ []
+        → IsRead (bytes ++ b ∷ []) (joined_piece packets (rest ++ b ∷ []) p)
     by_piece WholePacket is whole = record {
       each = All-push IsSomePacket packets (rest ++ b ∷ []) so_far.each is;
-      whole = append-nil (concat (packets ++ (rest ++ b ∷ []) ∷ [])) ∙ concat-append packets ((rest ++ b ∷ []) ∷ []) ∙ ap (λ l. concat packets ++ l) (append-nil (rest ++ b ∷ [])) ∙ whole;
+      whole = append-nil (concat (packets ++ (rest ++ b ∷ []) ∷ [])) ∙ concat-append packets ((rest ++ b ∷ []) ∷ [])
+          ∙ ap (λ l. concat packets ++ l) (append-nil (rest ++ b ∷ [])) ∙ whole;
       nothing_more = λ e. absurd (true≢false (sym e));
       unfinished = λ e. nothing_unfinished;
     }
@@ -94,43 +102,57 @@ byte_read bytes b NoStream is = tt
 all_read : (bytes more : List ℕ) (r : StreamRead) → IsRead bytes r → IsRead (bytes ++ more) (stream_from r more)
 all_read bytes [] r is = subst (λ l. IsRead l r) (sym (append-nil bytes)) is
 all_read bytes (b ∷ more) r is =
-    subst (λ l. IsRead l (stream_from (stream_byte r b) more)) (append_assoc bytes (b ∷ []) more) (all_read (bytes ++ b ∷ []) more (stream_byte r b) (byte_read bytes b r is))
+    subst (λ l. IsRead l (stream_from (stream_byte r b) more)) (append_assoc bytes (b ∷ []) more)
+    (all_read (bytes ++ b ∷ []) more (stream_byte r b) (byte_read bytes b r is))
 
 nothing_read : IsPacketStream [] [] false []
-nothing_read = record { each = All-nil IsSomePacket; whole = refl; nothing_more = λ e. refl; unfinished = λ e. nothing_unfinished }
+nothing_read = record {
+  each = All-nil IsSomePacket;
+  whole = refl;
+  nothing_more = λ e. refl;
+  unfinished = λ e. nothing_unfinished;
+}
 
 is_read : (bytes : List ℕ) → IsRead bytes (stream_of bytes)
 is_read bytes = all_read [] bytes (Going [] []) nothing_read
 
 -- ---- and a stream is read, as far as it goes
-takes_packet : (packets : List (List ℕ)) (begun bytes : List ℕ) → 0 < length bytes → may_continue 0 (begun ++ bytes) ≡ true → length (begun ++ bytes) ≡ 520 → stream_from (Going packets begun) bytes ≡ Going (packets ++ (begun ++ bytes) ∷ []) []
+takes_packet : (packets : List (List ℕ)) (begun bytes : List ℕ) → 0 < length bytes
+    → may_continue 0 (begun ++ bytes) ≡ true → length (begun ++ bytes) ≡ 520
+    → stream_from (Going packets begun) bytes ≡ Going (packets ++ (begun ++ bytes) ∷ []) []
 takes_packet packets begun [] some may size = absurd (omega arith)
 takes_packet packets begun (b ∷ []) some may size = rw (may, size)
 takes_packet packets begun (b ∷ c ∷ bytes) some may size =
     let parted : (begun ++ b ∷ []) ++ c ∷ bytes ≡ begun ++ b ∷ c ∷ bytes = append_assoc begun (b ∷ []) (c ∷ bytes) in
     let may' : may_continue 0 ((begun ++ b ∷ []) ++ c ∷ bytes) ≡ true = ap (may_continue 0) parted ∙ may in
     let size' : length ((begun ++ b ∷ []) ++ c ∷ bytes) ≡ 520 = ap length parted ∙ size in
-    let here = and_parts (may_continue 0 (begun ++ b ∷ [])) (may_continue (0 + length (begun ++ b ∷ [])) (c ∷ bytes)) (sym (may_continue-append 0 (begun ++ b ∷ []) (c ∷ bytes)) ∙ may') in
+    let here = and_parts (may_continue 0 (begun ++ b ∷ [])) (may_continue (0 + length (begun ++ b ∷ [])) (c ∷ bytes))
+    (sym (may_continue-append 0 (begun ++ b ∷ []) (c ∷ bytes)) ∙ may') in
     let longer = length-append (begun ++ b ∷ []) (c ∷ bytes) in
-    let not_yet : (length (begun ++ b ∷ []) == 520) ≡ false = ne_eqb (length (begun ++ b ∷ [])) 520 (λ e. absurd (omega arith)) in
-    rw (here.0, not_yet) (takes_packet packets (begun ++ b ∷ []) (c ∷ bytes) (omega arith) may' size' ∙ ap (λ l. Going (packets ++ l ∷ []) []) parted)
+    let not_yet : (length (begun ++ b ∷ []) == 520)
+    ≡ false = ne_eqb (length (begun ++ b ∷ [])) 520 (λ e. absurd (omega arith)) in
+    rw (here.0, not_yet) (takes_packet packets (begun ++ b ∷ []) (c ∷ bytes) (omega arith) may' size'
+    ∙ ap (λ l. Going (packets ++ l ∷ []) []) parted)
 
 abbrev read_as : List (List ℕ) → Bool → StreamRead
 read_as packets true = Ended packets
 read_as packets false = Going packets []
 
-takes_end : (packets : List (List ℕ)) (ended : Bool) → stream_from (Going packets []) (end_mark ended) ≡ read_as packets ended
+takes_end : (packets : List (List ℕ)) (ended : Bool)
+    → stream_from (Going packets []) (end_mark ended) ≡ read_as packets ended
 takes_end packets true = refl
 takes_end packets false = refl
 
-takes_all : (before packets : List (List ℕ)) (ended : Bool) → All IsSomePacket packets → stream_from (Going before []) (concat packets ++ end_mark ended) ≡ read_as (before ++ packets) ended
+takes_all : (before packets : List (List ℕ)) (ended : Bool) → All IsSomePacket packets
+    → stream_from (Going before []) (concat packets ++ end_mark ended) ≡ read_as (before ++ packets) ended
 takes_all before [] ended each = takes_end before ended ∙ ap (λ l. read_as l ended) (sym (append-nil before))
 takes_all before (p ∷ packets) ended each =
     let first = All-head IsSomePacket p packets each in
     let size : length p ≡ 520 = packet_length first.0 first.1 p first.2 in
     ap (stream_from (Going before [])) (append_assoc p (concat packets) (end_mark ended))
     ∙ stream_from-append (Going before []) p (concat packets ++ end_mark ended)
-    ∙ ap (λ r. stream_from r (concat packets ++ end_mark ended)) (takes_packet before [] p (omega arith) (packet_continues p first) size)
+    ∙ ap (λ r. stream_from r (concat packets ++ end_mark ended))
+    (takes_packet before [] p (omega arith) (packet_continues p first) size)
     ∙ takes_all (before ++ p ∷ []) packets ended (All-tail IsSomePacket p packets each)
     ∙ ap (λ l. read_as l ended) (append_assoc before (p ∷ []) packets)
 
@@ -140,7 +162,8 @@ read_as_some packets false e = cc
 
 begun_is_read : (bytes : List ℕ) → BeginsStream bytes → stream_of bytes ≡ NoStream → ⊥
 begun_is_read bytes (more, packets, ended, s) none =
-    let whole : concat packets ++ end_mark ended ≡ bytes ++ more = ap (λ l. concat packets ++ l) (sym (append-nil (end_mark ended))) ∙ s.whole in
+    let whole : concat packets ++ end_mark ended
+    ≡ bytes ++ more = ap (λ l. concat packets ++ l) (sym (append-nil (end_mark ended))) ∙ s.whole in
     read_as_some packets ended
     (sym (takes_all [] packets ended s.each)
     ∙ ap (stream_from (Going [] [])) whole
@@ -149,7 +172,8 @@ begun_is_read bytes (more, packets, ended, s) none =
     ∙ no_stream_stays more)
 
 -- ---- what is no whole stream yet begins one
-ended_stream : (bytes : List ℕ) (packets : List (List ℕ)) (more : List ℕ) (ended : Bool) → All IsSomePacket packets → concat packets ++ end_mark ended ≡ bytes ++ more → BeginsStream bytes
+ended_stream : (bytes : List ℕ) (packets : List (List ℕ)) (more : List ℕ) (ended : Bool) → All IsSomePacket packets
+    → concat packets ++ end_mark ended ≡ bytes ++ more → BeginsStream bytes
 ended_stream bytes packets more ended each whole = (
   more,
   packets,
@@ -162,7 +186,8 @@ ended_stream bytes packets more ended each whole = (
   },
 )
 
-goes_on : (bytes : List ℕ) (packets : List (List ℕ)) (rest : List ℕ) → All IsSomePacket packets → concat packets ++ rest ≡ bytes → IsUnfinished rest → BeginsStream bytes
+goes_on : (bytes : List ℕ) (packets : List (List ℕ)) (rest : List ℕ) → All IsSomePacket packets
+    → concat packets ++ rest ≡ bytes → IsUnfinished rest → BeginsStream bytes
 goes_on bytes packets rest each whole (more, some, inl p) =
     ended_stream bytes (packets ++ (rest ++ more) ∷ []) more false (All-push IsSomePacket packets (rest ++ more) each p)
     (append-nil (concat (packets ++ (rest ++ more) ∷ []))
@@ -171,22 +196,28 @@ goes_on bytes packets rest each whole (more, some, inl p) =
     ∙ sym (append_assoc (concat packets) rest more)
     ∙ ap (λ l. l ++ more) whole)
 goes_on bytes packets rest each whole (more, some, inr e) =
-    ended_stream bytes packets more true each (ap (λ l. concat packets ++ l) (sym e) ∙ sym (append_assoc (concat packets) rest more) ∙ ap (λ l. l ++ more) whole)
+    ended_stream bytes packets more true each (ap (λ l. concat packets ++ l) (sym e)
+    ∙ sym (append_assoc (concat packets) rest more) ∙ ap (λ l. l ++ more) whole)
 
-begins : (bytes : List ℕ) (packets : List (List ℕ)) (ended : Bool) (rest : List ℕ) → IsPacketStream bytes packets ended rest → BeginsStream bytes
+begins : (bytes : List ℕ) (packets : List (List ℕ)) (ended : Bool) (rest : List ℕ)
+    → IsPacketStream bytes packets ended rest → BeginsStream bytes
 begins bytes packets true rest s =
-    ended_stream bytes packets [] true s.each (ap (λ l. concat packets ++ l) (sym (append-nil (codes "END")) ∙ ap (λ l. codes "END" ++ l) (sym (s.nothing_more refl))) ∙ s.whole ∙ sym (append-nil bytes))
+    ended_stream bytes packets [] true s.each
+    (ap (λ l. concat packets ++ l) (sym (append-nil (codes "END"))
+    ∙ ap (λ l. codes "END" ++ l) (sym (s.nothing_more refl))) ∙ s.whole ∙ sym (append-nil bytes))
 begins bytes packets false rest s = goes_on bytes packets rest s.each s.whole (s.unfinished refl)
 
 -- ---- the laws
-reads_going : (bytes : List ℕ) (packets : List (List ℕ)) (rest : List ℕ) (r : StreamRead) → IsRead bytes r → (r ≡ NoStream → ⊥) → IsPacketStream bytes packets false rest → r ≡ Going packets rest
+reads_going : (bytes : List ℕ) (packets : List (List ℕ)) (rest : List ℕ) (r : StreamRead) → IsRead bytes r
+    → (r ≡ NoStream → ⊥) → IsPacketStream bytes packets false rest → r ≡ Going packets rest
 reads_going bytes packets rest (Going packets' rest') is some s =
     let same = one_stream bytes packets' packets false false rest' rest is s in cc
 reads_going bytes packets rest (Ended packets') is some s =
     let same = one_stream bytes packets' packets true false [] rest is s in absurd (true≢false same.end)
 reads_going bytes packets rest NoStream is some s = absurd (some refl)
 
-reads_ended : (bytes : List ℕ) (packets : List (List ℕ)) (r : StreamRead) → IsRead bytes r → (r ≡ NoStream → ⊥) → IsPacketStream bytes packets true [] → r ≡ Ended packets
+reads_ended : (bytes : List ℕ) (packets : List (List ℕ)) (r : StreamRead) → IsRead bytes r → (r ≡ NoStream → ⊥)
+    → IsPacketStream bytes packets true [] → r ≡ Ended packets
 reads_ended bytes packets (Going packets' rest') is some s =
     let same = one_stream bytes packets packets' true false [] rest' s is in absurd (true≢false same.end)
 reads_ended bytes packets (Ended packets') is some s =
@@ -198,16 +229,20 @@ reads_none bytes (Going packets rest) is none = absurd (none (begins bytes packe
 reads_none bytes (Ended packets) is none = absurd (none (begins bytes packets true [] is))
 reads_none bytes NoStream is none = refl
 
-pub going_law : (bytes : List ℕ) (packets : List (List ℕ)) (rest : List ℕ) → (stream_of bytes ≡ Going packets rest) ↔ IsPacketStream bytes packets false rest
+pub going_law : (bytes : List ℕ) (packets : List (List ℕ)) (rest : List ℕ)
+    → (stream_of bytes ≡ Going packets rest) ↔ IsPacketStream bytes packets false rest
 going_law bytes packets rest = (
   λ e. subst (IsRead bytes) e (is_read bytes),
-  λ s. reads_going bytes packets rest (stream_of bytes) (is_read bytes) (begun_is_read bytes (begins bytes packets false rest s)) s,
+  λ s. reads_going bytes packets rest (stream_of bytes) (is_read bytes)
+      (begun_is_read bytes (begins bytes packets false rest s)) s,
 )
 
-pub ended_law : (bytes : List ℕ) (packets : List (List ℕ)) → (stream_of bytes ≡ Ended packets) ↔ IsPacketStream bytes packets true []
+pub ended_law : (bytes : List ℕ) (packets : List (List ℕ))
+    → (stream_of bytes ≡ Ended packets) ↔ IsPacketStream bytes packets true []
 ended_law bytes packets = (
   λ e. subst (IsRead bytes) e (is_read bytes),
-  λ s. reads_ended bytes packets (stream_of bytes) (is_read bytes) (begun_is_read bytes (begins bytes packets true [] s)) s,
+  λ s. reads_ended bytes packets (stream_of bytes) (is_read bytes)
+      (begun_is_read bytes (begins bytes packets true [] s)) s,
 )
 
 pub no_stream_law : (bytes : List ℕ) → (stream_of bytes ≡ NoStream) ↔ Not (BeginsStream bytes)

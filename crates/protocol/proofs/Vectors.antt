@@ -1,5 +1,6 @@
 -- Records as vectors: the first one, changes of it, and what each is read as.
-use Rattle.std.specs.Prelude.{◌≡◌, refl, ℕ, ◌+◌, suc, zero, List, [], ◌∷◌, ◌++◌, length, take, drop, codes, replicate, pos, Option, Some, None, Result, Ok, Err, filter, is_none}
+use Rattle.std.specs.Prelude.{◌≡◌, refl, ℕ, ◌+◌, suc, zero, List, [], ◌∷◌, ◌++◌, length, take, drop, codes, replicate}
+use Rattle.std.specs.Prelude.{pos, Option, Some, None, Result, Ok, Err, filter, is_none}
 use Rattle.protocol.specs.declared.record.Kind.{Kind}
 use Rattle.protocol.specs.Record.{Facts, header_of}
 use Rattle.protocol.specs.declared.record.RecordFault.{RecordFault}
@@ -12,8 +13,11 @@ use Rattle.protocol.specs.Made.{Fields, made}
 -- the record that the vectors change
 abbrev pub sample : List ℕ
 sample =
-    0x30 ∷ 0x30 ∷ 0x30 ∷ 0x30 ∷ 0x30 ∷ 0x31 ∷ 0x44 ∷ 0x20 ∷ 0x41 ∷ 0x50 ∷ 0x45 ∷ 0x20 ∷ 0x20 ∷ 0x20 ∷ 0x20 ∷ 0x42 ∷ 0x48 ∷ 0x5a ∷ 0x47 ∷ 0x45 ∷ 0x07 ∷ 0xe8 ∷ 0x00 ∷ 0x3c ∷ 0x00 ∷ 0x00 ∷ 0x00 ∷ 0x00 ∷ 0x00 ∷ 0x00 ∷ 0x00 ∷ 0x64 ∷ 0x00 ∷ 0x64 ∷ 0x00 ∷ 0x01 ∷ []
-    ++ 0x00 ∷ 0x00 ∷ 0x00 ∷ 0x01 ∷ 0x00 ∷ 0x00 ∷ 0x00 ∷ 0x00 ∷ 0x00 ∷ 0x40 ∷ 0x00 ∷ 0x30 ∷ 0x03 ∷ 0xe8 ∷ 0x00 ∷ 0x00 ∷ 0x0b ∷ 0x01 ∷ 0x09 ∷ 0x00 ∷ 0x00 ∷ 0x00 ∷ 0x00 ∷ 0x00 ∷ 0x00 ∷ 0x00 ∷ 0x00 ∷ 0x00 ∷ []
+    0x30 ∷ 0x30 ∷ 0x30 ∷ 0x30 ∷ 0x30 ∷ 0x31 ∷ 0x44 ∷ 0x20 ∷ 0x41 ∷ 0x50 ∷ 0x45 ∷ 0x20 ∷ 0x20 ∷ 0x20 ∷ 0x20 ∷ 0x42 ∷ 0x48
+    ∷ 0x5a ∷ 0x47 ∷ 0x45 ∷ 0x07 ∷ 0xe8 ∷ 0x00 ∷ 0x3c ∷ 0x00 ∷ 0x00 ∷ 0x00 ∷ 0x00 ∷ 0x00 ∷ 0x00 ∷ 0x00 ∷ 0x64 ∷ 0x00
+    ∷ 0x64 ∷ 0x00 ∷ 0x01 ∷ []
+    ++ 0x00 ∷ 0x00 ∷ 0x00 ∷ 0x01 ∷ 0x00 ∷ 0x00 ∷ 0x00 ∷ 0x00 ∷ 0x00 ∷ 0x40 ∷ 0x00 ∷ 0x30 ∷ 0x03 ∷ 0xe8 ∷ 0x00 ∷ 0x00
+    ∷ 0x0b ∷ 0x01 ∷ 0x09 ∷ 0x00 ∷ 0x00 ∷ 0x00 ∷ 0x00 ∷ 0x00 ∷ 0x00 ∷ 0x00 ∷ 0x00 ∷ 0x00 ∷ []
     ++ replicate 448 0
 
 abbrev pub sample_fields : Fields
@@ -71,11 +75,18 @@ pub read-sample : header_of sample ≡ reads_as 17091648000000 17091648010000 D 
 read-sample = refl
 
 -- in little order
-pub read-little : header_of (with_at 20 (0xe8 ∷ 0x07 ∷ 0x3c ∷ 0x00 ∷ 0x00 ∷ 0x00 ∷ 0x00 ∷ 0x00 ∷ 0x00 ∷ 0x00 ∷ 0x64 ∷ 0x00 ∷ 0x64 ∷ 0x00 ∷ 0x01 ∷ 0x00 ∷ 0x00 ∷ 0x00 ∷ 0x00 ∷ 0x01 ∷ 0x00 ∷ 0x00 ∷ 0x00 ∷ 0x00 ∷ 0x40 ∷ 0x00 ∷ 0x30 ∷ 0x00 ∷ 0xe8 ∷ 0x03 ∷ 0x00 ∷ 0x00 ∷ 0x0b ∷ 0x00 ∷ 0x09 ∷ 0x00 ∷ []) sample) ≡ reads_as 17091648000000 17091648010000 D 100
+pub read-little : header_of
+    (with_at 20 (0xe8 ∷ 0x07 ∷ 0x3c ∷ 0x00 ∷ 0x00 ∷ 0x00 ∷ 0x00 ∷ 0x00 ∷ 0x00 ∷ 0x00 ∷ 0x64 ∷ 0x00 ∷ 0x64 ∷ 0x00 ∷ 0x01
+    ∷ 0x00 ∷ 0x00 ∷ 0x00 ∷ 0x00 ∷ 0x01 ∷ 0x00 ∷ 0x00 ∷ 0x00 ∷ 0x00 ∷ 0x40 ∷ 0x00 ∷ 0x30 ∷ 0x00 ∷ 0xe8 ∷ 0x03 ∷ 0x00
+    ∷ 0x00 ∷ 0x0b ∷ 0x00 ∷ 0x09 ∷ 0x00 ∷ []) sample) ≡ reads_as 17091648000000 17091648010000 D 100
 read-little = refl
 
 -- the layout of the same fields in little order
-pub made-little : made (record sample_fields { order = Little }) ≡ Some (with_at 20 (0xe8 ∷ 0x07 ∷ 0x3c ∷ 0x00 ∷ 0x00 ∷ 0x00 ∷ 0x00 ∷ 0x00 ∷ 0x00 ∷ 0x00 ∷ 0x64 ∷ 0x00 ∷ 0x64 ∷ 0x00 ∷ 0x01 ∷ 0x00 ∷ 0x00 ∷ 0x00 ∷ 0x00 ∷ 0x01 ∷ 0x00 ∷ 0x00 ∷ 0x00 ∷ 0x00 ∷ 0x40 ∷ 0x00 ∷ 0x30 ∷ 0x00 ∷ 0xe8 ∷ 0x03 ∷ 0x00 ∷ 0x00 ∷ 0x0b ∷ 0x00 ∷ 0x09 ∷ 0x00 ∷ []) sample)
+pub made-little : made (record sample_fields { order = Little })
+    ≡ Some
+    (with_at 20 (0xe8 ∷ 0x07 ∷ 0x3c ∷ 0x00 ∷ 0x00 ∷ 0x00 ∷ 0x00 ∷ 0x00 ∷ 0x00 ∷ 0x00 ∷ 0x64 ∷ 0x00 ∷ 0x64 ∷ 0x00 ∷ 0x01
+    ∷ 0x00 ∷ 0x00 ∷ 0x00 ∷ 0x00 ∷ 0x01 ∷ 0x00 ∷ 0x00 ∷ 0x00 ∷ 0x00 ∷ 0x40 ∷ 0x00 ∷ 0x30 ∷ 0x00 ∷ 0xe8 ∷ 0x03 ∷ 0x00
+    ∷ 0x00 ∷ 0x0b ∷ 0x00 ∷ 0x09 ∷ 0x00 ∷ []) sample)
 made-little = refl
 
 -- second 60
@@ -83,7 +94,8 @@ pub read-second_60 : header_of (with_at 26 (0x3c ∷ []) sample) ≡ reads_as 17
 read-second_60 = refl
 
 -- day 366 of a year with 365 days
-pub read-day_366 : header_of (with_at 20 (0x07 ∷ 0xe7 ∷ 0x01 ∷ 0x6e ∷ []) sample) ≡ reads_as 17040672000000 17040672010000 D 100
+pub read-day_366 : header_of (with_at 20 (0x07 ∷ 0xe7 ∷ 0x01 ∷ 0x6e ∷ []) sample)
+    ≡ reads_as 17040672000000 17040672010000 D 100
 read-day_366 = refl
 
 -- a blockette whose next one is at its own place
@@ -107,7 +119,9 @@ pub read-year_0 : header_of (with_at 20 (0x00 ∷ 0x00 ∷ []) sample) ≡ Err T
 read-year_0 = refl
 
 -- a detection blockette and no samples
-pub read-detection : header_of (with_at 56 (0x00 ∷ 0xc9 ∷ []) (with_at 50 (0x00 ∷ 0x38 ∷ []) (with_at 30 (0x00 ∷ 0x00 ∷ 0x00 ∷ 0x00 ∷ []) sample))) ≡ reads_linked 2 17091648000000 17091648000000 E 0
+pub read-detection : header_of
+    (with_at 56 (0x00 ∷ 0xc9 ∷ []) (with_at 50 (0x00 ∷ 0x38 ∷ []) (with_at 30 (0x00 ∷ 0x00 ∷ 0x00 ∷ 0x00 ∷ []) sample)))
+    ≡ reads_linked 2 17091648000000 17091648000000 E 0
 read-detection = refl
 
 -- factor 0
@@ -115,11 +129,13 @@ pub read-log : header_of (with_at 32 (0x00 ∷ 0x00 ∷ []) sample) ≡ reads_as
 read-log = refl
 
 -- factor -10
-pub read-factor_below_0 : header_of (with_at 32 (0xff ∷ 0xf6 ∷ []) sample) ≡ reads_as 17091648000000 17091658000000 D 100
+pub read-factor_below_0 : header_of (with_at 32 (0xff ∷ 0xf6 ∷ []) sample)
+    ≡ reads_as 17091648000000 17091658000000 D 100
 read-factor_below_0 = refl
 
 -- one sample at factor 3
-pub read-rounded_down : header_of (with_at 30 (0x00 ∷ 0x01 ∷ 0x00 ∷ 0x03 ∷ []) sample) ≡ reads_as 17091648000000 17091648003333 D 1
+pub read-rounded_down : header_of (with_at 30 (0x00 ∷ 0x01 ∷ 0x00 ∷ 0x03 ∷ []) sample)
+    ≡ reads_as 17091648000000 17091648003333 D 1
 read-rounded_down = refl
 
 -- sequence byte A
@@ -135,19 +151,25 @@ pub read-first_509 : header_of (with_at 46 (0x01 ∷ 0xfd ∷ []) sample) ≡ Er
 read-first_509 = refl
 
 -- a blockette in the last four bytes
-pub read-first_508 : header_of (with_at 508 (0x07 ∷ 0xd0 ∷ 0x00 ∷ 0x00 ∷ []) (with_at 46 (0x01 ∷ 0xfc ∷ []) sample)) ≡ Err No1000
+pub read-first_508 : header_of (with_at 508 (0x07 ∷ 0xd0 ∷ 0x00 ∷ 0x00 ∷ []) (with_at 46 (0x01 ∷ 0xfc ∷ []) sample))
+    ≡ Err No1000
 read-first_508 = refl
 
 -- a blockette 1000 in the last eight bytes
-pub read-first_504 : header_of (with_at 504 (0x03 ∷ 0xe8 ∷ 0x00 ∷ 0x00 ∷ 0x0b ∷ 0x01 ∷ 0x09 ∷ 0x00 ∷ []) (with_at 46 (0x01 ∷ 0xf8 ∷ []) sample)) ≡ reads_as 17091648000000 17091648010000 D 100
+pub read-first_504 : header_of
+    (with_at 504 (0x03 ∷ 0xe8 ∷ 0x00 ∷ 0x00 ∷ 0x0b ∷ 0x01 ∷ 0x09 ∷ 0x00 ∷ []) (with_at 46 (0x01 ∷ 0xf8 ∷ []) sample))
+    ≡ reads_as 17091648000000 17091648010000 D 100
 read-first_504 = refl
 
 -- a blockette 1000 in the last seven bytes
-pub read-first_505 : header_of (with_at 505 (0x03 ∷ 0xe8 ∷ 0x00 ∷ 0x00 ∷ 0x0b ∷ 0x01 ∷ 0x09 ∷ []) (with_at 46 (0x01 ∷ 0xf9 ∷ []) sample)) ≡ Err Blockettes
+pub read-first_505 : header_of
+    (with_at 505 (0x03 ∷ 0xe8 ∷ 0x00 ∷ 0x00 ∷ 0x0b ∷ 0x01 ∷ 0x09 ∷ []) (with_at 46 (0x01 ∷ 0xf9 ∷ []) sample))
+    ≡ Err Blockettes
 read-first_505 = refl
 
 -- a blockette whose next one is before it
-pub read-back : header_of (with_at 56 (0x00 ∷ 0xc8 ∷ 0x00 ∷ 0x30 ∷ []) (with_at 50 (0x00 ∷ 0x38 ∷ []) sample)) ≡ Err Blockettes
+pub read-back : header_of (with_at 56 (0x00 ∷ 0xc8 ∷ 0x00 ∷ 0x30 ∷ []) (with_at 50 (0x00 ∷ 0x38 ∷ []) sample))
+    ≡ Err Blockettes
 read-back = refl
 
 -- the days of a year in little order that no record is made for
@@ -156,7 +178,8 @@ days_to zero = []
 days_to (suc n) = days_to n ++ suc n ∷ []
 
 abbrev pub unmade_days : ByteOrder → ℕ → List ℕ
-unmade_days o year = filter (λ day. is_none (made (record sample_fields { order = o; year = year; day = day }))) (days_to 366)
+unmade_days o year = filter (λ day. is_none (made (record sample_fields { order = o; year = year; day = day })))
+    (days_to 366)
 
 -- the three days of 2056 that fit in big order too
 pub unmade-little_2056 : unmade_days Little 2056 ≡ (1 ∷ 256 ∷ 257 ∷ [])

@@ -3,7 +3,7 @@ use Rattle.std.proofs.Common.{◌≡◌, ℕ, ◌+◌, ◌%◌, ◌≤◌, ◌==
 use Rattle.std.specs.Prelude.{if◌then◌else◌}
 use Rattle.std.proofs.lemmas.Bool.{eqb-false}
 use Rattle.protocol.specs.Time.{days_before, is_leap, days_of_year_before}
-use Rattle.protocol.proofs.Found.{both}
+use Rattle.protocol.proofs.FoundLemmas.{both}
 
 pub year_law : (y : ℕ) → 1 ≤ y → days_before (y + 1) ≡ days_before y + (if is_leap y then 366 else 365)
 year_law y some =

@@ -1,7 +1,8 @@
--- The stations of a server, and what one address sees of them.
--- SeedLink 3, CAT and STATION; seedlink's `access`, of a station and of the whole server. Left out: how a configuration is
--- written, the limits of its values, and wildcards in a station's code.
-use Rattle.std.specs.Prelude.{ℕ, Bool, true, false, ◌&&◌, ◌==◌, List, [], ◌∷◌, ◌++◌, Option, Some, None, filter, map, find, codes}
+-- The stations of a server, and what one address sees of them. SeedLink 3, CAT and STATION; seedlink's `access`, of a
+-- station and of the whole server. Left out: how a configuration is written, the limits of its values, and wildcards in
+-- a station's code.
+use Rattle.std.specs.Prelude.{ℕ, Bool, true, false, ◌&&◌, ◌==◌, List, [], ◌∷◌, ◌++◌, Option, Some, None, filter, map}
+use Rattle.std.specs.Prelude.{find, codes}
 use Rattle.std.specs.Str.{bytes_eq}
 use Rattle.protocol.specs.Record.{padded}
 use Rattle.protocol.specs.Access.{Token, allows}

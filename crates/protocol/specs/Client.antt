@@ -1,6 +1,7 @@
 -- One client over a view and a growing history: what it may send, what it reads, and what it is handed.
 -- SeedLink 3, the dialogue and the transfer. Left out: time, and in which pieces TCP carries the bytes.
-use Rattle.std.specs.Prelude.{ℕ, ◌+◌, ◌-◌, Bool, true, false, ◌&&◌, nat_lt, if◌then◌else◌, List, [], ◌∷◌, ◌++◌, length, take, drop, map, Option, Some, None, codes, slice_get, option_map, unwrap_or}
+use Rattle.std.specs.Prelude.{ℕ, ◌+◌, ◌-◌, Bool, true, false, ◌&&◌, nat_lt, if◌then◌else◌, List, [], ◌∷◌, ◌++◌, length}
+use Rattle.std.specs.Prelude.{take, drop, map, Option, Some, None, codes, slice_get, option_map, unwrap_or}
 use Rattle.std.specs.List.{list_all}
 use Rattle.protocol.specs.Catalog.{View, listing}
 use Rattle.protocol.specs.Packet.{packet}
@@ -40,7 +41,8 @@ new_client = record { state = Negotiating (Uni []); open_line = Text []; unread 
 
 -- the request that a wish becomes when its transfer starts
 abbrev pub request_of : List Arrival → Wish → Request
-request_of h w = record { station = w.station; patterns = w.patterns; action = w.action; from = first_wanted w.station h w.action }
+request_of h w =
+    record { station = w.station; patterns = w.patterns; action = w.action; from = first_wanted w.station h w.action }
 
 -- the client after a command's outcome
 abbrev pub follow : View → List Arrival → Client → Negotiated → Outcome → Client
@@ -87,13 +89,15 @@ left_unread _ bytes = bytes
 
 -- A byte ends the open line, which is obeyed, or joins it.
 abbrev pub read_byte : View → List Arrival → ℕ → Client → Client
-read_byte v h b c = if is_line_end b then obey v h c.open_line (record c { open_line = Text [] }) else record c { open_line = joined c.open_line b }
+read_byte v h b c = if is_line_end b then obey v h c.open_line
+    (record c { open_line = Text [] }) else record c { open_line = joined c.open_line b }
 
 -- The client reads what it may of the unread bytes.
 abbrev pub read_on : View → List Arrival → List ℕ → Client → Client
 read_on v h [] c = record c { unread = [] }
 read_on v h (b ∷ bytes) c =
-    if reads c.state c.waiting then read_on v h bytes (read_byte v h b c) else record c { unread = left_unread c.state (b ∷ bytes) }
+    if reads c.state c.waiting then read_on v h bytes
+    (read_byte v h b c) else record c { unread = left_unread c.state (b ∷ bytes) }
 
 -- how many unread bytes a client may have
 abbrev pub inbox : ℕ
@@ -125,7 +129,11 @@ packet_of h requests p = unwrap_or (option_map (λ a. packet_for h p a requests)
 -- The packet of the position that is next waits; where none is and nothing more can come, `END` waits in the end.
 abbrev pub chosen : List Arrival → List Request → ℕ → Client → Option ℕ → Client
 chosen h requests q c (Some p) = record c { state = Transfer requests (p + 1); waiting = packet_of h requests p }
-chosen h requests q c None = if list_all (is_over h) requests then record c { state = Ending; unread = []; waiting = codes "END" } else c
+chosen h requests q c None = if list_all (is_over h) requests then record c {
+  state = Ending;
+  unread = [];
+  waiting = codes "END";
+} else c
 
 -- what comes next, by the state: a line of the listing, or a packet
 abbrev pub filled_in : List Arrival → Client → State → Client

@@ -1,7 +1,8 @@
 -- What a line of a client asks.
 -- SeedLink 3, commands: HELLO, CAT, BYE, END, STATION, SELECT, DATA, FETCH and TIME.
 -- Left out: INFO, BATCH and CAPABILITIES, which are Bad here, and wildcards in a station's code.
-use Rattle.std.specs.Prelude.{◌≡◌, ◌≢◌, ◌⊎◌, ◌≤◌, ◌<◌, ℕ, ◌-◌, ◌&&◌, nat_le, ◌==◌, if◌then◌else◌, List, [], ◌∷◌, ◌++◌, length}
+use Rattle.std.specs.Prelude.{◌≡◌, ◌≢◌, ◌⊎◌, ◌≤◌, ◌<◌, ℕ, ◌-◌, ◌&&◌, nat_le, ◌==◌, if◌then◌else◌, List, [], ◌∷◌, ◌++◌}
+use Rattle.std.specs.Prelude.{length}
 use Rattle.std.specs.Prelude.{ℤ, Option, Some, None, codes, All}
 use Rattle.std.specs.Str.{bytes_eq}
 use Rattle.protocol.specs.Pieces.{split, without_empty}

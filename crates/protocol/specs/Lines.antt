@@ -1,6 +1,6 @@
--- The lines of what a client sends, and what the open line of a client makes of them byte by byte.
--- SeedLink 3, the form of a command: a line ended by CR, by LF or by both. Left out: any limit of the standard on a line; it
--- is 256 bytes here.
+-- The lines of what a client sends, and what the open line of a client makes of them byte by byte. SeedLink 3, the form
+-- of a command: a line ended by CR, by LF or by both. Left out: any limit of the standard on a line; it is 256 bytes
+-- here.
 use Rattle.std.specs.Prelude.{ℕ, Bool, ◌||◌, ◌==◌, nat_le, nat_lt, if◌then◌else◌, List, [], ◌∷◌, ◌++◌, length}
 use Rattle.protocol.specs.Pieces.{split, without_empty, all_but_last, last_of}
 
@@ -46,7 +46,8 @@ ended_line line = line ∷ []
 -- the lines that end while an open line takes bytes, in order
 abbrev pub cut_from : Line → List ℕ → List Line
 cut_from line [] = []
-cut_from line (b ∷ bytes) = if is_line_end b then ended_line line ++ cut_from (Text []) bytes else cut_from (joined line b) bytes
+cut_from line (b ∷ bytes) = if is_line_end b then ended_line line
+    ++ cut_from (Text []) bytes else cut_from (joined line b) bytes
 
 -- the open line after the bytes
 abbrev pub open_after : Line → List ℕ → Line

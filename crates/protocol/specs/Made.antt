@@ -1,7 +1,10 @@
 -- The record that fields spell: how a program makes one, and that it is read back as the fields.
 -- SEED Reference Manual 2.4, chapter 8: the fixed section of data header, blockette 1000, one further blockette.
 -- Left out: flags, the time correction, chains of more than two blockettes; the contents are bytes that are given.
-use Rattle.std.specs.Prelude.{◌≡◌, ◌≤◌, ◌<◌, ◌≤ℤ◌, ◌<ℤ◌, ◌⊎◌, ⊤, All, ℕ, zero, suc, ◌+◌, ◌-◌, ◌/◌, ◌%◌, Bool, true, false, ◌&&◌, ◌||◌, nat_le, nat_lt, ◌==◌, if◌then◌else◌, List, [], ◌∷◌, ◌++◌, length, replicate, ℤ, pos, ◌+ℤ◌, neg_ℤ, int_le, int_lt, nat_abs, Option, Some, None, is_some, Result, Ok, Err}
+use Rattle.std.specs.Prelude.{◌≡◌, ◌≤◌, ◌<◌, ◌≤ℤ◌, ◌<ℤ◌, ◌⊎◌, ⊤, All, ℕ, zero, suc, ◌+◌, ◌-◌, ◌/◌, ◌%◌, Bool, true}
+use Rattle.std.specs.Prelude.{false, ◌&&◌, ◌||◌, nat_le, nat_lt, ◌==◌, if◌then◌else◌, List, [], ◌∷◌, ◌++◌, length}
+use Rattle.std.specs.Prelude.{replicate, ℤ, pos, ◌+ℤ◌, neg_ℤ, int_le, int_lt, nat_abs, Option, Some, None, is_some}
+use Rattle.std.specs.Prelude.{Result, Ok, Err}
 use Rattle.std.specs.Ordering.{int_eq}
 use Rattle.std.specs.List.{list_all, concat}
 use Rattle.std.specs.Str.{bytes_eq}
@@ -14,8 +17,8 @@ use Rattle.protocol.specs.declared.record.ByteOrder.TheVariants.{Big, Little}
 use Rattle.protocol.specs.Record.{padded}
 use Rattle.protocol.specs.Reading.{IsQuality, Gives, HasFacts}
 
--- The values of a record's fields. Codes are bytes without padding, the quality is a byte, and the numbers of the start are
--- those of the header.
+-- The values of a record's fields. Codes are bytes without padding, the quality is a byte, and the numbers of the start
+-- are those of the header.
 pub record Fields : Type 0 where
   pub sequence : ℕ
   pub quality : ℕ
@@ -72,7 +75,8 @@ abbrev pub is_in_range : Fields → Bool
 is_in_range f =
     nat_lt f.sequence 1000000 && is_quality f.quality && has_codes_in_range f && has_start_in_range f &&
     nat_lt f.samples 65536 && is_short f.factor && is_short f.multiplier
-    && nat_lt f.encoding 256 && is_extra f.extra && nat_le (length f.contents) 448 && list_all (λ b. nat_lt b 256) f.contents
+    && nat_lt f.encoding 256 && is_extra f.extra && nat_le (length f.contents) 448
+    && list_all (λ b. nat_lt b 256) f.contents
 
 -- ---- the bytes of a record
 
@@ -130,7 +134,8 @@ numbers_of o f =
 abbrev pub layout_of : Fields → List ℕ
 layout_of f =
     concat
-    (decimal 6 f.sequence ∷ (f.quality ∷ 32 ∷ []) ∷ padded 5 f.station ∷ padded 2 f.location ∷ padded 3 f.channel ∷ padded 2 f.network
+    (decimal 6 f.sequence ∷ (f.quality ∷ 32 ∷ []) ∷ padded 5 f.station ∷ padded 2 f.location ∷ padded 3 f.channel
+    ∷ padded 2 f.network
     ∷ numbers_of f.order f ∷ [])
 
 -- ---- the record that is read back as the fields
@@ -151,8 +156,8 @@ abbrev pub reads_back : Fields → Result Facts RecordFault → Bool
 reads_back f (Err fault) = false
 reads_back f (Ok x) = has_fields f x
 
--- The record of the fields; None where a field is out of range, or where the layout is not read as the fields (in little
--- order on the days 1, 256 and 257 of 2056, which fit in big order too).
+-- The record of the fields; None where a field is out of range, or where the layout is not read as the fields (in
+-- little order on the days 1, 256 and 257 of 2056, which fit in big order too).
 abbrev pub made : Fields → Option (List ℕ)
 made f = if is_in_range f && reads_back f (header_of (layout_of f)) then Some (layout_of f) else None
 

@@ -1,12 +1,14 @@
 -- Selectors: patterns over a record's location, channel and type.
 -- SeedLink 3, SELECT. Left out: several patterns in one command.
-use Rattle.std.specs.Prelude.{◌≡◌, ◌≤◌, ◌⊎◌, ◌++◌, length, All, Any, ℕ, Bool, true, false, ◌&&◌, ◌||◌, not, nat_le, ◌==◌, if◌then◌else◌, List, [], ◌∷◌, Option, Some, None, option_and_then}
+use Rattle.std.specs.Prelude.{◌≡◌, ◌≤◌, ◌⊎◌, ◌++◌, length, All, Any, ℕ, Bool, true, false, ◌&&◌, ◌||◌, not, nat_le}
+use Rattle.std.specs.Prelude.{◌==◌, if◌then◌else◌, List, [], ◌∷◌, Option, Some, None, option_and_then}
 use Rattle.std.specs.List.{list_any, list_all}
 use Rattle.protocol.specs.declared.record.Kind.{Kind}
 use Rattle.protocol.specs.Record.{Facts}
 use Rattle.protocol.specs.declared.record.Kind.TheVariants.{D, E, C, O, T, L}
 
--- What a pattern says of a record's location, channel and type, each if it is given. A negated one says what not to send.
+-- What a pattern says of a record's location, channel and type, each if it is given. A negated one says what not to
+-- send.
 pub record Pattern : Type 0 where
   pub negated : Bool
   pub location : Option (List ℕ)
@@ -42,7 +44,8 @@ kind_pattern negated kind = Some (record { negated = negated; location = None; c
 
 abbrev pub channel_pattern : (negated : Bool) → List ℕ → Option Kind → Option Pattern
 channel_pattern negated channel kind =
-    if list_all is_channel_byte channel then Some (record { negated = negated; location = None; channel = Some channel; kind = kind }) else None
+    if list_all is_channel_byte channel then Some
+    (record { negated = negated; location = None; channel = Some channel; kind = kind }) else None
 
 abbrev pub place_pattern : (negated : Bool) → List ℕ → List ℕ → Option Kind → Option Pattern
 place_pattern negated location channel kind =
@@ -61,8 +64,10 @@ body_of negated (t ∷ []) = of_kind (kind_pattern negated) (kind_of_letter t)
 body_of negated (dot ∷ t ∷ []) = of_kind (kind_pattern negated) (suffix_of dot t)
 body_of negated (a ∷ b ∷ c ∷ []) = channel_pattern negated (a ∷ b ∷ c ∷ []) None
 body_of negated (a ∷ b ∷ c ∷ d ∷ e ∷ []) =
-    if d == 46 then of_kind (channel_pattern negated (a ∷ b ∷ c ∷ [])) (suffix_of d e) else place_pattern negated (a ∷ b ∷ []) (c ∷ d ∷ e ∷ []) None
-body_of negated (a ∷ b ∷ c ∷ d ∷ e ∷ dot ∷ t ∷ []) = of_kind (place_pattern negated (a ∷ b ∷ []) (c ∷ d ∷ e ∷ [])) (suffix_of dot t)
+    if d == 46 then of_kind (channel_pattern negated (a ∷ b ∷ c ∷ [])) (suffix_of d e) else place_pattern negated
+    (a ∷ b ∷ []) (c ∷ d ∷ e ∷ []) None
+body_of negated (a ∷ b ∷ c ∷ d ∷ e ∷ dot ∷ t ∷ []) =
+    of_kind (place_pattern negated (a ∷ b ∷ []) (c ∷ d ∷ e ∷ [])) (suffix_of dot t)
 body_of negated _ = None
 
 -- `!` (33) negates
@@ -125,7 +130,8 @@ Matches x p = matches x p ≡ true
 
 -- No positive pattern is there or one matches, and no negative one matches.
 abbrev pub Passes : List Pattern → Facts → Type 0
-Passes ps x = ((Any IsPositive ps → ⊥) ⊎ Any (λ p. IsPositive p × Matches x p) ps) × (Any (λ p. IsNegative p × Matches x p) ps → ⊥)
+Passes ps x = ((Any IsPositive ps → ⊥) ⊎ Any (λ p. IsPositive p × Matches x p) ps)
+    × (Any (λ p. IsNegative p × Matches x p) ps → ⊥)
 
 -- a digit, or a letter of either case
 abbrev pub IsLetterOrDigit : ℕ → Type 0
@@ -158,7 +164,8 @@ letter O = 79
 letter T = 84
 letter L = 76
 
--- a body: a channel, with a location or without and with a type behind a dot or without; or a type, with a dot or without
+-- a body: a channel, with a location or without and with a type behind a dot or without; or a type, with a dot or
+-- without
 pub data Body : List ℕ → Option (List ℕ) → Option (List ℕ) → Option Kind → Type 0 where
   channel_alone : (c : List ℕ) → IsChannel c → Body c None (Some c) None
   channel_and_type : (c : List ℕ) (k : Kind) → IsChannel c → Body (c ++ 46 ∷ letter k ∷ []) None (Some c) (Some k)
@@ -170,4 +177,5 @@ pub data Body : List ℕ → Option (List ℕ) → Option (List ℕ) → Option 
 
 -- the pattern that a text is, behind a `!` or not
 abbrev pub IsPattern : List ℕ → Pattern → Type 0
-IsPattern text p = (body : List ℕ) × Body body p.location p.channel p.kind × (((p.negated ≡ false) × (text ≡ body)) ⊎ ((p.negated ≡ true) × (text ≡ 33 ∷ body)))
+IsPattern text p = (body : List ℕ) × Body body p.location p.channel p.kind
+    × (((p.negated ≡ false) × (text ≡ body)) ⊎ ((p.negated ≡ true) × (text ≡ 33 ∷ body)))

@@ -1,5 +1,6 @@
--- Bytes in pieces between separators: lines between line ends, words between spaces, the numbers of a time between commas.
--- SeedLink 3, the form of a command: lines of ASCII words. Which bytes separate is said where the pieces are used.
+-- Bytes in pieces between separators: lines between line ends, words between spaces, the numbers of a time between
+-- commas. SeedLink 3, the form of a command: lines of ASCII words. Which bytes separate is said where the pieces are
+-- used.
 use Rattle.std.specs.Prelude.{ℕ, Bool, if◌then◌else◌, List, [], ◌∷◌}
 
 -- a byte before the first piece
@@ -10,7 +11,8 @@ cons_first b (p ∷ ps) = (b ∷ p) ∷ ps
 -- the pieces between the separators, with the empty ones; there is always a first
 abbrev pub split : (ℕ → Bool) → List ℕ → List (List ℕ)
 split is_separator [] = [] ∷ []
-split is_separator (b ∷ bs) = if is_separator b then [] ∷ split is_separator bs else cons_first b (split is_separator bs)
+split is_separator (b ∷ bs) = if is_separator b then []
+    ∷ split is_separator bs else cons_first b (split is_separator bs)
 
 -- the pieces that are not empty
 abbrev pub without_empty : List (List ℕ) → List (List ℕ)

@@ -1,7 +1,8 @@
--- What a record says, in the words of the standard: its facts, and the faults that it has. A law says that the record is read so.
--- SEED Reference Manual 2.4, chapter 8: the fixed section of data header, the chain of blockettes, blockette 1000.
--- Left out: what Record leaves out too.
-use Rattle.std.specs.Prelude.{◌≡◌, ◌≢◌, ℕ, ◌+◌, ◌*◌, ◌<◌, ◌≤◌, ◌⊎◌, ⊤, List, [], ◌∷◌, ◌++◌, length, take, replicate, slice_index, slice_range, pos, ◌+ℤ◌, All, Any}
+-- What a record says, in the words of the standard: its facts, and the faults that it has. A law says that the record
+-- is read so. SEED Reference Manual 2.4, chapter 8: the fixed section of data header, the chain of blockettes,
+-- blockette 1000. Left out: what Record leaves out too.
+use Rattle.std.specs.Prelude.{◌≡◌, ◌≢◌, ℕ, ◌+◌, ◌*◌, ◌<◌, ◌≤◌, ◌⊎◌, ⊤, List, [], ◌∷◌, ◌++◌, length, take, replicate}
+use Rattle.std.specs.Prelude.{slice_index, slice_range, pos, ◌+ℤ◌, All, Any}
 use Rattle.protocol.specs.declared.record.ByteOrder.{ByteOrder}
 use Rattle.protocol.specs.Record.{Facts, Ratio, start_of, ticks_of, word}
 use Rattle.protocol.specs.declared.record.RecordFault.{RecordFault}
@@ -136,7 +137,8 @@ IsTrueOf r Blockettes = (o : ByteOrder) × IsOrderOf r o × ((offsets : List ℕ
 IsTrueOf r No1000 = (o : ByteOrder) × (offsets : List ℕ) × IsOrderOf r o × IsChain o r offsets ×
     All (λ at. Not (Is1000 o r at)) offsets
 IsTrueOf r Length =
-    (o : ByteOrder) × (offsets : List ℕ) × (at : ℕ) × IsOrderOf r o × IsChain o r offsets × IsFirst (Is1000 o r) offsets at ×
+    (o : ByteOrder) × (offsets : List ℕ) × (at : ℕ) × IsOrderOf r o × IsChain o r offsets
+    × IsFirst (Is1000 o r) offsets at ×
     (slice_index r (at + 6) ≢ 9)
 
 -- the order in which faults are looked for

@@ -1,7 +1,9 @@
--- What a server reads of a data record of 512 bytes: its codes, its time, its type, or why it is no record.
--- SEED Reference Manual 2.4, chapter 8: the fixed section of data header, the chain of blockettes, blockette 1000.
--- Left out: samples, flags, the time correction, and what blockettes other than 1000 hold (the rate of blockette 100 too).
-use Rattle.std.specs.Prelude.{ℕ, ◌+◌, ◌-◌, ◌*◌, ◌/◌, Bool, ◌&&◌, ◌||◌, not, zero, suc, take, unwrap_or, find, Result, Ok, Err, nat_le, nat_lt, ◌==◌, if◌then◌else◌, List, [], ◌∷◌, ◌++◌, length, replicate, codes, slice_index, slice_range, ℤ, pos, negsuc, ◌+ℤ◌, Option, Some, None, option_map}
+-- What a server reads of a data record of 512 bytes: its codes, its time, its type, or why it is no record. SEED
+-- Reference Manual 2.4, chapter 8: the fixed section of data header, the chain of blockettes, blockette 1000. Left out:
+-- samples, flags, the time correction, and what blockettes other than 1000 hold (the rate of blockette 100 too).
+use Rattle.std.specs.Prelude.{ℕ, ◌+◌, ◌-◌, ◌*◌, ◌/◌, Bool, ◌&&◌, ◌||◌, not, zero, suc, take, unwrap_or, find, Result}
+use Rattle.std.specs.Prelude.{Ok, Err, nat_le, nat_lt, ◌==◌, if◌then◌else◌, List, [], ◌∷◌, ◌++◌, length, replicate}
+use Rattle.std.specs.Prelude.{codes, slice_index, slice_range, ℤ, pos, negsuc, ◌+ℤ◌, Option, Some, None, option_map}
 use Rattle.std.specs.List.{list_all}
 use Rattle.protocol.specs.declared.record.ByteOrder.{ByteOrder}
 use Rattle.protocol.specs.declared.record.ByteOrder.TheVariants.{Big, Little}
@@ -11,8 +13,8 @@ use Rattle.protocol.specs.declared.record.RecordFault.{RecordFault}
 use Rattle.protocol.specs.declared.record.RecordFault.TheVariants.{Sequence, Quality, Time, Blockettes, No1000, Length}
 use Rattle.protocol.specs.Time.{is_day, is_time_of_day, tick}
 
--- What a server keeps of a record. Network and station have no spaces at their end; start and stop are ticks, and stop is
--- the end of the last sample; samples is their count, and links that of the blockettes in the chain.
+-- What a server keeps of a record. Network and station have no spaces at their end; start and stop are ticks, and stop
+-- is the end of the last sample; samples is their count, and links that of the blockettes in the chain.
 pub record Facts : Type 0 where
   pub network : List ℕ
   pub station : List ℕ
@@ -79,7 +81,8 @@ abbrev pub ratio : ℕ → ℕ → Ratio
 ratio over under = record { over = over; under = under }
 
 -- the ticks that n samples take at a rate factor and multiplier: a factor above 0 is a number of samples in a second,
--- one below 0 a number of seconds for a sample, and a multiplier above 0 multiplies the samples, one below 0 divides them
+-- one below 0 a number of seconds for a sample, and a multiplier above 0 multiplies the samples, one below 0 divides
+-- them
 abbrev pub ticks_for : ℕ → (factor multiplier : ℤ) → Ratio
 ticks_for n (pos zero) m = ratio 0 1
 ticks_for n (pos f) (pos m) = ratio (n * 10000) (f * m)
@@ -215,5 +218,6 @@ read_in r (Some o) = if has_time o r then read_chain o r (chain_of o r) else Err
 -- the facts of a record, or its first fault
 abbrev pub header_of : List ℕ → Result Facts RecordFault
 header_of r =
-    if list_all is_sequence_byte (take 6 r) then (if is_quality (slice_index r 6) then read_in r (order_of r) else Err Quality)
+    if list_all is_sequence_byte (take 6 r)
+    then (if is_quality (slice_index r 6) then read_in r (order_of r) else Err Quality)
     else Err Sequence

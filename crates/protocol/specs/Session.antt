@@ -1,12 +1,14 @@
--- Negotiation: what each command answers and changes, by the stations that the client sees.
--- SeedLink 3, the dialogue in uni-station and multi-station mode. Left out: the texts of other servers (the replies to HELLO
--- and CAT, and which station uni-station mode takes, are this project's).
-use Rattle.std.specs.Prelude.{ℕ, ◌+◌, nat_lt, ◌&&◌, if◌then◌else◌, List, [], ◌∷◌, ◌++◌, length, sum_by, Option, Some, None, codes, slice_get, slice_set, filter_map}
+-- Negotiation: what each command answers and changes, by the stations that the client sees. SeedLink 3, the dialogue in
+-- uni-station and multi-station mode. Left out: the texts of other servers (the replies to HELLO and CAT, and which
+-- station uni-station mode takes, are this project's).
+use Rattle.std.specs.Prelude.{ℕ, ◌+◌, nat_lt, ◌&&◌, if◌then◌else◌, List, [], ◌∷◌, ◌++◌, length, sum_by, Option, Some}
+use Rattle.std.specs.Prelude.{None, codes, slice_get, slice_set, filter_map}
 use Rattle.protocol.specs.Catalog.{Station, View, find_station, has_codes}
 use Rattle.protocol.specs.Lines.{line_end}
 use Rattle.protocol.specs.Pattern.{Pattern, pattern_of}
 use Rattle.protocol.specs.Command.{Command}
-use Rattle.protocol.specs.Command.Command.{Blank, Hello, Cat, Bye, End, Station as StationCommand, Select, Data, Fetch, Time, Bad}
+use Rattle.protocol.specs.Command.Command.{Blank, Hello, Cat, Bye, End, Station as StationCommand, Select, Data, Fetch}
+use Rattle.protocol.specs.Command.Command.{Time, Bad}
 use Rattle.protocol.specs.History.{Action}
 use Rattle.protocol.specs.History.Action.{Data as DataAction, Fetch as FetchAction, Time as TimeAction}
 
@@ -73,7 +75,8 @@ together cs = sum_by (λ c. length c.patterns) cs
 abbrev pub choose_known : Station → List Choice → Option ℕ → Outcome
 choose_known s cs (Some i) = Stays ok_line (Multi cs (Some i))
 choose_known s cs None =
-    if nat_lt (length cs) max_choices then Stays ok_line (Multi (cs ++ record { station = s; patterns = []; action = None } ∷ []) (Some (length cs)))
+    if nat_lt (length cs) max_choices then Stays ok_line
+    (Multi (cs ++ record { station = s; patterns = []; action = None } ∷ []) (Some (length cs)))
     else Stays error_line (Multi cs None)
 
 -- STATION: the station, where it is visible, becomes the current one
@@ -86,11 +89,12 @@ abbrev pub choices_of : Negotiated → List Choice
 choices_of (Uni ps) = []
 choices_of (Multi cs current) = cs
 
--- SELECT with a pattern: the patterns with one more, or None where the text is no pattern or there is no room, while the client has so
--- many in all
+-- SELECT with a pattern: the patterns with one more, or None where the text is no pattern or there is no room, while
+-- the client has so many in all
 abbrev pub with_pattern : (all : ℕ) → List Pattern → Option Pattern → Option (List Pattern)
 with_pattern all ps None = None
-with_pattern all ps (Some p) = if nat_lt (length ps) max_patterns && nat_lt all max_together then Some (ps ++ p ∷ []) else None
+with_pattern all ps (Some p) =
+    if nat_lt (length ps) max_patterns && nat_lt all max_together then Some (ps ++ p ∷ []) else None
 
 -- SELECT: without a pattern there are none from then on
 abbrev pub selected : (all : ℕ) → List Pattern → Option (List ℕ) → Option (List Pattern)
@@ -135,7 +139,8 @@ act_uni ps action (s ∷ ss) = Starts (record { station = s; patterns = ps; acti
 -- in multi-station mode, of the current station
 abbrev pub act_multi : List Choice → Option ℕ → Action → Option Choice → Outcome
 act_multi cs current action None = Stays error_line (Multi cs current)
-act_multi cs current action (Some c) = Stays ok_line (Multi (put cs current (record c { action = Some action })) current)
+act_multi cs current action (Some c) =
+    Stays ok_line (Multi (put cs current (record c { action = Some action })) current)
 
 -- in either mode
 abbrev pub act : View → Negotiated → Action → Outcome

@@ -1,6 +1,7 @@
--- What stands on the wire: packets to a client with the end of a transfer, and records from a feeder.
--- SeedLink 3, data packets and the end of a transfer; the feed is this project's own. Left out: how bytes come in pieces.
-use Rattle.std.specs.Prelude.{◌≡◌, ◌≢◌, ◌⊎◌, ℕ, ◌+◌, ◌<◌, Bool, true, false, ◌&&◌, ◌||◌, nat_lt, ◌==◌, if◌then◌else◌, List, [], ◌∷◌, ◌++◌, length, is_some, codes, All}
+-- What stands on the wire: packets to a client with the end of a transfer, and records from a feeder. SeedLink 3, data
+-- packets and the end of a transfer; the feed is this project's own. Left out: how bytes come in pieces.
+use Rattle.std.specs.Prelude.{◌≡◌, ◌≢◌, ◌⊎◌, ℕ, ◌+◌, ◌<◌, Bool, true, false, ◌&&◌, ◌||◌, nat_lt, ◌==◌, if◌then◌else◌}
+use Rattle.std.specs.Prelude.{List, [], ◌∷◌, ◌++◌, length, is_some, codes, All}
 use Rattle.std.specs.List.{concat}
 use Rattle.std.specs.Str.{bytes_eq}
 use Rattle.protocol.specs.Packet.{hex_digit, IsSomePacket}

@@ -1,8 +1,9 @@
--- Moments, as ticks of 0.0001 s from 1970-01-01T00:00:00: by the year and the day of the year, as a record has them, and by
--- a civil date, as a command spells it.
--- SEED Reference Manual 2.4, chapter 8, the data type BTIME; SeedLink 3, the times of DATA, FETCH and TIME.
--- Left out: leap seconds (a second 60 is the next minute's first moment), fractions of a second in commands.
-use Rattle.std.specs.Prelude.{ℕ, ◌+◌, ◌*◌, ◌-◌, ◌/◌, ◌%◌, zero, suc, Bool, ◌&&◌, ◌||◌, not, nat_le, ◌==◌, if◌then◌else◌, List, [], ◌∷◌, length, ℤ, pos, ◌-ℤ◌, Option, Some, None, option_and_then}
+-- Moments, as ticks of 0.0001 s from 1970-01-01T00:00:00: by the year and the day of the year, as a record has them,
+-- and by a civil date, as a command spells it. SEED Reference Manual 2.4, chapter 8, the data type BTIME; SeedLink 3,
+-- the times of DATA, FETCH and TIME. Left out: leap seconds (a second 60 is the next minute's first moment), fractions
+-- of a second in commands.
+use Rattle.std.specs.Prelude.{ℕ, ◌+◌, ◌*◌, ◌-◌, ◌/◌, ◌%◌, zero, suc, Bool, ◌&&◌, ◌||◌, not, nat_le, ◌==◌, if◌then◌else◌}
+use Rattle.std.specs.Prelude.{List, [], ◌∷◌, length, ℤ, pos, ◌-ℤ◌, Option, Some, None, option_and_then}
 use Rattle.protocol.specs.Pieces.{split}
 
 -- ---- ticks
@@ -14,7 +15,8 @@ days_before y = 365 * (y - 1) + (y - 1) / 4 - (y - 1) / 100 + (y - 1) / 400
 -- the ticks of a day of the year, counted from 1, and a time of the day, with a fraction in units of 0.0001 s
 abbrev pub tick : (year day hour minute second fraction : ℕ) → ℤ
 tick year day hour minute second fraction =
-    pos (864000000 * (days_before year + (day - 1)) + 36000000 * hour + 600000 * minute + 10000 * second + fraction) -ℤ pos (864000000 * days_before 1970)
+    pos (864000000 * (days_before year + (day - 1)) + 36000000 * hour + 600000 * minute + 10000 * second + fraction) -ℤ
+    pos (864000000 * days_before 1970)
 
 -- A year of 1900 to 2100, and a day of 1 to 366, in whatever year.
 abbrev pub is_day : (year day : ℕ) → Bool
@@ -22,7 +24,8 @@ is_day year day = nat_le 1900 year && nat_le year 2100 && nat_le 1 day && nat_le
 
 -- a time of the day; a second may be the 60th
 abbrev pub is_time_of_day : (hour minute second fraction : ℕ) → Bool
-is_time_of_day hour minute second fraction = nat_le hour 23 && nat_le minute 59 && nat_le second 60 && nat_le fraction 9999
+is_time_of_day hour minute second fraction =
+    nat_le hour 23 && nat_le minute 59 && nat_le second 60 && nat_le fraction 9999
 
 -- the ticks of the numbers of a BTIME, or None where one is out of range
 abbrev pub btime_tick : (year day hour minute second fraction : ℕ) → Option ℤ
@@ -70,7 +73,9 @@ is_civil t =
 
 -- its ticks, or None where it is out of range
 abbrev pub civil_tick : CivilTime → Option ℤ
-civil_tick t = if is_civil t then Some (tick t.year (days_of_year_before t.year t.month + t.day) t.hour t.minute t.second 0) else None
+civil_tick t =
+    if is_civil t then Some (tick t.year (days_of_year_before t.year t.month + t.day) t.hour t.minute t.second 0)
+    else None
 
 -- the number of a decimal digit
 abbrev pub decimal_digit : ℕ → Option ℕ
@@ -97,7 +102,8 @@ short_numbers (p ∷ ps) = cons_some (digits_between 1 2 p) (short_numbers ps)
 
 -- a civil time of six numbers
 abbrev pub civil : (year month day hour minute second : ℕ) → CivilTime
-civil year month day hour minute second = record { year = year; month = month; day = day; hour = hour; minute = minute; second = second }
+civil year month day hour minute second =
+    record { year = year; month = month; day = day; hour = hour; minute = minute; second = second }
 
 -- Year, month, day, and then hour, minute and second, of which the last ones may be missing and are then 0.
 abbrev pub civil_of_numbers : Option ℕ → Option (List ℕ) → Option CivilTime

@@ -1,6 +1,7 @@
 -- All clients of a server over one history, by the configuration in force.
 -- SeedLink 3 says nothing of several clients. Left out: a connection that the server refuses, which is no event.
-use Rattle.std.specs.Prelude.{ℕ, zero, suc, List, [], ◌∷◌, ◌++◌, Bool, true, if◌then◌else◌, Option, Some, None, option_map, map, slice_get, Result, Ok, Err}
+use Rattle.std.specs.Prelude.{ℕ, zero, suc, List, [], ◌∷◌, ◌++◌, Bool, true, if◌then◌else◌, Option, Some, None}
+use Rattle.std.specs.Prelude.{option_map, map, slice_get, Result, Ok, Err}
 use Rattle.std.specs.List.{list_any}
 use Rattle.protocol.specs.Record.{Facts, header_of}
 use Rattle.protocol.specs.declared.record.RecordFault.{RecordFault}
@@ -8,8 +9,8 @@ use Rattle.protocol.specs.Catalog.{Config, View, view_of, has_codes, is_same_vie
 use Rattle.protocol.specs.History.{Arrival}
 use Rattle.protocol.specs.Client.{Client, Taken, new_client, received, offered, cut, taken_of, after_take}
 
--- What happens at a server: to one client, by its number, a connection from an address, bytes from it, that it is ready to
--- take so many bytes, and its connection's end; and to all a record from a feeder, and a new configuration.
+-- What happens at a server: to one client, by its number, a connection from an address, bytes from it, that it is ready
+-- to take so many bytes, and its connection's end; and to all a record from a feeder, and a new configuration.
 pub data Event : Type 0 where
   Open : (address : ℕ) → Event
   Bytes : (client : ℕ) → (bytes : List ℕ) → Event
@@ -76,8 +77,8 @@ at (c ∷ cs) (suc k) f = c ∷ at cs k f
 
 -- ---- the configuration in force
 
--- A new configuration comes into force where it differs in nothing but the lists of addresses. Else it is refused, and all
--- stays as it is.
+-- A new configuration comes into force where it differs in nothing but the lists of addresses. Else it is refused, and
+-- all stays as it is.
 abbrev pub reloaded : Config → Config → Config
 reloaded config new = if is_same_but_for_access config new then new else config
 
@@ -104,8 +105,10 @@ reviewed_by config new cs = if is_same_but_for_access config new then map (revie
 -- the world after an event, under the configuration in force before it
 abbrev pub step : Config → World → Event → World
 step config w (Open a) = record w { connections = w.connections ++ opened config a ∷ [] }
-step config w (Bytes k bytes) = record w { connections = at w.connections k (changed (λ v c. received v w.history bytes c)) }
-step config w (Take k n) = record w { connections = at w.connections k (changed (λ v c. after_take v w.history (offered w.history c) n)) }
+step config w (Bytes k bytes) =
+    record w { connections = at w.connections k (changed (λ v c. received v w.history bytes c)) }
+step config w (Take k n) =
+    record w { connections = at w.connections k (changed (λ v c. after_take v w.history (offered w.history c) n)) }
 step config w (Close k) = record w { connections = at w.connections k closed }
 step config w (Arrive r) = record w { history = arrived w.history (accepted config r) }
 step config w (Reload new) = record w { connections = reviewed_by config new w.connections }
@@ -149,7 +152,8 @@ told k t = record { client = k; bytes = t.bytes; ended = t.ended }
 abbrev pub handed_from : Config → World → List Event → List Handed
 handed_from config w [] = []
 handed_from config w (Take k n ∷ es) =
-    told k (taken_by w.history (client_of (slice_get w.connections k)) n) ∷ handed_from config (step config w (Take k n)) es
+    told k (taken_by w.history (client_of (slice_get w.connections k)) n)
+    ∷ handed_from config (step config w (Take k n)) es
 handed_from config w (e ∷ es) = handed_from (config_by config e) (step config w e) es
 
 -- what each Take hands, from a server's start

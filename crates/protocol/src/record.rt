@@ -31,8 +31,8 @@ pub enum ByteOrder {
     Little,
 }
 
-/// Why 512 bytes are no data record (SEED Reference Manual 2.4, chapter 8). A record is refused for the first of these that
-/// is true of it.
+/// Why 512 bytes are no data record (SEED Reference Manual 2.4, chapter 8). A record is refused for the first of these
+/// that is true of it.
 #[derive(Clone, Copy, Debug, PartialEq, Eq, Drop, Error)]
 pub enum RecordFault {
     /// One of the six bytes of the sequence number is no digit, no space and not 0.

@@ -1,7 +1,8 @@
 //! What the program tells of a refusal.
 ghost use Rattle.std.specs.Prelude.{◌≡◌};
 
-/// The number and the name by which the program reports a refusal: the same ones for the same cause, wherever it comes up.
+/// The number and the name by which the program reports a refusal: the same ones for the same cause, wherever it comes
+/// up.
 #[derive(Clone, Copy, Debug, PartialEq, Eq, Drop)]
 pub struct Report {
     /// 1 to 62.

@@ -7,7 +7,8 @@ use slreader::{Plan, Want};
 use std::alloc::Global;
 use std::test::Fail;
 
-/// A plan, what a server sends, and what comes of it: all that is asked, the lines, and the number of the fault or 0.
+/// A plan, what a server sends, and what comes of it: all that is asked, the lines, and the number of the fault or
+/// 0.
 struct Row {
     words: &'static [&'static [u8]],
     sent: &'static [u8],

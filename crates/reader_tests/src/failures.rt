@@ -1,5 +1,5 @@
-//! A reader of whose connection or outputs one call fails, each call in turn: what was sent and written before is a beginning
-//! of what is sent and written otherwise, and nothing comes after.
+//! A reader of whose connection or outputs one call fails, each call in turn: what was sent and written before is a
+//! beginning of what is sent and written otherwise, and nothing comes after.
 use crate::beside_a_server::{plan, record};
 use packet_listing::{ListingFault, read_over};
 use sl_io::{Failing, MemorySink, MemorySource};
@@ -107,7 +107,8 @@ fn fault_of(device: Device) -> ListingFault {
     }
 }
 
-/// How many calls of a device were tried until none failed, or None where one of them had another outcome than its fault.
+/// How many calls of a device were tried until none failed, or None where one of them had another outcome than its
+/// fault.
 fn tried(
     alloc: Global,
     answers: &[u8],

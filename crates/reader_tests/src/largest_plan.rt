@@ -1,4 +1,5 @@
-//! The largest plan beside a server that has all its stations: 255 wants with 1,024 patterns, of which nothing is refused.
+//! The largest plan beside a server that has all its stations: 255 wants with 1,024 patterns, of which nothing is
+//! refused.
 use catalog::Config;
 use server_core::{Client, Offer, Server};
 use slreader::{Action, Plan, ReaderCore, Want, What};

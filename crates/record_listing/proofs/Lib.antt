@@ -1,4 +1,4 @@
-mod Checking
-mod Joining
-mod Pieces
-mod Readings
+mod CheckLemmas
+mod TextLemmas
+mod PieceLemmas
+mod ReadingLemmas

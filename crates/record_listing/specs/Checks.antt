@@ -21,9 +21,11 @@ check_fault_name OutOfMemory = codes "OutOfMemory"
 check_fault_name Read = codes "Read"
 check_fault_name Write = codes "Write"
 
--- why a check stopped, by the counts of the reader's failures and calls and of the writer's failures and empty writes, before
--- and after it: no memory, and nothing had failed; a read, by which the reading stopped; or a write, by which the writing did
-abbrev pub StopsChecking : CheckFault → (failures failures' calls calls' : ℕ) → (write_failures write_failures' empty empty' : ℕ) → Type 0
+-- why a check stopped, by the counts of the reader's failures and calls and of the writer's failures and empty writes,
+-- before and after it: no memory, and nothing had failed; a read, by which the reading stopped; or a write, by which
+-- the writing did
+abbrev pub StopsChecking : CheckFault → (failures failures' calls calls' : ℕ)
+    → (write_failures write_failures' empty empty' : ℕ) → Type 0
 StopsChecking OutOfMemory failures failures' calls calls' write_failures write_failures' empty empty' =
     (failures' ≡ failures) × (write_failures' ≡ write_failures) × (empty' ≡ empty)
 StopsChecking Read failures failures' calls calls' write_failures write_failures' empty empty' =

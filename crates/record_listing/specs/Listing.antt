@@ -1,6 +1,7 @@
 -- What the check of a file of records writes: a line a record, and one for what is left over.
 -- SEED Reference Manual 2.4, chapter 8, for what a record says; the lines are this project's own.
-use Rattle.std.specs.Prelude.{ℕ, ◌+◌, ◌&&◌, nat_le, ◌==◌, if◌then◌else◌, List, [], ◌∷◌, ◌++◌, length, map, codes, decimal, Option, Some, None, Result, Ok, Err}
+use Rattle.std.specs.Prelude.{ℕ, ◌+◌, ◌&&◌, nat_le, ◌==◌, if◌then◌else◌, List, [], ◌∷◌, ◌++◌, length, map, codes}
+use Rattle.std.specs.Prelude.{decimal, Option, Some, None, Result, Ok, Err}
 use Rattle.std.specs.Fmt.{signed_decimal}
 use Rattle.protocol.specs.declared.record.Kind.{Kind}
 use Rattle.protocol.specs.declared.record.Kind.TheVariants.{D, E, C, O, T, L}
@@ -77,7 +78,8 @@ lines_from number (r ∷ records) = record_line number (reading_of r) ++ lines_f
 
 -- the line of the bytes that are left over, where there are some
 abbrev pub partial_text : ℕ → List ℕ
-partial_text count = if count == 0 then [] else codes "partial " ++ word_text (decimal count) ++ codes "bytes" ++ 10 ∷ []
+partial_text count = if count == 0 then [] else codes "partial " ++ word_text (decimal count) ++ codes "bytes" ++ 10
+    ∷ []
 
 -- the lines of a feed
 abbrev pub lines_of : FeedRead → List ℕ

@@ -1,10 +1,13 @@
 //! The check of a file of records: a line a record, and the first fault.
-ghost use Rattle.std.specs.Prelude.{◌≡◌, ◌≤◌, ◌<◌, ◌+◌, ◌^◌, ◌++◌, [], List, ℕ, length, take, IfOk, OnOk, IfErr, OnErr, IfSome, MatchResult};
+ghost use Rattle.std.specs.Prelude.{◌≡◌, ◌≤◌, ◌<◌, ◌+◌, ◌^◌, ◌++◌, [], List, ℕ, length, take, IfOk, OnOk, IfErr};
+ghost use Rattle.std.specs.Prelude.{OnErr};
+ghost use Rattle.std.specs.Prelude.{IfSome, MatchResult};
 ghost use Rattle.std.specs.Io.KnownBytes.{Appends, Consumes, IsAtEnd};
 ghost use Rattle.sl_io.specs.Counts.{IsMore, StopsReading, StopsWriting};
 ghost use Rattle.sl_io.specs.Known.{AppendsBeginning, ConsumesSome};
 ghost use Rattle.record_listing.specs.Listing.{listing_of, partial_text, verdict_by, verdict_of};
-ghost use Rattle.record_listing.specs.Checks.{check_fault_number, check_fault_name, nothing_listed, piece_read, with_records, StopsChecking};
+ghost use Rattle.record_listing.specs.Checks.{check_fault_number, check_fault_name, nothing_listed, piece_read};
+ghost use Rattle.record_listing.specs.Checks.{with_records, StopsChecking};
 
 use crate::fault::FileFault;
 use crate::listing::Listing;
@@ -79,13 +82,15 @@ fn list_block<R: Source>(
     requires count { listing.old.count + length block.old < 2 ^ 100 }
     ensures consumed { IfOk result (λ n. Consumes (R.left reader.old) (R.left reader.new) (take n block.new)) }
     ensures end { IfOk result (λ n. n ≡ 0 → IsAtEnd (R.left reader.new)) }
-    ensures listed { IfOk result (λ n. listing.new ≡ with_records listing.old (piece_read cutter.old (take n block.new)).records) }
+    ensures listed { IfOk result (λ n. listing.new
+        ≡ with_records listing.old (piece_read cutter.old (take n block.new)).records) }
     ensures rest { IfOk result (λ n. cutter.new ≡ (piece_read cutter.old (take n block.new)).rest) }
     ensures count { OnOk result (listing.new.count ≤ listing.old.count + length block.new) }
     ensures lost { OnErr result (ConsumesSome (R.left reader.old) (R.left reader.new)) }
     ensures call { IsMore (R.calls reader.old) (R.calls reader.new) 1 }
     ensures failures { MatchResult result (λ _. R.failures reader.new ≡ R.failures reader.old)
-        (λ fault. StopsReading fault (R.failures reader.old) (R.failures reader.new) (R.calls reader.old) (R.calls reader.new)) }
+        (λ fault. StopsReading fault (R.failures reader.old) (R.failures reader.new) (R.calls reader.old)
+        (R.calls reader.new)) }
 {
     match reader.read(block) {
         Ok(count) => match list_piece(cutter, listing, &block[..count]) {
@@ -101,8 +106,11 @@ fn write_lines<W: Sink>(writer: &mut W, listing: &mut Listing) -> Result<(), Wri
     ensures ok { OnOk result (Appends (W.written writer.old) (W.written writer.new) listing.old.lines) }
     ensures cleared { OnOk result (listing.new ≡ record listing.old { lines = [] }) }
     ensures err { OnErr result (AppendsBeginning (W.written writer.old) (W.written writer.new) listing.old.lines) }
-    ensures same { OnOk result ((W.failures writer.new ≡ W.failures writer.old) × (W.empty_writes writer.new ≡ W.empty_writes writer.old)) }
-    ensures stopped { OnErr result (StopsWriting (W.failures writer.old) (W.failures writer.new) (W.empty_writes writer.old) (W.empty_writes writer.new)) }
+    ensures same { OnOk result ((W.failures writer.new ≡ W.failures writer.old)
+        × (W.empty_writes writer.new ≡ W.empty_writes writer.old)) }
+    ensures stopped { OnErr result
+        (StopsWriting (W.failures writer.old) (W.failures writer.new) (W.empty_writes writer.old)
+        (W.empty_writes writer.new)) }
 {
     match write_all(writer, listing.lines()) {
         Ok(()) => {
@@ -115,12 +123,16 @@ fn write_lines<W: Sink>(writer: &mut W, listing: &mut Listing) -> Result<(), Wri
 
 /// Writes the lines that are not written yet, where they are many.
 fn write_many<W: Sink>(writer: &mut W, listing: &mut Listing) -> Result<(), WriteFault>
-    ensures ok { OnOk result ((lines : List ℕ) × Appends (W.written writer.old) (W.written writer.new) lines × (listing.old.lines ≡ lines ++ listing.new.lines)) }
+    ensures ok { OnOk result ((lines : List ℕ) × Appends (W.written writer.old) (W.written writer.new) lines
+        × (listing.old.lines ≡ lines ++ listing.new.lines)) }
     ensures kept { OnOk result (listing.new ≡ record listing.old { lines = listing.new.lines }) }
     ensures few { OnOk result (length listing.new.lines < 32768) }
     ensures err { OnErr result (AppendsBeginning (W.written writer.old) (W.written writer.new) listing.old.lines) }
-    ensures same { OnOk result ((W.failures writer.new ≡ W.failures writer.old) × (W.empty_writes writer.new ≡ W.empty_writes writer.old)) }
-    ensures stopped { OnErr result (StopsWriting (W.failures writer.old) (W.failures writer.new) (W.empty_writes writer.old) (W.empty_writes writer.new)) }
+    ensures same { OnOk result ((W.failures writer.new ≡ W.failures writer.old)
+        × (W.empty_writes writer.new ≡ W.empty_writes writer.old)) }
+    ensures stopped { OnErr result
+        (StopsWriting (W.failures writer.old) (W.failures writer.new) (W.empty_writes writer.old)
+        (W.empty_writes writer.new)) }
 {
     if listing.is_long() {
         write_lines(writer, listing)
@@ -136,11 +148,15 @@ fn finish<W: Sink>(
     listing: &mut Listing,
 ) -> Result<Option<FileFault>, CheckFault>
     ensures answer { IfOk result (λ answer. answer ≡ verdict_by listing.old.fault rest) }
-    ensures ok { OnOk result (Appends (W.written writer.old) (W.written writer.new) (listing.old.lines ++ partial_text rest)) }
-    ensures err { OnErr result (AppendsBeginning (W.written writer.old) (W.written writer.new) (listing.old.lines ++ partial_text rest)) }
-    ensures same { OnOk result ((W.failures writer.new ≡ W.failures writer.old) × (W.empty_writes writer.new ≡ W.empty_writes writer.old)) }
+    ensures ok { OnOk result
+        (Appends (W.written writer.old) (W.written writer.new) (listing.old.lines ++ partial_text rest)) }
+    ensures err { OnErr result
+        (AppendsBeginning (W.written writer.old) (W.written writer.new) (listing.old.lines ++ partial_text rest)) }
+    ensures same { OnOk result ((W.failures writer.new ≡ W.failures writer.old)
+        × (W.empty_writes writer.new ≡ W.empty_writes writer.old)) }
     ensures stopped { IfErr result (λ fault. (failures failures' calls calls' : ℕ) → failures' ≡ failures
-        → StopsChecking fault failures failures' calls calls' (W.failures writer.old) (W.failures writer.new) (W.empty_writes writer.old) (W.empty_writes writer.new)) }
+        → StopsChecking fault failures failures' calls calls' (W.failures writer.old) (W.failures writer.new)
+        (W.empty_writes writer.old) (W.empty_writes writer.new)) }
 {
     match listing.list_rest(rest) {
         Ok(()) => match write_lines(writer, listing) {
@@ -188,14 +204,15 @@ fn check_blocks<R: Source, W: Sink>(
     Err(CheckFault::Read)
 }
 
-/// Lists each record of 512 bytes that is left of the reader in a line, and the bytes that are left over in one more, and answers
-/// what is wrong: that a record is refused, with the fault of the first (SEED Reference Manual 2.4, chapter 8), else that bytes
-/// are left over, and nothing where all is well. A record that is refused is a line of the listing, and the check goes on.
+/// Lists each record of 512 bytes that is left of the reader in a line, and the bytes that are left over in one
+/// more, and answers what is wrong: that a record is refused, with the fault of the first (SEED Reference Manual
+/// 2.4, chapter 8), else that bytes are left over, and nothing where all is well. A record that is refused is a
+/// line of the listing, and the check goes on.
 ///
-/// A line is `K NET STA LOC CHA TYPE START END SAMPLES`, with the record's number from 1 on, times in units of 0.0001 s since
-/// 1970, each space of the location or channel as `-`, and each other byte of a code that is not 33 to 126 as `?`; or
-/// `K refused N Name`. The last is `partial R bytes`. The reader is read in blocks of 64 KiB, and never kept as a whole. After a
-/// fault a beginning of the listing is written.
+/// A line is `K NET STA LOC CHA TYPE START END SAMPLES`, with the record's number from 1 on, times in units of
+/// 0.0001 s since 1970, each space of the location or channel as `-`, and each other byte of a code that is not 33
+/// to 126 as `?`; or `K refused N Name`. The last is `partial R bytes`. The reader is read in blocks of 64 KiB, and
+/// never kept as a whole. After a fault a beginning of the listing is written.
 pub fn check_records<R: Source, W: Sink>(
     alloc: Global,
     reader: &mut R,

@@ -1,4 +1,5 @@
-//! Listings of files of records: a line a record, and what is wrong with the file (SEED Reference Manual 2.4, chapter 8).
+//! Listings of files of records: a line a record, and what is wrong with the file (SEED Reference Manual 2.4, chapter
+//! 8).
 #![tactic(auto)]
 
 mod check;

@@ -8,11 +8,12 @@ use std::marker::Model;
 /// How many bytes of lines there is room for from the start: a block of 64 KiB.
 const ROOM: usize = 65_536;
 
-/// How many bytes of lines are enough to be written: half of the room, so that what one more block of records gives fits.
+/// How many bytes of lines are enough to be written: half of the room, so that what one more block of records gives
+/// fits.
 const ENOUGH: usize = 32_768;
 
-/// The records that are listed so far: their number, why the first refused one of them is none, and the lines that are not
-/// written yet.
+/// The records that are listed so far: their number, why the first refused one of them is none, and the lines that are
+/// not written yet.
 #[derive(Drop)]
 pub(crate) struct Listing {
     count: u128,

@@ -1,6 +1,8 @@
 //! The texts of what a record says, put behind a text.
 ghost use Rattle.std.specs.Prelude.{◌≡◌, ◌∷◌, ◌++◌, [], OnOk, IfOk, map, decimal};
-ghost use Rattle.record_listing.specs.Listing.{codes_text, extent_text, header_text, kind_letter, partial_text, reading_of, record_text, refusal, refusal_text, shown_byte, shown_place, word_text};
+ghost use Rattle.record_listing.specs.Listing.{codes_text, extent_text, header_text, kind_letter, partial_text};
+ghost use Rattle.record_listing.specs.Listing.{reading_of, record_text, refusal, refusal_text, shown_byte, shown_place};
+ghost use Rattle.record_listing.specs.Listing.{word_text};
 
 use itoa::{Buffer, Integer};
 use mseed_header::{Header, Kind, RecordFault, read};
@@ -111,9 +113,9 @@ fn put_refusal(text: &mut Vec<u8>, fault: RecordFault) -> Result<(), AllocError>
     Ok(())
 }
 
-/// What a header says: `NET STA LOC CHA TYPE START END SAMPLES`, with times in units of 0.0001 s since 1970, each space of the
-/// location or channel as `-`, and each other byte of a code that is not 33 to 126 as `?`.
-#[tactic(auto, using(crate::proofs::Joining::joins_two))]
+/// What a header says: `NET STA LOC CHA TYPE START END SAMPLES`, with times in units of 0.0001 s since 1970, each space
+/// of the location or channel as `-`, and each other byte of a code that is not 33 to 126 as `?`.
+#[tactic(auto, using(crate::proofs::TextLemmas::joins_two))]
 pub fn put_header(text: &mut Vec<u8>, header: &Header<'_>) -> Result<(), AllocError>
     ensures { OnOk result (text.new.items ≡ text.old.items ++ header_text header.now) }
 {

@@ -1,5 +1,5 @@
-//! Tests of records: their headers, records that are made, feeds of them, listings, and the readers and writers below these.
-//! Nothing but tests.
+//! Tests of records: their headers, records that are made, feeds of them, listings, and the readers and writers below
+//! these. Nothing but tests.
 #![tactic(auto)]
 
 #[cfg(test)]

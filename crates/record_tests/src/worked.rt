@@ -1,7 +1,8 @@
 //! The bytes that tests begin with: a worked record, and bytes that go round.
 use std::alloc::{AllocError, Global};
 
-/// GE APE, without a location, BHZ, of 2024-02-29T00:00:00, with 100 samples at 100 samples a second: the bytes that are not 0.
+/// GE APE, without a location, BHZ, of 2024-02-29T00:00:00, with 100 samples at 100 samples a second: the bytes
+/// that are not 0.
 pub const HEAD: [u8; 64] =
     *b"000001D APE    BHZGE\x07\xe8\x00\x3c\x00\x00\x00\x00\x00\x00\x00\x64\x00\x64\x00\x01\x00\x00\x00\x01\x00\x00\x00\x00\x00\x40\x00\x30\x03\xe8\x00\x00\x0b\x01\x09\x00\x00\x00\x00\x00\x00\x00\x00\x00";
 

@@ -1,2 +1,2 @@
-mod Passing
+mod PassesLemmas
 pub mod PoolLemmas

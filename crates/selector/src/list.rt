@@ -22,8 +22,8 @@ impl Full {
     }
 }
 
-/// Whether a record with that location, channel and type passes selectors: there is none that isn't negated, or one matches,
-/// and no negated one matches.
+/// Whether a record with that location, channel and type passes selectors: there is none that isn't negated, or one
+/// matches, and no negated one matches.
 pub(crate) fn passes_among(
     selectors: &[Selector],
     location: &[u8; 2],

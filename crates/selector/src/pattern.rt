@@ -1,15 +1,17 @@
 //! One selector.
 ghost use Rattle.std.specs.Prelude.{◌≡◌};
 ghost use Rattle.std.specs.List.{list_all};
-ghost use Rattle.protocol.specs.Pattern.{body_of, byte_matches, channel_pattern, is_channel_byte, is_location_byte, kind_matches, kind_of_letter, kind_pattern, matches, part_matches, pattern_of, place_pattern};
+ghost use Rattle.protocol.specs.Pattern.{body_of, byte_matches, channel_pattern, is_channel_byte, is_location_byte};
+ghost use Rattle.protocol.specs.Pattern.{kind_matches, kind_of_letter, kind_pattern, matches, part_matches, pattern_of};
+ghost use Rattle.protocol.specs.Pattern.{place_pattern};
 ghost use Rattle.protocol.specs.Record.{Facts};
 ghost use Rattle.selector.specs.Matching.{matches_parts};
 
 use protocol::record::Kind;
 use std::marker::Model;
 
-/// A pattern that chooses records by their location, channel and type, or that refuses them where it is negated. What it
-/// leaves off matches anything; the default leaves off everything.
+/// A pattern that chooses records by their location, channel and type, or that refuses them where it is negated. What
+/// it leaves off matches anything; the default leaves off everything.
 ///
 /// In the location and the channel `?` matches any byte, `-` a space, and every other character itself.
 #[derive(Clone, Copy, Debug, PartialEq, Eq, Default)]
@@ -31,9 +33,10 @@ impl Model for Selector {
 }
 
 impl Selector {
-    /// The selector that a text is: an optional `!`, which negates, and one of a location and a channel (5 characters), a
-    /// channel (3 characters), either of these with `.` and a type, a type alone, and `.` and a type. A type is one of `D`,
-    /// `E`, `C`, `O`, `T` and `L`. A channel's characters are letters, digits and `?`, a location's these and `-`.
+    /// The selector that a text is: an optional `!`, which negates, and one of a location and a channel (5 characters),
+    /// a channel (3 characters), either of these with `.` and a type, a type alone, and `.` and a type. A type is one
+    /// of `D`, `E`, `C`, `O`, `T` and `L`. A channel's characters are letters, digits and `?`, a location's these and
+    /// `-`.
     ///
     /// None where the text is anything else.
     pub fn parse(text: &[u8]) -> Option<Selector>

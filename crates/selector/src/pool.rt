@@ -1,5 +1,6 @@
 //! The selectors of all stations that one client names.
-ghost use Rattle.std.specs.Prelude.{◌≡◌, ◌<◌, ◌≤◌, ◌+◌, ◌^◌, [], ◌∷◌, ◌++◌, ◌⊎◌, ◌↔◌, IfOk, IsOk, OnOk, OnErr, drop, length, replicate, slice_set, take};
+ghost use Rattle.std.specs.Prelude.{◌≡◌, ◌<◌, ◌≤◌, ◌+◌, ◌^◌, [], ◌∷◌, ◌++◌, ◌⊎◌, ◌↔◌, IfOk, IsOk, OnOk, OnErr, drop};
+ghost use Rattle.std.specs.Prelude.{length, replicate, slice_set, take};
 ghost use Rattle.std.specs.Vec.{vec_capacity};
 ghost use Rattle.protocol.specs.Pattern.{Pattern, passes};
 ghost use Rattle.protocol.specs.Record.{Facts};
@@ -112,8 +113,8 @@ impl Pool {
         lay_out(&mut self.starts, &self.counts);
     }
 
-    /// Whether a record with that location, channel and type passes a list: the list has no selector that isn't negated,
-    /// or one matches, and no negated one matches.
+    /// Whether a record with that location, channel and type passes a list: the list has no selector that isn't
+    /// negated, or one matches, and no negated one matches.
     pub fn passes(&self, list: usize, location: &[u8; 2], channel: &[u8; 3], kind: Kind) -> bool
         requires { list < 255 }
         ensures parts { result ≡ passes_parts location.now channel.now kind (list_at self.now list) }

@@ -54,8 +54,8 @@ pub fn config_of(alloc: Global, small: u32, large: u32, capacity: u32) -> anyhow
     Ok(Config::read(alloc, text.as_bytes())?)
 }
 
-/// A configuration of 1,024 stations for addresses that begin with 10. The first ones have lists of their own, which let in one
-/// address more: 192.168.0 and the host.
+/// A configuration of 1,024 stations for addresses that begin with 10. The first ones have lists of their own, which
+/// let in one address more: 192.168.0 and the host.
 pub fn listed_config(alloc: Global, listed: u32, host: u32) -> anyhow::Result<Config> {
     let mut text = format!(in alloc;
         "title = \"Bench\"\nmax_connections = 10000\naccess = \"10.0.0.0/8\"\n"
@@ -93,8 +93,8 @@ pub fn arrive_by_turns(server: &mut Server, records: &[[u8; 512]], rounds: u32) 
     sum
 }
 
-/// A server of stations that hold one record each, and of `large` that hold `capacity`. All rings are full, and those of the large
-/// stations were filled by turns.
+/// A server of stations that hold one record each, and of `large` that hold `capacity`. All rings are full, and those
+/// of the large stations were filled by turns.
 pub fn full_server(alloc: Global, small: u32, large: u32, capacity: u32) -> anyhow::Result<Server> {
     let mut server = Server::new(alloc, config_of(alloc, small, large, capacity)?)?;
     let records = records_of(alloc, small.saturating_add(large))?;

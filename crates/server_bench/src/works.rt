@@ -109,8 +109,8 @@ fn open_from_many(alloc: Global, server: &mut Server, clients: u32) -> anyhow::R
     Ok(())
 }
 
-/// Two configurations come into force by turns, in which so many of 1,024 stations have other lists, while so many clients are
-/// open. The lists differ in one address, from which no client came. Answers how many were accepted.
+/// Two configurations come into force by turns, in which so many of 1,024 stations have other lists, while so many
+/// clients are open. The lists differ in one address, from which no client came. Answers how many were accepted.
 pub fn reload(alloc: Global, clients: u32, changed: u32, rounds: u32) -> anyhow::Result<u64> {
     let one = listed_config(alloc, changed, 1)?;
     let other = listed_config(alloc, changed, 2)?;

@@ -1,5 +1,7 @@
 -- Sessions have the views of their addresses, or are cut, between two configurations.
-use Rattle.std.proofs.Common.{◌≡◌, ℕ, zero, suc, ◌<◌, ◌-◌, ◌==◌, true, false, true≢false, inl, inr, ◌⊎◌, nat_lt, if◌then◌else◌, List, [], ◌∷◌, ◌++◌, length, take, drop, get_or, slice_get, slice_set, Option, Some, None, refl, sym, ap, ap₂, subst, ◌∙◌, arith, eqb-true}
+use Rattle.std.proofs.Common.{◌≡◌, ℕ, zero, suc, ◌<◌, ◌-◌, ◌==◌, true, false, true≢false, inl, inr, ◌⊎◌, nat_lt}
+use Rattle.std.proofs.Common.{if◌then◌else◌, List, [], ◌∷◌, ◌++◌, length, take, drop, get_or, slice_get, slice_set}
+use Rattle.std.proofs.Common.{Option, Some, None, refl, sym, ap, ap₂, subst, ◌∙◌, arith, eqb-true}
 use Rattle.std.specs.Net.Addr.{ipv4_bits}
 use Rattle.std.specs.Prelude.{IsSome}
 use Rattle.std.proofs.lemmas.Bool.{eqb-false}
@@ -8,24 +10,27 @@ use Rattle.protocol.specs.Catalog.{Config, View, view_of, is_same_view, is_same_
 use Rattle.protocol.specs.History.{Arrival}
 use Rattle.protocol.specs.Client.{Client, inbox, is_ending, is_nothing, filled_in, offered, received, left_with, listed}
 use Rattle.protocol.specs.Client.State.{Ending as ClientEnding}
-use Rattle.protocol.proofs.Found.{both}
+use Rattle.protocol.proofs.FoundLemmas.{both}
 use Rattle.protocol.proofs.Configs.{views_compared}
-use Rattle.held_records.specs.Holdings.{Holdings}
+use Rattle.held_records.specs.Rings.{RingsValue}
 use Rattle.catalog.specs.Places.{HasDistinctCodes}
 use Rattle.station_ring.specs.declared.held.Summary.{Summary}
 use Rattle.session_state.specs.declared.session.State.{State}
 use Rattle.session_state.specs.declared.session.State.TheVariants.{Negotiating, Listing, Starting, Transfer, Ending}
-use Rattle.session_state.specs.Sessions.{Sitting, client_in, sitting_view, state_in}
+use Rattle.session_state.specs.Sessions.{SessionValue, client_in, session_view, state_in}
 use Rattle.server_core.specs.declared.clients.Clients.{Clients}
 use Rattle.server_core.specs.declared.clients.Opened.{Opened}
 use Rattle.server_core.specs.Arrivals.{IsPlaced}
-use Rattle.server_core.specs.Clients.{AreApart, AreRising, IsTable, address_in, addresses_of, number_at, sessions_of, slot_in}
-use Rattle.server_core.specs.Reloads.{AreCurrent, AreCurrentIn, AreReviewed, HasHistory, IsCurrent, IsCut, cut_sitting, reviewed_sitting}
-use Rattle.server_core.specs.Standing.{Seat, SlotGoesOn, StayOpen, goes_on, seat_of, seated, taking}
-use Rattle.server_core.proofs.Arriving.{Arrives, arrival_of, place-there}
-use Rattle.server_core.proofs.Numbers.{bits_at, its-slot-at, place-of, slot_in-below, slots-apart}
+use Rattle.server_core.specs.Clients.{AreApart, AreRising, IsTable, address_in, addresses_of, number_at, sessions_of}
+use Rattle.server_core.specs.Clients.{slot_in}
+use Rattle.server_core.specs.Reloads.{AreCurrent, AreCurrentIn, AreReviewed, HasHistory, IsCurrent, IsCut, cut_session}
+use Rattle.server_core.specs.Reloads.{reviewed_session}
+use Rattle.server_core.specs.ServerValues.{OpenClient, SlotGoesOn, StayOpen, goes_on, open_client_of, open_client}
+use Rattle.server_core.specs.ServerValues.{taking}
+use Rattle.server_core.proofs.ArriveLemmas.{Arrives, arrival_of, place-there}
+use Rattle.server_core.proofs.NumberLemmas.{bits_at, its-slot-at, place-of, slot_in-below, slots-apart}
 use Rattle.server_core.proofs.ReloadLemmas.{IsLeft, one-at, same-holdings, same-view}
-use Rattle.server_core.proofs.Slots.{address-there, goes-by-number, session-nowhere, session-there, written-table}
+use Rattle.server_core.proofs.SlotLemmas.{address-there, goes-by-number, session-nowhere, session-there, written-table}
 
 -- ---- a client in its end stays there
 
@@ -70,48 +75,48 @@ taken-over h n v c over =
 
 -- ---- a session that goes on
 
-in-its-end : (config : Config) (h : List Arrival) (s : Sitting) → (client_in config h s).state ≡ ClientEnding
+in-its-end : (config : Config) (h : List Arrival) (s : SessionValue) → (client_in config h s).state ≡ ClientEnding
     → s.state ≡ Ending
 in-its-end config h s ends = by s.state ends
   where
-    by : (t : State) → state_in config h (sitting_view config s) s.mode t ≡ ClientEnding → t ≡ Ending
+    by : (t : State) → state_in config h (session_view config s) s.mode t ≡ ClientEnding → t ≡ Ending
     by Negotiating e = absurd cc
     by (Listing made) e = absurd cc
     by Starting e = absurd cc
     by (Transfer next) e = absurd cc
     by Ending e = refl
 
-is-over : (config : Config) (h : List Arrival) (s : Sitting) → IsCut s → IsOver (client_in config h s)
-is-over config h s is = (ap (state_in config h (sitting_view config s) s.mode) is.0, is.1)
+is-over : (config : Config) (h : List Arrival) (s : SessionValue) → IsCut s → IsOver (client_in config h s)
+is-over config h s is = (ap (state_in config h (session_view config s) s.mode) is.0, is.1)
 
-is-cut : (config : Config) (h : List Arrival) (s : Sitting) → IsOver (client_in config h s) → IsCut s
+is-cut : (config : Config) (h : List Arrival) (s : SessionValue) → IsOver (client_in config h s) → IsCut s
 is-cut config h s over = (in-its-end config h s over.0, over.1)
 
 module _ (config : Config) (h : List Arrival) (f : View → Client → Client) (keeps : KeepsOver f) (a : ℕ) where
-  abbrev gone-on : Sitting → Seat
-  gone-on r = record (seat_of config h r) { client = f (sitting_view config r) (client_in config h r) }
+  abbrev gone-on : SessionValue → OpenClient
+  gone-on r = record (open_client_of config h r) { client = f (session_view config r) (client_in config h r) }
 
-  session-goes : (s r : Sitting) → Some (seat_of config h s) ≡ Some (gone-on r) → IsCurrent config a r
+  session-goes : (s r : SessionValue) → Some (open_client_of config h s) ≡ Some (gone-on r) → IsCurrent config a r
       → IsCurrent config a s
   session-goes s r same current differs =
-      let is : seat_of config h s ≡ gone-on r = cc in
-      let view : sitting_view config s ≡ sitting_view config r = ap (λ (x : Seat). x.view) is in
-      let client : client_in config h s ≡ f (sitting_view config r) (client_in config h r) =
-      ap (λ (x : Seat). x.client) is in
+      let is : open_client_of config h s ≡ gone-on r = cc in
+      let view : session_view config s ≡ session_view config r = ap (λ (x : OpenClient). x.view) is in
+      let client : client_in config h s ≡ f (session_view config r) (client_in config h r) =
+      ap (λ (x : OpenClient). x.client) is in
       let was : IsCut r = current (ap (is_same_view (view_of config a)) (sym view) ∙ differs) in
       is-cut config h s (subst IsOver (sym client)
-      (keeps (sitting_view config r) (client_in config h r) (is-over config h r was)))
+      (keeps (session_view config r) (client_in config h r) (is-over config h r was)))
 
-  option-goes : (s : Sitting) (o : Option (Option Sitting))
-      → Some (seat_of config h s) ≡ goes_on f (seated config h o)
-      → ((r : Sitting) → o ≡ Some (Some r) → IsCurrent config a r) → IsCurrent config a s
+  option-goes : (s : SessionValue) (o : Option (Option SessionValue))
+      → Some (open_client_of config h s) ≡ goes_on f (open_client config h o)
+      → ((r : SessionValue) → o ≡ Some (Some r) → IsCurrent config a r) → IsCurrent config a s
   option-goes s None same current = absurd cc
   option-goes s (Some None) same current = absurd cc
   option-goes s (Some (Some r)) same current = session-goes s r same (current r refl)
 
 module _ (config : Config) (h : List Arrival) (c : Clients) (number slot : ℕ) (f : View → Client → Client)
     (keeps : KeepsOver f) where
-  pub current-goes : (new : Slab Sitting) → IsTable c → slot_in c.opened.items number ≡ Some slot
+  pub current-goes : (new : Slab SessionValue) → IsTable c → slot_in c.opened.items number ≡ Some slot
       → SlotGoesOn config h c.slots new slot f
       → AreCurrent config (sessions_of c) (addresses_of c)
       → AreCurrent config (sessions_of (record c { slots = new })) (addresses_of (record c { slots = new }))
@@ -124,14 +129,15 @@ module _ (config : Config) (h : List Arrival) (c : Clients) (number slot : ℕ) 
       let e : k ≡ number = eqb-true k number y in
       let here : slice_get (sessions_of (record c { slots = new })) number ≡ Some (Some s) =
       ap (slice_get (sessions_of (record c { slots = new }))) (sym e) ∙ has in
-      option-goes config h f keeps a s (slice_get (sessions_of c) number) (ap (seated config h) (sym here) ∙ only.here)
+      option-goes config h f keeps a s (slice_get (sessions_of c) number) (ap (open_client config h) (sym here)
+      ∙ only.here)
       (λ r was. current number a r was (ap (slice_get (addresses_of c)) (sym e) ∙ from)))
       (λ n. current k a s (sym (only.others k (eqb-false k number n)) ∙ has) from)
 
 -- ---- clients that come and go
 
 -- Whose sessions and addresses are the same.
-pub current-same : (config : Config) (xs ys : List (Option Sitting)) (addresses bs : List (Option ℕ)) → ys ≡ xs
+pub current-same : (config : Config) (xs ys : List (Option SessionValue)) (addresses bs : List (Option ℕ)) → ys ≡ xs
     → bs ≡ addresses → AreCurrent config xs addresses → AreCurrent config ys bs
 current-same config xs ys addresses bs same from current k a s has is =
     current k a s (ap (λ zs. slice_get zs k) (sym same) ∙ has) (ap (λ zs. slice_get zs k) (sym from) ∙ is)
@@ -152,7 +158,8 @@ some-same : {X : Type 0} (x y : X) → Some x ≡ Some y → x ≡ y
 some-same x y e = cc
 
 -- One more opens.
-pub current-opens : (config : Config) (xs : List (Option Sitting)) (addresses : List (Option ℕ)) (s : Sitting) (a : ℕ)
+pub current-opens : (config : Config) (xs : List (Option SessionValue)) (addresses : List (Option ℕ)) (s : SessionValue)
+    (a : ℕ)
     → length xs ≡ length addresses → IsCurrent config a s → AreCurrent config xs addresses
     → AreCurrent config (xs ++ Some s ∷ []) (addresses ++ Some a ∷ [])
 current-opens config xs addresses s a count here current k b t has from =
@@ -165,10 +172,10 @@ current-opens config xs addresses s a count here current k b t has from =
         (subst (IsCurrent config a) (some-same s t q.0) here)
 
 -- the session of one that opens
-pub current-new : (config : Config) (a : ℕ) (s : Sitting) → sitting_view config s ≡ view_of config a
+pub current-new : (config : Config) (a : ℕ) (s : SessionValue) → session_view config s ≡ view_of config a
     → IsCurrent config a s
 current-new config a s sees differs =
-    absurd (true≢false (sym ((views_compared (view_of config a) (sitting_view config s)).1 (sym sees)) ∙ differs))
+    absurd (true≢false (sym ((views_compared (view_of config a) (session_view config s)).1 (sym sees)) ∙ differs))
 
 -- What is there once a place was emptied was there before.
 left-there : {X : Type 0} (xs : List (Option X)) (n k : ℕ) (x : X) → slice_get (slice_set xs n None) k ≡ Some (Some x)
@@ -180,7 +187,7 @@ left-there (y ∷ ys) (suc n) zero x e = e
 left-there (y ∷ ys) (suc n) (suc k) x e = left-there ys n k x e
 
 -- One closes.
-pub current-closes : (config : Config) (xs : List (Option Sitting)) (addresses : List (Option ℕ)) (n : ℕ)
+pub current-closes : (config : Config) (xs : List (Option SessionValue)) (addresses : List (Option ℕ)) (n : ℕ)
     → AreCurrent config xs addresses → AreCurrent config (slice_set xs n None) (slice_set addresses n None)
 current-closes config xs addresses n current k a s has from =
     current k a s (left-there xs n k s has) (left-there addresses n k a from)
@@ -202,26 +209,26 @@ current-none config c none k a s has from =
 -- ---- a new configuration
 
 -- A session that was reviewed is current.
-reviewed-current : (new : Config) (a : ℕ) (s : Sitting) → IsCurrent new a (reviewed_sitting new a s)
+reviewed-current : (new : Config) (a : ℕ) (s : SessionValue) → IsCurrent new a (reviewed_session new a s)
 reviewed-current new a s =
-    both (is_same_view (view_of new a) (sitting_view new s))
-    (λ y. subst (IsCurrent new a) (sym (ap (λ b. if b then s else cut_sitting s) y))
+    both (is_same_view (view_of new a) (session_view new s))
+    (λ y. subst (IsCurrent new a) (sym (ap (λ b. if b then s else cut_session s) y))
     (λ differs. absurd (true≢false (sym y ∙ differs))))
-    (λ n. subst (IsCurrent new a) (sym (ap (λ b. if b then s else cut_sitting s) n)) (λ differs. (refl, refl)))
+    (λ n. subst (IsCurrent new a) (sym (ap (λ b. if b then s else cut_session s) n)) (λ differs. (refl, refl)))
 
-cut-again : (s : Sitting) → IsCut s → cut_sitting s ≡ s
+cut-again : (s : SessionValue) → IsCut s → cut_session s ≡ s
 cut-again s is = ap₂ (λ (t : State) (bytes : List ℕ). record s { state = t; unread = bytes }) (sym is.0) (sym is.1)
 
 -- A current session whose address sees the same under the new configuration needs no review.
-pub spared-same : (g new : Config) (a : ℕ) (s : Sitting) → is_same_but_for_access g new ≡ true
-    → view_of new a ≡ view_of g a → IsCurrent g a s → reviewed_sitting new a s ≡ s
+pub spared-same : (g new : Config) (a : ℕ) (s : SessionValue) → is_same_but_for_access g new ≡ true
+    → view_of new a ≡ view_of g a → IsCurrent g a s → reviewed_session new a s ≡ s
 spared-same g new a s same sees current =
-    both (is_same_view (view_of new a) (sitting_view new s))
-    (λ y. ap (λ b. if b then s else cut_sitting s) y)
+    both (is_same_view (view_of new a) (session_view new s))
+    (λ y. ap (λ b. if b then s else cut_session s) y)
     (λ n.
-    let differs : is_same_view (view_of g a) (sitting_view g s) ≡ false =
+    let differs : is_same_view (view_of g a) (session_view g s) ≡ false =
     ap₂ is_same_view (sym sees) (sym (same-view g new same s.places)) ∙ n in
-    ap (λ b. if b then s else cut_sitting s) n ∙ cut-again s (current differs))
+    ap (λ b. if b then s else cut_session s) n ∙ cut-again s (current differs))
 
 -- the sessions in the slots, and those of the numbers
 pub current-in-slots : (config : Config) (c : Clients) → IsTable c
@@ -229,7 +236,7 @@ pub current-in-slots : (config : Config) (c : Clients) → IsTable c
 current-in-slots config c table current k slot a s there from has =
     current k a s (session-there c k slot table there ∙ ap Some has) (address-there c k slot table there ∙ ap Some from)
 
-pub current-after : (new : Config) (c : Clients) (slots : Slab Sitting) → IsTable c → StayOpen c.slots slots
+pub current-after : (new : Config) (c : Clients) (slots : Slab SessionValue) → IsTable c → StayOpen c.slots slots
     → AreReviewed new c.opened.items c.slots slots
     → AreCurrent new (sessions_of (record c { slots = slots })) (addresses_of (record c { slots = slots }))
 current-after new c slots table kept each k a t has from = by (slot_in c.opened.items k) refl
@@ -240,7 +247,7 @@ current-after new c slots table kept each k a t has from = by (slot_in c.opened.
     now-table : IsTable after
     now-table = written-table c slots table kept
 
-    from-slot : (slot : ℕ) → slot_in c.opened.items k ≡ Some slot → (o : Option Sitting) → IsSome o
+    from-slot : (slot : ℕ) → slot_in c.opened.items k ≡ Some slot → (o : Option SessionValue) → IsSome o
         → get c.slots slot ≡ o → IsCurrent new a t
     from-slot slot there None none is = absurd (let q : false ≡ true = none in cc)
     from-slot slot there (Some s) some is =
@@ -250,15 +257,15 @@ current-after new c slots table kept each k a t has from = by (slot_in c.opened.
         subst (IsCurrent new a) (some-same _ _ (sym (each k slot a s there came is) ∙ now)) (reviewed-current new a s)
 
     by : (o : Option ℕ) → slot_in c.opened.items k ≡ o → IsCurrent new a t
-    by None none = absurd (let q : Some (seat_of new [] t) ≡ None =
-        ap (seated new []) (sym has) ∙ session-nowhere new [] after k none in cc)
+    by None none = absurd (let q : Some (open_client_of new [] t) ≡ None =
+        ap (open_client new []) (sym has) ∙ session-nowhere new [] after k none in cc)
     by (Some slot) there = from-slot slot there (get c.slots slot) (table.there k slot there) refl
 
 -- The session at a place that was not reviewed yet is as it was before.
-pub current-at : (new config : Config) (os : List Opened) (start slots : Slab Sitting) → AreRising os → AreApart os
+pub current-at : (new config : Config) (os : List Opened) (start slots : Slab SessionValue) → AreRising os → AreApart os
     → (i : ℕ) (one : Opened) → i < length os → one ≡ get_or os i one → IsLeft new os start slots i
     → AreCurrentIn config os start
-    → (s : Sitting) → get slots one.slot ≡ Some s → IsCurrent config (ipv4_bits one.address) s
+    → (s : SessionValue) → get slots one.slot ≡ Some s → IsCurrent config (ipv4_bits one.address) s
 current-at new config os start slots rising apart i one lt is left current s has =
     let k = number_at os i in
     let there : slot_in os k ≡ Some one.slot =
@@ -275,7 +282,7 @@ current-at new config os start slots rising apart i one lt is left current s has
 -- ---- the history
 
 -- A record that arrives is the last of it.
-pub history-arrives : (config : Config) (old new : Holdings) (r : List ℕ) (place : ℕ) (summary : Summary)
+pub history-arrives : (config : Config) (old new : RingsValue) (r : List ℕ) (place : ℕ) (summary : Summary)
     → IsPlaced config r place summary → HasDistinctCodes config.entries → Arrives old new place r summary
     → HasHistory config old → HasHistory config new
 history-arrives config old new r place summary is distinct arrives was =
@@ -286,7 +293,7 @@ history-arrives config old new r place summary is distinct arrives was =
     }
 
 -- Under another configuration with the same stations it is the same.
-pub history-under : (g new : Config) (rings : Holdings) → is_same_but_for_access g new ≡ true → HasHistory g rings
+pub history-under : (g new : Config) (rings : RingsValue) → is_same_but_for_access g new ≡ true → HasHistory g rings
     → HasHistory new rings
 history-under g new rings same was =
     record { history = was.history; holds = was.holds ∙ sym (same-holdings g new same was.history) }

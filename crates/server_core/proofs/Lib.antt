@@ -1,13 +1,13 @@
-pub mod Offering
-pub mod Standings
-pub mod Running
-pub mod Arriving
-pub mod Numbers
-pub mod Slots
-pub mod GoingOn
-pub mod Taking
-pub mod Rows
-pub mod Marking
-pub mod Sparing
+pub mod OfferLemmas
+pub mod StandsLemmas
+pub mod RunLemmas
+pub mod ArriveLemmas
+pub mod NumberLemmas
+pub mod SlotLemmas
+pub mod SessionLemmas
+pub mod TakeLemmas
+pub mod RowLemmas
+pub mod MarkLemmas
+pub mod SpareLemmas
 mod ReloadLemmas
 mod CurrentLemmas

@@ -1,6 +1,7 @@
 -- What a record that arrives is answered.
 -- SeedLink 3, sequence numbers. Left out: where the record is kept.
-use Rattle.std.specs.Prelude.{◌≡◌, ℕ, List, ◌-◌, ◌^◌, true, is_some, length, position, Option, Some, None, Result, Ok, Err, codes}
+use Rattle.std.specs.Prelude.{◌≡◌, ℕ, List, ◌-◌, ◌^◌, true, is_some, length, position, Option, Some, None, Result, Ok}
+use Rattle.std.specs.Prelude.{Err, codes}
 use Rattle.protocol.specs.declared.record.RecordFault.{RecordFault}
 use Rattle.protocol.specs.Record.{Facts, header_of, fault_number, fault_name}
 use Rattle.protocol.specs.Catalog.{Config, has_codes}
@@ -8,7 +9,7 @@ use Rattle.protocol.specs.History.{Arrival, number_at}
 use Rattle.protocol.specs.World.{accepted}
 use Rattle.catalog.specs.Places.{station_at}
 use Rattle.station_ring.specs.declared.held.Summary.{Summary}
-use Rattle.held_records.specs.Holdings.{summary_of}
+use Rattle.held_records.specs.Rings.{summary_of}
 use Rattle.server_core.specs.declared.arrivals.ArriveFault.{ArriveFault}
 use Rattle.server_core.specs.declared.arrivals.ArriveFault.TheVariants.{Record, UnknownStation, Exhausted}
 

@@ -1,10 +1,11 @@
--- The open clients of a server: their numbers, and the slots in which their sessions are. A slot is used again, a number never.
--- This project's own.
-use Rattle.std.specs.Prelude.{◌≡◌, ℕ, ◌<◌, ◌==◌, if◌then◌else◌, List, [], ◌∷◌, map, length, Option, Some, None, IsSome, slice_index_or}
+-- The open clients of a server: their numbers, and the slots in which their sessions are. A slot is used again, a
+-- number never. This project's own.
+use Rattle.std.specs.Prelude.{◌≡◌, ℕ, ◌<◌, ◌==◌, if◌then◌else◌, List, [], ◌∷◌, map, length, Option, Some, None, IsSome}
+use Rattle.std.specs.Prelude.{slice_index_or}
 use Rattle.std.specs.List.{range_with_len}
 use Rattle.std.specs.Net.Addr.{ipv4_bits}
 use Rattle.slab.specs.Slab.{Slab, get}
-use Rattle.session_state.specs.Sessions.{Sitting}
+use Rattle.session_state.specs.Sessions.{SessionValue}
 use Rattle.server_core.specs.declared.clients.Opened.{Opened}
 use Rattle.server_core.specs.declared.clients.Clients.{Clients}
 
@@ -19,16 +20,16 @@ address_in [] k = None
 address_in (o ∷ os) k = if o.number == k then Some (ipv4_bits o.address) else address_in os k
 
 -- the session in a slot
-abbrev pub in_slot : Slab Sitting → Option ℕ → Option Sitting
+abbrev pub in_slot : Slab SessionValue → Option ℕ → Option SessionValue
 in_slot slots None = None
 in_slot slots (Some slot) = get slots slot
 
 -- the session of a number, while its client is open
-abbrev pub session_of : List Opened → Slab Sitting → ℕ → Option Sitting
+abbrev pub session_of : List Opened → Slab SessionValue → ℕ → Option SessionValue
 session_of os slots k = in_slot slots (slot_in os k)
 
 -- the sessions of all clients that ever opened
-unfoldable pub sessions_of : Clients → List (Option Sitting)
+unfoldable pub sessions_of : Clients → List (Option SessionValue)
 sessions_of c = map (session_of c.opened.items c.slots) (range_with_len 0 c.opens)
 
 -- the addresses of all clients that ever opened, while they are open

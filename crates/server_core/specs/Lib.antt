@@ -1,4 +1,4 @@
-pub mod Standing
+pub mod ServerValues
 pub mod Runs
 pub mod Refusals
 pub mod Arrivals

@@ -1,18 +1,19 @@
 -- Which clients an offer may find something for, by the slots of their sessions.
 -- This project's own.
-use Rattle.std.specs.Prelude.{◌≡◌, ◌≢◌, ℕ, ◌<◌, ◌≤◌, ◌==◌, ◌&&◌, ◌||◌, Bool, true, false, List, [], length, map, Option, Some, None, is_some, slice_get, slice_index_or}
+use Rattle.std.specs.Prelude.{◌≡◌, ◌≢◌, ℕ, ◌<◌, ◌≤◌, ◌==◌, ◌&&◌, ◌||◌, Bool, true, false, List, [], length, map, Option}
+use Rattle.std.specs.Prelude.{Some, None, is_some, slice_get, slice_index_or}
 use Rattle.std.specs.List.{list_any, range_with_len}
 use Rattle.slab.specs.Slab.{Slab, get}
 use Rattle.slot_rows.specs.declared.row.Row.{Row}
 use Rattle.slot_rows.specs.Rows.{bit_of, HasRoom}
 use Rattle.protocol.specs.Catalog.{Config, listing}
-use Rattle.held_records.specs.Holdings.{Holdings}
+use Rattle.held_records.specs.Rings.{RingsValue}
 use Rattle.session_state.specs.declared.choices.Entry.{Entry}
-use Rattle.session_state.specs.Naming.{Choice}
+use Rattle.session_state.specs.NamedValues.{Choice}
 use Rattle.session_state.specs.declared.session.State.{State}
 use Rattle.session_state.specs.declared.session.State.TheVariants.{Negotiating, Listing, Starting, Transfer, Ending}
 use Rattle.session_state.specs.Choices.{all_at_start, chosen_of}
-use Rattle.session_state.specs.Sessions.{Sitting, sitting_view}
+use Rattle.session_state.specs.Sessions.{SessionValue, session_view}
 use Rattle.transfer.specs.Choosing.{is_transfer}
 use Rattle.transfer.specs.Sleeping.{Sleeps}
 use Rattle.protocol.specs.Client.{Client, offered}
@@ -23,7 +24,7 @@ use Rattle.server_core.specs.declared.clients.Opened.{Opened}
 use Rattle.server_core.specs.declared.marks.Marks.{Marks}
 use Rattle.server_core.specs.Clients.{slot_in}
 use Rattle.server_core.specs.Refusals.{is_idle, offer_of}
-use Rattle.server_core.specs.Standing.{Serving, mark_at}
+use Rattle.server_core.specs.ServerValues.{ServerValue, mark_at}
 
 -- Something is asked of the station at a place.
 abbrev pub asked : ℕ → List Choice → Bool
@@ -34,7 +35,7 @@ abbrev pub asked_of : ℕ → List Entry → Bool
 asked_of place entries = list_any (λ e. is_some e.action && e.place == place) entries
 
 -- The session is in a transfer with a request for the station at a place.
-abbrev pub asks : ℕ → Sitting → Bool
+abbrev pub asks : ℕ → SessionValue → Bool
 asks place s = is_transfer s.state && asked place (chosen_of s.mode)
 
 -- a slot's bit in a row, where there is one
@@ -76,18 +77,19 @@ pub record Keeps (At : ℕ → Type 0) (old new : Marks) : Type 0 where
   pub rows : KeepsRows At old.rows.items new.rows.items
 
 -- By its state an offer to a session finds nothing and changes nothing.
-abbrev pub idle_in : Config → Holdings → Sitting → State → Type 0
+abbrev pub idle_in : Config → RingsValue → SessionValue → State → Type 0
 idle_in config rings s Negotiating = s.waiting ≡ []
-idle_in config rings s (Listing made) = (s.waiting ≡ []) × (slice_get (listing (sitting_view config s)) made ≡ None)
+idle_in config rings s (Listing made) = (s.waiting ≡ []) × (slice_get (listing (session_view config s)) made ≡ None)
 idle_in config rings s Starting = ⊥
 idle_in config rings s (Transfer next) = Sleeps rings s
 idle_in config rings s Ending = ⊥
 
-pub record IsIdle (config : Config) (rings : Holdings) (s : Sitting) : Type 0 where
+pub record IsIdle (config : Config) (rings : RingsValue) (s : SessionValue) : Type 0 where
   pub by_state : idle_in config rings s s.state
 
 -- The bits of a slot are those of the session in it: one that is not marked is idle.
-pub record IsMarkedAt (config : Config) (rings : Holdings) (marks : Marks) (slot : ℕ) (s : Sitting) : Type 0 where
+pub record IsMarkedAt (config : Config) (rings : RingsValue) (marks : Marks) (slot : ℕ)
+    (s : SessionValue) : Type 0 where
   pub room : HasRooms marks slot
   pub idle : bit_of marks.marked slot ≡ false → IsIdle config rings s
   pub sends : bit_of marks.sending slot ≡ is_transfer s.state
@@ -95,12 +97,12 @@ pub record IsMarkedAt (config : Config) (rings : Holdings) (marks : Marks) (slot
       bit_by (slice_get marks.rows.items place) slot ≡ asked place (chosen_of s.mode)
 
 -- the same of all slots; one that is free is in no transfer
-pub record AreMarked (config : Config) (rings : Holdings) (marks : Marks) (slots : Slab Sitting) : Type 0 where
-  pub held : (slot : ℕ) (s : Sitting) → get slots slot ≡ Some s → IsMarkedAt config rings marks slot s
+pub record AreMarked (config : Config) (rings : RingsValue) (marks : Marks) (slots : Slab SessionValue) : Type 0 where
+  pub held : (slot : ℕ) (s : SessionValue) → get slots slot ≡ Some s → IsMarkedAt config rings marks slot s
   pub free : (slot : ℕ) → get slots slot ≡ None → bit_of marks.sending slot ≡ false
 
 -- A session in a transfer after a call was in one before, with the same requests.
-pub record KeepsRequests (before after : Sitting) : Type 0 where
+pub record KeepsRequests (before after : SessionValue) : Type 0 where
   pub kept : is_transfer after.state ≡ true →
       (is_transfer before.state ≡ true) × (all_at_start after.mode ≡ all_at_start before.mode)
 
@@ -124,7 +126,7 @@ pub record IsSpared (config : Config) (w : World) (k : ℕ) : Type 0 where
   pub nothing : step config w (Take k 0) ≡ w
 
 -- A record of the station at a place marks the clients in a transfer with a request there, and no others.
-pub record MarksThose (place : ℕ) (old new : Serving) : Type 0 where
-  pub marks : (k : ℕ) (s : Sitting) (mark : Bool) → slice_index_or old.sessions k None ≡ Some s →
+pub record MarksThose (place : ℕ) (old new : ServerValue) : Type 0 where
+  pub marks : (k : ℕ) (s : SessionValue) (mark : Bool) → slice_index_or old.sessions k None ≡ Some s →
       mark_at old k ≡ Some mark →
       mark_at new k ≡ Some (mark || asks place s)

@@ -1,5 +1,6 @@
 -- Why bytes are not taken, and what a server answers.
-use Rattle.std.specs.Prelude.{ℕ, nat_lt, ◌-◌, Bool, true, false, if◌then◌else◌, List, length, Option, Some, None, Result, Ok, Err, codes}
+use Rattle.std.specs.Prelude.{ℕ, nat_lt, ◌-◌, Bool, true, false, if◌then◌else◌, List, length, Option, Some, None}
+use Rattle.std.specs.Prelude.{Result, Ok, Err, codes}
 use Rattle.protocol.specs.Client.{Client, inbox, is_nothing, is_ending}
 use Rattle.server_core.specs.declared.client.Refusal.{Refusal}
 use Rattle.server_core.specs.declared.client.Refusal.TheVariants.{Gone, NoRoom}

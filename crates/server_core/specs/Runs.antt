@@ -2,7 +2,8 @@
 use Rattle.std.specs.Prelude.{ℕ, Bool, true, false, List, [], ◌∷◌, take, slice_get, Option, Some, None}
 use Rattle.std.specs.Net.Addr.{ipv4_bits}
 use Rattle.protocol.specs.World.{Event as ProtocolEvent, Handed as ProtocolHanded, World, told, taken_by, client_of}
-use Rattle.protocol.specs.World.Event.{Open as ProtocolOpen, Bytes as ProtocolBytes, Take as ProtocolTake, Close as ProtocolClose, Arrive as ProtocolArrive, Reload as ProtocolReload}
+use Rattle.protocol.specs.World.Event.{Open as ProtocolOpen, Bytes as ProtocolBytes, Take as ProtocolTake}
+use Rattle.protocol.specs.World.Event.{Close as ProtocolClose, Arrive as ProtocolArrive, Reload as ProtocolReload}
 use Rattle.protocol.specs.Catalog.{Config}
 use Rattle.protocol.specs.Alone.{own_view, seen, handed_to}
 use Rattle.protocol.specs.Offers.{arrivals, client_after, offers, bytes_since}
@@ -42,8 +43,8 @@ abbrev pub handed_by : World → ProtocolEvent → List ProtocolHanded
 handed_by w (ProtocolTake k n) = told k (taken_by w.history (client_of (slice_get w.connections k)) n) ∷ []
 handed_by w _ = []
 
--- A transfer of the k-th client misses a wanted record of those that it sees only where that was overrun, and what it chooses is
--- wanted, each once and in order of arrival, and is what is handed.
+-- A transfer of the k-th client misses a wanted record of those that it sees only where that was overrun, and what it
+-- chooses is wanted, each once and in order of arrival, and is what is handed.
 abbrev pub MissesOnlyOverruns : Config → List ProtocolEvent → ℕ → List ProtocolHanded → Type 0
 MissesOnlyOverruns config es k hs =
     let v = own_view config es k in
@@ -56,4 +57,5 @@ abbrev pub MissesNothingThatIsHeld : Config → List ProtocolEvent → ℕ → L
 MissesNothingThatIsHeld config es k hs =
     let v = own_view config es k in
     let own = seen config es k in
-    KeepsUp (offers v own) → MissesNothing (arrivals own) (client_after v own) (offers v own) (bytes_since v own (handed_to k hs))
+    KeepsUp (offers v own) → MissesNothing (arrivals own) (client_after v own) (offers v own)
+    (bytes_since v own (handed_to k hs))

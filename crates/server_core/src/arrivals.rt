@@ -1,7 +1,7 @@
 //! Records that arrive.
 ghost use Rattle.std.specs.Prelude.{◌≡◌, ◌≢◌, IfOk, IfErr, Err};
 ghost use Rattle.protocol.specs.Record.{header_of};
-ghost use Rattle.held_records.specs.Holdings.{summary_of};
+ghost use Rattle.held_records.specs.Rings.{summary_of};
 ghost use Rattle.server_core.specs.Arrivals.{arrive_number, arrive_name, placed_by, IsPlaced};
 ghost use Rattle.server_core.specs.declared.arrivals.ArriveFault.TheVariants.{Exhausted};
 
@@ -61,8 +61,8 @@ pub struct Placing {
     pub summary: Summary,
 }
 
-/// The place of a record's station, and what is kept of the record; or why it is refused: it is no record, or no station has its
-/// codes.
+/// The place of a record's station, and what is kept of the record; or why it is refused: it is no record, or no
+/// station has its codes.
 pub fn placed(config: &Config, bytes: &[u8; 512]) -> Result<Placing, ArriveFault>
     ensures ok { IfOk result (λ p. IsPlaced config.now bytes.now p.place p.summary) }
     ensures err { IfErr result (λ fault. placed_by config.now (header_of bytes.now) ≡ Err fault) }

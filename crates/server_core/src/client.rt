@@ -6,7 +6,8 @@ use protocol::report::Report;
 use std::marker::Model;
 use thiserror::Error;
 
-/// A client of a server: how many opened before it. No server gives a number twice, and one that closed has it for good.
+/// A client of a server: how many opened before it. No server gives a number twice, and one that closed has it for
+/// good.
 #[derive(Clone, Copy, Debug, PartialEq, Eq)]
 pub struct Client {
     number: usize,

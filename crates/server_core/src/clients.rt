@@ -1,9 +1,10 @@
 //! The open clients of a server: their numbers, and the slots in which their sessions are.
-ghost use Rattle.std.specs.Prelude.{◌≡◌, ℕ, ◌∷◌, ◌++◌, [], IfOk, OnOk, OnErr, IfSome, Some, None, true, is_some, slice_set};
+ghost use Rattle.std.specs.Prelude.{◌≡◌, ℕ, ◌∷◌, ◌++◌, [], IfOk, OnOk, OnErr, IfSome, Some, None, true, is_some};
+ghost use Rattle.std.specs.Prelude.{slice_set};
 ghost use Rattle.std.specs.Net.Addr.{ipv4_bits};
 ghost use Rattle.slab.specs.Slab.{get, Updates};
 ghost use Rattle.protocol.specs.Catalog.{Config as ProtocolConfig};
-ghost use Rattle.held_records.specs.Holdings.{Holdings};
+ghost use Rattle.held_records.specs.Rings.{RingsValue};
 
 use session_state::Session;
 use slab::Slab;
@@ -35,7 +36,7 @@ pub struct Clients {
 
 impl Clients {
     ghost use Rattle.server_core.specs.Clients.{IsTable, slot_in, session_of, sessions_of, addresses_of};
-    ghost use Rattle.server_core.specs.Standing.{AreSettled, IsSettled};
+    ghost use Rattle.server_core.specs.ServerValues.{AreSettled, IsSettled};
 
     /// No client.
     pub fn new(alloc: Global) -> Clients
@@ -43,7 +44,7 @@ impl Clients {
         ensures sessions { sessions_of result ≡ [] }
         ensures addresses { addresses_of result ≡ [] }
         ensures free { (slot : ℕ) → get result.slots slot ≡ None }
-        ensures settled { (config : ProtocolConfig) (rings : Holdings) → AreSettled config rings result.slots }
+        ensures settled { (config : ProtocolConfig) (rings : RingsValue) → AreSettled config rings result.slots }
     {
         Clients {
             opens: 0,
@@ -85,8 +86,8 @@ impl Clients {
         self.slots.vacant_key()
     }
 
-    /// One more client opens with its session, from an address, and has the next number. It fails where memory lacks, or once 2^64 - 1 clients
-    /// opened, and then no client changes.
+    /// One more client opens with its session, from an address, and has the next number. It fails where memory lacks,
+    /// or once 2^64 - 1 clients opened, and then no client changes.
     pub fn open(&mut self, session: Session, address: Ipv4Addr) -> Result<usize, AllocError>
         requires { IsTable self.old }
         ensures table { IsTable self.new }
@@ -99,7 +100,7 @@ impl Clients {
         ensures refused { OnErr result ((slot : ℕ) → get self.new.slots slot ≡ get self.old.slots slot) }
         ensures numbers { OnErr result ((self.new.opens ≡ self.old.opens)
             × (self.new.opened.items ≡ self.old.opened.items)) }
-        ensures settled { (config : ProtocolConfig) (rings : Holdings) → AreSettled config rings self.old.slots →
+        ensures settled { (config : ProtocolConfig) (rings : RingsValue) → AreSettled config rings self.old.slots →
             IsSettled config rings session → AreSettled config rings self.new.slots }
     {
         let number = self.opens;
@@ -127,7 +128,7 @@ impl Clients {
         ensures answer { is_some result ≡ is_some (session_of self.old.opened.items self.old.slots number) }
         ensures freed { IfSome result (λ slot. Updates self.old.slots self.new.slots slot None) }
         ensures absent { result ≡ None → self.new.slots ≡ self.old.slots }
-        ensures settled { (config : ProtocolConfig) (rings : Holdings) → AreSettled config rings self.old.slots →
+        ensures settled { (config : ProtocolConfig) (rings : RingsValue) → AreSettled config rings self.old.slots →
             AreSettled config rings self.new.slots }
     {
         let at = finding::place_of(self.opened.as_slice(), self.near, number)?;

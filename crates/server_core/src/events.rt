@@ -1,13 +1,17 @@
 //! A whole list of events.
-ghost use Rattle.std.specs.Prelude.{◌≡◌, ℕ, ◌<◌, ◌-◌, ◌^◌, length, Contains, List, [], ◌∷◌, ◌++◌, map, slice_get, take as first, Bool, true, Some, IfOk, OnOk};
+ghost use Rattle.std.specs.Prelude.{◌≡◌, ℕ, ◌<◌, ◌-◌, ◌^◌, length, Contains, List, [], ◌∷◌, ◌++◌, map, slice_get};
+ghost use Rattle.std.specs.Prelude.{take as first, Bool, true, Some, IfOk, OnOk};
 ghost use Rattle.std.specs.Result.{result_ok};
 ghost use Rattle.protocol.specs.Catalog.{Config as ProtocolConfig, Entry, sees};
-ghost use Rattle.protocol.specs.World.{Event as ProtocolEvent, World, config_by, step, handed, told, taken_by, client_of};
+ghost use Rattle.protocol.specs.World.{Event as ProtocolEvent, World, config_by, step, handed, told, taken_by};
+ghost use Rattle.protocol.specs.World.{client_of};
 ghost use Rattle.protocol.specs.World.Event.{Take};
-ghost use Rattle.session_state.specs.Sessions.{Sitting};
-ghost use Rattle.protocol.specs.Alone.{address_of, alone, own_view, seen, handed_to, restricted, all_restricted, reloads_accepted, configs_in_force};
-ghost use Rattle.server_core.specs.Standing.{StandsAt};
-ghost use Rattle.server_core.specs.Runs.{event_value, handed_value, handed_by, first_waiting, is_over_by, MissesOnlyOverruns, MissesNothingThatIsHeld};
+ghost use Rattle.session_state.specs.Sessions.{SessionValue};
+ghost use Rattle.protocol.specs.Alone.{address_of, alone, own_view, seen, handed_to, restricted, all_restricted};
+ghost use Rattle.protocol.specs.Alone.{reloads_accepted, configs_in_force};
+ghost use Rattle.server_core.specs.ServerValues.{StandsAt};
+ghost use Rattle.server_core.specs.Runs.{event_value, handed_value, handed_by, first_waiting, is_over_by};
+ghost use Rattle.server_core.specs.Runs.{MissesOnlyOverruns, MissesNothingThatIsHeld};
 
 use crate::client::{Client, Gone, Offer};
 use crate::server::Server;
@@ -15,8 +19,8 @@ use catalog::Config;
 use std::alloc::{AllocError, Global};
 use std::net::Ipv4Addr;
 
-/// What happens at a server. Clients are numbered from 0 in the order in which they open; an event of a client that is not
-/// open changes nothing.
+/// What happens at a server. Clients are numbered from 0 in the order in which they open; an event of a client that is
+/// not open changes nothing.
 #[derive(Drop)]
 pub enum Event {
     /// A connection opens from an address.
@@ -49,7 +53,7 @@ fn front(
     client: Client,
     count: usize,
 ) -> Result<Vec<u8>, AllocError>
-    ensures sitting { IfOk result (λ bytes. (s : Sitting) → slice_get server.now.sessions client ≡ Some (Some s) →
+    ensures session { IfOk result (λ bytes. (s : SessionValue) → slice_get server.now.sessions client ≡ Some (Some s) →
         bytes.items ≡ first count s.waiting) }
     ensures answer { IfOk result (λ bytes. (config : ProtocolConfig) (w : World) → StandsAt server.now config w →
         bytes.items ≡ first_waiting count (client_of (slice_get w.connections client))) }
@@ -149,28 +153,33 @@ fn count_of(events: &[Event]) -> usize
 
 /// What is handed to each client over a list of events, at a new server. Only memory can lack.
 ///
-/// Each client is handed what a client alone would be handed, from its own events and the arrivals at the stations that it sees
-/// (`isolation`). So two clients with the same view, the same events and the same arrivals are handed the same, at whatever
-/// servers (`alike`), and a server without stations that a client does not see hands it the same (`hidden_stations`).
+/// Each client is handed what a client alone would be handed, from its own events and the arrivals at the stations that
+/// it sees (`isolation`). So two clients with the same view, the same events and the same arrivals are handed the same,
+/// at whatever servers (`alike`), and a server without stations that a client does not see hands it the same
+/// (`hidden_stations`).
 ///
-/// A transfer misses a record that is wanted only where it was overrun: where as many later ones of its station as are held had
-/// come when an offer passed over it (`misses`). One that at each of its offers holds all that is wanted misses nothing
-/// (`keeps_up`).
-#[tactic(auto, using(crate::proofs::Running::run_lemmas))]
+/// A transfer misses a record that is wanted only where it was overrun: where as many later ones of its station as are
+/// held had come when an offer passed over it (`misses`). One that at each of its offers holds all that is wanted
+/// misses nothing (`keeps_up`).
+#[tactic(auto, using(crate::proofs::RunLemmas::run_lemmas))]
 pub fn run(alloc: Global, config: Config, events: &[Event]) -> Result<Vec<Handed>, AllocError>
     ensures handed { IfOk result (λ hs. map handed_value hs.items ≡ handed config (map event_value events.now)) }
     ensures isolation { IfOk result (λ hs. (k : ℕ) → let es = map event_value events.now in
         handed_to k (map handed_value hs.items) ≡ alone (own_view config es k) (seen config es k)) }
-    ensures alike { IfOk result (λ hs. (other : ProtocolConfig) (others : List ProtocolEvent) (k j : ℕ) → let es = map event_value events.now in
+    ensures alike { IfOk result (λ hs. (other : ProtocolConfig) (others : List ProtocolEvent) (k j : ℕ)
+        → let es = map event_value events.now in
         own_view config es k ≡ own_view other others j → seen config es k ≡ seen other others j →
         handed_to k (map handed_value hs.items) ≡ handed_to j (handed other others)) }
     ensures hidden_stations { IfOk result (λ hs. (keep : Entry → Bool) (k : ℕ) → let es = map event_value events.now in
         ((c : ProtocolConfig) (a : ℕ) (e : Entry) → Contains (configs_in_force config es) c →
         address_of es k ≡ Some a → sees e.access c.access a ≡ true → keep e ≡ true) →
         reloads_accepted (restricted keep config) (all_restricted keep es) ≡ reloads_accepted config es →
-        handed_to k (handed (restricted keep config) (all_restricted keep es)) ≡ handed_to k (map handed_value hs.items)) }
-    ensures misses { IfOk result (λ hs. (k : ℕ) → MissesOnlyOverruns config (map event_value events.now) k (map handed_value hs.items)) }
-    ensures keeps_up { IfOk result (λ hs. (k : ℕ) → MissesNothingThatIsHeld config (map event_value events.now) k (map handed_value hs.items)) }
+        handed_to k (handed (restricted keep config) (all_restricted keep es))
+        ≡ handed_to k (map handed_value hs.items)) }
+    ensures misses { IfOk result (λ hs. (k : ℕ)
+        → MissesOnlyOverruns config (map event_value events.now) k (map handed_value hs.items)) }
+    ensures keeps_up { IfOk result
+        (λ hs. (k : ℕ) → MissesNothingThatIsHeld config (map event_value events.now) k (map handed_value hs.items)) }
 {
     let mut server = Server::new(alloc, config)?;
     let mut out = Vec::new(alloc);

@@ -4,11 +4,11 @@ ghost use Rattle.std.specs.Net.Addr.{ipv4_bits};
 ghost use Rattle.protocol.specs.Catalog.{view_of, is_same_but_for_access, is_same_view};
 ghost use Rattle.catalog.specs.Changes.{changed_places, few};
 ghost use Rattle.slab.specs.Slab.{get};
-ghost use Rattle.session_state.specs.Sessions.{Sitting, sitting_view};
+ghost use Rattle.session_state.specs.Sessions.{SessionValue, session_view};
 ghost use Rattle.server_core.specs.Clients.{AreApart, AreRising};
 ghost use Rattle.server_core.specs.Marks.{AreMarked};
-ghost use Rattle.server_core.specs.Reloads.{reviewed_sitting, AreCurrentIn, AreReviewed, IsCurrent};
-ghost use Rattle.server_core.specs.Standing.{AreSettled, StayOpen};
+ghost use Rattle.server_core.specs.Reloads.{reviewed_session, AreCurrentIn, AreReviewed, IsCurrent};
+ghost use Rattle.server_core.specs.ServerValues.{AreSettled, StayOpen};
 
 use crate::clients::Opened;
 use crate::marks::Marks;
@@ -20,8 +20,9 @@ use std::net::Ipv4Addr;
 
 /// A session is cut, where its address has another view under the configuration. It answers whether it was.
 fn review(config: &Config, session: &mut Session, address: Ipv4Addr) -> bool
-    ensures session { session.new ≡ reviewed_sitting config.now (ipv4_bits address) session.old }
-    ensures cut { result ≡ not (is_same_view (view_of config.now (ipv4_bits address)) (sitting_view config.now session.old)) }
+    ensures session { session.new ≡ reviewed_session config.now (ipv4_bits address) session.old }
+    ensures cut { result
+        ≡ not (is_same_view (view_of config.now (ipv4_bits address)) (session_view config.now session.old)) }
 {
     if config.has_view(address, session.view()) {
         return false;
@@ -42,8 +43,8 @@ fn review_in(
 )
     requires settled { AreSettled config.now rings.now slots.old }
     requires marked { AreMarked config.now rings.now marks.old slots.old }
-    ensures here { (s : Sitting) → get slots.old slot ≡ Some s →
-        get slots.new slot ≡ Some (reviewed_sitting config.now (ipv4_bits address) s) }
+    ensures here { (s : SessionValue) → get slots.old slot ≡ Some s →
+        get slots.new slot ≡ Some (reviewed_session config.now (ipv4_bits address) s) }
     ensures others { (other : ℕ) → other ≢ slot → get slots.new other ≡ get slots.old other }
     ensures settled { AreSettled config.now rings.now slots.new }
     ensures marked { AreMarked config.now rings.now marks.new slots.new }
@@ -61,7 +62,8 @@ fn review_in(
     }
 }
 
-/// Whether an address certainly has the same view under both configurations. If too many stations changed, the answer is no.
+/// Whether an address certainly has the same view under both configurations. If too many stations changed, the
+/// answer is no.
 fn is_spared(changes: &Option<Changes>, old: &Config, config: &Config, address: Ipv4Addr) -> bool
     ensures { result ≡ true → is_same_but_for_access old.now config.now ≡ true →
         changes.now ≡ few (changed_places old.now.entries config.now.entries) →
@@ -73,8 +75,8 @@ fn is_spared(changes: &Option<Changes>, old: &Config, config: &Config, address: 
     }
 }
 
-/// Does what `review_in` does, but looks at no station that did not change if the address certainly has the view that it had
-/// under the old configuration.
+/// Does what `review_in` does, but looks at no station that did not change if the address certainly has the view
+/// that it had under the old configuration.
 fn review_unless_spared(
     changes: &Option<Changes>,
     old: &Config,
@@ -86,12 +88,12 @@ fn review_unless_spared(
 )
     requires same { is_same_but_for_access old.now config.now ≡ true }
     requires changes { changes.now ≡ few (changed_places old.now.entries config.now.entries) }
-    requires current { (s : Sitting) → get slots.old one.now.slot ≡ Some s →
+    requires current { (s : SessionValue) → get slots.old one.now.slot ≡ Some s →
         IsCurrent old.now (ipv4_bits one.now.address) s }
     requires settled { AreSettled config.now rings.now slots.old }
     requires marked { AreMarked config.now rings.now marks.old slots.old }
-    ensures here { (s : Sitting) → get slots.old one.now.slot ≡ Some s →
-        get slots.new one.now.slot ≡ Some (reviewed_sitting config.now (ipv4_bits one.now.address) s) }
+    ensures here { (s : SessionValue) → get slots.old one.now.slot ≡ Some s →
+        get slots.new one.now.slot ≡ Some (reviewed_session config.now (ipv4_bits one.now.address) s) }
     ensures others { (other : ℕ) → other ≢ one.now.slot → get slots.new other ≡ get slots.old other }
     ensures settled { AreSettled config.now rings.now slots.new }
     ensures marked { AreMarked config.now rings.now marks.new slots.new }
@@ -103,9 +105,9 @@ fn review_unless_spared(
     }
 }
 
-/// Cuts each open client whose address has another view under the new configuration. Under the old one each has the view of
-/// its address, or is cut already. The stations' lists are compared once. After that a client costs a look at each station
-/// whose list changed, and a look at all stations only if these don't settle it.
+/// Cuts each open client whose address has another view under the new configuration. Under the old one each has the
+/// view of its address, or is cut already. The stations' lists are compared once. After that a client costs a look
+/// at each station whose list changed, and a look at all stations only if these don't settle it.
 pub fn review_all(
     old: &Config,
     config: &Config,

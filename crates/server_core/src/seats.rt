@@ -1,11 +1,13 @@
 //! What the server does with the session in a slot.
-ghost use Rattle.std.specs.Prelude.{◌≡◌, ◌<◌, ◌≤◌, List, length, not, Ok, Some, false, is_ok, is_some, IsSome, option_map};
+ghost use Rattle.std.specs.Prelude.{◌≡◌, ◌<◌, ◌≤◌, List, length, not, Ok, Some, false, is_ok, is_some, IsSome};
+ghost use Rattle.std.specs.Prelude.{option_map};
 ghost use Rattle.std.specs.Result.{result_ok};
 ghost use Rattle.protocol.specs.History.{Arrival};
 ghost use Rattle.protocol.specs.Client.{Client as ProtocolClient, received, offered};
 ghost use Rattle.slab.specs.Slab.{get};
-ghost use Rattle.session_state.specs.Sessions.{Sitting};
-ghost use Rattle.server_core.specs.Standing.{HoldsOf, SlotGoesOn, StayOpen, AreSettled, seated, seat_client, taking};
+ghost use Rattle.session_state.specs.Sessions.{SessionValue};
+ghost use Rattle.server_core.specs.ServerValues.{HoldsOf, SlotGoesOn, StayOpen, AreSettled, open_client};
+ghost use Rattle.server_core.specs.ServerValues.{client_of_open, taking};
 ghost use Rattle.slot_rows.specs.Rows.{bit_of};
 ghost use Rattle.server_core.specs.Marks.{AreMarked};
 ghost use Rattle.server_core.specs.Refusals.{is_idle, receipt, offer_of};
@@ -30,12 +32,14 @@ pub fn receive_in(
 ) -> Result<(), Refusal>
     requires settled { AreSettled config.now rings.now slots.old }
     requires marked { AreMarked config.now rings.now marks.old slots.old }
-    ensures changed { (h : List Arrival) → HoldsOf config.now rings.now h → SlotGoesOn config.now h slots.old slots.new slot (λ v c. received v h bytes.now c) }
+    ensures changed { (h : List Arrival) → HoldsOf config.now rings.now h
+        → SlotGoesOn config.now h slots.old slots.new slot (λ v c. received v h bytes.now c) }
     ensures settled { AreSettled config.now rings.now slots.new }
     ensures marked { AreMarked config.now rings.now marks.new slots.new }
     ensures stations { length marks.new.rows.items ≡ length marks.old.rows.items }
     ensures kept { StayOpen slots.old slots.new }
-    ensures answer { (h : List Arrival) → result ≡ receipt (length bytes.now) (seat_client (seated config.now h (Some (get slots.old slot)))) }
+    ensures answer { (h : List Arrival)
+        → result ≡ receipt (length bytes.now) (client_of_open (open_client config.now h (Some (get slots.old slot)))) }
 {
     match slots.get_mut(slot) {
         Some(session) => {
@@ -57,12 +61,15 @@ pub fn offer_in(
 ) -> Result<Offer, Gone>
     requires settled { AreSettled config.now rings.now slots.old }
     requires marked { AreMarked config.now rings.now marks.old slots.old }
-    ensures changed { (h : List Arrival) → HoldsOf config.now rings.now h → SlotGoesOn config.now h slots.old slots.new slot (λ v c. offered h c) }
+    ensures changed { (h : List Arrival) → HoldsOf config.now rings.now h
+        → SlotGoesOn config.now h slots.old slots.new slot (λ v c. offered h c) }
     ensures settled { AreSettled config.now rings.now slots.new }
     ensures marked { AreMarked config.now rings.now marks.new slots.new }
     ensures stations { length marks.new.rows.items ≡ length marks.old.rows.items }
     ensures kept { StayOpen slots.old slots.new }
-    ensures answer { (h : List Arrival) → HoldsOf config.now rings.now h → result_ok result ≡ option_map (λ c. offer_of (offered h c)) (seat_client (seated config.now h (Some (get slots.old slot)))) }
+    ensures answer { (h : List Arrival) → HoldsOf config.now rings.now h
+        → result_ok result ≡ option_map (λ c. offer_of (offered h c))
+        (client_of_open (open_client config.now h (Some (get slots.old slot)))) }
     ensures idle { result ≡ Ok Idle → bit_of marks.new.marked slot ≡ false }
 {
     match slots.get_mut(slot) {
@@ -92,9 +99,10 @@ pub fn is_ready_in(
     ensures marked { AreMarked config.now rings.now marks.now slots.new }
     ensures kept { StayOpen slots.old slots.new }
     ensures answer { (h : List Arrival) → HoldsOf config.now rings.now h → result_ok result
-        ≡ option_map (λ c. not (is_idle (offer_of (offered h c)))) (seat_client (seated config.now h (Some (get slots.old slot)))) }
+        ≡ option_map (λ c. not (is_idle (offer_of (offered h c))))
+        (client_of_open (open_client config.now h (Some (get slots.old slot)))) }
     ensures spared { (h : List Arrival) → HoldsOf config.now rings.now h → result ≡ Ok false → (c : ProtocolClient) →
-        seat_client (seated config.now h (Some (get slots.old slot))) ≡ Some c → offered h c ≡ c }
+        client_of_open (open_client config.now h (Some (get slots.old slot))) ≡ Some c → offered h c ≡ c }
 {
     let _ = config;
     if !marks.is_marked(slot) {
@@ -117,13 +125,15 @@ pub fn took_in(
 ) -> Result<(), Gone>
     requires settled { AreSettled config.now rings.now slots.old }
     requires marked { AreMarked config.now rings.now marks.old slots.old }
-    requires count { (s : Sitting) → get slots.old slot ≡ Some s → (0 < count) × (count ≤ length s.waiting) }
-    ensures changed { (h : List Arrival) → HoldsOf config.now rings.now h → SlotGoesOn config.now h slots.old slots.new slot (taking h count) }
+    requires count { (s : SessionValue) → get slots.old slot ≡ Some s → (0 < count) × (count ≤ length s.waiting) }
+    ensures changed { (h : List Arrival) → HoldsOf config.now rings.now h
+        → SlotGoesOn config.now h slots.old slots.new slot (taking h count) }
     ensures settled { AreSettled config.now rings.now slots.new }
     ensures marked { AreMarked config.now rings.now marks.new slots.new }
     ensures stations { length marks.new.rows.items ≡ length marks.old.rows.items }
     ensures kept { StayOpen slots.old slots.new }
-    ensures answer { (h : List Arrival) → is_ok result ≡ is_some (seat_client (seated config.now h (Some (get slots.old slot)))) }
+    ensures answer { (h : List Arrival)
+        → is_ok result ≡ is_some (client_of_open (open_client config.now h (Some (get slots.old slot)))) }
 {
     match slots.get_mut(slot) {
         Some(session) => {

@@ -1,5 +1,7 @@
 //! All clients of a server.
-ghost use Rattle.std.specs.Prelude.{OnErr, option_map, ◌≡◌, ◌≢◌, ◌-◌, ◌^◌, Err, ◌<◌, ◌≤◌, [], ◌∷◌, ◌++◌, length, slice_get, slice_index_or, IfOk, OnOk, Ok, Some, None, ℕ, not, false, is_some, is_ok};
+ghost use Rattle.std.specs.Prelude.{OnErr, option_map, ◌≡◌, ◌≢◌, ◌-◌, ◌^◌, Err, ◌<◌, ◌≤◌, [], ◌∷◌, ◌++◌, length};
+ghost use Rattle.std.specs.Prelude.{slice_get, slice_index_or, IfOk, OnOk, Ok, Some, None, ℕ, not, false, is_some};
+ghost use Rattle.std.specs.Prelude.{is_ok};
 ghost use Rattle.std.specs.Result.{result_ok};
 ghost use Rattle.std.specs.Net.Addr.{ipv4_bits};
 ghost use Rattle.protocol.specs.Catalog.{Config as ProtocolConfig, is_same_but_for_access};
@@ -35,9 +37,9 @@ impl Model for Server {
     ghost use Rattle.server_core.specs.Clients.{IsTable, sessions_of, addresses_of};
     ghost use Rattle.server_core.specs.Marks.{AreMarked, marks_of};
     ghost use Rattle.server_core.specs.Reloads.{AreCurrent, HasHistory};
-    ghost use Rattle.server_core.specs.Standing.{Serving, AreSettled};
+    ghost use Rattle.server_core.specs.ServerValues.{ServerValue, AreSettled};
 
-    ghost Value = { Serving };
+    ghost Value = { ServerValue };
 
     ghost view = { λ s. record {
       config = s.config;
@@ -54,9 +56,9 @@ impl Model for Server {
 }
 
 impl Server {
-    ghost use Rattle.session_state.specs.Sessions.{Sitting};
+    ghost use Rattle.session_state.specs.Sessions.{SessionValue};
     ghost use Rattle.station_ring.specs.declared.held.Summary.{Summary};
-    ghost use Rattle.server_core.specs.Standing.{StandsAt, mark_at};
+    ghost use Rattle.server_core.specs.ServerValues.{StandsAt, mark_at};
     ghost use Rattle.server_core.specs.Marks.{IsSpared, MarksThose};
     ghost use Rattle.server_core.specs.Refusals.{is_idle, room_of, receipt, offer_of};
     ghost use Rattle.server_core.specs.declared.client.Offer.TheVariants.{Idle};
@@ -77,10 +79,11 @@ impl Server {
         })
     }
 
-    /// A client comes from an address, and has the next number. Only memory can lack, or numbers once 2^64 - 1 clients came, and
-    /// then nothing changes.
+    /// A client comes from an address, and has the next number. Only memory can lack, or numbers once 2^64 - 1 clients
+    /// came, and then nothing changes.
     pub fn open(&mut self, alloc: Global, address: Ipv4Addr) -> Result<Client, AllocError>
-        ensures ok { OnOk result ((config : ProtocolConfig) (w : World) → StandsAt self.old config w → StandsAt self.new config (step config w (Open (ipv4_bits address)))) }
+        ensures ok { OnOk result ((config : ProtocolConfig) (w : World) → StandsAt self.old config w
+            → StandsAt self.new config (step config w (Open (ipv4_bits address)))) }
         ensures number { IfOk result (λ c. c ≡ length self.old.sessions) }
         ensures err { OnErr result (self.new ≡ self.old) }
     {
@@ -93,7 +96,8 @@ impl Server {
 
     /// How many bytes a client may send: 1,024 less the unread ones.
     pub fn room(&self, client: Client) -> Result<usize, Gone>
-        ensures { (config : ProtocolConfig) (w : World) → StandsAt self.now config w → result_ok result ≡ option_map room_of (client_of (slice_get w.connections client)) }
+        ensures { (config : ProtocolConfig) (w : World) → StandsAt self.now config w
+            → result_ok result ≡ option_map room_of (client_of (slice_get w.connections client)) }
     {
         match self.session(client) {
             Some(session) => Ok(session.room()),
@@ -101,11 +105,13 @@ impl Server {
         }
     }
 
-    /// Bytes come from a client, and its lines are obeyed as far as they may be. Bytes that do not fit are refused as a whole,
-    /// and nothing changes. In its end they are taken and dropped.
+    /// Bytes come from a client, and its lines are obeyed as far as they may be. Bytes that do not fit are refused as a
+    /// whole, and nothing changes. In its end they are taken and dropped.
     pub fn receive(&mut self, client: Client, bytes: &[u8]) -> Result<(), Refusal>
-        ensures stands { (config : ProtocolConfig) (w : World) → StandsAt self.old config w → StandsAt self.new config (step config w (Bytes client bytes.now)) }
-        ensures answer { (config : ProtocolConfig) (w : World) → StandsAt self.old config w → result ≡ receipt (length bytes.now) (client_of (slice_get w.connections client)) }
+        ensures stands { (config : ProtocolConfig) (w : World) → StandsAt self.old config w
+            → StandsAt self.new config (step config w (Bytes client bytes.now)) }
+        ensures answer { (config : ProtocolConfig) (w : World) → StandsAt self.old config w
+            → result ≡ receipt (length bytes.now) (client_of (slice_get w.connections client)) }
     {
         match self.clients.seek(client.number()) {
             Some(slot) => seats::receive_in(
@@ -120,11 +126,14 @@ impl Server {
         }
     }
 
-    /// Where nothing waits for a client, what comes next is made to wait, and stays until it is taken. It answers whether bytes
-    /// wait then, or the client's connection is over, or neither.
+    /// Where nothing waits for a client, what comes next is made to wait, and stays until it is taken. It answers
+    /// whether bytes wait then, or the client's connection is over, or neither.
     pub fn offer(&mut self, client: Client) -> Result<Offer, Gone>
-        ensures stands { (config : ProtocolConfig) (w : World) → StandsAt self.old config w → StandsAt self.new config (step config w (Take client 0)) }
-        ensures answer { (config : ProtocolConfig) (w : World) → StandsAt self.old config w → result_ok result ≡ option_map (λ c. offer_of (offered w.history c)) (client_of (slice_get w.connections client)) }
+        ensures stands { (config : ProtocolConfig) (w : World) → StandsAt self.old config w
+            → StandsAt self.new config (step config w (Take client 0)) }
+        ensures answer { (config : ProtocolConfig) (w : World) → StandsAt self.old config w
+            → result_ok result ≡ option_map (λ c. offer_of (offered w.history c))
+            (client_of (slice_get w.connections client)) }
         ensures unmarked { result ≡ Ok Idle → mark_at self.new client ≡ Some false }
     {
         match self.clients.seek(client.number()) {
@@ -162,7 +171,8 @@ impl Server {
         ensures stands { (config : ProtocolConfig) (w : World) → StandsAt self.old config w →
             StandsAt self.new config w }
         ensures answer { (config : ProtocolConfig) (w : World) → StandsAt self.old config w → result_ok result
-            ≡ option_map (λ c. not (is_idle (offer_of (offered w.history c)))) (client_of (slice_get w.connections client)) }
+            ≡ option_map (λ c. not (is_idle (offer_of (offered w.history c))))
+            (client_of (slice_get w.connections client)) }
         ensures spared { result ≡ Ok false → (config : ProtocolConfig) (w : World) → StandsAt self.old config w →
             IsSpared config w client }
         ensures marks { self.new.marks ≡ self.old.marks }
@@ -181,8 +191,11 @@ impl Server {
 
     /// The bytes that wait for a client.
     pub fn waiting(&self, client: Client) -> Result<&[u8], Gone>
-        ensures sitting { (s : Sitting) → slice_get self.now.sessions client ≡ Some (Some s) → option_map (λ bytes. bytes.now) (result_ok result) ≡ Some s.waiting }
-        ensures answer { (config : ProtocolConfig) (w : World) → StandsAt self.now config w → option_map (λ bytes. bytes.now) (result_ok result) ≡ option_map (λ c. c.waiting) (client_of (slice_get w.connections client)) }
+        ensures session { (s : SessionValue) → slice_get self.now.sessions client ≡ Some (Some s)
+            → option_map (λ bytes. bytes.now) (result_ok result) ≡ Some s.waiting }
+        ensures answer { (config : ProtocolConfig) (w : World) → StandsAt self.now config w
+            → option_map (λ bytes. bytes.now) (result_ok result)
+            ≡ option_map (λ c. c.waiting) (client_of (slice_get w.connections client)) }
     {
         match self.session(client) {
             Some(session) => Ok(session.waiting()),
@@ -190,11 +203,15 @@ impl Server {
         }
     }
 
-    /// The first bytes that wait for a client, 1 to all of them, were handed. When none is left, its further lines are obeyed.
+    /// The first bytes that wait for a client, 1 to all of them, were handed. When none is left, its further lines are
+    /// obeyed.
     pub fn took(&mut self, client: Client, count: usize) -> Result<(), Gone>
-        requires { (s : Sitting) → slice_get self.old.sessions client ≡ Some (Some s) → (0 < count) × (count ≤ length s.waiting) }
-        ensures stands { (config : ProtocolConfig) (w : World) → StandsAt self.old config w → StandsAt self.new config (step config w (Take client count)) }
-        ensures answer { (config : ProtocolConfig) (w : World) → StandsAt self.old config w → is_ok result ≡ is_some (client_of (slice_get w.connections client)) }
+        requires { (s : SessionValue) → slice_get self.old.sessions client ≡ Some (Some s)
+            → (0 < count) × (count ≤ length s.waiting) }
+        ensures stands { (config : ProtocolConfig) (w : World) → StandsAt self.old config w
+            → StandsAt self.new config (step config w (Take client count)) }
+        ensures answer { (config : ProtocolConfig) (w : World) → StandsAt self.old config w
+            → is_ok result ≡ is_some (client_of (slice_get w.connections client)) }
     {
         match self.clients.seek(client.number()) {
             Some(slot) => seats::took_in(
@@ -209,13 +226,16 @@ impl Server {
         }
     }
 
-    /// A record comes from a feeder. Where it is one, and of a station of the configuration, it is the last arrival, is held, and
-    /// is answered its number. It fails with Record where it is no record, else with UnknownStation where no station has its
-    /// codes, and else with Exhausted exactly where 2^64 - 1 records arrived. It takes no memory.
+    /// A record comes from a feeder. Where it is one, and of a station of the configuration, it is the last arrival, is
+    /// held, and is answered its number. It fails with Record where it is no record, else with UnknownStation where no
+    /// station has its codes, and else with Exhausted exactly where 2^64 - 1 records arrived. It takes no memory.
     pub fn arrive(&mut self, bytes: &[u8; 512]) -> Result<Seq, ArriveFault>
-        ensures stands { result ≢ Err Exhausted → (config : ProtocolConfig) (w : World) → StandsAt self.old config w → StandsAt self.new config (step config w (Arrive bytes.now)) }
-        ensures answer { result ≢ Err Exhausted → (config : ProtocolConfig) (w : World) → StandsAt self.old config w → result ≡ answer_to config w.history bytes.now }
-        ensures exhausted { result ≡ Err Exhausted → (config : ProtocolConfig) (w : World) → StandsAt self.old config w →
+        ensures stands { result ≢ Err Exhausted → (config : ProtocolConfig) (w : World) → StandsAt self.old config w
+            → StandsAt self.new config (step config w (Arrive bytes.now)) }
+        ensures answer { result ≢ Err Exhausted → (config : ProtocolConfig) (w : World) → StandsAt self.old config w
+            → result ≡ answer_to config w.history bytes.now }
+        ensures exhausted { result ≡ Err Exhausted → (config : ProtocolConfig) (w : World) → StandsAt self.old config w
+            →
             IsExhausted config w.history bytes.now }
         ensures counted { OnOk result ((config : ProtocolConfig) (w : World) → StandsAt self.old config w →
             length w.history < 2 ^ 64 - 1) }
@@ -233,9 +253,12 @@ impl Server {
     /// A record of a station that is there is the last arrival.
     fn hold(&mut self, bytes: &[u8; 512], placing: Placing) -> Result<Seq, ArriveFault>
         requires { IsPlaced self.old.config bytes.now placing.place placing.summary }
-        ensures stands { result ≢ Err Exhausted → (config : ProtocolConfig) (w : World) → StandsAt self.old config w → StandsAt self.new config (step config w (Arrive bytes.now)) }
-        ensures answer { result ≢ Err Exhausted → (config : ProtocolConfig) (w : World) → StandsAt self.old config w → result ≡ answer_to config w.history bytes.now }
-        ensures exhausted { result ≡ Err Exhausted → (config : ProtocolConfig) (w : World) → StandsAt self.old config w →
+        ensures stands { result ≢ Err Exhausted → (config : ProtocolConfig) (w : World) → StandsAt self.old config w
+            → StandsAt self.new config (step config w (Arrive bytes.now)) }
+        ensures answer { result ≢ Err Exhausted → (config : ProtocolConfig) (w : World) → StandsAt self.old config w
+            → result ≡ answer_to config w.history bytes.now }
+        ensures exhausted { result ≡ Err Exhausted → (config : ProtocolConfig) (w : World) → StandsAt self.old config w
+            →
             IsExhausted config w.history bytes.now }
         ensures counted { OnOk result ((config : ProtocolConfig) (w : World) → StandsAt self.old config w →
             length w.history < 2 ^ 64 - 1) }
@@ -260,8 +283,10 @@ impl Server {
 
     /// A client's connection ends, and the client is gone for good.
     pub fn close(&mut self, client: Client) -> Result<(), Gone>
-        ensures stands { (config : ProtocolConfig) (w : World) → StandsAt self.old config w → StandsAt self.new config (step config w (Close client)) }
-        ensures answer { (config : ProtocolConfig) (w : World) → StandsAt self.old config w → is_ok result ≡ is_some (client_of (slice_get w.connections client)) }
+        ensures stands { (config : ProtocolConfig) (w : World) → StandsAt self.old config w
+            → StandsAt self.new config (step config w (Close client)) }
+        ensures answer { (config : ProtocolConfig) (w : World) → StandsAt self.old config w
+            → is_ok result ≡ is_some (client_of (slice_get w.connections client)) }
     {
         match self.clients.close(client.number()) {
             Some(slot) => {
@@ -272,13 +297,13 @@ impl Server {
         }
     }
 
-    /// A new configuration comes into force, where it differs from the present one in nothing but the lists of addresses.
-    /// Each open client whose address has another view under it than at its open is cut: what waits for it is still
-    /// handed, its unread bytes are dropped, and nothing is read or chosen for it any more. All others go on. It fails
-    /// with 34 Different exactly where the configuration differs in anything else, and then nothing changes. It takes no
-    /// memory. It compares the stations' lists once, and then asks for each open client only about the server's list and the
-    /// stations whose lists changed. If both configurations don't answer these the same for the client's address, or if more
-    /// than 256 lists changed, it looks at all stations.
+    /// A new configuration comes into force, where it differs from the present one in nothing but the lists of
+    /// addresses. Each open client whose address has another view under it than at its open is cut: what waits for it
+    /// is still handed, its unread bytes are dropped, and nothing is read or chosen for it any more. All others go on.
+    /// It fails with 34 Different exactly where the configuration differs in anything else, and then nothing changes.
+    /// It takes no memory. It compares the stations' lists once, and then asks for each open client only about the
+    /// server's list and the stations whose lists changed. If both configurations don't answer these the same for the
+    /// client's address, or if more than 256 lists changed, it looks at all stations.
     pub fn reload(&mut self, config: Config) -> Result<(), ReloadFault>
         ensures stands { (old : ProtocolConfig) (w : World) → StandsAt self.old old w →
             StandsAt self.new (config_by old (Reload config)) (step old w (Reload config)) }

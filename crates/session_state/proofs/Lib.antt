@@ -1,9 +1,9 @@
 pub mod NamedLemmas
 pub mod ModeLemmas
-pub mod Choosing
-pub mod Asking
-pub mod Following
-pub mod Settling
-pub mod Receiving
-pub mod Taking
-pub mod Passing
+pub mod ChoiceLemmas
+pub mod AskLemmas
+pub mod LineLemmas
+pub mod SettleLemmas
+pub mod ReceiveLemmas
+pub mod TookLemmas
+pub mod CursorLemmas

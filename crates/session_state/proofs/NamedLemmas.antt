@@ -1,19 +1,21 @@
 -- Entries and the lists of selectors beside them: what a change of one or the other is to the named stations.
-use Rattle.std.proofs.Common.{◌≡◌, ◌≢◌, ◌<◌, ◌≤◌, ◌+◌, ℕ, zero, suc, true, false, nat_lt, List, [], ◌∷◌, ◌++◌, length, map, drop, take, replicate, slice_get, slice_set, Option, Some, None, IfSome, option_map, unwrap_or, is_some, refl, sym, ap, ap₂, subst, ◌∙◌, arith, length-set}
+use Rattle.std.proofs.Common.{◌≡◌, ◌≢◌, ◌<◌, ◌≤◌, ◌+◌, ℕ, zero, suc, true, false, nat_lt, List, [], ◌∷◌, ◌++◌, length}
+use Rattle.std.proofs.Common.{map, drop, take, replicate, slice_get, slice_set, Option, Some, None, IfSome, option_map}
+use Rattle.std.proofs.Common.{unwrap_or, is_some, refl, sym, ap, ap₂, subst, ◌∙◌, arith, length-set}
 use Rattle.std.specs.Prelude.{◌||◌, ◌↔◌, Result, Ok, Err, IsOk, OnOk, OnErr}
 use Rattle.std.specs.List.{list_any, position, position_or_len}
 use Rattle.std.proofs.lemmas.Grind.{common_steps}
 use Rattle.std.proofs.lemmas.List.Sums.{sum_by-cons}
 use Rattle.protocol.specs.Catalog.{Config, Station}
 use Rattle.protocol.specs.Pattern.{Pattern}
-use Rattle.protocol.proofs.Found.{both}
+use Rattle.protocol.proofs.FoundLemmas.{both}
 use Rattle.selector.specs.Pools.{list_at, together, HasRoom}
 use Rattle.session_state.specs.declared.choices.Action.{Action}
 use Rattle.session_state.specs.declared.choices.Cursor.{Cursor}
 use Rattle.session_state.specs.declared.modes.Effect.{Effect}
 use Rattle.session_state.specs.declared.modes.Effect.TheVariants.{Done, Refused}
 use Rattle.session_state.specs.declared.choices.Entry.{Entry}
-use Rattle.session_state.specs.Naming.{Choice, Naming, IsNaming, choice_of, choices_with, entry_of}
+use Rattle.session_state.specs.NamedValues.{Choice, NamedValue, IsNamed, choice_of, choices_with, entry_of}
 use Rattle.session_state.specs.Choices.{has_action, is_entry_of_station, is_of_station, kept_at, passed_at}
 use Rattle.session_state.specs.Changes.{all_selectors, has_room, widened, widening}
 
@@ -26,10 +28,12 @@ pub with-length : (es : List Entry) (lists : List (List Pattern)) → length (ch
 with-length [] lists = refl
 with-length (e ∷ es) lists = ap suc (with-length es (drop 1 lists))
 
-pub with-get : (es : List Entry) (lists : List (List Pattern)) (i : ℕ) → slice_get (choices_with es lists) i ≡ option_map (λ e. choice_of e (list_at lists i)) (slice_get es i)
+pub with-get : (es : List Entry) (lists : List (List Pattern)) (i : ℕ)
+    → slice_get (choices_with es lists) i ≡ option_map (λ e. choice_of e (list_at lists i)) (slice_get es i)
 with-get [] lists i = refl
 with-get (e ∷ es) lists zero = refl
-with-get (e ∷ es) lists (suc i) = with-get es (drop 1 lists) i ∙ ap (λ l. option_map (λ x. choice_of x l) (slice_get es i)) (list-after lists i)
+with-get (e ∷ es) lists (suc i) = with-get es (drop 1 lists) i
+    ∙ ap (λ l. option_map (λ x. choice_of x l) (slice_get es i)) (list-after lists i)
 
 -- the entries that the named stations have
 pub with-entries : (es : List Entry) (lists : List (List Pattern)) → es ≡ map entry_of (choices_with es lists)
@@ -37,18 +41,22 @@ with-entries [] lists = refl
 with-entries (e ∷ es) lists = ap (λ xs. e ∷ xs) (with-entries es (drop 1 lists))
 
 -- one entry is replaced
-pub with-entry : (es : List Entry) (lists : List (List Pattern)) (i : ℕ) (e : Entry) → choices_with (slice_set es i e) lists ≡ slice_set (choices_with es lists) i (choice_of e (list_at lists i))
+pub with-entry : (es : List Entry) (lists : List (List Pattern)) (i : ℕ) (e : Entry)
+    → choices_with (slice_set es i e) lists ≡ slice_set (choices_with es lists) i (choice_of e (list_at lists i))
 with-entry [] lists i e = refl
 with-entry (x ∷ es) lists zero e = refl
 with-entry (x ∷ es) lists (suc i) e =
-    ap (λ cs. choice_of x (list_at lists 0) ∷ cs) (with-entry es (drop 1 lists) i e ∙ ap (λ l. slice_set (choices_with es (drop 1 lists)) i (choice_of e l)) (list-after lists i))
+    ap (λ cs. choice_of x (list_at lists 0) ∷ cs) (with-entry es (drop 1 lists) i e
+    ∙ ap (λ l. slice_set (choices_with es (drop 1 lists)) i (choice_of e l)) (list-after lists i))
 
 -- one list is replaced
-drop-set : (lists : List (List Pattern)) (i : ℕ) (l : List Pattern) → drop 1 (slice_set lists (suc i) l) ≡ slice_set (drop 1 lists) i l
+drop-set : (lists : List (List Pattern)) (i : ℕ) (l : List Pattern)
+    → drop 1 (slice_set lists (suc i) l) ≡ slice_set (drop 1 lists) i l
 drop-set [] i l = refl
 drop-set (x ∷ lists) i l = refl
 
-head-set : (lists : List (List Pattern)) (i : ℕ) (l : List Pattern) → list_at (slice_set lists (suc i) l) 0 ≡ list_at lists 0
+head-set : (lists : List (List Pattern)) (i : ℕ) (l : List Pattern)
+    → list_at (slice_set lists (suc i) l) 0 ≡ list_at lists 0
 head-set [] i l = refl
 head-set (x ∷ lists) i l = refl
 
@@ -56,27 +64,34 @@ less : (lists : List (List Pattern)) (i : ℕ) → suc i < length lists → i < 
 less [] i h = absurd (omega arith)
 less (x ∷ lists) i h = omega arith
 
-pub with-list : (es : List Entry) (lists : List (List Pattern)) (i : ℕ) (l : List Pattern) (c : Choice) → i < length lists → slice_get (choices_with es lists) i ≡ Some c → choices_with es (slice_set lists i l) ≡ slice_set (choices_with es lists) i (record c { selectors = l })
+pub with-list : (es : List Entry) (lists : List (List Pattern)) (i : ℕ) (l : List Pattern) (c : Choice)
+    → i < length lists → slice_get (choices_with es lists) i ≡ Some c
+    → choices_with es (slice_set lists i l) ≡ slice_set (choices_with es lists) i (record c { selectors = l })
 with-list [] lists i l c h e = absurd cc
 with-list (x ∷ es) [] zero l c h e = absurd (omega arith)
 with-list (x ∷ es) (y ∷ lists) zero l c h e = ap (λ o. choice_of (entry_of (unwrap_or o c)) l ∷ choices_with es lists) e
 with-list (x ∷ es) lists (suc i) l c h e =
-    ap₂ (λ p cs. choice_of x p ∷ cs) (head-set lists i l) (ap (choices_with es) (drop-set lists i l) ∙ with-list es (drop 1 lists) i l c (less lists i h) e)
+    ap₂ (λ p cs. choice_of x p ∷ cs) (head-set lists i l) (ap (choices_with es) (drop-set lists i l)
+    ∙ with-list es (drop 1 lists) i l c (less lists i h) e)
 
 -- an entry more
-pub with-push : (es : List Entry) (lists : List (List Pattern)) (e : Entry) → choices_with (es ++ e ∷ []) lists ≡ choices_with es lists ++ choice_of e (list_at lists (length es)) ∷ []
+pub with-push : (es : List Entry) (lists : List (List Pattern)) (e : Entry)
+    → choices_with (es ++ e ∷ []) lists ≡ choices_with es lists ++ choice_of e (list_at lists (length es)) ∷ []
 with-push [] lists e = refl
 with-push (x ∷ es) lists e =
-    ap (λ cs. choice_of x (list_at lists 0) ∷ cs) (with-push es (drop 1 lists) e ∙ ap (λ l. choices_with es (drop 1 lists) ++ choice_of e l ∷ []) (list-after lists (length es)))
+    ap (λ cs. choice_of x (list_at lists 0) ∷ cs) (with-push es (drop 1 lists) e
+    ∙ ap (λ l. choices_with es (drop 1 lists) ++ choice_of e l ∷ []) (list-after lists (length es)))
 
 -- ---- how many selectors there are
 
 empty-sum : (lists : List (List Pattern)) → ((i : ℕ) → list_at lists i ≡ []) → together lists ≡ 0
 empty-sum [] none = refl
-empty-sum (l ∷ lists) none = let here : l ≡ [] = none 0 in let rest : together lists ≡ 0 = empty-sum lists (λ i. none (suc i)) in rw (here, rest) refl
+empty-sum (l ∷ lists) none = let here : l ≡ [] = none 0 in let rest : together lists ≡ 0 =
+    empty-sum lists (λ i. none (suc i)) in rw (here, rest) refl
 
 -- those of all lists are those of the named stations, where the other lists are empty
-pub with-all : (es : List Entry) (lists : List (List Pattern)) → ((i : ℕ) → length es ≤ i → list_at lists i ≡ []) → together lists ≡ all_selectors (choices_with es lists)
+pub with-all : (es : List Entry) (lists : List (List Pattern)) → ((i : ℕ) → length es ≤ i → list_at lists i ≡ [])
+    → together lists ≡ all_selectors (choices_with es lists)
 with-all [] lists rest = empty-sum lists (λ i. rest i (omega arith))
 with-all (e ∷ es) [] rest = nothing (e ∷ es)
   where
@@ -94,20 +109,24 @@ pub any-entries : (cs : List Choice) → list_any (λ e. is_some e.action) (map 
 any-entries [] = refl
 any-entries (c ∷ cs) = ap (λ b. is_some c.action || b) (any-entries cs)
 
-position-or-len-entries : (config : Config) (s : Station) (cs : List Choice) → position_or_len (is_entry_of_station config s) (map entry_of cs) ≡ position_or_len (is_of_station config s) cs
+position-or-len-entries : (config : Config) (s : Station) (cs : List Choice)
+    → position_or_len (is_entry_of_station config s) (map entry_of cs) ≡ position_or_len (is_of_station config s) cs
 position-or-len-entries config s [] = refl
-position-or-len-entries config s (c ∷ cs) = both (is_of_station config s c) (λ y. rw y refl) (λ n. rw n (ap (λ k. 1 + k) (position-or-len-entries config s cs)))
+position-or-len-entries config s (c ∷ cs) =
+    both (is_of_station config s c) (λ y. rw y refl) (λ n. rw n (ap (λ k. 1 + k) (position-or-len-entries config s cs)))
 
 length-entries : (cs : List Choice) → length (map entry_of cs) ≡ length cs
 length-entries [] = refl
 length-entries (c ∷ cs) = ap suc (length-entries cs)
 
-pub position-entries : (config : Config) (s : Station) (cs : List Choice) → position (is_entry_of_station config s) (map entry_of cs) ≡ position (is_of_station config s) cs
+pub position-entries : (config : Config) (s : Station) (cs : List Choice)
+    → position (is_entry_of_station config s) (map entry_of cs) ≡ position (is_of_station config s) cs
 position-entries config s cs = rw (position-or-len-entries config s cs, length-entries cs) refl
 
 -- ---- what is kept of a list
 
-other-list : (lists : List (List Pattern)) (i j : ℕ) (l : List Pattern) → i ≢ j → list_at (slice_set lists i l) j ≡ list_at lists j
+other-list : (lists : List (List Pattern)) (i j : ℕ) (l : List Pattern) → i ≢ j
+    → list_at (slice_set lists i l) j ≡ list_at lists j
 other-list [] i j l apart = refl
 other-list (x ∷ lists) zero zero l apart = absurd (apart refl)
 other-list (x ∷ lists) zero (suc j) l apart = refl
@@ -115,7 +134,8 @@ other-list (x ∷ lists) (suc i) zero l apart = refl
 other-list (x ∷ lists) (suc i) (suc j) l apart = other-list lists i j l (λ e. apart (ap suc e))
 
 -- a change of one list of a named station
-pub naming-list : (es : List Entry) (current : Option ℕ) (lists : List (List Pattern)) (room i : ℕ) (l : List Pattern) → IsNaming es current lists room → i < length es → IsNaming es current (slice_set lists i l) room
+pub naming-list : (es : List Entry) (current : Option ℕ) (lists : List (List Pattern)) (room i : ℕ) (l : List Pattern)
+    → IsNamed es current lists room → i < length es → IsNamed es current (slice_set lists i l) room
 naming-list es current lists room i l is within = record {
   count = length-set lists i l ∙ is.count;
   few = is.few;
@@ -125,7 +145,8 @@ naming-list es current lists room i l is within = record {
 }
 
 -- a change of one entry
-pub naming-entry : (es : List Entry) (current : Option ℕ) (lists : List (List Pattern)) (room i : ℕ) (e : Entry) → IsNaming es current lists room → IsNaming (slice_set es i e) current lists room
+pub naming-entry : (es : List Entry) (current : Option ℕ) (lists : List (List Pattern)) (room i : ℕ) (e : Entry)
+    → IsNamed es current lists room → IsNamed (slice_set es i e) current lists room
 naming-entry es current lists room i e is =
     let same : length (slice_set es i e) ≡ length es = length-set es i e in
     record {
@@ -138,28 +159,36 @@ naming-entry es current lists room i e is =
 
 -- ---- named stations by their fields
 
-abbrev pub naming : List Entry → Option ℕ → List (List Pattern) → Naming
+abbrev pub naming : List Entry → Option ℕ → List (List Pattern) → NamedValue
 naming es current lists = record { choices = choices_with es lists; current = current }
 
-pub below : (es : List Entry) (current : Option ℕ) (lists : List (List Pattern)) (i : ℕ) (n : Naming) → naming es current lists ≡ n → i < length n.choices → i < length es
-below es current lists i n e h = subst (λ k. i < k) (ap (λ (x : Naming). length x.choices) (sym e) ∙ with-length es lists) h
+pub below : (es : List Entry) (current : Option ℕ) (lists : List (List Pattern)) (i : ℕ) (n : NamedValue)
+    → naming es current lists ≡ n → i < length n.choices → i < length es
+below es current lists i n e h =
+    subst (λ k. i < k) (ap (λ (x : NamedValue). length x.choices) (sym e) ∙ with-length es lists) h
 
-pub below-all : (es : List Entry) (current : Option ℕ) (lists : List (List Pattern)) (room i : ℕ) (n : Naming) → IsNaming es current lists room → naming es current lists ≡ n → i < length n.choices → i < 255
-below-all es current lists room i n is e h = let b : i < length es = below es current lists i n e h in let f : length es ≤ 255 = is.few in omega (arith, b, f)
+pub below-all : (es : List Entry) (current : Option ℕ) (lists : List (List Pattern)) (room i : ℕ) (n : NamedValue)
+    → IsNamed es current lists room → naming es current lists ≡ n → i < length n.choices → i < 255
+below-all es current lists room i n is e h = let b : i < length es =
+    below es current lists i n e h in let f : length es ≤ 255 = is.few in omega (arith, b, f)
 
-pub current-below : (es : List Entry) (current : Option ℕ) (lists : List (List Pattern)) (room i : ℕ) (n : Naming) → IsNaming es current lists room → naming es current lists ≡ n → current ≡ Some i → i < length n.choices
+pub current-below : (es : List Entry) (current : Option ℕ) (lists : List (List Pattern)) (room i : ℕ) (n : NamedValue)
+    → IsNamed es current lists room → naming es current lists ≡ n → current ≡ Some i → i < length n.choices
 current-below es current lists room i n is e at =
     let b : i < length es = subst (λ o. IfSome o (λ j. j < length es)) at is.within in
-    subst (λ k. i < k) (sym (with-length es lists) ∙ ap (λ (x : Naming). length x.choices) e) b
+    subst (λ k. i < k) (sym (with-length es lists) ∙ ap (λ (x : NamedValue). length x.choices) e) b
 
 -- the selectors of a named station
-some-selectors : (o : Option Entry) (l : List Pattern) (c : Choice) → option_map (λ e. choice_of e l) o ≡ Some c → c.selectors ≡ l
+some-selectors : (o : Option Entry) (l : List Pattern) (c : Choice) → option_map (λ e. choice_of e l) o ≡ Some c
+    → c.selectors ≡ l
 some-selectors None l c e = absurd cc
 some-selectors (Some x) l c e = sym (ap (λ o. (unwrap_or o c).selectors) e)
 
-pub selectors-at : (es : List Entry) (current : Option ℕ) (lists : List (List Pattern)) (i : ℕ) (n : Naming) (c : Choice) → naming es current lists ≡ n → slice_get n.choices i ≡ Some c → c.selectors ≡ list_at lists i
+pub selectors-at : (es : List Entry) (current : Option ℕ) (lists : List (List Pattern)) (i : ℕ) (n : NamedValue)
+    (c : Choice) → naming es current lists ≡ n → slice_get n.choices i ≡ Some c → c.selectors ≡ list_at lists i
 selectors-at es current lists i n c e there =
-    some-selectors (slice_get es i) (list_at lists i) c (sym (with-get es lists i) ∙ ap (λ (x : Naming). slice_get x.choices i) e ∙ there)
+    some-selectors (slice_get es i) (list_at lists i) c
+    (sym (with-get es lists i) ∙ ap (λ (x : NamedValue). slice_get x.choices i) e ∙ there)
 
 -- an entry that is there, and its station
 there : {X : Type 0} (xs : List X) (i : ℕ) → i < length xs → (x : X) × (slice_get xs i ≡ Some x)
@@ -167,7 +196,8 @@ there [] i h = absurd (omega arith)
 there (x ∷ xs) zero h = (x, refl)
 there (x ∷ xs) (suc i) h = there xs i (omega arith)
 
-station-there : (es : List Entry) (lists : List (List Pattern)) (i : ℕ) (e : Entry) → slice_get es i ≡ Some e → slice_get (choices_with es lists) i ≡ Some (choice_of e (list_at lists i))
+station-there : (es : List Entry) (lists : List (List Pattern)) (i : ℕ) (e : Entry) → slice_get es i ≡ Some e
+    → slice_get (choices_with es lists) i ≡ Some (choice_of e (list_at lists i))
 station-there es lists i e h = with-get es lists i ∙ ap (option_map (λ x. choice_of x (list_at lists i))) h
 
 -- ---- a new client's
@@ -184,7 +214,8 @@ length-replicate : (n : ℕ) → length (empty-lists n) ≡ n
 length-replicate zero = refl
 length-replicate (suc n) = ap suc (length-replicate n)
 
-pub naming-new : (es : List Entry) (lists : List (List Pattern)) (room : ℕ) (e : Entry) → es ≡ e ∷ [] → lists ≡ replicate 255 [] → room ≡ 255 → IsNaming es (Some 0) lists room
+pub naming-new : (es : List Entry) (lists : List (List Pattern)) (room : ℕ) (e : Entry) → es ≡ e ∷ []
+    → lists ≡ replicate 255 [] → room ≡ 255 → IsNamed es (Some 0) lists room
 naming-new es lists room e only empty spare =
     let one : length es ≡ 1 = ap length only in
     let all : length lists ≡ 255 = ap length empty ∙ length-replicate 255 in
@@ -202,7 +233,9 @@ at-set : (lists : List (List Pattern)) (l : List Pattern) → l ≡ [] → list_
 at-set [] l e = refl
 at-set (x ∷ lists) l e = e
 
-pub naming-none : (es es' : List Entry) (current : Option ℕ) (lists lists' : List (List Pattern)) (room room' : ℕ) → IsNaming es current lists room → length es ≡ 1 → es' ≡ [] → lists' ≡ slice_set lists 0 [] → room' ≡ room → IsNaming es' None lists' room'
+pub naming-none : (es es' : List Entry) (current : Option ℕ) (lists lists' : List (List Pattern)) (room room' : ℕ)
+    → IsNamed es current lists room → length es ≡ 1 → es' ≡ [] → lists' ≡ slice_set lists 0 [] → room' ≡ room
+    → IsNamed es' None lists' room'
 naming-none es es' current lists lists' room room' is one none cleared same =
     let all : length lists ≡ 255 = is.count in
     let zero_ : length es' ≡ 0 = ap length none in
@@ -221,65 +254,96 @@ naming-none es es' current lists lists' room room' is one none cleared same =
 
 -- ---- what is written back to a vector of as many entries
 
-refilled : (len : ℕ) (es new : List Entry) → len ≡ length es → length new ≡ length es → take len (new ++ drop (length new) es) ≡ new
+refilled : (len : ℕ) (es new : List Entry) → len ≡ length es → length new ≡ length es
+    → take len (new ++ drop (length new) es) ≡ new
 refilled len es new all same = grind (arith, common_steps)
 
-pub written : (len : ℕ) (es new : List Entry) (i : ℕ) (f : Entry → Entry) → len ≡ length es → ((e : Entry) → slice_get es i ≡ Some e → new ≡ slice_set es i (f e)) → (e : Entry) → slice_get es i ≡ Some e → take len (new ++ drop (length new) es) ≡ slice_set es i (f e)
-written len es new i f all made e at = refilled len es new all (ap length (made e at) ∙ length-set es i (f e)) ∙ made e at
+pub written : (len : ℕ) (es new : List Entry) (i : ℕ) (f : Entry → Entry) → len ≡ length es
+    → ((e : Entry) → slice_get es i ≡ Some e → new ≡ slice_set es i (f e)) → (e : Entry) → slice_get es i ≡ Some e
+    → take len (new ++ drop (length new) es) ≡ slice_set es i (f e)
+written len es new i f all made e at = refilled len es new all (ap length (made e at) ∙ length-set es i (f e))
+    ∙ made e at
 
-pub written-first : (len : ℕ) (es new : List Entry) (e : Entry) → len ≡ length es → new ≡ slice_set es 0 e → take len (new ++ drop (length new) es) ≡ slice_set es 0 e
+pub written-first : (len : ℕ) (es new : List Entry) (e : Entry) → len ≡ length es → new ≡ slice_set es 0 e
+    → take len (new ++ drop (length new) es) ≡ slice_set es 0 e
 written-first len es new e all made = refilled len es new all (ap length made ∙ length-set es 0 e) ∙ made
 
 -- ---- the only station is asked for something
 
-alone-asked : (es : List Entry) (lists : List (List Pattern)) (e : Entry) → length es ≡ 1 → choices_with (slice_set es 0 e) lists ≡ choice_of e (list_at lists 0) ∷ []
+alone-asked : (es : List Entry) (lists : List (List Pattern)) (e : Entry) → length es ≡ 1
+    → choices_with (slice_set es 0 e) lists ≡ choice_of e (list_at lists 0) ∷ []
 alone-asked [] lists e one = absurd (omega (arith, one))
 alone-asked (x ∷ []) lists e one = refl
 alone-asked (x ∷ y ∷ es) lists e one = absurd (omega (arith, one))
 
-pub asked-alone : (es new : List Entry) (current : Option ℕ) (lists : List (List Pattern)) (n : Naming) (e : Entry) (c : Choice) → naming es current lists ≡ n → length n.choices ≡ 1 → slice_get n.choices 0 ≡ Some c → new ≡ slice_set es 0 e → naming new None lists ≡ record { choices = choice_of e c.selectors ∷ []; current = None }
+pub asked-alone : (es new : List Entry) (current : Option ℕ) (lists : List (List Pattern)) (n : NamedValue) (e : Entry)
+    (c : Choice) → naming es current lists ≡ n → length n.choices ≡ 1 → slice_get n.choices 0 ≡ Some c
+    → new ≡ slice_set es 0 e → naming new None lists ≡ record { choices = choice_of e c.selectors ∷ []; current = None }
 asked-alone es new current lists n e c view one first made =
-    let one' : length es ≡ 1 = sym (with-length es lists) ∙ ap (λ (x : Naming). length x.choices) view ∙ one in
+    let one' : length es ≡ 1 = sym (with-length es lists) ∙ ap (λ (x : NamedValue). length x.choices) view ∙ one in
     ap (λ xs. naming xs None lists) made
-    ∙ ap (λ cs. record { choices = cs; current = None }) (alone-asked es lists e one' ∙ ap (λ l. choice_of e l ∷ []) (sym (selectors-at es current lists 0 n c view first)))
+    ∙ ap (λ cs. record { choices = cs; current = None })
+    (alone-asked es lists e one'
+    ∙ ap (λ l. choice_of e l ∷ []) (sym (selectors-at es current lists 0 n c view first)))
 
 -- ---- the changes of one station
 
-pub list-changed : (es : List Entry) (current : Option ℕ) (lists new : List (List Pattern)) (room i : ℕ) (l : List Pattern) (n : Naming) (c : Choice) → IsNaming es current lists room → naming es current lists ≡ n → i < length n.choices → slice_get n.choices i ≡ Some c → new ≡ slice_set lists i l → naming es current new ≡ record n { choices = slice_set n.choices i (record c { selectors = l }) }
+pub list-changed : (es : List Entry) (current : Option ℕ) (lists new : List (List Pattern)) (room i : ℕ)
+    (l : List Pattern) (n : NamedValue) (c : Choice) → IsNamed es current lists room → naming es current lists ≡ n
+    → i < length n.choices → slice_get n.choices i ≡ Some c → new ≡ slice_set lists i l
+    → naming es current new ≡ record n { choices = slice_set n.choices i (record c { selectors = l }) }
 list-changed es current lists new room i l n c is view h at made =
     let b : i < 255 = below-all es current lists room i n is view h in
     let all : length lists ≡ 255 = is.count in
-    let here : slice_get (choices_with es lists) i ≡ Some c = ap (λ (x : Naming). slice_get x.choices i) view ∙ at in
+    let here : slice_get (choices_with es lists) i ≡ Some c = ap (λ (x : NamedValue). slice_get x.choices i) view
+    ∙ at in
     ap (naming es current) made
     ∙ ap (λ cs. record { choices = cs; current = current }) (with-list es lists i l c (omega (arith, b, all)) here)
-    ∙ ap (λ (x : Naming). record x { choices = slice_set x.choices i (record c { selectors = l }) }) view
+    ∙ ap (λ (x : NamedValue). record x { choices = slice_set x.choices i (record c { selectors = l }) }) view
 
-pub kept-there : (es new : List Entry) (current : Option ℕ) (lists : List (List Pattern)) (i first : ℕ) (n : Naming) → naming es current lists ≡ n → i < length n.choices → ((e : Entry) → slice_get es i ≡ Some e → new ≡ slice_set es i (record e { first = first })) → naming new current lists ≡ record n { choices = kept_at i first n.choices (slice_get n.choices i) }
+pub kept-there : (es new : List Entry) (current : Option ℕ) (lists : List (List Pattern)) (i first : ℕ) (n : NamedValue)
+    → naming es current lists ≡ n → i < length n.choices
+    → ((e : Entry) → slice_get es i ≡ Some e → new ≡ slice_set es i (record e { first = first }))
+    → naming new current lists ≡ record n { choices = kept_at i first n.choices (slice_get n.choices i) }
 kept-there es new current lists i first n view h made =
     let e = there es i (below es current lists i n view h) in
-    let here : slice_get (choices_with es lists) i ≡ Some (choice_of e.0 (list_at lists i)) = station-there es lists i e.0 e.1 in
+    let here : slice_get (choices_with es lists) i
+    ≡ Some (choice_of e.0 (list_at lists i)) = station-there es lists i e.0 e.1 in
     ap (λ xs. naming xs current lists) (made e.0 e.1)
-    ∙ ap (λ cs. record { choices = cs; current = current }) (with-entry es lists i (record e.0 { first = first }) ∙ sym (ap (kept_at i first (choices_with es lists)) here))
-    ∙ ap (λ (x : Naming). record x { choices = kept_at i first x.choices (slice_get x.choices i) }) view
+    ∙ ap (λ cs. record { choices = cs; current = current }) (with-entry es lists i (record e.0 { first = first })
+    ∙ sym (ap (kept_at i first (choices_with es lists)) here))
+    ∙ ap (λ (x : NamedValue). record x { choices = kept_at i first x.choices (slice_get x.choices i) }) view
 
-pub passed-there : (es new : List Entry) (current : Option ℕ) (lists : List (List Pattern)) (i : ℕ) (cursor : Cursor) (n : Naming) → naming es current lists ≡ n → i < length n.choices → ((e : Entry) → slice_get es i ≡ Some e → new ≡ slice_set es i (record e { cursor = cursor })) → naming new current lists ≡ record n { choices = passed_at i cursor n.choices (slice_get n.choices i) }
+pub passed-there : (es new : List Entry) (current : Option ℕ) (lists : List (List Pattern)) (i : ℕ) (cursor : Cursor)
+    (n : NamedValue) → naming es current lists ≡ n → i < length n.choices
+    → ((e : Entry) → slice_get es i ≡ Some e → new ≡ slice_set es i (record e { cursor = cursor }))
+    → naming new current lists ≡ record n { choices = passed_at i cursor n.choices (slice_get n.choices i) }
 passed-there es new current lists i cursor n view h made =
     let e = there es i (below es current lists i n view h) in
-    let here : slice_get (choices_with es lists) i ≡ Some (choice_of e.0 (list_at lists i)) = station-there es lists i e.0 e.1 in
+    let here : slice_get (choices_with es lists) i
+    ≡ Some (choice_of e.0 (list_at lists i)) = station-there es lists i e.0 e.1 in
     ap (λ xs. naming xs current lists) (made e.0 e.1)
-    ∙ ap (λ cs. record { choices = cs; current = current }) (with-entry es lists i (record e.0 { cursor = cursor }) ∙ sym (ap (passed_at i cursor (choices_with es lists)) here))
-    ∙ ap (λ (x : Naming). record x { choices = passed_at i cursor x.choices (slice_get x.choices i) }) view
+    ∙ ap (λ cs. record { choices = cs; current = current }) (with-entry es lists i (record e.0 { cursor = cursor })
+    ∙ sym (ap (passed_at i cursor (choices_with es lists)) here))
+    ∙ ap (λ (x : NamedValue). record x { choices = passed_at i cursor x.choices (slice_get x.choices i) }) view
 
 same-some : (c d : Choice) → Some c ≡ Some d → c ≡ d
 same-some c d e = ap (λ o. unwrap_or o c) e
 
-pub acted-there : (es new : List Entry) (current : Option ℕ) (lists : List (List Pattern)) (i : ℕ) (action : Action) (n : Naming) (c : Choice) → naming es current lists ≡ n → i < length n.choices → slice_get n.choices i ≡ Some c → ((e : Entry) → slice_get es i ≡ Some e → new ≡ slice_set es i (record e { action = Some action })) → naming new current lists ≡ record n { choices = slice_set n.choices i (record c { action = Some action }) }
+pub acted-there : (es new : List Entry) (current : Option ℕ) (lists : List (List Pattern)) (i : ℕ) (action : Action)
+    (n : NamedValue) (c : Choice) → naming es current lists ≡ n → i < length n.choices → slice_get n.choices i ≡ Some c
+    → ((e : Entry) → slice_get es i ≡ Some e → new ≡ slice_set es i (record e { action = Some action }))
+    → naming new current lists ≡ record n { choices = slice_set n.choices i (record c { action = Some action }) }
 acted-there es new current lists i action n c view h at made =
     let e = there es i (below es current lists i n view h) in
-    let here : choice_of e.0 (list_at lists i) ≡ c = same-some _ c (sym (station-there es lists i e.0 e.1) ∙ ap (λ (x : Naming). slice_get x.choices i) view ∙ at) in
+    let here : choice_of e.0 (list_at lists i)
+    ≡ c =
+    same-some _ c (sym (station-there es lists i e.0 e.1) ∙ ap (λ (x : NamedValue). slice_get x.choices i) view
+    ∙ at) in
     ap (λ xs. naming xs current lists) (made e.0 e.1)
-    ∙ ap (λ cs. record { choices = cs; current = current }) (with-entry es lists i (record e.0 { action = Some action }) ∙ ap (λ (x : Choice). slice_set (choices_with es lists) i (record x { action = Some action })) here)
-    ∙ ap (λ (x : Naming). record x { choices = slice_set x.choices i (record c { action = Some action }) }) view
+    ∙ ap (λ cs. record { choices = cs; current = current }) (with-entry es lists i (record e.0 { action = Some action })
+    ∙ ap (λ (x : Choice). slice_set (choices_with es lists) i (record x { action = Some action })) here)
+    ∙ ap (λ (x : NamedValue). record x { choices = slice_set x.choices i (record c { action = Some action }) }) view
 
 -- ---- a selector more
 
@@ -299,11 +363,18 @@ has-room lists i e =
     (λ b. absurd (let f : false ≡ true = rw (a, b) at e in cc)))
     (λ a. absurd (let f : false ≡ true = rw a at e in cc))
 
-pub added-naming : {A B : Type 0} (r : Result A B) (es : List Entry) (current : Option ℕ) (lists new : List (List Pattern)) (room i : ℕ) (p : Pattern) → OnOk r (new ≡ slice_set lists i (list_at lists i ++ p ∷ [])) → OnErr r (new ≡ lists) → IsNaming es current lists room → i < length es → IsNaming es current new room
-added-naming (Ok u) es current lists new room i p ok err is h = subst (λ ls. IsNaming es current ls room) (sym ok) (naming-list es current lists room i (list_at lists i ++ p ∷ []) is h)
-added-naming (Err u) es current lists new room i p ok err is h = subst (λ ls. IsNaming es current ls room) (sym err) is
+pub added-naming : {A B : Type 0} (r : Result A B) (es : List Entry) (current : Option ℕ)
+    (lists new : List (List Pattern)) (room i : ℕ) (p : Pattern)
+    → OnOk r (new ≡ slice_set lists i (list_at lists i ++ p ∷ [])) → OnErr r (new ≡ lists)
+    → IsNamed es current lists room → i < length es → IsNamed es current new room
+added-naming (Ok u) es current lists new room i p ok err is h =
+    subst (λ ls. IsNamed es current ls room) (sym ok)
+    (naming-list es current lists room i (list_at lists i ++ p ∷ []) is h)
+added-naming (Err u) es current lists new room i p ok err is h = subst (λ ls. IsNamed es current ls room) (sym err) is
 
-widened-ok : {A B : Type 0} (r : Result A B) (lists new : List (List Pattern)) (i : ℕ) (p : Pattern) → (IsOk r ↔ HasRoom lists i) → OnOk r (new ≡ slice_set lists i (list_at lists i ++ p ∷ [])) → OnErr r (new ≡ lists) → new ≡ slice_set lists i (widened (together lists) (list_at lists i) p)
+widened-ok : {A B : Type 0} (r : Result A B) (lists new : List (List Pattern)) (i : ℕ) (p : Pattern)
+    → (IsOk r ↔ HasRoom lists i) → OnOk r (new ≡ slice_set lists i (list_at lists i ++ p ∷ [])) → OnErr r (new ≡ lists)
+    → new ≡ slice_set lists i (widened (together lists) (list_at lists i) p)
 widened-ok (Ok u) lists new i p iff ok err = let y = room-has lists i (iff.0 refl) in rw y ok
 widened-ok (Err u) lists new i p iff ok err =
     both (has_room (together lists) (list_at lists i))
@@ -320,7 +391,8 @@ abbrev pub effect_of : {A B : Type 0} → Result A B → Effect
 effect_of (Ok u) = Done
 effect_of (Err u) = Refused
 
-pub widening-ok : {A B : Type 0} (r : Result A B) (lists : List (List Pattern)) (i : ℕ) → (IsOk r ↔ HasRoom lists i) → effect_of r ≡ widening (together lists) (list_at lists i)
+pub widening-ok : {A B : Type 0} (r : Result A B) (lists : List (List Pattern)) (i : ℕ) → (IsOk r ↔ HasRoom lists i)
+    → effect_of r ≡ widening (together lists) (list_at lists i)
 widening-ok (Ok u) lists i iff = let y = room-has lists i (iff.0 refl) in rw y refl
 widening-ok (Err u) lists i iff =
     both (has_room (together lists) (list_at lists i))
@@ -328,14 +400,30 @@ widening-ok (Err u) lists i iff =
     (λ n. rw n refl)
 
 -- the same of the named stations
-pub all-named : (es : List Entry) (current : Option ℕ) (lists : List (List Pattern)) (room : ℕ) (n : Naming) → IsNaming es current lists room → naming es current lists ≡ n → together lists ≡ all_selectors n.choices
-all-named es current lists room n is view = with-all es lists is.rest ∙ ap (λ (x : Naming). all_selectors x.choices) view
+pub all-named : (es : List Entry) (current : Option ℕ) (lists : List (List Pattern)) (room : ℕ) (n : NamedValue)
+    → IsNamed es current lists room → naming es current lists ≡ n → together lists ≡ all_selectors n.choices
+all-named es current lists room n is view = with-all es lists is.rest
+    ∙ ap (λ (x : NamedValue). all_selectors x.choices) view
 
-pub list-widened : {A B : Type 0} (r : Result A B) (es : List Entry) (current : Option ℕ) (lists new : List (List Pattern)) (room i : ℕ) (p : Pattern) (n : Naming) (c : Choice) → (IsOk r ↔ HasRoom lists i) → OnOk r (new ≡ slice_set lists i (list_at lists i ++ p ∷ [])) → OnErr r (new ≡ lists) → IsNaming es current lists room → naming es current lists ≡ n → i < length n.choices → slice_get n.choices i ≡ Some c → naming es current new ≡ record n { choices = slice_set n.choices i (record c { selectors = widened (all_selectors n.choices) c.selectors p }) }
+pub list-widened : {A B : Type 0} (r : Result A B) (es : List Entry) (current : Option ℕ)
+    (lists new : List (List Pattern)) (room i : ℕ) (p : Pattern) (n : NamedValue) (c : Choice)
+    → (IsOk r ↔ HasRoom lists i) → OnOk r (new ≡ slice_set lists i (list_at lists i ++ p ∷ [])) → OnErr r (new ≡ lists)
+    → IsNamed es current lists room → naming es current lists ≡ n → i < length n.choices
+    → slice_get n.choices i ≡ Some c
+    → naming es current new ≡ record n {
+      choices =
+          slice_set n.choices i (record c { selectors = widened (all_selectors n.choices) c.selectors p });
+    }
 list-widened r es current lists new room i p n c iff ok err is view h at =
-    list-changed es current lists new room i (widened (together lists) (list_at lists i) p) n c is view h at (widened-ok r lists new i p iff ok err)
-    ∙ ap₂ (λ a ps. record n { choices = slice_set n.choices i (record c { selectors = widened a ps p }) }) (all-named es current lists room n is view) (sym (selectors-at es current lists i n c view at))
+    list-changed es current lists new room i (widened (together lists) (list_at lists i) p) n c is view h at
+    (widened-ok r lists new i p iff ok err)
+    ∙ ap₂ (λ a ps. record n { choices = slice_set n.choices i (record c { selectors = widened a ps p }) })
+    (all-named es current lists room n is view) (sym (selectors-at es current lists i n c view at))
 
-pub list-widening : {A B : Type 0} (r : Result A B) (es : List Entry) (current : Option ℕ) (lists : List (List Pattern)) (room i : ℕ) (n : Naming) (c : Choice) → (IsOk r ↔ HasRoom lists i) → IsNaming es current lists room → naming es current lists ≡ n → slice_get n.choices i ≡ Some c → effect_of r ≡ widening (all_selectors n.choices) c.selectors
+pub list-widening : {A B : Type 0} (r : Result A B) (es : List Entry) (current : Option ℕ) (lists : List (List Pattern))
+    (room i : ℕ) (n : NamedValue) (c : Choice) → (IsOk r ↔ HasRoom lists i) → IsNamed es current lists room
+    → naming es current lists ≡ n → slice_get n.choices i ≡ Some c
+    → effect_of r ≡ widening (all_selectors n.choices) c.selectors
 list-widening r es current lists room i n c iff is view at =
-    widening-ok r lists i iff ∙ ap₂ widening (all-named es current lists room n is view) (sym (selectors-at es current lists i n c view at))
+    widening-ok r lists i iff
+    ∙ ap₂ widening (all-named es current lists room n is view) (sym (selectors-at es current lists i n c view at))

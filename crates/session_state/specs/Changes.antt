@@ -1,9 +1,12 @@
 -- What a command changes of what was negotiated, and what it leads to.
 -- SeedLink 3, the dialogue in uni-station and multi-station mode.
-use Rattle.std.specs.Prelude.{ℕ, nat_lt, ◌&&◌, Bool, if◌then◌else◌, List, [], ◌∷◌, ◌++◌, length, sum_by, Option, Some, None, option_map, filter_map}
+use Rattle.std.specs.Prelude.{ℕ, nat_lt, ◌&&◌, Bool, if◌then◌else◌, List, [], ◌∷◌, ◌++◌, length, sum_by, Option, Some}
+use Rattle.std.specs.Prelude.{None, option_map, filter_map}
 use Rattle.protocol.specs.Catalog.{Config, View}
 use Rattle.protocol.specs.Pattern.{Pattern}
-use Rattle.protocol.specs.Session.{Choice, Negotiated, Outcome, act, choices_of, choose_station, end_multi, error_line, ok_line, select, select_in, select_uni, wish_of, with_pattern, together, max_patterns, max_together}
+use Rattle.protocol.specs.Session.{Choice, Negotiated, Outcome, act, choices_of, choose_station, end_multi, error_line}
+use Rattle.protocol.specs.Session.{ok_line, select, select_in, select_uni, wish_of, with_pattern, together}
+use Rattle.protocol.specs.Session.{max_patterns, max_together}
 use Rattle.protocol.specs.Session.Negotiated.{Uni, Multi}
 use Rattle.protocol.specs.Session.{current_choice}
 use Rattle.protocol.specs.Session.Outcome.{Stays, Starts as StartsOutcome}
@@ -12,7 +15,7 @@ use Rattle.session_state.specs.declared.modes.Change.{Change}
 use Rattle.session_state.specs.declared.modes.Change.TheVariants.{Name, Clear, Add, Act, Finish}
 use Rattle.session_state.specs.declared.modes.Effect.{Effect}
 use Rattle.session_state.specs.declared.modes.Effect.TheVariants.{Done, Refused, Starts}
-use Rattle.session_state.specs.Naming.{Choice as Named}
+use Rattle.session_state.specs.NamedValues.{Choice as Named}
 use Rattle.session_state.specs.Choices.{action_value}
 
 -- SELECT with a pattern, where a station is current; without a pattern, as for a text that is none, nothing changes

@@ -11,8 +11,8 @@ use Rattle.session_state.specs.declared.choices.Action.{Action}
 use Rattle.session_state.specs.declared.choices.Action.TheVariants.{Data, Fetch, Time}
 use Rattle.session_state.specs.declared.choices.Entry.{Entry}
 use Rattle.session_state.specs.declared.choices.Cursor.{Cursor}
-use Rattle.session_state.specs.Naming.{Choice, Mode, start}
-use Rattle.session_state.specs.Naming.Mode.{Uni, Multi}
+use Rattle.session_state.specs.NamedValues.{Choice, ModeValue, start}
+use Rattle.session_state.specs.NamedValues.ModeValue.{Uni, Multi}
 
 -- the action that is asked for
 abbrev pub action_value : Action → ProtocolAction
@@ -22,26 +22,37 @@ action_value (Time begin last) = TimeAction begin last
 
 -- a named station by its settings
 abbrev pub choice_in : Config → Choice → ProtocolChoice
-choice_in config c = record { station = station_at config.entries c.place; patterns = c.selectors; action = option_map action_value c.action }
+choice_in config c = record {
+  station = station_at config.entries c.place;
+  patterns = c.selectors;
+  action = option_map action_value c.action;
+}
 
 -- all of them
 abbrev pub choices_in : Config → List Choice → List ProtocolChoice
 choices_in config cs = map (choice_in config) cs
 
 -- what was negotiated
-abbrev pub negotiated_in : Config → Mode → Negotiated
+abbrev pub negotiated_in : Config → ModeValue → Negotiated
 negotiated_in config (Uni patterns) = UniNegotiated patterns
 negotiated_in config (Multi n) = MultiNegotiated (choices_in config n.choices) n.current
 
 -- the named stations; in uni-station mode none
-abbrev pub chosen_of : Mode → List Choice
+abbrev pub chosen_of : ModeValue → List Choice
 chosen_of (Uni patterns) = []
 chosen_of (Multi n) = n.choices
 
 -- what a transfer asks of a named station, where that has an action
 abbrev pub request_with : Config → Choice → Option Action → Option Request
 request_with config c None = None
-request_with config c (Some action) = Some (record { station = station_at config.entries c.place; patterns = c.selectors; action = action_value action; from = c.first })
+request_with config c (Some action) =
+    Some
+    (record {
+      station = station_at config.entries c.place;
+      patterns = c.selectors;
+      action = action_value action;
+      from = c.first;
+    })
 
 -- the same, by its own action
 abbrev pub request_in : Config → Choice → Option Request
@@ -70,7 +81,7 @@ passed_at i cursor cs None = cs
 passed_at i cursor cs (Some c) = slice_set cs i (record c { cursor = cursor })
 
 -- the mode with them
-abbrev pub passed_in : Mode → ℕ → Cursor → Mode
+abbrev pub passed_in : ModeValue → ℕ → Cursor → ModeValue
 passed_in (Uni patterns) i cursor = Uni patterns
 passed_in (Multi n) i cursor = Multi (record n { choices = passed_at i cursor n.choices (slice_get n.choices i) })
 
@@ -79,11 +90,11 @@ abbrev pub at_start : Choice → Choice
 at_start c = record c { cursor = start }
 
 -- the mode with such cursors: what it is but for how far its requests have come
-abbrev pub all_at_start : Mode → Mode
+abbrev pub all_at_start : ModeValue → ModeValue
 all_at_start (Uni patterns) = Uni patterns
 all_at_start (Multi n) = Multi (record n { choices = map at_start n.choices })
 
 -- the mode with the first position of the i-th replaced
-abbrev pub kept_in : Mode → ℕ → ℕ → Mode
+abbrev pub kept_in : ModeValue → ℕ → ℕ → ModeValue
 kept_in (Uni patterns) i first = Uni patterns
 kept_in (Multi n) i first = Multi (record n { choices = kept_at i first n.choices (slice_get n.choices i) })

@@ -1,4 +1,4 @@
-pub mod Naming
+pub mod NamedValues
 pub mod Choices
 pub mod Changes
 pub mod Asking

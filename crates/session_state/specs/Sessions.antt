@@ -1,14 +1,16 @@
 -- A session, and the client that it is beside a configuration and a history.
-use Rattle.std.specs.Prelude.{◌≡◌, ℕ, ◌+◌, nat_lt, if◌then◌else◌, Bool, true, false, List, [], length, drop, map, filter_map, slice_get, Option, Some, None, All}
+use Rattle.std.specs.Prelude.{◌≡◌, ℕ, ◌+◌, nat_lt, if◌then◌else◌, Bool, true, false, List, [], length, drop, map}
+use Rattle.std.specs.Prelude.{filter_map, slice_get, Option, Some, None, All}
 use Rattle.protocol.specs.Lines.{Line}
 use Rattle.protocol.specs.Catalog.{Config, View, listing}
 use Rattle.protocol.specs.History.{Arrival, first_wanted}
 use Rattle.protocol.specs.Session.{choices_of, wish_of, error_line, ok_line}
 use Rattle.protocol.specs.Client.{Client, State as ClientState, read_on, request_of}
-use Rattle.protocol.specs.Client.State.{Negotiating as ClientNegotiating, Listing as ClientListing, Transfer as ClientTransfer, Ending as ClientEnding}
+use Rattle.protocol.specs.Client.State.{Negotiating as ClientNegotiating, Listing as ClientListing}
+use Rattle.protocol.specs.Client.State.{Transfer as ClientTransfer, Ending as ClientEnding}
 use Rattle.catalog.specs.Places.{station_at, view_in, IsPlace}
 use Rattle.session_state.specs.declared.choices.Action.{Action}
-use Rattle.session_state.specs.Naming.{Choice, Mode}
+use Rattle.session_state.specs.NamedValues.{Choice, ModeValue}
 use Rattle.session_state.specs.declared.modes.Effect.{Effect}
 use Rattle.session_state.specs.declared.modes.Effect.TheVariants.{Done, Refused, Starts}
 use Rattle.session_state.specs.declared.session.State.{State}
@@ -18,43 +20,44 @@ use Rattle.session_state.specs.declared.session.Settled.TheVariants.{Rest, Start
 use Rattle.session_state.specs.Choices.{action_value, negotiated_in, chosen_of, request_in, all_at_start}
 
 -- a client with the places of stations in place of their settings
-pub record Sitting : Type 0 where
+pub record SessionValue : Type 0 where
   pub places : List ℕ
-  pub mode : Mode
+  pub mode : ModeValue
   pub state : State
   pub open_line : Line
   pub unread : List ℕ
   pub waiting : List ℕ
 
--- The state, where so many lines of a listing were made to wait. A transfer that is to start is in the definitions one that
--- has started after the history.
-abbrev pub state_in : Config → List Arrival → View → Mode → State → ClientState
+-- The state, where so many lines of a listing were made to wait. A transfer that is to start is in the definitions one
+-- that has started after the history.
+abbrev pub state_in : Config → List Arrival → View → ModeValue → State → ClientState
 state_in config h v mode Negotiating = ClientNegotiating (negotiated_in config mode)
 state_in config h v mode (Listing made) = ClientListing (drop made (listing v)) (negotiated_in config mode)
-state_in config h v mode Starting = ClientTransfer (map (request_of h) (filter_map wish_of (choices_of (negotiated_in config mode)))) 0
+state_in config h v mode Starting =
+    ClientTransfer (map (request_of h) (filter_map wish_of (choices_of (negotiated_in config mode)))) 0
 state_in config h v mode (Transfer next) = ClientTransfer (filter_map (request_in config) (chosen_of mode)) next
 state_in config h v mode Ending = ClientEnding
 
 -- what the client sees
-abbrev pub sitting_view : Config → Sitting → View
-sitting_view config s = view_in config s.places
+abbrev pub session_view : Config → SessionValue → View
+session_view config s = view_in config s.places
 
 -- its stations are there
-abbrev pub HasPlaces : Config → Sitting → Type 0
+abbrev pub HasPlaces : Config → SessionValue → Type 0
 HasPlaces config s = All (IsPlace config) s.places
 
 -- the client that a session is
-abbrev pub client_in : Config → List Arrival → Sitting → Client
+abbrev pub client_in : Config → List Arrival → SessionValue → Client
 client_in config h s =
     record {
-      state = state_in config h (sitting_view config s) s.mode s.state;
+      state = state_in config h (session_view config s) s.mode s.state;
       open_line = s.open_line;
       unread = s.unread;
       waiting = s.waiting;
     }
 
 -- the session once an effect is told
-abbrev pub effected : Sitting → Effect → Sitting
+abbrev pub effected : SessionValue → Effect → SessionValue
 effected s Done = record s { waiting = ok_line }
 effected s Refused = record s { waiting = error_line }
 effected s Starts = record s { state = Starting }
@@ -70,20 +73,20 @@ listed_in places (Listing made) = if nat_lt (length places) made then Negotiatin
 listed_in places state = state
 
 -- the session with that line waiting
-abbrev pub with_line : ℕ → Sitting → Option (List ℕ) → Sitting
+abbrev pub with_line : ℕ → SessionValue → Option (List ℕ) → SessionValue
 with_line made s None = s
 with_line made s (Some line) = record s { state = Listing (made + 1); waiting = line }
 
 -- the session with the next line of the listing waiting
-abbrev pub line_made : Config → ℕ → Sitting → Sitting
-line_made config made s = with_line made s (slice_get (listing (sitting_view config s)) made)
+abbrev pub line_made : Config → ℕ → SessionValue → SessionValue
+line_made config made s = with_line made s (slice_get (listing (session_view config s)) made)
 
 -- the session but for how far its requests have come
-abbrev pub but_for_cursors : Sitting → Sitting
+abbrev pub but_for_cursors : SessionValue → SessionValue
 but_for_cursors s = record s { mode = all_at_start s.mode }
 
 -- A session that is in a transfer after a call was in it before, with the same requests.
-pub record KeepsTransfer (before after : Sitting) : Type 0 where
+pub record KeepsTransfer (before after : SessionValue) : Type 0 where
   pub kept : (next : ℕ) → after.state ≡ Transfer next → (before.state ≡ Transfer next) × (after.mode ≡ before.mode)
 
 -- It is a listing.
@@ -98,14 +101,16 @@ never_starts Ending = true
 never_starts _ = false
 
 -- The session is that client, or will be once its transfer has started and what is unread is read.
-abbrev pub Comes : Settled → Config → List Arrival → Sitting → Client → Type 0
+abbrev pub Comes : Settled → Config → List Arrival → SessionValue → Client → Type 0
 Comes Rest config h s c = client_in config h s ≡ c
-Comes Start config h s c = (s.state ≡ Starting) × (read_on (sitting_view config s) h s.unread (client_in config h s) ≡ c)
+Comes Start config h s c = (s.state ≡ Starting)
+    × (read_on (session_view config s) h s.unread (client_in config h s) ≡ c)
 
 -- A request of that station wants records from the position on at which a transfer after the history begins.
 abbrev pub HasFirst : Config → List Arrival → Choice → Type 0
-HasFirst config h c = (action : Action) → c.action ≡ Some action → c.first ≡ first_wanted (station_at config.entries c.place) h (action_value action)
+HasFirst config h c = (action : Action) → c.action ≡ Some action
+    → c.first ≡ first_wanted (station_at config.entries c.place) h (action_value action)
 
 -- the same of all requests
-abbrev pub HasFirsts : Config → List Arrival → Sitting → Type 0
+abbrev pub HasFirsts : Config → List Arrival → SessionValue → Type 0
 HasFirsts config h s = All (HasFirst config h) (chosen_of s.mode)

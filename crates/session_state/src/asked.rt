@@ -48,10 +48,12 @@ impl Asked {
 }
 
 /// What a line asks.
-#[tactic(auto, using(crate::proofs::Asking::asking_lemmas))]
+#[tactic(auto, using(crate::proofs::AskLemmas::asking_lemmas))]
 pub fn asked_by(view: &View, config: &Config, line: Line<'_>) -> Asked
     requires { All (IsPlace config.now) view.now }
-    ensures outcome { (n : Negotiated) → outcome_of (view_in config.now view.now) n (command_of (line_value line.entry)) ≡ outcome_by config.now (view_in config.now view.now) n result }
+    ensures outcome { (n : Negotiated)
+        → outcome_of (view_in config.now view.now) n (command_of (line_value line.entry))
+        ≡ outcome_by config.now (view_in config.now view.now) n result }
     ensures leaving { is_bye (command_of (line_value line.entry)) ≡ is_leaving result }
 {
     match command(line) {
@@ -79,9 +81,10 @@ pub fn asked_by(view: &View, config: &Config, line: Line<'_>) -> Asked
     }
 }
 
-#[tactic(auto, using(crate::proofs::Asking::selecting_lemmas))]
+#[tactic(auto, using(crate::proofs::AskLemmas::selecting_lemmas))]
 fn selecting(text: &[u8]) -> Asked
-    ensures outcome { (config : ProtocolConfig) (v : ProtocolView) (n : Negotiated) → select n (Some text.now) ≡ outcome_by config v n result }
+    ensures outcome { (config : ProtocolConfig) (v : ProtocolView) (n : Negotiated)
+        → select n (Some text.now) ≡ outcome_by config v n result }
     ensures stays { is_leaving result ≡ false }
 {
     match Selector::parse(text) {

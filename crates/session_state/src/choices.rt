@@ -1,7 +1,7 @@
 //! The stations that a client names, and what it asks of each.
 ghost use Rattle.std.specs.Prelude.{◌≡◌, ◌<◌, ◌++◌, ◌∷◌, [], Some, length, slice_get, slice_set};
 ghost use Rattle.std.specs.Vec.{vec_capacity, vec_len};
-ghost use Rattle.session_state.specs.Naming.{begun};
+ghost use Rattle.session_state.specs.NamedValues.{begun};
 
 use sl_packet::Seq;
 use sl_time::Tick;
@@ -92,21 +92,24 @@ pub(crate) fn replace(entries: &mut [Entry], i: usize, entry: Entry)
 
 pub(crate) fn act_at(entries: &mut [Entry], i: usize, action: Action)
     requires { i < length entries.old }
-    ensures { (e : Entry) → slice_get entries.old i ≡ Some e → entries.new ≡ slice_set entries.old i (record e { action = Some action }) }
+    ensures { (e : Entry) → slice_get entries.old i ≡ Some e
+        → entries.new ≡ slice_set entries.old i (record e { action = Some action }) }
 {
     entries[i].action = Some(action);
 }
 
 pub(crate) fn keep_at(entries: &mut [Entry], i: usize, first: u64)
     requires { i < length entries.old }
-    ensures { (e : Entry) → slice_get entries.old i ≡ Some e → entries.new ≡ slice_set entries.old i (record e { first = first }) }
+    ensures { (e : Entry) → slice_get entries.old i ≡ Some e
+        → entries.new ≡ slice_set entries.old i (record e { first = first }) }
 {
     entries[i].first = first;
 }
 
 pub(crate) fn pass_at(entries: &mut [Entry], i: usize, cursor: Cursor)
     requires { i < length entries.old }
-    ensures { (e : Entry) → slice_get entries.old i ≡ Some e → entries.new ≡ slice_set entries.old i (record e { cursor = cursor }) }
+    ensures { (e : Entry) → slice_get entries.old i ≡ Some e
+        → entries.new ≡ slice_set entries.old i (record e { cursor = cursor }) }
 {
     entries[i].cursor = cursor;
 }

@@ -14,8 +14,8 @@ use selector::Selector;
 use std::alloc::{AllocError, Global};
 use std::marker::Model;
 
-/// What was negotiated: in uni-station mode the selectors of one station, the first that the client sees; in multi-station mode the
-/// stations that the client named.
+/// What was negotiated: in uni-station mode the selectors of one station, the first that the client sees; in
+/// multi-station mode the stations that the client named.
 #[derive(Drop)]
 pub struct Mode {
     is_multi: bool,
@@ -24,7 +24,7 @@ pub struct Mode {
 
 impl Model for Mode {
     ghost use Rattle.std.specs.Prelude.{◌≡◌, false};
-    ghost use Rattle.session_state.specs.Naming.{IsAlone, Mode as ModeValue, mode_of};
+    ghost use Rattle.session_state.specs.NamedValues.{IsAlone, ModeValue, mode_of};
 
     ghost Value = { ModeValue };
 
@@ -36,8 +36,8 @@ impl Model for Mode {
 impl Mode {
     ghost use Rattle.protocol.specs.Record.{Facts};
     ghost use Rattle.protocol.specs.Pattern.{passes};
-    ghost use Rattle.session_state.specs.Naming.{Choice as ChoiceValue, entry_of};
-    ghost use Rattle.session_state.specs.Naming.Mode.{Uni};
+    ghost use Rattle.session_state.specs.NamedValues.{Choice as ChoiceValue, entry_of};
+    ghost use Rattle.session_state.specs.NamedValues.ModeValue.{Uni};
     ghost use Rattle.session_state.specs.Choices.{chosen_of, kept_in, passed_in};
 
     /// Uni-station mode without selectors. Memory is taken here alone, and only for want of it this fails.
@@ -64,7 +64,8 @@ impl Mode {
     /// Whether a record with that location, channel and type passes the selectors of the i-th of them.
     pub fn passes(&self, i: usize, location: &[u8; 2], channel: &[u8; 3], kind: Kind) -> bool
         requires { i < length (chosen_of self.now) }
-        ensures { (c : ChoiceValue) (x : Facts) → slice_get (chosen_of self.now) i ≡ Some c → x.location ≡ location.now → x.channel ≡ channel.now → x.kind ≡ kind →
+        ensures { (c : ChoiceValue) (x : Facts) → slice_get (chosen_of self.now) i ≡ Some c → x.location ≡ location.now
+            → x.channel ≡ channel.now → x.kind ≡ kind →
             result ≡ passes c.selectors x }
     {
         self.is_multi && self.named.passes(i, location, channel, kind)
@@ -119,7 +120,8 @@ pub enum Effect {
 
 fn name(mode: &mut Mode, config: &Config, found: Option<usize>) -> Effect
     ensures { outcome_after result (negotiated_in config.now mode.new)
-        ≡ choose_station (choices_of (negotiated_in config.now mode.old)) (option_map (station_at config.now.entries) found) }
+        ≡ choose_station (choices_of (negotiated_in config.now mode.old))
+        (option_map (station_at config.now.entries) found) }
 {
     if !mode.is_multi {
         mode.named.forget();
@@ -129,7 +131,8 @@ fn name(mode: &mut Mode, config: &Config, found: Option<usize>) -> Effect
 }
 
 fn clear(mode: &mut Mode) -> Effect
-    ensures { (config : ProtocolConfig) → outcome_after result (negotiated_in config mode.new) ≡ select (negotiated_in config mode.old) None }
+    ensures { (config : ProtocolConfig)
+        → outcome_after result (negotiated_in config mode.new) ≡ select (negotiated_in config mode.old) None }
 {
     if mode.is_multi {
         mode.named.clear()
@@ -140,7 +143,9 @@ fn clear(mode: &mut Mode) -> Effect
 }
 
 fn add(mode: &mut Mode, selector: Selector) -> Effect
-    ensures { (config : ProtocolConfig) → outcome_after result (negotiated_in config mode.new) ≡ selecting (negotiated_in config mode.old) (Some selector) }
+    ensures { (config : ProtocolConfig)
+        → outcome_after result (negotiated_in config mode.new)
+        ≡ selecting (negotiated_in config mode.old) (Some selector) }
 {
     if mode.is_multi {
         mode.named.add_selector(selector)
@@ -151,7 +156,9 @@ fn add(mode: &mut Mode, selector: Selector) -> Effect
 
 /// In uni-station mode the transfer of the first station starts at once.
 fn act(mode: &mut Mode, view: &View, action: Action) -> Effect
-    ensures { (config : ProtocolConfig) → outcome_after result (negotiated_in config mode.new) ≡ act (view_in config view.now) (negotiated_in config mode.old) (action_value action) }
+    ensures { (config : ProtocolConfig)
+        → outcome_after result (negotiated_in config mode.new)
+        ≡ act (view_in config view.now) (negotiated_in config mode.old) (action_value action) }
 {
     if mode.is_multi {
         return mode.named.act(action);
@@ -167,7 +174,8 @@ fn act(mode: &mut Mode, view: &View, action: Action) -> Effect
 }
 
 fn finish(mode: &Mode) -> Effect
-    ensures { (config : ProtocolConfig) → outcome_after result (negotiated_in config mode.now) ≡ end_multi (negotiated_in config mode.now) }
+    ensures { (config : ProtocolConfig)
+        → outcome_after result (negotiated_in config mode.now) ≡ end_multi (negotiated_in config mode.now) }
 {
     if mode.is_multi {
         mode.named.finish()
@@ -178,7 +186,8 @@ fn finish(mode: &Mode) -> Effect
 
 /// Makes a change, as far as it may be made.
 pub fn make_change(mode: &mut Mode, view: &View, config: &Config, change: Change) -> Effect
-    ensures { outcome_after result (negotiated_in config.now mode.new) ≡ changed_by (view_in config.now view.now) config.now (negotiated_in config.now mode.old) change }
+    ensures { outcome_after result (negotiated_in config.now mode.new)
+        ≡ changed_by (view_in config.now view.now) config.now (negotiated_in config.now mode.old) change }
 {
     match change {
         Change::Name(found) => name(mode, config, found),

@@ -1,14 +1,17 @@
 //! The stations that a client named, with the selectors of each.
-ghost use Rattle.std.specs.Prelude.{◌≡◌, ◌<◌, ◌∷◌, [], None, Some, IfOk, IfSome, length, map, option_map, slice_get, slice_set, filter_map, is_some, position};
+ghost use Rattle.std.specs.Prelude.{◌≡◌, ◌<◌, ◌∷◌, [], None, Some, IfOk, IfSome, length, map, option_map, slice_get};
+ghost use Rattle.std.specs.Prelude.{slice_set, filter_map, is_some, position};
 ghost use Rattle.std.specs.List.{list_any};
 ghost use Rattle.protocol.specs.Catalog.{Config as ProtocolConfig, has_codes};
-ghost use Rattle.protocol.specs.Session.{act_multi, choose_known, choose_station, current_choice, end_with, select_multi, wish_of};
+ghost use Rattle.protocol.specs.Session.{act_multi, choose_known, choose_station, current_choice, end_with};
+ghost use Rattle.protocol.specs.Session.{select_multi, wish_of};
 ghost use Rattle.protocol.specs.Session.Negotiated.{Multi as NegotiatedMulti};
 ghost use Rattle.protocol.specs.Record.{Facts};
 ghost use Rattle.protocol.specs.Pattern.{passes};
 ghost use Rattle.catalog.specs.Places.{station_at};
-ghost use Rattle.session_state.specs.Naming.{Choice, blank, entry_of, begun, choice_of};
-ghost use Rattle.session_state.specs.Choices.{action_value, choices_in, has_action, is_of_station, is_entry_of_station, kept_at, passed_at};
+ghost use Rattle.session_state.specs.NamedValues.{Choice, blank, entry_of, begun, choice_of};
+ghost use Rattle.session_state.specs.Choices.{action_value, choices_in, has_action, is_of_station, is_entry_of_station};
+ghost use Rattle.session_state.specs.Choices.{kept_at, passed_at};
 ghost use Rattle.session_state.specs.Changes.{all_selectors, outcome_after, selecting_in, widened, widening};
 
 use crate::choices::{Action, Cursor, Entry, act_at, keep_at, pass_at, put, replace};
@@ -35,7 +38,8 @@ fn codes_at(config: &Config, place: usize) -> (&[u8], &[u8])
 
 /// Whether the station at a place has the codes of that at another.
 fn is_same_station(config: &Config, named: usize, place: usize) -> bool
-    ensures { result ≡ has_codes (station_at config.now.entries place).network (station_at config.now.entries place).code (station_at config.now.entries named) }
+    ensures { result ≡ has_codes (station_at config.now.entries place).network
+        (station_at config.now.entries place).code (station_at config.now.entries named) }
 {
     let (network, code) = codes_at(config, place);
     let (other_network, other_code) = codes_at(config, named);
@@ -58,8 +62,8 @@ fn are_asked(entries: &[Entry]) -> bool
     entries.iter().any(|entry| entry.action.is_some())
 }
 
-/// The stations that a client named, each with its selectors, and which of them is the current one. There are at most 255, with 64
-/// selectors each and 1,024 together. Memory for all of them is taken when it is made, and not later.
+/// The stations that a client named, each with its selectors, and which of them is the current one. There are at most
+/// 255, with 64 selectors each and 1,024 together. Memory for all of them is taken when it is made, and not later.
 #[derive(Drop)]
 pub struct Named {
     entries: Vec<Entry>,
@@ -69,13 +73,13 @@ pub struct Named {
 
 impl Model for Named {
     ghost use Rattle.std.specs.Vec.{vec_capacity};
-    ghost use Rattle.session_state.specs.Naming.{Naming, IsNaming, choices_with};
+    ghost use Rattle.session_state.specs.NamedValues.{NamedValue, IsNamed, choices_with};
 
-    ghost Value = { Naming };
+    ghost Value = { NamedValue };
 
     ghost view = { λ n. record { choices = choices_with n.entries.items n.pool; current = n.current } };
 
-    ghost invariant = { λ n. IsNaming n.entries.items n.current n.pool (vec_capacity n.entries) };
+    ghost invariant = { λ n. IsNamed n.entries.items n.current n.pool (vec_capacity n.entries) };
 }
 
 impl Named {
@@ -103,7 +107,8 @@ impl Named {
     /// Whether a record with that location, channel and type passes the selectors of the i-th station.
     pub fn passes(&self, i: usize, location: &[u8; 2], channel: &[u8; 3], kind: Kind) -> bool
         requires { i < length self.now.choices }
-        ensures { (c : Choice) (x : Facts) → slice_get self.now.choices i ≡ Some c → x.location ≡ location.now → x.channel ≡ channel.now → x.kind ≡ kind →
+        ensures { (c : Choice) (x : Facts) → slice_get self.now.choices i ≡ Some c → x.location ≡ location.now
+            → x.channel ≡ channel.now → x.kind ≡ kind →
             result ≡ passes c.selectors x }
     {
         let _ = &self.entries;
@@ -149,8 +154,13 @@ impl Named {
     pub fn add_at(&mut self, i: usize, selector: Selector) -> Effect
         requires { i < length self.old.choices }
         ensures new { (c : Choice) → slice_get self.old.choices i ≡ Some c →
-            self.new ≡ record self.old { choices = slice_set self.old.choices i (record c { selectors = widened (all_selectors self.old.choices) c.selectors selector }) } }
-        ensures effect { (c : Choice) → slice_get self.old.choices i ≡ Some c → result ≡ widening (all_selectors self.old.choices) c.selectors }
+            self.new ≡ record self.old {
+              choices =
+                  slice_set self.old.choices i
+                  (record c { selectors = widened (all_selectors self.old.choices) c.selectors selector });
+            } }
+        ensures effect { (c : Choice) → slice_get self.old.choices i ≡ Some c
+            → result ≡ widening (all_selectors self.old.choices) c.selectors }
     {
         let _ = &self.entries;
         match self.pool.add(i, selector) {
@@ -169,7 +179,8 @@ impl Named {
 
     /// A station that was not named before becomes the current one, where there is room.
     fn add(&mut self, place: usize) -> Effect
-        ensures { (config : ProtocolConfig) → outcome_after result (NegotiatedMulti (choices_in config self.new.choices) self.new.current)
+        ensures { (config : ProtocolConfig)
+            → outcome_after result (NegotiatedMulti (choices_in config self.new.choices) self.new.current)
             ≡ choose_known (station_at config.entries place) (choices_in config self.old.choices) None }
     {
         let i = self.entries.len();
@@ -190,10 +201,11 @@ impl Named {
     }
 
     /// The station, where one was found, becomes the current one; else none is.
-    #[tactic(auto, using(crate::proofs::Choosing::naming_lemmas))]
+    #[tactic(auto, using(crate::proofs::ChoiceLemmas::naming_lemmas))]
     pub fn name(&mut self, config: &Config, found: Option<usize>) -> Effect
         ensures { outcome_after result (NegotiatedMulti (choices_in config.now self.new.choices) self.new.current)
-            ≡ choose_station (choices_in config.now self.old.choices) (option_map (station_at config.now.entries) found) }
+            ≡ choose_station (choices_in config.now self.old.choices)
+            (option_map (station_at config.now.entries) found) }
     {
         let Some(place) = found else {
             self.set_current(None);
@@ -210,8 +222,10 @@ impl Named {
 
     /// The current station's selectors are taken away.
     pub fn clear(&mut self) -> Effect
-        ensures { (config : ProtocolConfig) → outcome_after result (NegotiatedMulti (choices_in config self.new.choices) self.new.current)
-            ≡ select_multi (choices_in config self.old.choices) self.old.current None (current_choice (choices_in config self.old.choices) self.old.current) }
+        ensures { (config : ProtocolConfig)
+            → outcome_after result (NegotiatedMulti (choices_in config self.new.choices) self.new.current)
+            ≡ select_multi (choices_in config self.old.choices) self.old.current None
+            (current_choice (choices_in config self.old.choices) self.old.current) }
     {
         match self.current {
             Some(i) => {
@@ -224,8 +238,10 @@ impl Named {
 
     /// The current station has a selector more, where there is room.
     pub fn add_selector(&mut self, selector: Selector) -> Effect
-        ensures { (config : ProtocolConfig) → outcome_after result (NegotiatedMulti (choices_in config self.new.choices) self.new.current)
-            ≡ selecting_in (choices_in config self.old.choices) self.old.current (Some selector) (current_choice (choices_in config self.old.choices) self.old.current) }
+        ensures { (config : ProtocolConfig)
+            → outcome_after result (NegotiatedMulti (choices_in config self.new.choices) self.new.current)
+            ≡ selecting_in (choices_in config self.old.choices) self.old.current (Some selector)
+            (current_choice (choices_in config self.old.choices) self.old.current) }
     {
         match self.current {
             Some(i) => self.add_at(i, selector),
@@ -245,8 +261,10 @@ impl Named {
 
     /// The current station's action, in place of an earlier one.
     pub fn act(&mut self, action: Action) -> Effect
-        ensures { (config : ProtocolConfig) → outcome_after result (NegotiatedMulti (choices_in config self.new.choices) self.new.current)
-            ≡ act_multi (choices_in config self.old.choices) self.old.current (action_value action) (current_choice (choices_in config self.old.choices) self.old.current) }
+        ensures { (config : ProtocolConfig)
+            → outcome_after result (NegotiatedMulti (choices_in config self.new.choices) self.new.current)
+            ≡ act_multi (choices_in config self.old.choices) self.old.current (action_value action)
+            (current_choice (choices_in config self.old.choices) self.old.current) }
     {
         match self.current {
             Some(i) => {
@@ -266,8 +284,10 @@ impl Named {
 
     /// A transfer starts where a station has an action.
     pub fn finish(&self) -> Effect
-        ensures { (config : ProtocolConfig) → outcome_after result (NegotiatedMulti (choices_in config self.now.choices) self.now.current)
-            ≡ end_with (choices_in config self.now.choices) self.now.current (filter_map wish_of (choices_in config self.now.choices)) }
+        ensures { (config : ProtocolConfig)
+            → outcome_after result (NegotiatedMulti (choices_in config self.now.choices) self.now.current)
+            ≡ end_with (choices_in config self.now.choices) self.now.current
+            (filter_map wish_of (choices_in config self.now.choices)) }
     {
         if self.is_asked() {
             Effect::Starts
@@ -279,7 +299,10 @@ impl Named {
     /// Keeps from which arrival on the i-th station's records are wanted.
     pub fn keep(&mut self, i: usize, first: u64)
         requires { i < length self.old.choices }
-        ensures { self.new ≡ record self.old { choices = kept_at i first self.old.choices (slice_get self.old.choices i) } }
+        ensures { self.new ≡ record self.old {
+          choices =
+              kept_at i first self.old.choices (slice_get self.old.choices i);
+        } }
     {
         let _ = &self.pool;
         keep_at(self.entries.as_mut_slice(), i, first);
@@ -288,7 +311,10 @@ impl Named {
     /// Keeps how far the transfer has come in the ring of the i-th station.
     pub fn pass(&mut self, i: usize, cursor: Cursor)
         requires { i < length self.old.choices }
-        ensures { self.new ≡ record self.old { choices = passed_at i cursor self.old.choices (slice_get self.old.choices i) } }
+        ensures { self.new ≡ record self.old {
+          choices =
+              passed_at i cursor self.old.choices (slice_get self.old.choices i);
+        } }
     {
         let _ = &self.pool;
         pass_at(self.entries.as_mut_slice(), i, cursor);

@@ -1,5 +1,6 @@
 //! One client's side of the server.
-ghost use Rattle.std.specs.Prelude.{◌≡◌, ◌≢◌, ◌≤◌, ◌<◌, ◌+◌, ◌-◌, ◌&&◌, IfOk, OnErr, List, [], ◌∷◌, ◌++◌, length, drop, map, nat_lt, not, is_ok, is_some, true, false, codes, ℕ, Some, slice_get};
+ghost use Rattle.std.specs.Prelude.{◌≡◌, ◌≢◌, ◌≤◌, ◌<◌, ◌+◌, ◌-◌, ◌&&◌, IfOk, OnErr, List, [], ◌∷◌, ◌++◌, length, drop};
+ghost use Rattle.std.specs.Prelude.{map, nat_lt, not, is_ok, is_some, true, false, codes, ℕ, Some, slice_get};
 ghost use Rattle.protocol.specs.History.{Arrival};
 ghost use Rattle.protocol.specs.Client.{read_on, received, offered, after_take, cut, new_client, is_ending, is_nothing};
 
@@ -20,8 +21,8 @@ mod steps;
 /// How many unread bytes there may be.
 const INBOX: usize = 1024;
 
-/// How many bytes the buffer of unread bytes holds, with those that were read and are not overwritten yet. Since it is twice the
-/// inbox, bytes are moved to its front only after as many were read.
+/// How many bytes the buffer of unread bytes holds, with those that were read and are not overwritten yet. Since it is
+/// twice the inbox, bytes are moved to its front only after as many were read.
 const BUFFER: usize = 2048;
 
 /// What a session is in the middle of.
@@ -63,9 +64,9 @@ pub struct Session {
 
 impl Model for Session {
     ghost use Rattle.std.specs.Prelude.{◌≤◌, ◌+◌, drop, length};
-    ghost use Rattle.session_state.specs.Sessions.{Sitting};
+    ghost use Rattle.session_state.specs.Sessions.{SessionValue};
 
-    ghost Value = { Sitting };
+    ghost Value = { SessionValue };
 
     ghost view = { λ s. record {
       places = s.view;
@@ -85,7 +86,7 @@ impl Session {
     ghost use Rattle.protocol.specs.Catalog.{Config as ProtocolConfig};
     ghost use Rattle.protocol.specs.Record.{Facts};
     ghost use Rattle.protocol.specs.Pattern.{passes};
-    ghost use Rattle.session_state.specs.Naming.{Choice as ChoiceValue, entry_of};
+    ghost use Rattle.session_state.specs.NamedValues.{Choice as ChoiceValue, entry_of};
     ghost use Rattle.session_state.specs.Choices.{chosen_of};
     ghost use Rattle.session_state.specs.Sessions.{client_in};
     ghost use Rattle.session_state.specs.declared.session.State.TheVariants.{Negotiating, Starting};
@@ -94,7 +95,8 @@ impl Session {
     ///
     /// All memory that it will need is taken here, and only for want of it this fails.
     pub fn new(alloc: Global, view: View) -> Result<Session, AllocError>
-        ensures client { IfOk result (λ s. (config : ProtocolConfig) (h : List Arrival) → client_in config h s ≡ new_client) }
+        ensures client { IfOk result (λ s. (config : ProtocolConfig) (h : List Arrival)
+            → client_in config h s ≡ new_client) }
         ensures places { IfOk result (λ s. s.places ≡ view) }
         ensures settled { IfOk result (λ s. s.state ≢ Starting) }
         ensures negotiates { IfOk result (λ s. s.state ≡ Negotiating) }
@@ -141,7 +143,8 @@ impl Session {
         self.state
     }
 
-    /// The stations that were named, in that order, without their selectors. Those with an action are the requests of a transfer.
+    /// The stations that were named, in that order, without their selectors. Those with an action are the requests of a
+    /// transfer.
     pub fn choices(&self) -> &[Entry]
         ensures { result.now ≡ map entry_of (chosen_of self.now.mode) }
     {
@@ -159,14 +162,15 @@ impl Session {
     /// Whether a record with that location, channel and type passes the selectors of the i-th named station.
     pub fn passes(&self, i: usize, location: &[u8; 2], channel: &[u8; 3], kind: Kind) -> bool
         requires { i < length (chosen_of self.now.mode) }
-        ensures { (c : ChoiceValue) (x : Facts) → slice_get (chosen_of self.now.mode) i ≡ Some c → x.location ≡ location.now → x.channel ≡ channel.now → x.kind ≡ kind →
+        ensures { (c : ChoiceValue) (x : Facts) → slice_get (chosen_of self.now.mode) i ≡ Some c
+            → x.location ≡ location.now → x.channel ≡ channel.now → x.kind ≡ kind →
             result ≡ passes c.selectors x }
     {
         self.mode.passes(i, location, channel, kind)
     }
 
     /// Whether nothing waits.
-    #[tactic(auto, using(crate::proofs::Following::nothing_drop))]
+    #[tactic(auto, using(crate::proofs::LineLemmas::nothing_drop))]
     pub fn is_empty(&self) -> bool
         ensures { result ≡ is_nothing self.now.waiting }
     {
@@ -175,7 +179,8 @@ impl Session {
 
     /// Whether the client said BYE, or all was sent.
     pub fn is_ending(&self) -> bool
-        ensures { (config : ProtocolConfig) (h : List Arrival) → result ≡ is_ending (client_in config h self.now).state }
+        ensures { (config : ProtocolConfig) (h : List Arrival)
+            → result ≡ is_ending (client_in config h self.now).state }
     {
         match self.state {
             State::Negotiating => false,
@@ -190,10 +195,12 @@ impl Session {
 /// What others do with a session.
 impl Session {
     ghost use Rattle.protocol.specs.Catalog.{Config as ProtocolConfig, listing};
-    ghost use Rattle.session_state.specs.Naming.{Choice as ChoiceValue};
+    ghost use Rattle.session_state.specs.NamedValues.{Choice as ChoiceValue};
     ghost use Rattle.session_state.specs.Choices.{chosen_of, kept_in};
-    ghost use Rattle.session_state.specs.Sessions.{client_in, sitting_view, line_made, is_listing, HasPlaces, HasFirsts, Comes, KeepsTransfer, but_for_cursors, never_starts};
-    ghost use Rattle.session_state.specs.declared.session.State.TheVariants.{Negotiating, Listing, Starting, Transfer, Ending};
+    ghost use Rattle.session_state.specs.Sessions.{client_in, session_view, line_made, is_listing, HasPlaces};
+    ghost use Rattle.session_state.specs.Sessions.{HasFirsts, Comes, KeepsTransfer, but_for_cursors, never_starts};
+    ghost use Rattle.session_state.specs.declared.session.State.TheVariants.{Negotiating, Listing, Starting, Transfer};
+    ghost use Rattle.session_state.specs.declared.session.State.TheVariants.{Ending};
     ghost use Rattle.session_state.specs.declared.session.Settled.TheVariants.{Rest, Start};
 
     fn settled(&self) -> Settled
@@ -213,7 +220,7 @@ impl Session {
     pub fn settle(&mut self, config: &Config) -> Settled
         requires { HasPlaces config.now self.old }
         ensures client { (h : List Arrival) → Comes result config.now h self.new
-            (read_on (sitting_view config.now self.old) h self.old.unread (client_in config.now h self.old)) }
+            (read_on (session_view config.now self.old) h self.old.unread (client_in config.now h self.old)) }
         ensures places { self.new.places ≡ self.old.places }
         ensures stays { never_starts self.old.state ≡ true → result ≡ Rest }
         ensures kept { KeepsTransfer self.old self.new }
@@ -228,14 +235,16 @@ impl Session {
         self.settled()
     }
 
-    /// Bytes come. Where there is no room for all of them they are refused as a whole, and nothing changes. In its end a session
-    /// takes and drops them.
-    #[tactic(auto, using(crate::proofs::Receiving::receive_lemmas))]
+    /// Bytes come. Where there is no room for all of them they are refused as a whole, and nothing changes. In its end
+    /// a session takes and drops them.
+    #[tactic(auto, using(crate::proofs::ReceiveLemmas::receive_lemmas))]
     pub fn receive(&mut self, config: &Config, bytes: &[u8]) -> Result<Settled, NoRoom>
         requires { HasPlaces config.now self.old }
         ensures client { IfOk result (λ settled. (h : List Arrival) → Comes settled config.now h self.new
-            (received (sitting_view config.now self.old) h bytes.now (client_in config.now h self.old))) }
-        ensures refused { OnErr result ((h : List Arrival) → client_in config.now h self.new ≡ received (sitting_view config.now self.old) h bytes.now (client_in config.now h self.old)) }
+            (received (session_view config.now self.old) h bytes.now (client_in config.now h self.old))) }
+        ensures refused { OnErr result
+            ((h : List Arrival) → client_in config.now h self.new
+            ≡ received (session_view config.now self.old) h bytes.now (client_in config.now h self.old)) }
         ensures unchanged { OnErr result (self.new ≡ self.old) }
         ensures starting { IfOk result (λ settled. settled ≡ Start → self.new.state ≡ Starting) }
         ensures settled { IfOk result (λ settled. settled ≡ Rest → self.new.state ≢ Starting) }
@@ -253,9 +262,9 @@ impl Session {
         Ok(self.settle(config))
     }
 
-    /// The transfer that was asked for starts, once it is kept from which arrival on each request wants records. What is unread
-    /// stays so until the session settles.
-    #[tactic(auto, using(crate::proofs::Receiving::start_lemmas))]
+    /// The transfer that was asked for starts, once it is kept from which arrival on each request wants records. What
+    /// is unread stays so until the session settles.
+    #[tactic(auto, using(crate::proofs::ReceiveLemmas::start_lemmas))]
     pub fn enter(&mut self)
         requires { self.old.state ≡ Starting }
         ensures state { self.new ≡ record self.old { state = Transfer 0 } }
@@ -266,13 +275,13 @@ impl Session {
     }
 
     /// The first bytes that wait, 1 to all of them, were handed. When none is left, further lines are read.
-    #[tactic(auto, using(crate::proofs::Taking::took_lemmas))]
+    #[tactic(auto, using(crate::proofs::TookLemmas::took_lemmas))]
     pub fn took(&mut self, config: &Config, count: usize) -> Settled
         requires places { HasPlaces config.now self.old }
         requires some { 0 < count }
         requires waiting { count ≤ length self.old.waiting }
         ensures client { (h : List Arrival) → Comes result config.now h self.new
-            (after_take (sitting_view config.now self.old) h (client_in config.now h self.old) count) }
+            (after_take (session_view config.now self.old) h (client_in config.now h self.old) count) }
         ensures starting { result ≡ Start → self.new.state ≡ Starting }
         ensures settled { result ≡ Rest → self.old.state ≢ Starting → self.new.state ≢ Starting }
         ensures kept { KeepsTransfer self.old self.new }
@@ -291,7 +300,8 @@ impl Session {
     pub fn next_line(&mut self, config: &Config)
         requires places { HasPlaces config.now self.old }
         requires nothing_waits { self.old.waiting ≡ [] }
-        ensures client { is_listing self.old.state ≡ true → (h : List Arrival) → client_in config.now h self.new ≡ offered h (client_in config.now h self.old) }
+        ensures client { is_listing self.old.state ≡ true → (h : List Arrival)
+            → client_in config.now h self.new ≡ offered h (client_in config.now h self.old) }
         ensures line { (made : ℕ) → self.old.state ≡ Listing made → self.new ≡ line_made config.now made self.old }
         ensures unchanged { is_listing self.old.state ≡ false → self.new ≡ self.old }
         ensures settled { self.old.state ≢ Starting → self.new.state ≢ Starting }
@@ -306,7 +316,7 @@ impl Session {
     /// Whether a listing has a line more than were made to wait. In another state there is none.
     pub fn has_line(&self) -> bool
         ensures line { (config : ProtocolConfig) (made : ℕ) → self.now.state ≡ Listing made →
-            result ≡ is_some (slice_get (listing (sitting_view config self.now)) made) }
+            result ≡ is_some (slice_get (listing (session_view config self.now)) made) }
         ensures elsewhere { is_listing self.now.state ≡ false → result ≡ false }
     {
         let all = self.view.places().len();
@@ -319,7 +329,8 @@ impl Session {
         }
     }
 
-    /// A packet, or other bytes up to 520, is made to wait, after which a transfer may choose arrivals from that one on.
+    /// A packet, or other bytes up to 520, is made to wait, after which a transfer may choose arrivals from that one
+    /// on.
     pub fn put(&mut self, bytes: &[u8], next: u64)
         requires { length bytes.now ≤ 520 }
         ensures { self.new ≡ record self.old { state = Transfer next; waiting = bytes.now } }
@@ -359,13 +370,14 @@ impl Session {
     }
 
     /// Keeps how far the transfer has come in the ring of the i-th named station.
-    #[tactic(auto, using(crate::proofs::Passing::pass_lemmas))]
+    #[tactic(auto, using(crate::proofs::CursorLemmas::pass_lemmas))]
     pub fn pass(&mut self, i: usize, cursor: Cursor)
         requires { i < length (chosen_of self.old.mode) }
         ensures same { but_for_cursors self.new ≡ but_for_cursors self.old }
         ensures here { (c : ChoiceValue) → slice_get (chosen_of self.old.mode) i ≡ Some c →
             slice_get (chosen_of self.new.mode) i ≡ Some (record c { cursor = cursor }) }
-        ensures others { (j : ℕ) → j ≢ i → slice_get (chosen_of self.new.mode) j ≡ slice_get (chosen_of self.old.mode) j }
+        ensures others { (j : ℕ) → j ≢ i
+            → slice_get (chosen_of self.new.mode) j ≡ slice_get (chosen_of self.old.mode) j }
         ensures count { length (chosen_of self.new.mode) ≡ length (chosen_of self.old.mode) }
     {
         self.pass_to(i, cursor);

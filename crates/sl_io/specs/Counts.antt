@@ -17,14 +17,15 @@ CountsEmptyWrite old new result bytes = MatchResult result
     (λ n. (n ≡ 0 → 0 < length bytes → IsMore old new 1) × (0 < n → new ≡ old) × (length bytes ≡ 0 → new ≡ old))
     (λ _. new ≡ old)
 
--- why a reading to the end stopped early, by the counts of failures and of calls before and after it: no memory, and no read
--- had failed; or a read, of which one failed or 2^64 - 1 were made
+-- why a reading to the end stopped early, by the counts of failures and of calls before and after it: no memory, and no
+-- read had failed; or a read, of which one failed or 2^64 - 1 were made
 abbrev pub StopsReading : ReadFault → ℕ → ℕ → ℕ → ℕ → Type 0
 StopsReading OutOfMemory failures failures' calls calls' = failures' ≡ failures
 StopsReading Read failures failures' calls calls' =
     IsMore failures failures' 1 ⊎ ((failures' ≡ failures) × IsMore calls calls' (2 ^ 64 - 1))
 
--- why a writing stopped early, by the counts of failures and of empty writes before and after it: one failed, or one was empty
+-- why a writing stopped early, by the counts of failures and of empty writes before and after it: one failed, or one
+-- was empty
 abbrev pub StopsWriting : ℕ → ℕ → ℕ → ℕ → Type 0
 StopsWriting failures failures' empty_writes empty_writes' =
     (IsMore failures failures' 1 × (empty_writes' ≡ empty_writes))

@@ -1,4 +1,5 @@
--- What a reading or writing of many calls does to the bytes that a reader has left or a writer was given, where they are told.
+-- What a reading or writing of many calls does to the bytes that a reader has left or a writer was given, where they
+-- are told.
 use Rattle.std.specs.Prelude.{◌≡◌, ℕ, List, ◌++◌}
 use Rattle.std.specs.Io.KnownBytes.{Appends, Consumes}
 use Rattle.std.specs.declared.option.Option.{Option}

@@ -52,7 +52,11 @@ impl<T> Failing<T> {
 
     /// How many reads and writes were made, how many of them failed, and how many writes were empty ones.
     pub fn counts(&self) -> Counts
-        ensures { result ≡ record { failures = self.now.failures; calls = self.now.calls; empty_writes = self.now.empty_writes } }
+        ensures { result ≡ record {
+          failures = self.now.failures;
+          calls = self.now.calls;
+          empty_writes = self.now.empty_writes;
+        } }
     {
         Counts {
             failures: self.failures,

@@ -1,6 +1,6 @@
-//! The lowest layer of input and output: readers and writers of bytes that count their failures, their calls and their empty
-//! writes, and that tell their bytes where these are known. What stands above is stated over these counts and bytes, so that
-//! a fault of input or output comes only with a failure.
+//! The lowest layer of input and output: readers and writers of bytes that count their failures, their calls and their
+//! empty writes, and that tell their bytes where these are known. What stands above is stated over these counts and
+//! bytes, so that a fault of input or output comes only with a failure.
 #![tactic(auto)]
 
 ghost use Rattle.std.specs.Prelude.{ℕ, List};
@@ -36,8 +36,8 @@ pub trait Source {
     // How many reads were made.
     ghost calls: { Self → ℕ };
 
-    /// Reads some bytes into the beginning of the buffer, and answers how many: 0 at the end of the input, or where the buffer
-    /// is empty. A failed read takes no byte.
+    /// Reads some bytes into the beginning of the buffer, and answers how many: 0 at the end of the input, or where the
+    /// buffer is empty. A failed read takes no byte.
     fn read(&mut self, buffer: &mut [u8]) -> Result<usize, DeviceFault>
         ensures bound { ReadsAtMost result buffer.new }
         ensures bytes { ReadConsumes (left self.old) (left self.new) result buffer.new }

@@ -7,7 +7,8 @@ ghost use Rattle.sl_io.specs.Counts.{IsMore, CountsFailure, CountsEmptyWrite};
 use crate::{Counts, DeviceFault, Sink};
 use std::alloc::Global;
 
-/// A writer into memory. It takes at most `most` bytes a call, and tells its bytes. A write for which there is no memory fails.
+/// A writer into memory. It takes at most `most` bytes a call, and tells its bytes. A write for which there is no
+/// memory fails.
 #[derive(Drop)]
 pub struct MemorySink {
     bytes: Vec<u8>,

@@ -6,7 +6,8 @@ use crate::Counts;
 mod reading;
 mod writing;
 
-/// A reader or writer of std's, whose failures, calls and empty writes are counted. It tells the bytes that the inner value tells.
+/// A reader or writer of std's, whose failures, calls and empty writes are counted. It tells the bytes that the inner
+/// value tells.
 #[derive(Drop)]
 pub struct Outer<T> {
     inner: T,
@@ -40,7 +41,11 @@ impl<T> Outer<T> {
 
     /// How many reads and writes were made, how many of them failed, and how many writes were empty ones.
     pub fn counts(&self) -> Counts
-        ensures { result ≡ record { failures = self.now.failures; calls = self.now.calls; empty_writes = self.now.empty_writes } }
+        ensures { result ≡ record {
+          failures = self.now.failures;
+          calls = self.now.calls;
+          empty_writes = self.now.empty_writes;
+        } }
     {
         Counts {
             failures: self.failures,

@@ -1,10 +1,11 @@
 -- The first word of a text, byte by byte.
-use Rattle.std.proofs.Common.{◌≡◌, ℕ, ◌+◌, ◌<◌, false, suc, List, [], ◌∷◌, ◌++◌, length, take, drop, get_or, refl, sym, ap, ◌∙◌, append_assoc, append-nil, arith, drop-cons, add-one}
+use Rattle.std.proofs.Common.{◌≡◌, ℕ, ◌+◌, ◌<◌, false, suc, List, [], ◌∷◌, ◌++◌, length, take, drop, get_or, refl, sym}
+use Rattle.std.proofs.Common.{ap, ◌∙◌, append_assoc, append-nil, arith, drop-cons, add-one}
 use Rattle.std.specs.Prelude.{◌==◌}
 use Rattle.std.proofs.lemmas.List.{take_more}
 use Rattle.protocol.specs.Command.{words}
 use Rattle.protocol.specs.Pieces.{split, without_empty, cons_first}
-use Rattle.protocol.proofs.Found.{both}
+use Rattle.protocol.proofs.FoundLemmas.{both}
 
 -- the pieces with bytes in front of the first
 abbrev behind : List ℕ → List (List ℕ) → List (List ℕ)
@@ -28,12 +29,15 @@ at_front b (p ∷ ps) = refl
 
 pub begun-nothing : (rest : List ℕ) → begun [] rest ≡ words rest
 begun-nothing [] = refl
-begun-nothing (b ∷ rest) = both (b == 32) (λ y. rw y) (λ n. rw n (ap without_empty (at_front b (split (λ b. b == 32) rest))))
+begun-nothing (b ∷ rest) =
+    both (b == 32) (λ y. rw y) (λ n. rw n (ap without_empty (at_front b (split (λ b. b == 32) rest))))
 
 -- one more byte of the word
-pub begun-step : (zs : List ℕ) (k : ℕ) → k < length zs → (get_or zs k 0 == 32) ≡ false → begun (take k zs) (drop k zs) ≡ begun (take (k + 1) zs) (drop (k + 1) zs)
+pub begun-step : (zs : List ℕ) (k : ℕ) → k < length zs → (get_or zs k 0 == 32) ≡ false
+    → begun (take k zs) (drop k zs) ≡ begun (take (k + 1) zs) (drop (k + 1) zs)
 begun-step zs k h e =
-    rw (take_more zs k 0 h, add-one k) (ap (begun (take k zs)) (drop-cons zs k 0 h) ∙ begun-more (take k zs) (get_or zs k 0) (drop (suc k) zs) e)
+    rw (take_more zs k 0 h, add-one k) (ap (begun (take k zs)) (drop-cons zs k 0 h)
+    ∙ begun-more (take k zs) (get_or zs k 0) (drop (suc k) zs) e)
 
 -- a word that has a byte
 pub word_of : (bs : List ℕ) (ps : List (List ℕ)) → 0 < length bs → without_empty (bs ∷ ps) ≡ bs ∷ without_empty ps
@@ -48,7 +52,8 @@ begun-end bs some = rw (append-nil bs) (word_of bs [] some)
 pub begun-space : (bs rest : List ℕ) → 0 < length bs → begun bs (32 ∷ rest) ≡ bs ∷ words (32 ∷ rest)
 begun-space bs rest some = rw (append-nil bs) (word_of bs (split (λ b. b == 32) rest) some)
 
-pub begun-ended : (zs : List ℕ) (k : ℕ) → 0 < k → k < length zs → get_or zs k 0 ≡ 32 → begun (take k zs) (drop k zs) ≡ take k zs ∷ words (drop k zs)
+pub begun-ended : (zs : List ℕ) (k : ℕ) → 0 < k → k < length zs → get_or zs k 0 ≡ 32
+    → begun (take k zs) (drop k zs) ≡ take k zs ∷ words (drop k zs)
 begun-ended zs k some h e =
     let d : drop k zs ≡ 32 ∷ drop (suc k) zs = drop-cons zs k 0 h ∙ ap (λ b. b ∷ drop (suc k) zs) e in
     rw d (begun-space (take k zs) (drop (suc k) zs) (grind arith))

@@ -23,4 +23,5 @@ lines_value (Some line) = line_value line ∷ []
 
 -- Once the lent line is let go, the cutter's open line is the one after the byte.
 abbrev pub LeavesOpen : MutBor LineCutter → ℕ → Fml
-LeavesOpen cutter byte = follows_so the_row the_row cutter.ghost_name none (λ _ _. ⊤) (λ left. left ≡ open_after cutter.now (byte ∷ []))
+LeavesOpen cutter byte = follows_so the_row the_row cutter.ghost_name none (λ _ _. ⊤)
+    (λ left. left ≡ open_after cutter.now (byte ∷ []))

@@ -2,9 +2,13 @@
 -- SeedLink 3, commands.
 use Rattle.std.specs.Option.{option_copied}
 use Rattle.protocol.specs.Command.{Command}
-use Rattle.protocol.specs.Command.Command.{Blank as BlankCommand, Hello as HelloCommand, Cat as CatCommand, Bye as ByeCommand, End as EndCommand, Station as StationCommand, Select as SelectCommand, Data as DataCommand, Fetch as FetchCommand, Time as TimeCommand, Bad as BadCommand}
+use Rattle.protocol.specs.Command.Command.{Blank as BlankCommand, Hello as HelloCommand, Cat as CatCommand}
+use Rattle.protocol.specs.Command.Command.{Bye as ByeCommand, End as EndCommand, Station as StationCommand}
+use Rattle.protocol.specs.Command.Command.{Select as SelectCommand, Data as DataCommand, Fetch as FetchCommand}
+use Rattle.protocol.specs.Command.Command.{Time as TimeCommand, Bad as BadCommand}
 use Rattle.sl_lines.specs.declared.orders.Order.{Order}
-use Rattle.sl_lines.specs.declared.orders.Order.TheVariants.{Blank, Hello, Cat, Bye, End, Station, Select, Data, Fetch, Time, Bad}
+use Rattle.sl_lines.specs.declared.orders.Order.TheVariants.{Blank, Hello, Cat, Bye, End, Station, Select, Data, Fetch}
+use Rattle.sl_lines.specs.declared.orders.Order.TheVariants.{Time, Bad}
 
 -- Numbers and times are seen as those of a command already.
 abbrev pub order_value : Order → Command

@@ -2,7 +2,9 @@
 -- SeedLink 3, commands.
 use Rattle.std.specs.Prelude.{◌≡◌, ℕ, ℤ, List, [], ◌∷◌, Option, Some, None}
 use Rattle.protocol.specs.Command.{Command, alone, station_command, select_command, numbered, timed}
-use Rattle.protocol.specs.Command.Command.{Hello as HelloCommand, Cat as CatCommand, Bye as ByeCommand, End as EndCommand, Data as DataCommand, Fetch as FetchCommand, Time as TimeCommand, Bad as BadCommand}
+use Rattle.protocol.specs.Command.Command.{Hello as HelloCommand, Cat as CatCommand, Bye as ByeCommand}
+use Rattle.protocol.specs.Command.Command.{End as EndCommand, Data as DataCommand, Fetch as FetchCommand}
+use Rattle.protocol.specs.Command.Command.{Time as TimeCommand, Bad as BadCommand}
 use Rattle.sl_lines.specs.declared.words.Arguments.{Arguments}
 use Rattle.sl_lines.specs.declared.words.Arguments.TheVariants.{Nothing, One, Two, More}
 use Rattle.sl_lines.specs.declared.orders.Name.{Name}

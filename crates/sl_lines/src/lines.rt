@@ -85,8 +85,9 @@ impl OpenLine {
     }
 }
 
-/// Cuts the bytes of a client into lines (SeedLink 3, commands). CR and LF both end a line, so that CR LF ends one and then
-/// an empty one; an empty line is none. In a contract a cutter is its open line: the bytes since the last line end.
+/// Cuts the bytes of a client into lines (SeedLink 3, commands). CR and LF both end a line, so that CR LF ends one and
+/// then an empty one; an empty line is none. In a contract a cutter is its open line: the bytes since the last line
+/// end.
 #[derive(Drop)]
 pub struct LineCutter {
     open: OpenLine,
@@ -121,8 +122,8 @@ impl LineCutter {
         }
     }
 
-    /// Takes the next byte, and lends the line that it ends, up to the next call: `Text` for 1 to 256 bytes, and `TooLong`
-    /// for more. None where the byte ends no line, or an empty one.
+    /// Takes the next byte, and lends the line that it ends, up to the next call: `Text` for 1 to 256 bytes, and
+    /// `TooLong` for more. None where the byte ends no line, or an empty one.
     pub fn push(&mut self, byte: u8) -> Option<Line<'_>>
         ensures cut { lines_value result ≡ cut_from self.old (byte ∷ []) }
         ensures* open { sem 𝓛 (LeavesOpen self.entry byte) }

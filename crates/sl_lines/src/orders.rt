@@ -1,6 +1,7 @@
 //! Commands out of lines.
 ghost use Rattle.std.specs.Prelude.{◌≡◌, List, ℕ, ℤ, Option, Some};
-ghost use Rattle.protocol.specs.Command.{Command, command_of, command_of_words, named, numbered, timed, uppercased, words};
+ghost use Rattle.protocol.specs.Command.{Command, command_of, command_of_words, named, numbered, timed, uppercased};
+ghost use Rattle.protocol.specs.Command.{words};
 ghost use Rattle.protocol.specs.Command.Command.{Data, Fetch};
 ghost use Rattle.protocol.specs.Time.{time_of};
 ghost use Rattle.sl_lines.specs.LineValues.{line_value};
@@ -38,7 +39,8 @@ pub enum Order<'a> {
     Select {
         pattern: Option<&'a [u8]>,
     },
-    /// `DATA [number [begin]]`: records as they come, from that sequence number on, and none that ended before that moment.
+    /// `DATA [number [begin]]`: records as they come, from that sequence number on, and none that ended before that
+    /// moment.
     Data {
         number: Option<Seq>,
         begin: Option<Tick>,
@@ -53,8 +55,8 @@ pub enum Order<'a> {
         begin: Option<Tick>,
         last: Option<Tick>,
     },
-    /// Anything else: an unknown name, too few words or too many, a word that is no number or no time, or a line of more
-    /// than 256 bytes.
+    /// Anything else: an unknown name, too few words or too many, a word that is no number or no time, or a line of
+    /// more than 256 bytes.
     Bad,
 }
 
@@ -87,9 +89,9 @@ struct Interval {
 }
 
 /// What a line asks: its first word is a command's name in letters of either case, and the others are what the command
-/// takes. Runs of spaces (byte 32) separate words, and those at either end count for nothing. A line of more than 256 bytes
-/// is Bad, whatever it holds. A number is 1 to 6 hexadecimal
-/// digits; a time is `year,month,day` and up to three of `,hour`, `,minute` and `,second`.
+/// takes. Runs of spaces (byte 32) separate words, and those at either end count for nothing. A line of more than 256
+/// bytes is Bad, whatever it holds. A number is 1 to 6 hexadecimal digits; a time is `year,month,day` and up to three
+/// of `,hour`, `,minute` and `,second`.
 pub fn command(line: Line<'_>) -> Order<'_>
     ensures { order_value result ≡ command_of (line_value line.entry) }
 {

@@ -1,5 +1,5 @@
-mod Reading
-mod Judging
-mod Pieces
-mod EndPieces
-mod Feeding
+mod NumberLemmas
+mod ByteLemmas
+mod PieceLemmas
+mod EndLemmas
+mod CutterLemmas

@@ -37,5 +37,6 @@ pub record HasBadByte (before : Progress) (piece : List ℕ) : Type 0 where
   pub bad : ℕ
   pub behind : List ℕ
   pub whole : good ++ bad ∷ behind ≡ piece
-  pub so_far : (packets : List (List ℕ)) → stream_from (read_so_far packets before) good ≡ read_so_far packets (gone_on before good)
+  pub so_far : (packets : List (List ℕ))
+      → stream_from (read_so_far packets before) good ≡ read_so_far packets (gone_on before good)
   pub fault : (packets : List (List ℕ)) → stream_byte (read_so_far packets (gone_on before good)) bad ≡ NoStream

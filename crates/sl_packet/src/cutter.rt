@@ -36,8 +36,8 @@ pub enum Cut<'a> {
 /// What a piece of a stream gives.
 #[derive(Clone, Copy, Debug, PartialEq, Eq)]
 pub struct Fed<'a> {
-    /// How many bytes of the piece were read: up to the last byte of the packet or of the end that became whole, and all of
-    /// them where none did.
+    /// How many bytes of the piece were read: up to the last byte of the packet or of the end that became whole, and
+    /// all of them where none did.
     pub used: usize,
     /// What became whole.
     pub cut: Cut<'a>,
@@ -78,7 +78,7 @@ fn missing_of_end(count: usize) -> &'static [u8]
 }
 
 /// What a piece is to the bytes of an end that are missing.
-#[tactic(auto, using(crate::proofs::Judging::piece_runs_out))]
+#[tactic(auto, using(crate::proofs::ByteLemmas::piece_runs_out))]
 fn end_piece(missing: &[u8], piece: &[u8]) -> EndPiece
     ensures { result ≡ end_piece missing.now piece.now }
 {
@@ -101,8 +101,8 @@ fn put(buffer: &mut [u8; 520], start: usize, piece: &[u8])
     buffer[start..start + piece.len()].copy_from_slice(piece);
 }
 
-/// Cuts the bytes of a stream into its packets, in whatever pieces they come: packets, then possibly `END` and nothing more
-/// (SeedLink 3, data packets and the end of a transfer). In a contract a cutter is how far it has read.
+/// Cuts the bytes of a stream into its packets, in whatever pieces they come: packets, then possibly `END` and nothing
+/// more (SeedLink 3, data packets and the end of a transfer). In a contract a cutter is how far it has read.
 #[derive(Drop)]
 pub struct PacketCutter {
     /// The bytes of the unfinished packet, or of the unfinished end, are its first ones.
@@ -286,12 +286,13 @@ impl PacketCutter {
         })
     }
 
-    /// Reads the piece up to the end of the first packet that becomes whole, or of the end of the stream, and lends that packet
-    /// up to the next call. Where nothing becomes whole, it reads all of the piece. Fault 10 where a byte before that fits no
-    /// stream, as does any byte behind the end; after it each call is answered so.
+    /// Reads the piece up to the end of the first packet that becomes whole, or of the end of the stream, and lends
+    /// that packet up to the next call. Where nothing becomes whole, it reads all of the piece. Fault 10 where a byte
+    /// before that fits no stream, as does any byte behind the end; after it each call is answered so.
     pub fn feed<'a>(&'a mut self, piece: &'a [u8]) -> Result<Fed<'a>, NotAPacket>
         ensures fed { IfOk result (λ fed. IsFed self.old piece.now fed) }
-        ensures no_stream { OnErr result ((packets : List (List ℕ)) → stream_from (read_so_far packets self.old) piece.now ≡ NoStream) }
+        ensures no_stream { OnErr result
+            ((packets : List (List ℕ)) → stream_from (read_so_far packets self.old) piece.now ≡ NoStream) }
         ensures bad { OnErr result (self.old ≢ Faulty → HasBadByte self.old piece.now) }
         ensures for_good { self.old ≡ Faulty → is_err result ≡ true }
         ensures* left { sem 𝓛 (Leaves self.entry (left_of self.old piece.now result)) }

@@ -1,5 +1,5 @@
-//! Sequence numbers and packets: `SL`, six hexadecimal digits and a record of 512 bytes (SeedLink 3, data packets). No call
-//! takes memory.
+//! Sequence numbers and packets: `SL`, six hexadecimal digits and a record of 512 bytes (SeedLink 3, data packets). No
+//! call takes memory.
 #![tactic(auto)]
 
 mod cutter;

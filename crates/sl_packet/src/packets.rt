@@ -23,7 +23,8 @@ pub fn frame(number: Seq, record: &[u8; 512]) -> [u8; 520]
     packet
 }
 
-/// Whether a byte may stand at that place of a packet: `S`, `L`, six hexadecimal digits of either case, and then anything.
+/// Whether a byte may stand at that place of a packet: `S`, `L`, six hexadecimal digits of either case, and then
+/// anything.
 fn may_stand(place: usize, byte: u8) -> bool
     ensures { result ≡ may_stand place byte }
 {

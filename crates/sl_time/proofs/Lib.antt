@@ -1,2 +1,2 @@
-mod Days
-mod Splitting
+mod CalendarLemmas
+mod PartLemmas

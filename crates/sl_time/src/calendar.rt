@@ -12,7 +12,8 @@ const DAYS_TO_YEAR_1: u32 = 3_652_425;
 /// Days from January 1 of the year 1 to a date not before it.
 fn days_to(date: Date) -> u32
     requires { pos 1 ≤ℤ date.year }
-    ensures { result ≡ days_before (unsigned_abs date.year) + (days_of_year_before (unsigned_abs date.year) date.month + date.day - 1) }
+    ensures { result ≡ days_before
+        (unsigned_abs date.year) + (days_of_year_before (unsigned_abs date.year) date.month + date.day - 1) }
 {
     date.to_plain().days_since_min() - DAYS_TO_YEAR_1
 }

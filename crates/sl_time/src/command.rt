@@ -64,7 +64,8 @@ impl Model for CivilTime {
 }
 
 impl CivilTime {
-    /// Its moment; None where the year is outside 1900 to 2100, the calendar has no such date, or the time is none of a day.
+    /// Its moment; None where the year is outside 1900 to 2100, the calendar has no such date, or the time is none of a
+    /// day.
     fn tick(self) -> Option<Tick>
         ensures { result ≡ civil_tick self }
     {
@@ -103,12 +104,12 @@ fn civil_of(text: &[u8]) -> Option<CivilTime>
     })
 }
 
-/// The moment that a command's text spells (SeedLink 3, the times of DATA, FETCH and TIME): `year,month,day`, optionally
-/// followed by `,hour`, then `,minute`, then `,second`. The year has four digits, each other number one or two, and what is
-/// missing is 0.
+/// The moment that a command's text spells (SeedLink 3, the times of DATA, FETCH and TIME): `year,month,day`,
+/// optionally followed by `,hour`, then `,minute`, then `,second`. The year has four digits, each other number one or
+/// two, and what is missing is 0.
 ///
-/// It fails with Shape where the text has not that shape, and else with Range where the year is outside 1900 to 2100, the
-/// calendar has no such date, the hour is over 23, the minute over 59 or the second over 60.
+/// It fails with Shape where the text has not that shape, and else with Range where the year is outside 1900 to 2100,
+/// the calendar has no such date, the hour is over 23, the minute over 59 or the second over 60.
 pub fn parse(text: &[u8]) -> Result<Tick, TimeFault>
     ensures whole { result ≡ parsed text.now }
     ensures time { result_ok result ≡ time_of text.now }

@@ -3,7 +3,8 @@ ghost use Rattle.std.specs.Prelude.{◌≡◌, position};
 ghost use Rattle.std.specs.Option.{option_copied};
 ghost use Rattle.protocol.specs.Pieces.{split};
 ghost use Rattle.protocol.specs.Time.{digits_between};
-ghost use Rattle.sl_time.specs.Parts.{is_comma, first_part, first_number, first_year, is_over, number_or_zero, other_parts};
+ghost use Rattle.sl_time.specs.Parts.{is_comma, first_part, first_number, first_year, is_over, number_or_zero};
+ghost use Rattle.sl_time.specs.Parts.{other_parts};
 
 use decimal::number;
 use std::marker::Model;

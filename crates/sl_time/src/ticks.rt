@@ -51,8 +51,9 @@ impl Tick {
 
 /// The moment of a record's start (SEED Reference Manual 2.4, chapter 8, the data type BTIME), the fraction in ticks.
 ///
-/// None exactly where the year is outside 1900 to 2100, the day of the year outside 1 to 366, the hour over 23, the minute
-/// over 59, the second over 60 or the fraction over 9999. A day 366 of a year that has 365 is the next year's first.
+/// None exactly where the year is outside 1900 to 2100, the day of the year outside 1 to 366, the hour over 23, the
+/// minute over 59, the second over 60 or the fraction over 9999. A day 366 of a year that has 365 is the next year's
+/// first.
 pub fn of_btime(
     year: u16,
     day: u16,
@@ -86,7 +87,8 @@ pub(crate) fn is_time_of_day(hour: u8, minute: u8, second: u8, fraction: u16) ->
 
 /// The tick of a time of a day, by the day's count from January 1 of the year 1.
 pub(crate) fn tick_on(days: u32, hour: u8, minute: u8, second: u8, fraction: u16) -> Tick
-    ensures { result ≡ pos (864000000 * days + 36000000 * hour + 600000 * minute + 10000 * second + fraction) -ℤ pos (864000000 * days_before 1970) }
+    ensures { result ≡ pos (864000000 * days + 36000000 * hour + 600000 * minute + 10000 * second + fraction) -ℤ pos
+        (864000000 * days_before 1970) }
 {
     let hours = TICKS_OF_HOUR * i64::from(hour);
     let minutes = TICKS_OF_MINUTE * i64::from(minute);

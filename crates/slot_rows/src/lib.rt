@@ -1,4 +1,5 @@
-//! Rows of bits over slots: a bit for each slot, which says yes or no of what is in the slot. Only `reserve` takes memory.
+//! Rows of bits over slots: a bit for each slot, which says yes or no of what is in the slot. Only `reserve` takes
+//! memory.
 #![tactic(auto)]
 
 pub mod row;

@@ -89,7 +89,8 @@ impl Row {
 
     /// Sets each bit that is set in both of two other rows, where there is room for it.
     pub fn add_common(&mut self, one: &Row, other: &Row)
-        ensures bits { (slot : ℕ) → HasRoom self.old slot → bit_of self.new slot ≡ (bit_of self.old slot || (bit_of one.now slot && bit_of other.now slot)) }
+        ensures bits { (slot : ℕ) → HasRoom self.old slot
+            → bit_of self.new slot ≡ (bit_of self.old slot || (bit_of one.now slot && bit_of other.now slot)) }
         ensures room { length self.new.words.items ≡ length self.old.words.items }
     {
         let both = one.words.len().min(other.words.len());

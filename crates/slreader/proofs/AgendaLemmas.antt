@@ -1,7 +1,7 @@
 -- Commands that are asked or passed over, one by one.
 use Rattle.std.proofs.Common.{◌≡◌, ℕ, ◌+◌, ◌≤◌, List, [], ◌∷◌, drop, sym, arith}
 use Rattle.std.proofs.lemmas.List.{drop-drop}
-use Rattle.protocol.proofs.Found.{both}
+use Rattle.protocol.proofs.FoundLemmas.{both}
 use Rattle.slreader.specs.Wants.{Command}
 use Rattle.slreader.specs.Lines.{is_of_want, size_of, without}
 

@@ -11,7 +11,8 @@ use Rattle.slreader.specs.declared.pieces.ReplyPiece.TheVariants as reply
 use Rattle.slreader.specs.Pieces.{greeting, line_piece, reply_piece}
 use Rattle.slreader.specs.Wants.{Command}
 use Rattle.slreader.specs.Lines.{without}
-use Rattle.slreader.specs.Dialogue.{ReaderValue, Stage, after_byte, byte_at, asking, ask_next, stage_after, refuse, first_line, second_line, answered, transferred, read_on}
+use Rattle.slreader.specs.Dialogue.{ReaderValue, Stage, after_byte, byte_at, asking, ask_next, stage_after, refuse}
+use Rattle.slreader.specs.Dialogue.{first_line, second_line, answered, transferred, read_on}
 use Rattle.slreader.specs.Dialogue.Stage.{FirstLine, SecondLine, Answer, Transfer, Over, Failed}
 
 -- the plan was refused
@@ -36,7 +37,8 @@ asking_fits : (r : ReaderValue) (ahead : List Command) → is_limit (asking r ah
 asking_fits r [] = refl
 asking_fits r (c ∷ ahead) = after_fits c.want
 
-refusing_fits : (q r : ReaderValue) (b : Bool) → is_limit q.stage ≡ false → is_limit (if b then q else ask_next r).stage ≡ false
+refusing_fits : (q r : ReaderValue) (b : Bool) → is_limit q.stage ≡ false
+    → is_limit (if b then q else ask_next r).stage ≡ false
 refusing_fits q r true h = h
 refusing_fits q r false h = asking_fits r r.ahead
 
@@ -64,7 +66,8 @@ transferred_fits r bytes TheEnd = refl
 transferred_fits r bytes Beginning = refl
 transferred_fits r bytes NoPiece = refl
 
-byte_fits : (r : ReaderValue) (stage : Stage) (b : ℕ) → is_limit r.stage ≡ false → is_limit (byte_at r stage b).stage ≡ false
+byte_fits : (r : ReaderValue) (stage : Stage) (b : ℕ) → is_limit r.stage ≡ false
+    → is_limit (byte_at r stage b).stage ≡ false
 byte_fits r (FirstLine count after_cr) b h = first_fits r count b (line_piece greeting count after_cr b)
 byte_fits r (SecondLine count after_cr) b h = second_fits r count b (line_piece [] count after_cr b)
 byte_fits r (Answer want count is_error) b h = answered_fits r want count (reply_piece count is_error b)
@@ -93,7 +96,8 @@ fits-if (Failed AllRefused) h = refl
 fits-if (Failed BadReply) h = refl
 
 no-limit : (s : Stage) → is_limit s ≡ false → s ≢ Failed Limit
-no-limit s h e = absurd (let both : is_limit (Failed Limit) ≡ false = sym (ap is_limit e) ∙ h in let other : true ≡ false = both in cc)
+no-limit s h e = absurd (let both : is_limit (Failed Limit) ≡ false = sym (ap is_limit e)
+    ∙ h in let other : true ≡ false = both in cc)
 
 -- A dialogue whose plan was taken does not refuse it later.
 pub read-no-limit : (r : ReaderValue) (bytes : List ℕ) → r.stage ≢ Failed Limit → (read_on r bytes).stage ≢ Failed Limit

@@ -8,7 +8,8 @@ use Rattle.slreader.specs.declared.fault.ReaderFault.{ReaderFault}
 use Rattle.slreader.specs.declared.fault.ReaderFault.TheVariants.{NotAPacket}
 use Rattle.slreader.specs.declared.stage.Event.{Event}
 use Rattle.slreader.specs.declared.stage.Step.{Step}
-use Rattle.slreader.specs.Dialogue.{ReaderValue, Given, FirstGiven, at_stage, behind, fails, outcome_in, outcome_of, read_first}
+use Rattle.slreader.specs.Dialogue.{ReaderValue, Given, FirstGiven, at_stage, behind, fails, outcome_in, outcome_of}
+use Rattle.slreader.specs.Dialogue.{read_first}
 use Rattle.slreader.specs.Dialogue.Stage.{Failed}
 use Rattle.slreader.specs.Dialogue.Outcome.{Gave, Stopped}
 use Rattle.slreader.specs.declared.stage.Stage.{Stage as CodeStage}
@@ -29,45 +30,64 @@ sound_outcome n None Faulty sound = absurd (sound refl)
 
 -- What a cutter read is what the reader read.
 abbrev pub Cuts : Progress → List ℕ → Result Step BadPacket → Progress → List ℕ → Type 0
-Cuts p piece o p' packet = (q : ReaderValue) → read_first (at_stage q (transfer_stage p)) piece ≡ cut_first q piece o p' packet
+Cuts p piece o p' packet = (q : ReaderValue)
+    → read_first (at_stage q (transfer_stage p)) piece ≡ cut_first q piece o p' packet
 
-reads_cut : (r : ReaderValue) (piece packet : List ℕ) (o o' : Result Step BadPacket) (p p' : Progress) → r.stage ≡ transfer_stage p → Cuts p piece o p' packet → o ≡ o' → read_first r piece ≡ cut_first r piece o' p' packet
+reads_cut : (r : ReaderValue) (piece packet : List ℕ) (o o' : Result Step BadPacket) (p p' : Progress)
+    → r.stage ≡ transfer_stage p → Cuts p piece o p' packet → o ≡ o'
+    → read_first r piece ≡ cut_first r piece o' p' packet
 reads_cut r piece packet o o' p p' at cuts is =
     ap (λ s. read_first (at_stage r s) piece) at ∙ cuts r ∙ ap (λ x. cut_first r piece x p' packet) is
 
-pub received_outcome : (r : ReaderValue) (n : ℕ) (piece packet : List ℕ) (o : Result Step BadPacket) (step : Step) (p p' : Progress) → r.stage ≡ transfer_stage p → Cuts p piece o p' packet → o ≡ Ok step → p' ≢ Faulty → Gave (n + step.used) (given_option step.event packet) ≡ outcome_of (behind n (read_first r piece))
+pub received_outcome : (r : ReaderValue) (n : ℕ) (piece packet : List ℕ) (o : Result Step BadPacket) (step : Step)
+    (p p' : Progress) → r.stage ≡ transfer_stage p → Cuts p piece o p' packet → o ≡ Ok step → p' ≢ Faulty
+    → Gave (n + step.used) (given_option step.event packet) ≡ outcome_of (behind n (read_first r piece))
 received_outcome r n piece packet o step p p' at cuts is sound =
-    sym (ap (λ f. outcome_of (behind n f)) (reads_cut r piece packet o (Ok step) p p' at cuts is) ∙ sound_outcome (n + step.used) (given_option step.event packet) p' sound)
+    sym (ap (λ f. outcome_of (behind n f)) (reads_cut r piece packet o (Ok step) p p' at cuts is)
+    ∙ sound_outcome (n + step.used) (given_option step.event packet) p' sound)
 
-pub received_reader : (r r' : ReaderValue) (piece packet : List ℕ) (o : Result Step BadPacket) (step : Step) (p p' : Progress) → r.stage ≡ transfer_stage p → Cuts p piece o p' packet → o ≡ Ok step → r' ≡ record r { stage = transfer_stage p'; tally = tally_after r.tally step.event packet } → r' ≡ (read_first r piece).reader
+pub received_reader : (r r' : ReaderValue) (piece packet : List ℕ) (o : Result Step BadPacket) (step : Step)
+    (p p' : Progress) → r.stage ≡ transfer_stage p → Cuts p piece o p' packet → o ≡ Ok step
+    → r' ≡ record r { stage = transfer_stage p'; tally = tally_after r.tally step.event packet }
+    → r' ≡ (read_first r piece).reader
 received_reader r r' piece packet o step p p' at cuts is to =
     to ∙ sym (ap (λ (f : FirstGiven). f.reader) (reads_cut r piece packet o (Ok step) p p' at cuts is))
 
-pub refused_outcome : (r : ReaderValue) (n : ℕ) (piece packet : List ℕ) (o : Result Step BadPacket) (bad : BadPacket) (p p' : Progress) → r.stage ≡ transfer_stage p → Cuts p piece o p' packet → o ≡ Err bad → Stopped NotAPacket ≡ outcome_of (behind n (read_first r piece))
+pub refused_outcome : (r : ReaderValue) (n : ℕ) (piece packet : List ℕ) (o : Result Step BadPacket) (bad : BadPacket)
+    (p p' : Progress) → r.stage ≡ transfer_stage p → Cuts p piece o p' packet → o ≡ Err bad
+    → Stopped NotAPacket ≡ outcome_of (behind n (read_first r piece))
 refused_outcome r n piece packet o bad p p' at cuts is =
     sym (ap (λ f. outcome_of (behind n f)) (reads_cut r piece packet o (Err bad) p p' at cuts is))
 
-pub refused_reader : (r : ReaderValue) (piece packet : List ℕ) (o : Result Step BadPacket) (bad : BadPacket) (p p' : Progress) → r.stage ≡ transfer_stage p → Cuts p piece o p' packet → o ≡ Err bad → fails r NotAPacket ≡ (read_first r piece).reader
+pub refused_reader : (r : ReaderValue) (piece packet : List ℕ) (o : Result Step BadPacket) (bad : BadPacket)
+    (p p' : Progress) → r.stage ≡ transfer_stage p → Cuts p piece o p' packet → o ≡ Err bad
+    → fails r NotAPacket ≡ (read_first r piece).reader
 refused_reader r piece packet o bad p p' at cuts is =
     sym (ap (λ (f : FirstGiven). f.reader) (reads_cut r piece packet o (Err bad) p p' at cuts is))
 
 -- A reader that failed reads nothing more.
-failed_first : (r : ReaderValue) (fault : ReaderFault) (piece : List ℕ) → r.stage ≡ Failed fault → read_first r piece ≡ record { used = length piece; given = None; reader = at_stage r (Failed fault) }
+failed_first : (r : ReaderValue) (fault : ReaderFault) (piece : List ℕ) → r.stage ≡ Failed fault
+    → read_first r piece ≡ record { used = length piece; given = None; reader = at_stage r (Failed fault) }
 failed_first r fault piece at = ap (λ s. read_first (at_stage r s) piece) at ∙ failed_reads r fault piece
 
-pub failed_outcome : (r : ReaderValue) (n : ℕ) (fault : ReaderFault) (piece : List ℕ) → r.stage ≡ Failed fault → Stopped fault ≡ outcome_of (behind n (read_first r piece))
+pub failed_outcome : (r : ReaderValue) (n : ℕ) (fault : ReaderFault) (piece : List ℕ) → r.stage ≡ Failed fault
+    → Stopped fault ≡ outcome_of (behind n (read_first r piece))
 failed_outcome r n fault piece at = sym (ap (λ f. outcome_of (behind n f)) (failed_first r fault piece at))
 
-pub failed_reader : (r : ReaderValue) (fault : ReaderFault) (piece : List ℕ) → r.stage ≡ Failed fault → r ≡ (read_first r piece).reader
-failed_reader r fault piece at = ap (at_stage r) at ∙ sym (ap (λ (f : FirstGiven). f.reader) (failed_first r fault piece at))
+pub failed_reader : (r : ReaderValue) (fault : ReaderFault) (piece : List ℕ) → r.stage ≡ Failed fault
+    → r ≡ (read_first r piece).reader
+failed_reader r fault piece at = ap (at_stage r) at
+    ∙ sym (ap (λ (f : FirstGiven). f.reader) (failed_first r fault piece at))
 
 -- What an answer gave is all that was read.
-pub talked_reader : (r r' : ReaderValue) (piece : List ℕ) (n : ℕ) (o : Option Event) → is_some o ≡ true → TalkedOf r piece n o r' → r' ≡ (read_first r piece).reader
+pub talked_reader : (r r' : ReaderValue) (piece : List ℕ) (n : ℕ) (o : Option Event) → is_some o ≡ true
+    → TalkedOf r piece n o r' → r' ≡ (read_first r piece).reader
 talked_reader r r' piece n None some talked = absurd cc
 talked_reader r r' piece n (Some e) some talked = sym (ap (λ (f : FirstGiven). f.reader) (talked []))
 
 -- the reader of the parts, with a cutter that went on and with what was counted
-pub counted_reader : (r r' : ReaderValue) (stage : CodeStage) (p p' : Progress) (ahead : List Command) (kept : ℕ) (outbox : OutboxValue) (tally : TallyValue) (o : Option Event) (packet : List ℕ) →
+pub counted_reader : (r r' : ReaderValue) (stage : CodeStage) (p p' : Progress) (ahead : List Command) (kept : ℕ)
+    (outbox : OutboxValue) (tally : TallyValue) (o : Option Event) (packet : List ℕ) →
     reader_value stage p ahead kept outbox tally ≡ r → stage ≡ code.Transfer →
     r' ≡ record (reader_value stage p' ahead kept outbox tally) { tally = tally_after tally o packet } →
     r' ≡ record r { stage = transfer_stage p'; tally = tally_after r.tally o packet }

@@ -11,7 +11,8 @@ use Rattle.slreader.specs.declared.pieces.ReplyPiece.TheVariants as reply
 use Rattle.slreader.specs.Pieces.{greeting, line_piece, reply_piece}
 use Rattle.slreader.specs.Wants.{Command}
 use Rattle.slreader.specs.Lines.{ended, without}
-use Rattle.slreader.specs.Dialogue.{ReaderValue, Stage, Given, after_byte, byte_at, asking, ask_next, refuse, first_line, second_line, answered, transferred, given_by, given_from, read_on}
+use Rattle.slreader.specs.Dialogue.{ReaderValue, Stage, Given, after_byte, byte_at, asking, ask_next, refuse}
+use Rattle.slreader.specs.Dialogue.{first_line, second_line, answered, transferred, given_by, given_from, read_on}
 use Rattle.slreader.specs.Dialogue.Stage.{FirstLine, SecondLine, Answer, Transfer, Over, Failed}
 
 -- the reader of whom so many bytes were sent
@@ -20,11 +21,13 @@ with_sent r s = record r { sent = s }
 
 -- ---- what was sent changes nothing else
 
-asking_sent : (r : ReaderValue) (s : ℕ) (ahead : List Command) → asking (with_sent r s) ahead ≡ with_sent (asking r ahead) s
+asking_sent : (r : ReaderValue) (s : ℕ) (ahead : List Command)
+    → asking (with_sent r s) ahead ≡ with_sent (asking r ahead) s
 asking_sent r s [] = refl
 asking_sent r s (c ∷ ahead) = refl
 
-refusing_sent : (q r : ReaderValue) (s : ℕ) (b : Bool) → (if b then with_sent q s else ask_next (with_sent r s)) ≡ with_sent (if b then q else ask_next r) s
+refusing_sent : (q r : ReaderValue) (s : ℕ) (b : Bool)
+    → (if b then with_sent q s else ask_next (with_sent r s)) ≡ with_sent (if b then q else ask_next r) s
 refusing_sent q r s true = refl
 refusing_sent q r s false = asking_sent r s r.ahead
 
@@ -33,29 +36,34 @@ refuse_sent r s want = refusing_sent
     (record r { stage = Failed AllRefused; ahead = without want r.ahead; kept = r.kept - 1 })
     (record r { ahead = without want r.ahead; kept = r.kept - 1 }) s (r.kept - 1 == 0)
 
-first_sent : (r : ReaderValue) (s count b : ℕ) (p : LinePiece) → first_line (with_sent r s) count b p ≡ with_sent (first_line r count b p) s
+first_sent : (r : ReaderValue) (s count b : ℕ) (p : LinePiece)
+    → first_line (with_sent r s) count b p ≡ with_sent (first_line r count b p) s
 first_sent r s count b line.Whole = refl
 first_sent r s count b line.Open = refl
 first_sent r s count b line.Other = refl
 
-second_sent : (r : ReaderValue) (s count b : ℕ) (p : LinePiece) → second_line (with_sent r s) count b p ≡ with_sent (second_line r count b p) s
+second_sent : (r : ReaderValue) (s count b : ℕ) (p : LinePiece)
+    → second_line (with_sent r s) count b p ≡ with_sent (second_line r count b p) s
 second_sent r s count b line.Whole = asking_sent r s r.ahead
 second_sent r s count b line.Open = refl
 second_sent r s count b line.Other = refl
 
-answered_sent : (r : ReaderValue) (s want count : ℕ) (p : ReplyPiece) → answered (with_sent r s) want count p ≡ with_sent (answered r want count p) s
+answered_sent : (r : ReaderValue) (s want count : ℕ) (p : ReplyPiece)
+    → answered (with_sent r s) want count p ≡ with_sent (answered r want count p) s
 answered_sent r s want count (reply.Whole true) = refuse_sent r s want
 answered_sent r s want count (reply.Whole false) = asking_sent r s r.ahead
 answered_sent r s want count (reply.Open is_error) = refl
 answered_sent r s want count reply.Other = refl
 
-transferred_sent : (r : ReaderValue) (s : ℕ) (bytes : List ℕ) (p : Piece) → transferred (with_sent r s) bytes p ≡ with_sent (transferred r bytes p) s
+transferred_sent : (r : ReaderValue) (s : ℕ) (bytes : List ℕ) (p : Piece)
+    → transferred (with_sent r s) bytes p ≡ with_sent (transferred r bytes p) s
 transferred_sent r s bytes WholePacket = refl
 transferred_sent r s bytes TheEnd = refl
 transferred_sent r s bytes Beginning = refl
 transferred_sent r s bytes NoPiece = refl
 
-byte_sent : (r : ReaderValue) (s : ℕ) (stage : Stage) (b : ℕ) → byte_at (with_sent r s) stage b ≡ with_sent (byte_at r stage b) s
+byte_sent : (r : ReaderValue) (s : ℕ) (stage : Stage) (b : ℕ)
+    → byte_at (with_sent r s) stage b ≡ with_sent (byte_at r stage b) s
 byte_sent r s (FirstLine count after_cr) b = first_sent r s count b (line_piece greeting count after_cr b)
 byte_sent r s (SecondLine count after_cr) b = second_sent r s count b (line_piece [] count after_cr b)
 byte_sent r s (Answer want count is_error) b = answered_sent r s want count (reply_piece count is_error b)
@@ -71,7 +79,8 @@ given_sent : (r : ReaderValue) (s b : ℕ) → given_by (with_sent r s) b ≡ gi
 unfolding given_by
 given_sent r s b = refl
 
-pub read_on-sent : (r : ReaderValue) (s : ℕ) (bytes : List ℕ) → read_on (with_sent r s) bytes ≡ with_sent (read_on r bytes) s
+pub read_on-sent : (r : ReaderValue) (s : ℕ) (bytes : List ℕ)
+    → read_on (with_sent r s) bytes ≡ with_sent (read_on r bytes) s
 read_on-sent r s [] = refl
 read_on-sent r s (b ∷ bytes) = ap (λ x. read_on x bytes) (after_sent r s b) ∙ read_on-sent (after_byte r b) s bytes
 
@@ -141,4 +150,5 @@ grows-trans a b c first second =
 
 pub asked-grows : (r : ReaderValue) (bytes : List ℕ) → Grows r.asked (read_on r bytes).asked
 asked-grows r [] = same r.asked
-asked-grows r (b ∷ bytes) = grows-trans r.asked (after_byte r b).asked (read_on (after_byte r b) bytes).asked (after_grows r b) (asked-grows (after_byte r b) bytes)
+asked-grows r (b ∷ bytes) = grows-trans r.asked (after_byte r b).asked (read_on (after_byte r b) bytes).asked
+    (after_grows r b) (asked-grows (after_byte r b) bytes)

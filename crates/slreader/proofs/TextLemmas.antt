@@ -13,10 +13,13 @@ texts_push [] t = refl
 texts_push (x ∷ xs) t = ap (λ l. x.now ∷ l) (texts_push xs t)
 
 -- One text more is cut off.
-pub cut_off : (xs ys : List (Bor (List ℕ))) (t : Bor (List ℕ)) (left rest whole : List (List ℕ)) → ys ≡ xs ++ t ∷ [] → texts xs ++ left ≡ whole → left ≡ t.now ∷ rest → texts ys ++ rest ≡ whole
+pub cut_off : (xs ys : List (Bor (List ℕ))) (t : Bor (List ℕ)) (left rest whole : List (List ℕ)) → ys ≡ xs ++ t ∷ []
+    → texts xs ++ left ≡ whole → left ≡ t.now ∷ rest → texts ys ++ rest ≡ whole
 cut_off xs ys t left rest whole more so_far is =
-    ap (λ l. texts l ++ rest) more ∙ ap (λ l. l ++ rest) (texts_push xs t) ∙ append_assoc (texts xs) (t.now ∷ []) rest ∙ ap (λ l. texts xs ++ l) (sym is) ∙ so_far
+    ap (λ l. texts l ++ rest) more ∙ ap (λ l. l ++ rest) (texts_push xs t) ∙ append_assoc (texts xs) (t.now ∷ []) rest
+    ∙ ap (λ l. texts xs ++ l) (sym is) ∙ so_far
 
 -- and the last one
-pub cut_last : (xs ys : List (Bor (List ℕ))) (t : Bor (List ℕ)) (left whole : List (List ℕ)) → ys ≡ xs ++ t ∷ [] → texts xs ++ left ≡ whole → left ≡ t.now ∷ [] → texts ys ≡ whole
+pub cut_last : (xs ys : List (Bor (List ℕ))) (t : Bor (List ℕ)) (left whole : List (List ℕ)) → ys ≡ xs ++ t ∷ []
+    → texts xs ++ left ≡ whole → left ≡ t.now ∷ [] → texts ys ≡ whole
 cut_last xs ys t left whole more so_far is = sym (append-nil (texts ys)) ∙ cut_off xs ys t left [] whole more so_far is

@@ -11,7 +11,12 @@ use Rattle.slreader.specs.Dialogue.Stage.{Failed, Over}
 -- GE WLF by FETCH with two patterns, and GE NONE by FETCH
 abbrev two_wants : PlanValue
 two_wants = Multi (
-    record { network = codes "GE"; station = codes "WLF"; patterns = codes "BH?" ∷ codes "!E" ∷ []; action = Fetch None None }
+    record {
+      network = codes "GE";
+      station = codes "WLF";
+      patterns = codes "BH?" ∷ codes "!E" ∷ [];
+      action = Fetch None None;
+    }
     ∷ record { network = codes "GE"; station = codes "NONE"; patterns = []; action = Fetch None None } ∷ [])
 
 -- one of two wants is refused
@@ -54,9 +59,12 @@ no_server_failed = refl
 
 -- Whatever station the server takes first, from a number on: the action has no answer.
 abbrev any_station : PlanValue
-any_station = Uni (record { network = codes "GE"; station = codes "WLF"; patterns = codes "BHZ" ∷ []; action = Data (Some 163) None })
+any_station =
+    Uni
+    (record { network = codes "GE"; station = codes "WLF"; patterns = codes "BHZ" ∷ []; action = Data (Some 163) None })
 
-pub any_station_asked : asked_of any_station (codes "SeedLink v3\r\n\r\nOK\r\n") ≡ codes "HELLO\rSELECT BHZ\rDATA 0000A3\r"
+pub any_station_asked : asked_of any_station (codes "SeedLink v3\r\n\r\nOK\r\n")
+    ≡ codes "HELLO\rSELECT BHZ\rDATA 0000A3\r"
 unfolding after_byte commands_of_want
 any_station_asked = refl
 
@@ -67,7 +75,14 @@ error_failed = refl
 
 -- A last moment without a begin can't be asked for.
 abbrev no_begin : PlanValue
-no_begin = Uni (record { network = codes "GE"; station = codes "WLF"; patterns = []; action = Time None (Some (codes "2024,2,29")) })
+no_begin =
+    Uni
+    (record {
+      network = codes "GE";
+      station = codes "WLF";
+      patterns = [];
+      action = Time None (Some (codes "2024,2,29"));
+    })
 
 pub no_begin_refused : is_plan no_begin ≡ false
 unfolding is_want
@@ -81,7 +96,12 @@ two_wants_asked = refl
 
 -- GE WLF by FETCH with so many patterns
 abbrev want_of_size : ℕ → WantValue
-want_of_size n = record { network = codes "GE"; station = codes "WLF"; patterns = replicate n (codes "D"); action = Fetch None None }
+want_of_size n = record {
+  network = codes "GE";
+  station = codes "WLF";
+  patterns = replicate n (codes "D");
+  action = Fetch None None;
+}
 
 pub want_of_64_patterns : is_plan (Uni (want_of_size 64)) ≡ true
 unfolding is_want

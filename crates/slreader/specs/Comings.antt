@@ -29,4 +29,5 @@ IsNotBegun fault.BadReply plan = ⊥
 
 -- Once what was given is let go, the reader is where the bytes that were read lead.
 abbrev pub Leaves : MutBor ReaderCore → List ℕ → Fml
-Leaves reader piece = follows_so the_row the_row reader.ghost_name none (λ _ _. ⊤) (λ left. left ≡ (read_first reader.now piece).reader)
+Leaves reader piece = follows_so the_row the_row reader.ghost_name none (λ _ _. ⊤)
+    (λ left. left ≡ (read_first reader.now piece).reader)

@@ -1,7 +1,8 @@
 -- The dialogue of a reader: what it is sent, byte by byte, what it asks meanwhile, and what it is given.
 -- SeedLink 3: the two lines that answer HELLO, OK and ERROR, and data packets with the end of a transfer. Left out:
 -- the answer to any other command.
-use Rattle.std.specs.Prelude.{ℕ, ◌+◌, ◌-◌, Bool, true, false, ◌==◌, if◌then◌else◌, List, [], ◌∷◌, ◌++◌, length, Option, Some, None, codes}
+use Rattle.std.specs.Prelude.{ℕ, ◌+◌, ◌-◌, Bool, true, false, ◌==◌, if◌then◌else◌, List, [], ◌∷◌, ◌++◌, length, Option}
+use Rattle.std.specs.Prelude.{Some, None, codes}
 use Rattle.protocol.specs.Streams.{Piece, piece_of}
 use Rattle.protocol.specs.Streams.Piece.{WholePacket, TheEnd, Beginning, NoPiece}
 use Rattle.slreader.specs.declared.fault.ReaderFault.{ReaderFault}

@@ -1,6 +1,7 @@
 -- One more byte of a line that answers HELLO, or of an answer to a command.
 -- SeedLink 3: the two lines that answer HELLO, OK and ERROR. Left out: the answer to any other command.
-use Rattle.std.specs.Prelude.{ℕ, ◌+◌, Bool, true, false, ◌&&◌, ◌||◌, not, nat_lt, ◌==◌, if◌then◌else◌, List, ◌++◌, length, slice_index, codes}
+use Rattle.std.specs.Prelude.{ℕ, ◌+◌, Bool, true, false, ◌&&◌, ◌||◌, not, nat_lt, ◌==◌, if◌then◌else◌, List, ◌++◌}
+use Rattle.std.specs.Prelude.{length, slice_index, codes}
 use Rattle.protocol.specs.Lines.{line_end}
 use Rattle.slreader.specs.declared.pieces.LinePiece.{LinePiece}
 use Rattle.slreader.specs.declared.pieces.LinePiece.TheVariants as line

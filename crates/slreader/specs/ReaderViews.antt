@@ -35,7 +35,14 @@ stage_value (code.Failed fault) progress = Failed fault
 -- the reader, part by part
 abbrev pub reader_value : CodeStage → Progress → List Command → ℕ → OutboxValue → TallyValue → ReaderValue
 reader_value stage progress ahead kept outbox tally =
-    record { stage = stage_value stage progress; ahead = ahead; kept = kept; asked = outbox.asked; sent = outbox.sent; tally = tally }
+    record {
+      stage = stage_value stage progress;
+      ahead = ahead;
+      kept = kept;
+      asked = outbox.asked;
+      sent = outbox.sent;
+      tally = tally;
+    }
 
 -- what was given; the packet lies in a buffer
 abbrev pub given_value : Event → (packet : List ℕ) → Given

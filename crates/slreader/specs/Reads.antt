@@ -17,7 +17,8 @@ abbrev pub TalkedOf : ReaderValue → List ℕ → (used : ℕ) → Option Event
 TalkedOf r piece used (Some e) r' =
     (packet : List ℕ) → read_first r piece ≡ record { used = used; given = Some (given_value e packet); reader = r' }
 TalkedOf r piece used None r' =
-    (read_first r piece ≡ behind used (read_first r' (drop used piece))) × (is_talk r'.stage ≡ true → used ≡ length piece)
+    (read_first r piece ≡ behind used (read_first r' (drop used piece)))
+    × (is_talk r'.stage ≡ true → used ≡ length piece)
 
 -- what was counted, where that was given
 abbrev pub tally_after : TallyValue → Option Event → (packet : List ℕ) → TallyValue
@@ -28,11 +29,13 @@ tally_after t (Some event.Packet) packet = counted t packet
 tally_after t (Some event.End) packet = t
 
 -- what a cutter that began with `before` read of a piece, where it stands at `after`
-abbrev pub cut_first : ReaderValue → (piece : List ℕ) → Result Step NotAPacket → (after : Progress) → (packet : List ℕ) → FirstGiven
+abbrev pub cut_first : ReaderValue → (piece : List ℕ) → Result Step NotAPacket → (after : Progress) → (packet : List ℕ)
+    → FirstGiven
 cut_first r piece (Ok step) after packet =
     record {
       used = step.used;
       given = given_option step.event packet;
       reader = record r { stage = transfer_stage after; tally = tally_after r.tally step.event packet };
     }
-cut_first r piece (Err bad) after packet = record { used = length piece; given = None; reader = fails r fault.NotAPacket }
+cut_first r piece (Err bad) after packet =
+    record { used = length piece; given = None; reader = fails r fault.NotAPacket }

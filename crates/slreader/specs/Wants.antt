@@ -1,6 +1,7 @@
 -- What a reader wants, whether it can be asked for, and the commands that ask for it.
 -- SeedLink 3, commands. Left out: wildcards in a station's code, and several patterns in one command.
-use Rattle.std.specs.Prelude.{ℕ, ◌+◌, Bool, true, ◌&&◌, ◌||◌, not, nat_le, List, [], ◌∷◌, ◌++◌, length, map, sum_by, Option, Some, None, is_some, codes}
+use Rattle.std.specs.Prelude.{ℕ, ◌+◌, Bool, true, ◌&&◌, ◌||◌, not, nat_le, List, [], ◌∷◌, ◌++◌, length, map, sum_by}
+use Rattle.std.specs.Prelude.{Option, Some, None, is_some, codes}
 use Rattle.std.specs.List.{list_all}
 use Rattle.protocol.specs.Packet.{digits}
 use Rattle.protocol.specs.Pattern.{pattern_of}

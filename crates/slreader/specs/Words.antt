@@ -1,6 +1,7 @@
 -- The word that spells a want: NET_STA, then possibly `:` and patterns joined by commas, then possibly `@` and a
 -- number. This project's own.
-use Rattle.std.specs.Prelude.{◌≡◌, ℕ, ◌+◌, Bool, true, false, ◌==◌, if◌then◌else◌, List, [], take, drop, position, Option, Some, None, option_map, option_and_then}
+use Rattle.std.specs.Prelude.{◌≡◌, ℕ, ◌+◌, Bool, true, false, ◌==◌, if◌then◌else◌, List, [], take, drop, position}
+use Rattle.std.specs.Prelude.{Option, Some, None, option_map, option_and_then}
 use Rattle.protocol.specs.Packet.{number_of}
 use Rattle.protocol.specs.Pieces.{split}
 use Rattle.slreader.specs.declared.fault.ReaderFault.{ReaderFault}
@@ -49,11 +50,14 @@ spellable w = if is_want w then Some w else None
 -- the want of a text without its number: patterns stand behind `:` (58), the station behind `_` (95)
 abbrev pub want_with : Action → (codes : List ℕ) → (patterns : List (List ℕ)) → Option WantValue
 want_with action codes patterns =
-    option_and_then (λ station. spellable (record { network = front_of 95 codes; station = station; patterns = patterns; action = action }))
+    option_and_then
+    (λ station. spellable
+    (record { network = front_of 95 codes; station = station; patterns = patterns; action = action }))
     (rest_of 95 codes)
 
 abbrev pub want_numbered : (is_fetch : Bool) → (text : List ℕ) → Option ℕ → Option WantValue
-want_numbered is_fetch text number = want_with (action_of is_fetch number) (front_of 58 text) (patterns_of (rest_of 58 text))
+want_numbered is_fetch text number =
+    want_with (action_of is_fetch number) (front_of 58 text) (patterns_of (rest_of 58 text))
 
 -- the want that a word spells; None where it spells none that can be asked for. The number stands behind `@` (64).
 unfoldable pub want_of : (is_fetch : Bool) → List ℕ → Option WantValue

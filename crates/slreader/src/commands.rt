@@ -1,7 +1,10 @@
 //! The lines of a plan's commands (SeedLink 3, commands).
 ghost use Rattle.std.specs.Prelude.{◌≡◌, ◌++◌, ◌∷◌, [], IfOk, OnOk, codes, length};
 ghost use Rattle.std.specs.Option.{option_copied};
-ghost use Rattle.slreader.specs.Wants.{action_line as spec_action_line, argument, command_of, commands_from, commands_of as spec_commands_of, commands_of_want, last_command, number_argument, select_line as spec_select_line, selects, station_line as spec_station_line};
+ghost use Rattle.slreader.specs.Wants.{action_line as spec_action_line, argument, command_of, commands_from};
+ghost use Rattle.slreader.specs.Wants.{commands_of as spec_commands_of, commands_of_want, last_command};
+ghost use Rattle.slreader.specs.Wants.{number_argument, select_line as spec_select_line, selects};
+ghost use Rattle.slreader.specs.Wants.{station_line as spec_station_line};
 ghost use Rattle.slreader.specs.WantTexts.{action_value, texts};
 ghost use Rattle.slreader.specs.Views.{plan_value};
 
@@ -10,7 +13,8 @@ use sl_packet::Seq;
 use std::alloc::{AllocError, Global};
 use std::marker::Model;
 
-/// A command without its end. One that has an answer is part of a want; the last one has none, and begins the transfer.
+/// A command without its end. One that has an answer is part of a want; the last one has none, and begins the
+/// transfer.
 #[derive(Drop)]
 pub(crate) struct CommandLine {
     pub(crate) want: Option<usize>,
@@ -85,7 +89,8 @@ fn timed_line(
     last: Option<&[u8]>,
 ) -> Result<Vec<u8>, AllocError>
     ensures { IfOk result
-        (λ line. line.items ≡ codes "TIME" ++ (argument (option_copied begin.entry) ++ argument (option_copied last.entry))) }
+        (λ line. line.items
+        ≡ codes "TIME" ++ (argument (option_copied begin.entry) ++ argument (option_copied last.entry))) }
 {
     let mut line = Vec::from_slice(alloc, b"TIME")?;
     put_argument(&mut line, begin)?;

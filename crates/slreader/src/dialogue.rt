@@ -105,7 +105,8 @@ impl Dialogue {
 /// What is done at one byte.
 impl Dialogue {
     ghost use Rattle.std.specs.Prelude.{◌≡◌, ◌≤◌, ◌+◌, ◌<◌, ◌^◌, ℕ, Bool, List, true, length};
-    ghost use Rattle.slreader.specs.Dialogue.{after_byte, answered, ask_next, fails, first_line, given_by, hello_given, refusal_given, refuse, second_line};
+    ghost use Rattle.slreader.specs.Dialogue.{after_byte, answered, ask_next, fails, first_line, given_by, hello_given};
+    ghost use Rattle.slreader.specs.Dialogue.{refusal_given, refuse, second_line};
     ghost use Rattle.slreader.specs.ReaderViews.{given_list, is_talk};
 
     /// Asks the next command: its answer comes next, or the transfer.

@@ -11,7 +11,8 @@ pub fn dialogue_in_pieces()
         given_from r (bytes ++ more) ≡ given_from r bytes ++ given_from (read_on r bytes) more }
 {}
 
-/// The bytes that are read up to the first thing that is given lead where the call leaves the reader, and give that alone.
+/// The bytes that are read up to the first thing that is given lead where the call leaves the reader, and give that
+/// alone.
 pub fn first_of_a_piece()
     ensures reader { (r : ReaderValue) (piece : List ℕ) →
         (read_first r piece).reader ≡ read_on r (take (read_first r piece).used piece) }

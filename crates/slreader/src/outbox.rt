@@ -16,7 +16,8 @@ impl Model for Outbox {
 
     ghost Value = { OutboxValue };
 
-    ghost view = { λ o. record { asked = o.bytes.items; sent = o.sent; room = vec_capacity o.bytes - vec_len o.bytes } };
+    ghost view = { λ o.
+        record { asked = o.bytes.items; sent = o.sent; room = vec_capacity o.bytes - vec_len o.bytes } };
 
     ghost invariant = { λ o. o.sent ≤ length o.bytes.items };
 }

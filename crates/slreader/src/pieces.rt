@@ -1,6 +1,8 @@
 //! One more byte of a line that answers HELLO, or of an answer to a command.
 ghost use Rattle.std.specs.Prelude.{◌≡◌, ◌≤◌, Bool, length};
-ghost use Rattle.slreader.specs.Pieces.{begins_error as spec_begins_error, line_piece as spec_line_piece, reply_byte as spec_reply_byte, reply_piece as spec_reply_piece, reply_text as spec_reply_text};
+ghost use Rattle.slreader.specs.Pieces.{begins_error as spec_begins_error, line_piece as spec_line_piece};
+ghost use Rattle.slreader.specs.Pieces.{reply_byte as spec_reply_byte, reply_piece as spec_reply_piece};
+ghost use Rattle.slreader.specs.Pieces.{reply_text as spec_reply_text};
 
 /// How many bytes a line has at most, without its end.
 const LINE: usize = 256;

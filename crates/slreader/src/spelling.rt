@@ -2,7 +2,10 @@
 ghost use Rattle.std.specs.Prelude.{◌≡◌, length, nat_le};
 ghost use Rattle.std.specs.List.{list_all};
 ghost use Rattle.std.specs.Option.{option_copied};
-ghost use Rattle.slreader.specs.Wants.{is_action as spec_is_action, is_code as spec_is_code, is_code_byte as spec_is_code_byte, is_led, is_moment as spec_is_moment, is_pattern as spec_is_pattern, has_patterns as spec_has_patterns, is_plan, is_want, patterns_together, wants_of};
+ghost use Rattle.slreader.specs.Wants.{is_action as spec_is_action, is_code as spec_is_code};
+ghost use Rattle.slreader.specs.Wants.{is_code_byte as spec_is_code_byte, is_led, is_moment as spec_is_moment};
+ghost use Rattle.slreader.specs.Wants.{is_pattern as spec_is_pattern, has_patterns as spec_has_patterns, is_plan};
+ghost use Rattle.slreader.specs.Wants.{is_want, patterns_together, wants_of};
 ghost use Rattle.slreader.specs.WantTexts.{action_value, texts};
 ghost use Rattle.slreader.specs.Views.{plan_value};
 

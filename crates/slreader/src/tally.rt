@@ -1,6 +1,8 @@
 //! What is counted of the packets.
 ghost use Rattle.std.specs.Prelude.{◌≡◌, ◌++◌, slice_range, map, IfOk, OnOk};
-ghost use Rattle.slreader.specs.Tallies.{has_codes as spec_has_codes, packet_facts, packet_number, passed, resume_of, resumes_of as spec_resumes_of};
+ghost use Rattle.slreader.specs.Tallies.{has_codes as spec_has_codes, packet_facts, packet_number, passed};
+ghost use Rattle.slreader.specs.Tallies.{resume_of};
+ghost use Rattle.slreader.specs.Tallies.{resumes_of as spec_resumes_of};
 
 use crate::want::{Plan, Want};
 use mseed_header::{Header, read};
@@ -22,7 +24,8 @@ impl Model for Resume {
 
     ghost Value = { ResumeValue };
 
-    ghost view = { λ r. record { is_any = r.is_any; network = r.network.items; station = r.station.items; next = r.next } };
+    ghost view = { λ r.
+        record { is_any = r.is_any; network = r.network.items; station = r.station.items; next = r.next } };
 }
 
 /// Whether a record has those codes; one that can't be read has none.

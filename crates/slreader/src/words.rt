@@ -3,7 +3,8 @@ ghost use Rattle.std.specs.Prelude.{◌≡◌, ◌==◌, ◌∷◌, ◌<◌, [],
 ghost use Rattle.std.specs.Option.{option_copied};
 ghost use Rattle.protocol.specs.Pieces.{split};
 ghost use Rattle.slreader.specs.WantTexts.{action_value, texts};
-ghost use Rattle.slreader.specs.Words.{action_of, front_of, number_behind, patterns_of, place_of, rest_of, want_of, IsNoWant};
+ghost use Rattle.slreader.specs.Words.{action_of, front_of, number_behind, patterns_of, place_of, rest_of, want_of};
+ghost use Rattle.slreader.specs.Words.{IsNoWant};
 
 use crate::fault::ReaderFault;
 use crate::want::{Action, Want};
@@ -45,7 +46,8 @@ fn cut_at(separator: u8, text: &[u8]) -> Cut<'_>
 /// What stands before the first comma of a text and what stands behind it; None where it has none.
 fn cut_at_comma(text: &[u8]) -> Option<(&[u8], &[u8])>
     ensures { MatchOption result (split (λ b. b == 44) text.now ≡ text.now ∷ [])
-        (λ cut. (split (λ b. b == 44) text.now ≡ cut.0.now ∷ split (λ b. b == 44) cut.1.now) × (length cut.1.now < length text.now)) }
+        (λ cut. (split (λ b. b == 44) text.now ≡ cut.0.now ∷ split (λ b. b == 44) cut.1.now)
+        × (length cut.1.now < length text.now)) }
 {
     let comma = place_of(b',', text)?;
     Some((&text[..comma], &text[comma + 1..]))

@@ -12,8 +12,8 @@ abbrev pub numbers : List Connection → List ℕ
 numbers connections = map (λ c. c.number) connections
 
 -- A new port has the next number, which counts the ports that joined before; so no number is given twice. Readable and
--- Writable are told of open ports alone. Before the call `before` ports had joined and after it `after` have, and the open
--- ones are those after the call.
+-- Writable are told of open ports alone. Before the call `before` ports had joined and after it `after` have, and the
+-- open ones are those after the call.
 abbrev pub TellsOpenPorts : (before after : ℕ) → (open_ports : List ℕ) → Result Happening PortFault → Type 0
 TellsOpenPorts before after open_ports (Ok (Joined port address)) = (port ≡ before) × (after ≡ before + 1)
 TellsOpenPorts before after open_ports (Ok (JoinedFeed port)) = (port ≡ before) × (after ≡ before + 1)

@@ -1,7 +1,7 @@
 //! Ports over sockets: clients and feeds that connect over TCP, by `mio`.
 //!
-//! What is written to a port is gathered and goes out in large pieces, and feeds are read ahead, so that a loop that handles
-//! one packet and one record at a time makes few system calls. What sockets carry is in no contract.
+//! What is written to a port is gathered and goes out in large pieces, and feeds are read ahead, so that a loop that
+//! handles one packet and one record at a time makes few system calls. What sockets carry is in no contract.
 #![tactic(auto)]
 
 mod ahead;

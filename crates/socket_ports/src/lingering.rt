@@ -10,7 +10,8 @@ const MOST: usize = 1_024;
 /// How many blocks of a peer that goes on sending are passed over.
 const BLOCKS: u8 = 16;
 
-/// A connection that lingers, and whether its peer was told the end. That is done once: each time would be an event again.
+/// A connection that lingers, and whether its peer was told the end. That is done once: each time would be an event
+/// again.
 #[derive(Drop)]
 struct Ending {
     connection: Connection,
@@ -80,8 +81,9 @@ impl Lingering {
     }
 }
 
-/// Whether a connection that was shut still has something to wait for. Once all is sent the peer is told the end, and what it
-/// sends is passed over: a connection that is closed with bytes unread would lose those that are on their way to the peer.
+/// Whether a connection that was shut still has something to wait for. Once all is sent the peer is told the end, and
+/// what it sends is passed over: a connection that is closed with bytes unread would lose those that are on their way
+/// to the peer.
 fn stays(ending: &mut Ending, pool: &mut Pool) -> bool {
     ending.connection.flush(pool);
     if ending.connection.has_failed() {

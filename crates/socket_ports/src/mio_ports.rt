@@ -59,12 +59,13 @@ impl Ports for MioPorts {
 
     ghost failures = { λ s. s.failures };
 
-    /// What happened next. A new port has a number that no port had before: the count of those that joined, which no other
-    /// call changes. Readable and Writable are told of open ports alone.
+    /// What happened next. A new port has a number that no port had before: the count of those that joined, which no
+    /// other call changes. Readable and Writable are told of open ports alone.
     fn next(&mut self) -> Result<Happening, PortFault>
         ensures call { Tells None None (Next result ∷ []) }
         ensures failure { CountsFailure self.old.failures self.new.failures result }
-        ensures numbers { TellsOpenPorts self.old.sockets.joined self.new.sockets.joined (numbers self.new.sockets.connections.items) result }
+        ensures numbers { TellsOpenPorts self.old.sockets.joined self.new.sockets.joined
+            (numbers self.new.sockets.connections.items) result }
     {
         let answer = self.sockets.next();
         if answer.is_err() {

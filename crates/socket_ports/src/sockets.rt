@@ -113,8 +113,8 @@ impl Sockets {
         self.listeners.bound()
     }
 
-    /// What happened next: the happenings of one poll one after the other, and then Quiet. A poll waits at most 100 ms, and
-    /// not at all if bytes went or a port joined since the last one.
+    /// What happened next: the happenings of one poll one after the other, and then Quiet. A poll waits at most 100 ms,
+    /// and not at all if bytes went or a port joined since the last one.
     pub fn next(&mut self) -> Result<Happening, PortFault>
         ensures { TellsOpenPorts self.old.joined self.new.joined (numbers self.new.connections.items) result }
     {
@@ -162,7 +162,8 @@ impl Sockets {
 
     /// What is still to be told of the last poll.
     fn pending(&mut self) -> Option<Happening>
-        ensures some { IfSome result (λ h. TellsOpenPorts self.old.joined self.new.joined (numbers self.new.connections.items) (Ok h)) }
+        ensures some { IfSome result
+            (λ h. TellsOpenPorts self.old.joined self.new.joined (numbers self.new.connections.items) (Ok h)) }
         ensures none { IfNone result (self.new.joined ≡ self.old.joined) }
     {
         if let Some(number) = self.failed.pop() {
@@ -230,7 +231,8 @@ impl Sockets {
         }
     }
 
-    /// The next connection that waits. If the system has no descriptor left, the connection that lingers longest makes room.
+    /// The next connection that waits. If the system has no descriptor left, the connection that lingers longest makes
+    /// room.
     fn accept(&mut self, kind: Kind) -> Option<(TcpStream, SocketAddr)>
         ensures { self.new.joined ≡ self.old.joined }
     {
@@ -246,7 +248,8 @@ impl Sockets {
 
     /// A new port, of a client or of a feed.
     fn join(&mut self) -> Option<Happening>
-        ensures some { IfSome result (λ h. TellsOpenPorts self.old.joined self.new.joined (numbers self.new.connections.items) (Ok h)) }
+        ensures some { IfSome result
+            (λ h. TellsOpenPorts self.old.joined self.new.joined (numbers self.new.connections.items) (Ok h)) }
         ensures none { IfNone result (self.new.joined ≡ self.old.joined) }
     {
         match self.join_client() {
@@ -256,7 +259,8 @@ impl Sockets {
     }
 
     fn join_client(&mut self) -> Option<Happening>
-        ensures some { IfSome result (λ h. TellsOpenPorts self.old.joined self.new.joined (numbers self.new.connections.items) (Ok h)) }
+        ensures some { IfSome result
+            (λ h. TellsOpenPorts self.old.joined self.new.joined (numbers self.new.connections.items) (Ok h)) }
         ensures none { IfNone result (self.new.joined ≡ self.old.joined) }
     {
         let (stream, peer) = self.accept(Kind::Client)?;
@@ -266,7 +270,8 @@ impl Sockets {
     }
 
     fn join_feed(&mut self) -> Option<Happening>
-        ensures some { IfSome result (λ h. TellsOpenPorts self.old.joined self.new.joined (numbers self.new.connections.items) (Ok h)) }
+        ensures some { IfSome result
+            (λ h. TellsOpenPorts self.old.joined self.new.joined (numbers self.new.connections.items) (Ok h)) }
         ensures none { IfNone result (self.new.joined ≡ self.old.joined) }
     {
         let (stream, _) = self.accept(Kind::Feed)?;

@@ -33,7 +33,8 @@ fn bye_ends_a_connection_after_the_last_answer(rt: HostRuntime) -> Result<(), Fa
     Ok(())
 }
 
-/// How many clients there are once the first of two was answered, and how many once it has ended and the second was answered.
+/// How many clients there are once the first of two was answered, and how many once it has ended and the second was
+/// answered.
 fn counts_before_and_after<R: Net>(
     rt: &R,
     centre: &mut Centre,

@@ -1,5 +1,5 @@
-//! Tests of the server, the feeder and the reader over sockets on loopback, with both ends in one process: the system takes
-//! connections and bytes before the server's next turn. Nothing but tests.
+//! Tests of the server, the feeder and the reader over sockets on loopback, with both ends in one process: the system
+//! takes connections and bytes before the server's next turn. Nothing but tests.
 #![tactic(auto)]
 
 #[cfg(test)]

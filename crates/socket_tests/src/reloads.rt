@@ -72,8 +72,8 @@ fn is_carried<C: Read, F: Write>(
     Ok(centre.gives(client, &packet(number, &record))?)
 }
 
-/// Whether records go on through a reload that changes nothing for this machine, and then one cuts the client, with nothing
-/// more to be read.
+/// Whether records go on through a reload that changes nothing for this machine, and then one cuts the client, with
+/// nothing more to be read.
 fn is_cut_in_time<R: Net + AllocGlobal>(rt: &R, centre: &mut Centre) -> Result<bool, Fail> {
     let mut client = centre.client(rt)?;
     let mut feed = centre.feed(rt)?;

@@ -1,4 +1,4 @@
-pub mod Holdings
-pub mod Numbers
-pub mod Reaching
-pub mod Growing
+pub mod PushLemmas
+pub mod NumberLemmas
+pub mod ReachLemmas
+pub mod GrowthLemmas

@@ -20,7 +20,8 @@ pub struct Summary {
 /// A held record.
 #[derive(Debug, PartialEq, Eq, Drop)]
 pub struct Held {
-    /// When it came, as a count that rises with each record that comes: the greater one came later, at whatever station.
+    /// When it came, as a count that rises with each record that comes: the greater one came later, at whatever
+    /// station.
     pub stamp: u64,
     /// The whole record, 512 bytes.
     pub bytes: [u8; 512],

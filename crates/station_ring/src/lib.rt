@@ -2,9 +2,11 @@
 //! numbers). Only making a ring takes memory.
 #![tactic(auto)]
 
-ghost use Rattle.std.specs.Prelude.{◌≡◌, ℕ, ◌+◌, ◌-◌, ◌<◌, ◌≤◌, nat_lt, if◌then◌else◌, List, [], ◌∷◌, ◌++◌, length, slice_get, Some, None, ◌↔◌};
+ghost use Rattle.std.specs.Prelude.{◌≡◌, ℕ, ◌+◌, ◌-◌, ◌<◌, ◌≤◌, nat_lt, if◌then◌else◌, List, [], ◌∷◌, ◌++◌, length};
+ghost use Rattle.std.specs.Prelude.{slice_get, Some, None, ◌↔◌};
 ghost use Rattle.station_ring.specs.declared.held.Held.{Held};
-ghost use Rattle.station_ring.specs.Rings.{Holding, IsHolding, empty, first_place, held_at, number_at, place_with, holding_of, pushed, pushed_all};
+ghost use Rattle.station_ring.specs.Rings.{RingValue, IsRing, empty, first_place, held_at, number_at, place_with};
+ghost use Rattle.station_ring.specs.Rings.{holding_of, pushed, pushed_all};
 
 pub mod held;
 pub mod ring;
@@ -12,8 +14,8 @@ pub mod ring;
 pub use held::{Held, Summary};
 pub use ring::Ring;
 
-/// After any pushes a ring holds the last of them, as many as its capacity, and has counted them all: what is held at a place is
-/// what was pushed there, while fewer than the capacity came after it.
+/// After any pushes a ring holds the last of them, as many as its capacity, and has counted them all: what is held at a
+/// place is what was pushed there, while fewer than the capacity came after it.
 pub fn last_pushes_held()
     ensures all { (capacity first : ℕ) (items : List Held) →
         pushed_all (empty capacity first) items ≡ holding_of capacity first items }
@@ -25,9 +27,10 @@ pub fn last_pushes_held()
         ≡ (if nat_lt (length items - (place + 1)) capacity then slice_get items place else None) }
 {}
 
-/// The held records of a ring have different numbers: a place is found by a number exactly where it is held and its record
-/// has that number.
+/// The held records of a ring have different numbers: a place is found by a number exactly where it is held and its
+/// record has that number.
 pub fn places_found()
-    ensures { (r : Holding) (number place : ℕ) → IsHolding r →
-        (place_with r number ≡ Some place) ↔ ((first_place r ≤ place) × (place < r.pushes) × (number_at r place ≡ number)) }
+    ensures { (r : RingValue) (number place : ℕ) → IsRing r →
+        (place_with r number ≡ Some place) ↔
+        ((first_place r ≤ place) × (place < r.pushes) × (number_at r place ≡ number)) }
 {}

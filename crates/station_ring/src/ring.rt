@@ -1,5 +1,6 @@
 //! Rings of records.
-ghost use Rattle.std.specs.Prelude.{◌≡◌, ℕ, ◌+◌, ◌-◌, ◌%◌, ◌^◌, ◌<◌, ◌≤◌, [], ◌∷◌, ◌++◌, length, slice_get, All, IfOk};
+ghost use Rattle.std.specs.Prelude.{◌≡◌, ℕ, ◌+◌, ◌-◌, ◌%◌, ◌^◌, ◌<◌, ◌≤◌, [], ◌∷◌, ◌++◌, length, slice_get, All};
+ghost use Rattle.std.specs.Prelude.{IfOk};
 ghost use Rattle.std.specs.Option.{option_map, option_copied};
 ghost use Rattle.protocol.specs.Packet.{numbers};
 ghost use Rattle.station_ring.specs.Rings.{place_among};
@@ -13,11 +14,12 @@ use std::marker::Model;
 /// Numbers are those below this one.
 const NUMBERS: u64 = 0x100_0000;
 
-/// The last records of a station, as many as its capacity. A place is the count of records that were pushed before a record,
-/// from 0 on; a number is its place and the first number together, modulo 2^24.
+/// The last records of a station, as many as its capacity. A place is the count of records that were pushed before
+/// a record, from 0 on; a number is its place and the first number together, modulo 2^24.
 ///
-/// The records lie in a block of a fixed size that is allocated once, and a push into a full ring overwrites the oldest. No call
-/// goes through what is held: a place is reached by the count of pushes, and a number by its distance from the oldest one.
+/// The records lie in a block of a fixed size that is allocated once, and a push into a full ring overwrites the
+/// oldest. No call goes through what is held: a place is reached by the count of pushes, and a number by its
+/// distance from the oldest one.
 #[derive(Drop)]
 pub struct Ring {
     first: Seq,
@@ -26,21 +28,24 @@ pub struct Ring {
 }
 
 impl Model for Ring {
-    ghost use Rattle.station_ring.specs.Rings.{Holding, IsHolding};
+    ghost use Rattle.station_ring.specs.Rings.{RingValue, IsRing};
 
-    ghost Value = { Holding };
+    ghost Value = { RingValue };
 
-    ghost view = { λ s. record { capacity = s.held.capacity; first = s.first; pushes = s.pushes; held = s.held.items } };
+    ghost view = { λ s.
+        record { capacity = s.held.capacity; first = s.first; pushes = s.pushes; held = s.held.items } };
 
-    ghost invariant = { λ s. IsHolding
+    ghost invariant = { λ s. IsRing
         (record { capacity = s.held.capacity; first = s.first; pushes = s.pushes; held = s.held.items }) };
 }
 
 impl Ring {
-    ghost use Rattle.station_ring.specs.Rings.{IsHolding, empty, pushed, first_place, oldest_place, number_at, place_with, held_at, held_from, Grows};
+    ghost use Rattle.station_ring.specs.Rings.{IsRing, empty, pushed, first_place, oldest_place, number_at};
+    ghost use Rattle.station_ring.specs.Rings.{place_with};
+    ghost use Rattle.station_ring.specs.Rings.{held_at, held_from, Grows};
 
-    /// A ring that holds nothing yet: at most `capacity` records, 1 to 65,536, the first of which has the number `first`. It
-    /// fails only where there is no memory for them.
+    /// A ring that holds nothing yet: at most `capacity` records, 1 to 65,536, the first of which has the number
+    /// `first`. It fails only where there is no memory for them.
     pub fn new(alloc: Global, capacity: usize, first: Seq) -> Result<Ring, AllocError>
         requires least { 1 ≤ capacity }
         requires most { capacity ≤ 65536 }
@@ -109,7 +114,8 @@ impl Ring {
         number_of(self.first, place)
     }
 
-    /// The held place with that number: None where no held record has it, as where it was let go or is still to come.
+    /// The held place with that number: None where no held record has it, as where it was let go or is still to
+    /// come.
     pub fn find(&self, number: Seq) -> Option<u64>
         ensures { result ≡ place_with self.now number }
     {
@@ -142,10 +148,10 @@ impl Ring {
         Some((place, held))
     }
 
-    /// What is true of each ring: its capacity is 1 to 65,536, it holds as many records as were pushed, and no more than its
-    /// capacity, and their stamps rise.
+    /// What is true of each ring: its capacity is 1 to 65,536, it holds as many records as were pushed, and no more
+    /// than its capacity, and their stamps rise.
     pub fn holds_its_last(&self)
-        ensures { IsHolding self.now }
+        ensures { IsRing self.now }
     {
         let _ = &self.held;
     }
@@ -167,8 +173,8 @@ fn number_of(first: Seq, place: u64) -> Seq
     Seq::of(number as u32).unwrap()
 }
 
-/// How many places after a record with the number `from` the next place with the number `to` is. Numbers go on with 0 after
-/// the last.
+/// How many places after a record with the number `from` the next place with the number `to` is. Numbers go on with
+/// 0 after the last.
 fn distance(from: Seq, to: Seq) -> u64
     ensures reached { (from + result) % numbers ≡ to }
     ensures next { result < numbers }

@@ -60,7 +60,8 @@ fn position_at(rings: &Rings, station: usize, place: u64) -> Option<u64> {
     Some(rings.ring(station)?.get(place)?.stamp)
 }
 
-/// The rings after records of two stations and one of the third: at the positions 0, 2, 3, 5 and 7, at 1 and 4, and at 6.
+/// The rings after records of two stations and one of the third: at the positions 0, 2, 3, 5 and 7, at 1 and 4, and at
+/// 6.
 fn filled(alloc: Global) -> Result<Rings, Fail> {
     let mut rings = empty(alloc)?;
     for place in [0, 1, 0, 0, 1, 0, 2, 0] {

@@ -1,4 +1,5 @@
-//! Tests of stations: configurations, the rings of one station and of all, and transfers out of them. Nothing but tests.
+//! Tests of stations: configurations, the rings of one station and of all, and transfers out of them. Nothing but
+//! tests.
 #![tactic(auto)]
 
 #[cfg(test)]

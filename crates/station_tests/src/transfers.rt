@@ -38,8 +38,8 @@ fn record(position: u64) -> [u8; 512] {
     [b'a' + (position % 26) as u8; 512]
 }
 
-/// What is asked of the record that comes at a position: it starts as many minutes after 1970 as came before it, and lasts 20
-/// seconds. Its channel is BHZ at every second position, from the first on, and else BHN.
+/// What is asked of the record that comes at a position: it starts as many minutes after 1970 as came before it, and
+/// lasts 20 seconds. Its channel is BHZ at every second position, from the first on, and else BHN.
 fn summary(position: u64) -> Summary {
     let start = 60 * SECOND * (position % 26) as i64;
     Summary {
@@ -99,7 +99,8 @@ fn say_all(config: &Config, session: &mut Session, lines: &[&[u8]])
     }
 }
 
-/// What a packet that waits holds: its first bytes, up to the first of the record, where it has 520 and the record's are all alike.
+/// What a packet that waits holds: its first bytes, up to the first of the record, where it has 520 and the record's
+/// are all alike.
 fn told(waiting: &[u8]) -> &[u8] {
     if waiting.len() < 9 {
         return waiting;
@@ -141,7 +142,8 @@ fn start_it(session: &mut Session, rings: &Rings)
     }
 }
 
-/// What a client is sent that sent these lines after the first arrivals, where the others come once its transfer has started.
+/// What a client is sent that sent these lines after the first arrivals, where the others come once its transfer has
+/// started.
 fn sent(
     alloc: Global,
     lines: &[&[u8]],
@@ -158,8 +160,8 @@ fn sent(
     Ok(chosen(alloc, &config, &rings, &mut session)?)
 }
 
-/// The lines of a client, the stations of the first arrivals and of those that come once its transfer has started, and what it is
-/// sent.
+/// The lines of a client, the stations of the first arrivals and of those that come once its transfer has started, and
+/// what it is sent.
 type Row = (
     &'static [&'static [u8]],
     &'static [usize],
@@ -377,8 +379,8 @@ fn cursors_of(
     })
 }
 
-/// The lines of a client, the stations of the first arrivals and of those that come once its transfer has started, and the three
-/// cursors.
+/// The lines of a client, the stations of the first arrivals and of those that come once its transfer has started, and
+/// the three cursors.
 type CursorRow = (
     &'static [&'static [u8]],
     &'static [usize],
@@ -386,7 +388,8 @@ type CursorRow = (
     [u64; 3],
 );
 
-/// A request for what is to come; one for all that is held, of which one is gone; one that is overrun; and one that passes a record.
+/// A request for what is to come; one for all that is held, of which one is gone; one that is overrun; and one that
+/// passes a record.
 static CURSORS: [CursorRow; 4] = [
     (&[b"DATA\r"], &[0, 0], &[], [2, 2, 2]),
     (&[b"FETCH\r"], &[0, 0, 0], &[], [1, 2, 3]),
@@ -431,7 +434,8 @@ fn found_then_chosen(
     Ok(Some((found, choose(&mut session, config, rings))))
 }
 
-/// The lines of a client, the stations of the arrivals once its transfer has started, whether something is found, and what is chosen.
+/// The lines of a client, the stations of the arrivals once its transfer has started, whether something is found, and
+/// what is chosen.
 type FindingRow = (&'static [&'static [u8]], &'static [usize], (bool, Chosen));
 
 static FINDINGS: [FindingRow; 5] = [

@@ -1,8 +1,8 @@
 //! The configuration that the tests of several crates begin with. Nothing but that.
 #![tactic(auto)]
 
-/// Three stations: GE APE, which is open to addresses that begin with 10, and GE WLF and XX APE, which are open to everybody. They
-/// hold 4, 2 and 1 records, and count from 000000, FFFFFE and 000000.
+/// Three stations: GE APE, which is open to addresses that begin with 10, and GE WLF and XX APE, which are open to
+/// everybody. They hold 4, 2 and 1 records, and count from 000000, FFFFFE and 000000.
 pub const CENTRE: &[u8] = br#"title = "Test Centre"
 max_connections = 8
 

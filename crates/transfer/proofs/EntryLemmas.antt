@@ -1,12 +1,13 @@
 -- The named stations behind the entries that a session lends.
-use Rattle.std.proofs.Common.{◌≡◌, ℕ, ◌<◌, zero, suc, true, List, [], ◌∷◌, length, map, get_or, slice_get, slice_index_or, Some, unwrap_or, refl, sym, ap, subst, ◌∙◌, arith}
-use Rattle.station_ring.specs.Rings.{Holding}
-use Rattle.held_records.specs.Holdings.{Holdings}
+use Rattle.std.proofs.Common.{◌≡◌, ℕ, ◌<◌, zero, suc, true, List, [], ◌∷◌, length, map, get_or, slice_get}
+use Rattle.std.proofs.Common.{slice_index_or, Some, unwrap_or, refl, sym, ap, subst, ◌∙◌, arith}
+use Rattle.station_ring.specs.Rings.{RingValue}
+use Rattle.held_records.specs.Rings.{RingsValue}
 use Rattle.session_state.specs.declared.choices.Entry.{Entry}
-use Rattle.session_state.specs.Naming.{Choice, entry_of}
+use Rattle.session_state.specs.NamedValues.{Choice, entry_of}
 use Rattle.transfer.specs.Cursors.{PassedIn, RestsIn}
 use Rattle.transfer.specs.Firsts.{is_unsent}
-use Rattle.transfer.proofs.Found.{fresh-rests}
+use Rattle.transfer.proofs.FirstsLemmas.{fresh-rests}
 
 -- A named station stands at that place, and has that entry.
 pub record IsEntryAt (cs : List Choice) (i : ℕ) (e : Entry) : Type 0 where
@@ -16,15 +17,23 @@ pub record IsEntryAt (cs : List Choice) (i : ℕ) (e : Entry) : Type 0 where
   pub item : choice ≡ get_or cs i choice
   pub within : i < length cs
 
-entry-in : (cs : List Choice) (i : ℕ) (e : Entry) → i < length (map entry_of cs) → e ≡ slice_index_or (map entry_of cs) i e → IsEntryAt cs i e
+entry-in : (cs : List Choice) (i : ℕ) (e : Entry) → i < length (map entry_of cs)
+    → e ≡ slice_index_or (map entry_of cs) i e → IsEntryAt cs i e
 entry-in [] i e low is = absurd (omega arith)
 entry-in (c ∷ cs) zero e low is = record { choice = c; there = refl; entry = sym is; item = refl; within = omega arith }
 entry-in (c ∷ cs) (suc i) e low is =
     let later = entry-in cs i e (omega arith) is in
     let within : i < length cs = later.within in
-    record { choice = later.choice; there = later.there; entry = later.entry; item = later.item; within = omega (arith, within) }
+    record {
+      choice = later.choice;
+      there = later.there;
+      entry = later.entry;
+      item = later.item;
+      within = omega (arith, within);
+    }
 
-pub entry-at : (cs : List Choice) (es : List Entry) (i : ℕ) (e : Entry) → map entry_of cs ≡ es → i < length es → e ≡ slice_index_or es i e → IsEntryAt cs i e
+pub entry-at : (cs : List Choice) (es : List Entry) (i : ℕ) (e : Entry) → map entry_of cs ≡ es → i < length es
+    → e ≡ slice_index_or es i e → IsEntryAt cs i e
 entry-at cs es i e same low is =
     entry-in cs i e (subst (λ xs. i < length xs) (sym same) low) (subst (λ xs. e ≡ slice_index_or xs i e) (sym same) is)
 
@@ -47,7 +56,10 @@ item-is (x ∷ cs) zero c e = sym (ap (λ o. unwrap_or o c) e)
 item-is (x ∷ cs) (suc i) c e = item-is cs i c e
 
 -- What a fresh entry tells of its station.
-pub fresh-entry : (rings : Holdings) (next : ℕ) (c : Choice) (r : Holding) (e : Entry) → entry_of c ≡ e → slice_get rings.rings e.place ≡ Some r → e.cursor.seen ≡ r.pushes → is_unsent next e.cursor.ahead ≡ true → PassedIn rings next c → RestsIn rings next c
+pub fresh-entry : (rings : RingsValue) (next : ℕ) (c : Choice) (r : RingValue) (e : Entry) → entry_of c ≡ e
+    → slice_get rings.rings e.place ≡ Some r → e.cursor.seen ≡ r.pushes → is_unsent next e.cursor.ahead ≡ true
+    → PassedIn rings next c → RestsIn rings next c
 fresh-entry rings next c r e same =
-    subst (λ (y : Entry). slice_get rings.rings y.place ≡ Some r → y.cursor.seen ≡ r.pushes → is_unsent next y.cursor.ahead ≡ true → PassedIn rings next c → RestsIn rings next c) same
+    subst (λ (y : Entry). slice_get rings.rings y.place ≡ Some r → y.cursor.seen ≡ r.pushes
+    → is_unsent next y.cursor.ahead ≡ true → PassedIn rings next c → RestsIn rings next c) same
     (fresh-rests rings next c r)

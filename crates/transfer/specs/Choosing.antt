@@ -1,9 +1,10 @@
 -- What an offer in a transfer leads to.
-use Rattle.std.specs.Prelude.{◌≡◌, ℕ, ◌<◌, Bool, true, false, if◌then◌else◌, nat_le, nat_lt, List, length, Option, Some, None, slice_get}
+use Rattle.std.specs.Prelude.{◌≡◌, ℕ, ◌<◌, Bool, true, false, if◌then◌else◌, nat_le, nat_lt, List, length, Option, Some}
+use Rattle.std.specs.Prelude.{None, slice_get}
 use Rattle.protocol.specs.Catalog.{Config, Station}
 use Rattle.protocol.specs.History.{Arrival, is_over_by}
-use Rattle.held_records.specs.Holdings.{Holdings, IsArrival}
-use Rattle.station_ring.specs.Rings.{Holding}
+use Rattle.held_records.specs.Rings.{RingsValue, IsArrival}
+use Rattle.station_ring.specs.Rings.{RingValue}
 use Rattle.transfer.specs.Wanting.{HoldsRecord}
 use Rattle.catalog.specs.Places.{station_at}
 use Rattle.session_state.specs.declared.choices.Action.{Action}
@@ -37,8 +38,8 @@ pub record IsArrived (config : Config) (h : List Arrival) (number : ℕ) (x : He
   pub arrives : IsArrival (station_at config.entries place) h number x
 
 -- The ring of a station holds a record at a place, which arrived at that position.
-pub record HoldsThere (rings : Holdings) (station place position : ℕ) : Type 0 where
-  pub ring : Holding
+pub record HoldsThere (rings : RingsValue) (station place position : ℕ) : Type 0 where
+  pub ring : RingValue
   pub ring_there : slice_get rings.rings station ≡ Some ring
   pub holds : HoldsRecord ring place position
 

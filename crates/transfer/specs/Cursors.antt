@@ -1,19 +1,19 @@
--- How far the requests of a transfer have come in the rings of their stations. A cursor is a place before which a request wants
--- nothing more.
--- SeedLink 3, DATA, FETCH and TIME. Left out: how a cursor is moved.
-use Rattle.std.specs.Prelude.{◌≡◌, ℕ, ◌<◌, ◌≤◌, Bool, true, false, int_lt, if◌then◌else◌, is_some, List, [], ◌∷◌, Option, Some, None, option_map, slice_get}
+-- How far the requests of a transfer have come in the rings of their stations. A cursor is a place before which a
+-- request wants nothing more. SeedLink 3, DATA, FETCH and TIME. Left out: how a cursor is moved.
+use Rattle.std.specs.Prelude.{◌≡◌, ℕ, ◌<◌, ◌≤◌, Bool, true, false, int_lt, if◌then◌else◌, is_some, List, [], ◌∷◌}
+use Rattle.std.specs.Prelude.{Option, Some, None, option_map, slice_get}
 use Rattle.station_ring.specs.declared.held.Held.{Held}
-use Rattle.station_ring.specs.Rings.{Holding, IsHolding, first_place, held_at}
-use Rattle.held_records.specs.Holdings.{Holdings, IsBefore, place_from}
+use Rattle.station_ring.specs.Rings.{RingValue, IsRing, first_place, held_at}
+use Rattle.held_records.specs.Rings.{RingsValue, IsBefore, place_from}
 use Rattle.session_state.specs.declared.choices.Action.{Action}
 use Rattle.session_state.specs.declared.choices.Action.TheVariants.{Data, Fetch, Time}
-use Rattle.session_state.specs.Naming.{Choice}
+use Rattle.session_state.specs.NamedValues.{Choice}
 use Rattle.session_state.specs.declared.choices.Cursor.{Cursor}
 use Rattle.session_state.specs.declared.choices.Entry.{Entry}
-use Rattle.session_state.specs.Naming.{Mode}
+use Rattle.session_state.specs.NamedValues.{ModeValue}
 use Rattle.session_state.specs.declared.session.State.TheVariants.{Transfer}
 use Rattle.session_state.specs.Choices.{chosen_of}
-use Rattle.session_state.specs.Sessions.{Sitting}
+use Rattle.session_state.specs.Sessions.{SessionValue}
 use Rattle.transfer.specs.Wanting.{wants_held}
 
 -- The record starts after the end of TIME, where one is asked.
@@ -27,28 +27,31 @@ is_after_end (Some (Time begin (Some last))) x = int_lt last x.summary.start
 -- ---- where a request begins
 
 -- the place in its ring at which a request begins: the next record's, that of a number, or the oldest
-abbrev pub begin_place : Holding → Action → ℕ
+abbrev pub begin_place : RingValue → Action → ℕ
 begin_place r (Data None begin) = r.pushes
 begin_place r (Data (Some number) begin) = place_from r number
 begin_place r (Fetch None begin) = first_place r
 begin_place r (Fetch (Some number) begin) = place_from r number
 begin_place r (Time begin last) = first_place r
 
--- What a station's ring holds before the place at which its request begins arrived before the first that the request wants.
-pub record BeginsIn (rings : Holdings) (c : Choice) : Type 0 where
-  pub before : (r : Holding) (action : Action) → slice_get rings.rings c.place ≡ Some r → c.action ≡ Some action → IsBefore r (begin_place r action) c.first
+-- What a station's ring holds before the place at which its request begins arrived before the first that the request
+-- wants.
+pub record BeginsIn (rings : RingsValue) (c : Choice) : Type 0 where
+  pub before : (r : RingValue) (action : Action) → slice_get rings.rings c.place ≡ Some r → c.action ≡ Some action
+      → IsBefore r (begin_place r action) c.first
 
 -- The cursor of a request is at the place at which it begins.
-pub record IsAtBegin (r : Holding) (action : Action) (cursor : Cursor) : Type 0 where
+pub record IsAtBegin (r : RingValue) (action : Action) (cursor : Cursor) : Type 0 where
   pub place : cursor.place ≡ begin_place r action
   pub after_end : cursor.after_end ≡ None
   pub within : cursor.place ≤ r.pushes
   pub unseen : cursor.seen ≡ 0
   pub none : cursor.ahead ≡ None
-  pub holding : IsHolding r
+  pub holding : IsRing r
 
-pub record StartsIn (rings : Holdings) (c : Choice) : Type 0 where
-  pub starts : (r : Holding) (action : Action) → slice_get rings.rings c.place ≡ Some r → c.action ≡ Some action → IsAtBegin r action c.cursor
+pub record StartsIn (rings : RingsValue) (c : Choice) : Type 0 where
+  pub starts : (r : RingValue) (action : Action) → slice_get rings.rings c.place ≡ Some r → c.action ≡ Some action
+      → IsAtBegin r action c.cursor
   pub quiet : c.action ≡ None → c.cursor.ahead ≡ None
 
 -- ---- what a request has passed
@@ -59,51 +62,57 @@ pub record IsTold (cursor : Cursor) (place : ℕ) : Type 0 where
   pub is : cursor.after_end ≡ Some last
   pub from : place ≤ last
 
--- No record that the ring holds before the cursor is wanted, of those from position `next` on; and the cursor tells the last place
--- before it whose record starts after the end of TIME.
-pub record HasPassed (r : Holding) (next : ℕ) (c : Choice) (cursor : Cursor) : Type 0 where
+-- No record that the ring holds before the cursor is wanted, of those from position `next` on; and the cursor tells the
+-- last place before it whose record starts after the end of TIME.
+pub record HasPassed (r : RingValue) (next : ℕ) (c : Choice) (cursor : Cursor) : Type 0 where
   pub within : cursor.place ≤ r.pushes
   pub unwanted : (place : ℕ) (x : Held) → place < cursor.place → held_at r place ≡ Some x → wants_held c next x ≡ false
-  pub told : (place : ℕ) (x : Held) → place < cursor.place → held_at r place ≡ Some x → is_after_end c.action x ≡ true → IsTold cursor place
+  pub told : (place : ℕ) (x : Held) → place < cursor.place → held_at r place ≡ Some x → is_after_end c.action x ≡ true
+      → IsTold cursor place
   pub before : (place : ℕ) → cursor.after_end ≡ Some place → place < cursor.place
-  pub after : (place : ℕ) (x : Held) → cursor.after_end ≡ Some place → held_at r place ≡ Some x → is_after_end c.action x ≡ true
+  pub after : (place : ℕ) (x : Held) → cursor.after_end ≡ Some place → held_at r place ≡ Some x
+      → is_after_end c.action x ≡ true
 
--- Besides, the cursor is not before the oldest record, and the request wants the record at the cursor, where one is there. The
--- cursor tells its stamp, and how many records the ring had been given.
-pub record RestsAt (r : Holding) (next : ℕ) (c : Choice) (cursor : Cursor) : Type 0 where
+-- Besides, the cursor is not before the oldest record, and the request wants the record at the cursor, where one is
+-- there. The cursor tells its stamp, and how many records the ring had been given.
+pub record RestsAt (r : RingValue) (next : ℕ) (c : Choice) (cursor : Cursor) : Type 0 where
   pub passed : HasPassed r next c cursor
   pub low : first_place r ≤ cursor.place
   pub wanted : (x : Held) → held_at r cursor.place ≡ Some x → wants_held c next x ≡ true
   pub seen : cursor.seen ≡ r.pushes
   pub ahead : cursor.ahead ≡ option_map (λ x. x.stamp) (held_at r cursor.place)
-  pub holding : IsHolding r
+  pub holding : IsRing r
 
--- So it was when the ring was last looked at, but for records that were sent since: from position `next` on more may be sent.
-pub record RestedAt (r : Holding) (next : ℕ) (c : Choice) (cursor : Cursor) : Type 0 where
+-- So it was when the ring was last looked at, but for records that were sent since: from position `next` on more may be
+-- sent.
+pub record RestedAt (r : RingValue) (next : ℕ) (c : Choice) (cursor : Cursor) : Type 0 where
   pub low : first_place r ≤ cursor.place
   pub wanted : (x : Held) → held_at r cursor.place ≡ Some x → next ≤ x.stamp → wants_held c next x ≡ true
   pub ahead : cursor.ahead ≡ option_map (λ x. x.stamp) (held_at r cursor.place)
-  pub holding : IsHolding r
+  pub holding : IsRing r
 
 -- What a request has passed in its ring, and what is known of the record at its cursor while nothing was pushed since.
-pub record HasSeen (r : Holding) (next : ℕ) (c : Choice) (cursor : Cursor) : Type 0 where
+pub record HasSeen (r : RingValue) (next : ℕ) (c : Choice) (cursor : Cursor) : Type 0 where
   pub passed : HasPassed r next c cursor
   pub seen : cursor.seen ≤ r.pushes
   pub fresh : cursor.seen ≡ r.pushes → RestedAt r next c cursor
 
 -- the same of a named station that is asked for something, in its ring
-pub record PassedIn (rings : Holdings) (next : ℕ) (c : Choice) : Type 0 where
-  pub passed : (r : Holding) (action : Action) → slice_get rings.rings c.place ≡ Some r → c.action ≡ Some action → HasSeen r next c c.cursor
+pub record PassedIn (rings : RingsValue) (next : ℕ) (c : Choice) : Type 0 where
+  pub passed : (r : RingValue) (action : Action) → slice_get rings.rings c.place ≡ Some r → c.action ≡ Some action
+      → HasSeen r next c c.cursor
   pub quiet : c.action ≡ None → c.cursor.ahead ≡ None
 
-pub record RestsIn (rings : Holdings) (next : ℕ) (c : Choice) : Type 0 where
-  pub rests : (r : Holding) (action : Action) → slice_get rings.rings c.place ≡ Some r → c.action ≡ Some action → RestsAt r next c c.cursor
+pub record RestsIn (rings : RingsValue) (next : ℕ) (c : Choice) : Type 0 where
+  pub rests : (r : RingValue) (action : Action) → slice_get rings.rings c.place ≡ Some r → c.action ≡ Some action
+      → RestsAt r next c c.cursor
   pub quiet : c.action ≡ None → c.cursor.ahead ≡ None
   pub nowhere : slice_get rings.rings c.place ≡ None → c.cursor.ahead ≡ None
 
 -- All records of the station were passed.
-pub record IsReached (rings : Holdings) (c : Choice) : Type 0 where
-  pub reached : (r : Holding) (action : Action) → slice_get rings.rings c.place ≡ Some r → c.action ≡ Some action → c.cursor.place ≡ r.pushes
+pub record IsReached (rings : RingsValue) (c : Choice) : Type 0 where
+  pub reached : (r : RingValue) (action : Action) → slice_get rings.rings c.place ≡ Some r → c.action ≡ Some action
+      → c.cursor.place ≡ r.pushes
 
 -- ---- of all requests
 
@@ -112,11 +121,11 @@ abbrev pub OfAll : (Choice → Type 0) → List Choice → Type 0
 OfAll P cs = (i : ℕ) (c : Choice) → slice_get cs i ≡ Some c → P c
 
 -- A session in a transfer has passed nothing that it may still want.
-pub record PassesUnwanted (rings : Holdings) (s : Sitting) : Type 0 where
+pub record PassesUnwanted (rings : RingsValue) (s : SessionValue) : Type 0 where
   pub passed : (next : ℕ) → s.state ≡ Transfer next → OfAll (PassedIn rings next) (chosen_of s.mode)
 
 -- the same; contracts need not look into it
-unfoldable pub ArePassed : Holdings → Sitting → Type 0
+unfoldable pub ArePassed : RingsValue → SessionValue → Type 0
 ArePassed rings s = PassesUnwanted rings s
 
 -- the cursors of the requests, those of the named stations that are asked for something
@@ -130,5 +139,5 @@ entry_cursors [] = []
 entry_cursors (e ∷ es) = if is_some e.action then e.cursor.place ∷ entry_cursors es else entry_cursors es
 
 -- those of a session's mode
-abbrev pub cursors_of : Mode → List ℕ
+abbrev pub cursors_of : ModeValue → List ℕ
 cursors_of mode = request_cursors (chosen_of mode)

@@ -1,10 +1,11 @@
 -- The first of what so many requests are to send, by what their cursors tell.
 -- SeedLink 3, DATA, FETCH and TIME.
-use Rattle.std.specs.Prelude.{◌≡◌, ℕ, ◌<◌, ◌≤◌, Bool, true, nat_le, if◌then◌else◌, List, [], ◌∷◌, ◌+◌, length, take, filter_map, slice_get, Option, Some, None, IfSome, option_map}
+use Rattle.std.specs.Prelude.{◌≡◌, ℕ, ◌<◌, ◌≤◌, Bool, true, nat_le, if◌then◌else◌, List, [], ◌∷◌, ◌+◌, length, take}
+use Rattle.std.specs.Prelude.{filter_map, slice_get, Option, Some, None, IfSome, option_map}
 use Rattle.protocol.specs.Catalog.{Config}
 use Rattle.protocol.specs.History.{Arrival, next}
-use Rattle.held_records.specs.Holdings.{Holdings, holdings_of}
-use Rattle.session_state.specs.Naming.{Choice}
+use Rattle.held_records.specs.Rings.{RingsValue, holdings_of}
+use Rattle.session_state.specs.NamedValues.{Choice}
 use Rattle.session_state.specs.Choices.{request_in}
 use Rattle.transfer.specs.declared.choosing.First.{First}
 use Rattle.transfer.specs.declared.choosing.Overview.{Overview}
@@ -30,14 +31,16 @@ pub record IsAhead (choices : List Choice) (index stamp : ℕ) : Type 0 where
   pub at : slice_get choices index ≡ Some choice
   pub ahead : choice.cursor.ahead ≡ Some stamp
 
--- What was found so far, where all requests rest: the position that comes next for so many, which is late enough, and is there
--- unless all those have passed all.
-pub record LeadsSoFar (rings : Holdings) (choices : List Choice) (i : ℕ) (best : Option First) : Type 0 where
-  pub position : (q : ℕ) → OfAll (RestsIn rings q) choices → (config : Config) (h : List Arrival) → rings ≡ holdings_of config h →
+-- What was found so far, where all requests rest: the position that comes next for so many, which is late enough, and
+-- is there unless all those have passed all.
+pub record LeadsSoFar (rings : RingsValue) (choices : List Choice) (i : ℕ) (best : Option First) : Type 0 where
+  pub position : (q : ℕ) → OfAll (RestsIn rings q) choices → (config : Config) (h : List Arrival)
+      → rings ≡ holdings_of config h →
       option_map (λ f. f.stamp) best ≡ next h (filter_map (request_in config) (take i choices)) q
   pub there : IfSome best (λ f. IsAhead choices f.index f.stamp)
   pub late : (q : ℕ) → OfAll (RestsIn rings q) choices → IfSome best (λ f. q ≤ f.stamp)
-  pub reached : (q : ℕ) → OfAll (RestsIn rings q) choices → best ≡ None → (j : ℕ) (c : Choice) → j < i → slice_get choices j ≡ Some c → HasNothing rings q c
+  pub reached : (q : ℕ) → OfAll (RestsIn rings q) choices → best ≡ None → (j : ℕ) (c : Choice) → j < i
+      → slice_get choices j ≡ Some c → HasNothing rings q c
 
 -- the first of what these requests are to send, of which the first has that index, and of what was found before
 abbrev pub best_after : Option First → (index : ℕ) → List Choice → Option First
@@ -49,20 +52,24 @@ abbrev pub best_of : List Choice → Option First
 best_of cs = best_after None 0 cs
 
 -- Those from an index on and before another rest.
-abbrev pub RestBetween : Holdings → (next from to : ℕ) → List Choice → Type 0
-RestBetween rings next from to choices = (j : ℕ) (c : Choice) → from ≤ j → j < to → slice_get choices j ≡ Some c → PassedIn rings next c → RestsIn rings next c
+abbrev pub RestBetween : RingsValue → (next from to : ℕ) → List Choice → Type 0
+RestBetween rings next from to choices = (j : ℕ) (c : Choice) → from ≤ j → j < to → slice_get choices j ≡ Some c
+    → PassedIn rings next c → RestsIn rings next c
 
 -- What a look over the requests from an index on comes to: the first that has to look at its ring again, or none.
-pub record IsFreshOverview (rings : Holdings) (next : ℕ) (choices : List Choice) (from : ℕ) (before first : Option First) : Type 0 where
+pub record IsFreshOverview (rings : RingsValue) (next : ℕ) (choices : List Choice) (from : ℕ)
+    (before first : Option First) : Type 0 where
   pub rests : RestBetween rings next from (length choices) choices
   pub best : before ≡ best_of (take from choices) → first ≡ best_of choices
 
-pub record IsStaleOverview (rings : Holdings) (next : ℕ) (choices : List Choice) (from : ℕ) (before : Option First) (index : ℕ) (first : Option First) : Type 0 where
+pub record IsStaleOverview (rings : RingsValue) (next : ℕ) (choices : List Choice) (from : ℕ) (before : Option First)
+    (index : ℕ) (first : Option First) : Type 0 where
   pub after : from ≤ index
   pub within : index < length choices
   pub rests : RestBetween rings next from index choices
   pub best : before ≡ best_of (take from choices) → first ≡ best_of (take index choices)
 
-abbrev pub IsOverview : Holdings → (next : ℕ) → List Choice → (from : ℕ) → (before : Option First) → Overview → Type 0
-IsOverview rings next choices from before (Stale index first) = IsStaleOverview rings next choices from before index first
+abbrev pub IsOverview : RingsValue → (next : ℕ) → List Choice → (from : ℕ) → (before : Option First) → Overview → Type 0
+IsOverview rings next choices from before (Stale index first) =
+    IsStaleOverview rings next choices from before index first
 IsOverview rings next choices from before (Fresh first) = IsFreshOverview rings next choices from before first

@@ -2,7 +2,7 @@
 -- SeedLink 3, DATA, FETCH and TIME.
 use Rattle.std.specs.Prelude.{ℕ, if◌then◌else◌}
 use Rattle.station_ring.specs.declared.held.Held.{Held}
-use Rattle.session_state.specs.Naming.{Choice}
+use Rattle.session_state.specs.NamedValues.{Choice}
 use Rattle.transfer.specs.declared.wanting.Found.{Found}
 use Rattle.transfer.specs.declared.wanting.Found.TheVariants.{Wanted, AfterEnd, Unwanted}
 use Rattle.transfer.specs.Wanting.{wants_held}

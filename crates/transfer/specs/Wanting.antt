@@ -6,27 +6,40 @@ use Rattle.protocol.specs.History.{is_in_window}
 use Rattle.protocol.specs.Pattern.{passes}
 use Rattle.station_ring.specs.declared.held.Held.{Held}
 use Rattle.station_ring.specs.declared.held.Summary.{Summary}
-use Rattle.station_ring.specs.Rings.{Holding, held_at}
+use Rattle.station_ring.specs.Rings.{RingValue, held_at}
 use Rattle.session_state.specs.declared.choices.Action.{Action}
-use Rattle.session_state.specs.Naming.{Choice}
+use Rattle.session_state.specs.NamedValues.{Choice}
 use Rattle.session_state.specs.Choices.{action_value}
 
 -- the facts of which so much is kept; what is not kept is empty
 abbrev pub facts_of : Summary → Facts
-facts_of x = record { network = []; station = []; location = x.location; channel = x.channel; start = x.start; stop = x.stop; kind = x.kind; samples = 0; links = 0 }
+facts_of x = record {
+  network = [];
+  station = [];
+  location = x.location;
+  channel = x.channel;
+  start = x.start;
+  stop = x.stop;
+  kind = x.kind;
+  samples = 0;
+  links = 0;
+}
 
 -- within what is asked, where something is
 abbrev pub is_in_window_of : Option Action → Facts → Bool
 is_in_window_of None x = false
 is_in_window_of (Some action) x = is_in_window (action_value action) x
 
--- The request for a named station wants a held record that may still be sent, where that is so of all from position `next` on.
+-- The request for a named station wants a held record that may still be sent, where that is so of all from position
+-- `next` on.
 abbrev pub wants_held : Choice → (next : ℕ) → Held → Bool
 wants_held c next x =
-    nat_le next x.stamp && (nat_le c.first x.stamp && (passes c.selectors (facts_of x.summary) && is_in_window_of c.action (facts_of x.summary)))
+    nat_le next x.stamp
+    && (nat_le c.first x.stamp
+    && (passes c.selectors (facts_of x.summary) && is_in_window_of c.action (facts_of x.summary)))
 
 -- A ring holds a record at a place, which arrived at that position.
-pub record HoldsRecord (r : Holding) (place position : ℕ) : Type 0 where
+pub record HoldsRecord (r : RingValue) (place position : ℕ) : Type 0 where
   pub item : Held
   pub there : held_at r place ≡ Some item
   pub stamp : item.stamp ≡ position

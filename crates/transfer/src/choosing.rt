@@ -1,5 +1,6 @@
 //! What is sent next.
-ghost use Rattle.std.specs.Prelude.{◌≡◌, ◌≢◌, ◌≤◌, ◌<◌, ◌+◌, [], ◌∷◌, List, ℕ, codes, length, map, slice_get, filter_map, option_map, IfSome, Some, None, true, false, not, ℤ, Option};
+ghost use Rattle.std.specs.Prelude.{◌≡◌, ◌≢◌, ◌≤◌, ◌<◌, ◌+◌, [], ◌∷◌, List, ℕ, codes, length, map, slice_get};
+ghost use Rattle.std.specs.Prelude.{filter_map, option_map, IfSome, Some, None, true, false, not, ℤ, Option};
 ghost use Rattle.std.specs.List.{list_all};
 ghost use Rattle.protocol.specs.Catalog.{Config as ProtocolConfig};
 ghost use Rattle.protocol.specs.History.{Arrival, next as next_position, is_over, holds_after};
@@ -7,9 +8,9 @@ ghost use Rattle.protocol.specs.Client.{is_nothing, offered};
 ghost use Rattle.catalog.specs.Places.{station_at};
 ghost use Rattle.protocol.specs.Packet.{packet};
 ghost use Rattle.station_ring.specs.declared.held.Held.{Held};
-ghost use Rattle.station_ring.specs.Rings.{Holding, held_at, number_at};
-ghost use Rattle.held_records.specs.Holdings.{holdings_of};
-ghost use Rattle.session_state.specs.Naming.{Choice, entry_of};
+ghost use Rattle.station_ring.specs.Rings.{RingValue, held_at, number_at};
+ghost use Rattle.held_records.specs.Rings.{holdings_of};
+ghost use Rattle.session_state.specs.NamedValues.{Choice, entry_of};
 ghost use Rattle.session_state.specs.Choices.{all_at_start, chosen_of, request_in};
 ghost use Rattle.session_state.specs.Sessions.{client_in, but_for_cursors};
 ghost use Rattle.session_state.specs.declared.session.State.TheVariants.{Starting, Transfer, Ending};
@@ -47,10 +48,11 @@ fn is_unsent(ahead: Option<u64>, next: u64) -> bool
     }
 }
 
-/// Whether the cursor of a named station still tells what its request is to send: nothing was pushed to the station's ring since it
-/// was looked at, and the record at the cursor was not sent. No record is looked at.
+/// Whether the cursor of a named station still tells what its request is to send: nothing was pushed to the
+/// station's ring since it was looked at, and the record at the cursor was not sent. No record is looked at.
 fn is_fresh(entry: &Entry, rings: &Rings, next: u64) -> bool
-    ensures { result ≡ true → (c : Choice) → entry_of c ≡ entry.now → PassedIn rings.now next c → RestsIn rings.now next c }
+    ensures { result ≡ true → (c : Choice) → entry_of c ≡ entry.now → PassedIn rings.now next c
+        → RestsIn rings.now next c }
 {
     match rings.ring(entry.place) {
         Some(ring) if entry.cursor.seen == ring.pushes() => is_unsent(entry.cursor.ahead, next),
@@ -62,7 +64,8 @@ fn is_fresh(entry: &Entry, rings: &Rings, next: u64) -> bool
 /// How far the request for the i-th named station comes that passes what it doesn't want.
 fn cursor_of(session: &Session, i: usize, rings: &Rings, next: u64) -> Cursor
     requires { i < length (chosen_of session.now.mode) }
-    ensures { (c : Choice) → slice_get (chosen_of session.now.mode) i ≡ Some c → PassedIn rings.now next c → RestsIn rings.now next (record c { cursor = result }) }
+    ensures { (c : Choice) → slice_get (chosen_of session.now.mode) i ≡ Some c → PassedIn rings.now next c
+        → RestsIn rings.now next (record c { cursor = result }) }
 {
     let entry = session.choice(i);
     if entry.action.is_none() {
@@ -104,7 +107,8 @@ fn earlier(best: Option<First>, index: usize, ahead: Option<u64>) -> Option<Firs
 
 /// What a look over requests comes to.
 enum Overview {
-    /// The request with this index has to look at its ring again; of those before it, this one's record ahead came first.
+    /// The request with this index has to look at its ring again; of those before it, this one's record ahead came
+    /// first.
     Stale(usize, Option<First>),
     /// All have passed what they don't want, and this one's record ahead came first, where one has one.
     Fresh(Option<First>),
@@ -126,11 +130,12 @@ fn look(entries: &[Entry], rings: &Rings, next: u64, from: usize, before: Option
     Overview::Fresh(best)
 }
 
-/// Each request passes what it doesn't want, where something may have come to its ring, and the one whose record came first is told.
-/// All requests are walked over once.
+/// Each request passes what it doesn't want, where something may have come to its ring, and the one whose record
+/// came first is told. All requests are walked over once.
 fn rest(session: &mut Session, rings: &Rings, next: u64) -> Option<First>
     ensures same { but_for_cursors session.new ≡ but_for_cursors session.old }
-    ensures rest { OfAll (PassedIn rings.now next) (chosen_of session.old.mode) → OfAll (RestsIn rings.now next) (chosen_of session.new.mode) }
+    ensures rest { OfAll (PassedIn rings.now next) (chosen_of session.old.mode)
+        → OfAll (RestsIn rings.now next) (chosen_of session.new.mode) }
     ensures first { LeadsSoFar rings.now (chosen_of session.new.mode) (length (chosen_of session.new.mode)) result }
 {
     let count = session.choices().len();
@@ -155,7 +160,8 @@ fn candidate(session: &Session, first: First, rings: &Rings) -> Option<Candidate
     requires { IsAhead (chosen_of session.now.mode) first.index first.stamp }
     ensures index { IfSome result (λ c. c.index < length (chosen_of session.now.mode)) }
     ensures held { IfSome result (λ c. HoldsThere rings.now c.station c.place c.position) }
-    ensures position { (next : ℕ) → OfAll (RestsIn rings.now next) (chosen_of session.now.mode) → option_map (λ c. c.position) result ≡ Some first.stamp }
+    ensures position { (next : ℕ) → OfAll (RestsIn rings.now next) (chosen_of session.now.mode)
+        → option_map (λ c. c.position) result ≡ Some first.stamp }
 {
     let entry = session.choice(first.index);
     let ring = rings.ring(entry.place)?;
@@ -171,13 +177,18 @@ fn candidate(session: &Session, first: First, rings: &Rings) -> Option<Candidate
 /// Of all held records that some request wants, from the arrival `next` on, the one that came first.
 fn found_next(session: &mut Session, rings: &Rings, next: u64) -> Option<Candidate>
     ensures same { but_for_cursors session.new ≡ but_for_cursors session.old }
-    ensures rest { OfAll (PassedIn rings.now next) (chosen_of session.old.mode) → OfAll (RestsIn rings.now next) (chosen_of session.new.mode) }
+    ensures rest { OfAll (PassedIn rings.now next) (chosen_of session.old.mode)
+        → OfAll (RestsIn rings.now next) (chosen_of session.new.mode) }
     ensures index { IfSome result (λ c. c.index < length (chosen_of session.new.mode)) }
     ensures held { IfSome result (λ c. HoldsThere rings.now c.station c.place c.position) }
-    ensures position { OfAll (PassedIn rings.now next) (chosen_of session.old.mode) → (config : ProtocolConfig) (h : List Arrival) → rings.now ≡ holdings_of config h →
-        option_map (λ c. c.position) result ≡ next_position h (filter_map (request_in config) (chosen_of session.new.mode)) next }
-    ensures late { OfAll (PassedIn rings.now next) (chosen_of session.old.mode) → IfSome result (λ c. next ≤ c.position) }
-    ensures none { OfAll (PassedIn rings.now next) (chosen_of session.old.mode) → result ≡ None → OfAll (HasNothing rings.now next) (chosen_of session.new.mode) }
+    ensures position { OfAll (PassedIn rings.now next) (chosen_of session.old.mode)
+        → (config : ProtocolConfig) (h : List Arrival) → rings.now ≡ holdings_of config h →
+        option_map (λ c. c.position) result
+        ≡ next_position h (filter_map (request_in config) (chosen_of session.new.mode)) next }
+    ensures late { OfAll (PassedIn rings.now next) (chosen_of session.old.mode)
+        → IfSome result (λ c. next ≤ c.position) }
+    ensures none { OfAll (PassedIn rings.now next) (chosen_of session.old.mode) → result ≡ None
+        → OfAll (HasNothing rings.now next) (chosen_of session.new.mode) }
 {
     match rest(session, rings, next) {
         Some(first) => candidate(session, first, rings),
@@ -185,11 +196,15 @@ fn found_next(session: &mut Session, rings: &Rings, next: u64) -> Option<Candida
     }
 }
 
-/// Whether nothing more can come for a named station whose request has passed all: it is asked for nothing, by FETCH, or by TIME
-/// with an end after which a held record of the station starts.
+/// Whether nothing more can come for a named station whose request has passed all: it is asked for nothing, by
+/// FETCH, or by TIME with an end after which a held record of the station starts.
 fn is_over(entry: &Entry, rings: &Rings) -> bool
-    ensures more { (c : Choice) → entry_of c ≡ entry.now → (next : ℕ) → RestsIn rings.now next c → IsReached rings.now c → result ≡ false → MayCome rings.now c }
-    ensures over { (c : Choice) → entry_of c ≡ entry.now → (next : ℕ) → RestsIn rings.now next c → IsReached rings.now c → (config : ProtocolConfig) (h : List Arrival) → rings.now ≡ holdings_of config h →
+    ensures more { (c : Choice) → entry_of c ≡ entry.now → (next : ℕ) → RestsIn rings.now next c
+        → IsReached rings.now c
+        → result ≡ false → MayCome rings.now c }
+    ensures over { (c : Choice) → entry_of c ≡ entry.now → (next : ℕ) → RestsIn rings.now next c
+        → IsReached rings.now c
+        → (config : ProtocolConfig) (h : List Arrival) → rings.now ≡ holdings_of config h →
         result ≡ is_over_of h (station_at config.entries c.place) c.action }
 {
     match entry.action {
@@ -223,9 +238,12 @@ fn is_over(entry: &Entry, rings: &Rings) -> bool
 
 /// Whether a record of a named station is held that starts after the end of TIME, where its request has passed all.
 fn is_past_its_end(entry: &Entry, rings: &Rings) -> bool
-    ensures ring { (c : Choice) → entry_of c ≡ entry.now → (next : ℕ) (begin : Option ℤ) (last : ℤ) → c.action ≡ Some (Time begin (Some last)) → RestsIn rings.now next c → IsReached rings.now c →
+    ensures ring { (c : Choice) → entry_of c ≡ entry.now → (next : ℕ) (begin : Option ℤ) (last : ℤ)
+        → c.action ≡ Some (Time begin (Some last)) → RestsIn rings.now next c → IsReached rings.now c →
         result ≡ starts_after (slice_get rings.now.rings c.place) begin last }
-    ensures history { (c : Choice) → entry_of c ≡ entry.now → (next : ℕ) (begin : Option ℤ) (last : ℤ) → c.action ≡ Some (Time begin (Some last)) → RestsIn rings.now next c → IsReached rings.now c → (config : ProtocolConfig) (h : List Arrival) → rings.now ≡ holdings_of config h →
+    ensures history { (c : Choice) → entry_of c ≡ entry.now → (next : ℕ) (begin : Option ℤ) (last : ℤ)
+        → c.action ≡ Some (Time begin (Some last)) → RestsIn rings.now next c → IsReached rings.now c
+        → (config : ProtocolConfig) (h : List Arrival) → rings.now ≡ holdings_of config h →
         result ≡ holds_after (station_at config.entries c.place) last h }
 {
     match rings.ring(entry.place) {
@@ -236,8 +254,12 @@ fn is_past_its_end(entry: &Entry, rings: &Rings) -> bool
 
 /// Whether nothing more can come for any request, where all have passed all.
 fn is_complete(entries: &[Entry], rings: &Rings) -> bool
-    ensures more { (cs : List Choice) → map entry_of cs ≡ entries.now → (next : ℕ) → OfAll (RestsIn rings.now next) cs → OfAll (IsReached rings.now) cs → result ≡ false → MoreMayCome rings.now cs }
-    ensures complete { (cs : List Choice) → map entry_of cs ≡ entries.now → (next : ℕ) → OfAll (RestsIn rings.now next) cs → OfAll (IsReached rings.now) cs → (config : ProtocolConfig) (h : List Arrival) → rings.now ≡ holdings_of config h →
+    ensures more { (cs : List Choice) → map entry_of cs ≡ entries.now → (next : ℕ)
+        → OfAll (RestsIn rings.now next) cs
+        → OfAll (IsReached rings.now) cs → result ≡ false → MoreMayCome rings.now cs }
+    ensures complete { (cs : List Choice) → map entry_of cs ≡ entries.now → (next : ℕ)
+        → OfAll (RestsIn rings.now next) cs → OfAll (IsReached rings.now) cs
+        → (config : ProtocolConfig) (h : List Arrival) → rings.now ≡ holdings_of config h →
         result ≡ list_all (is_over h) (filter_map (request_in config) cs) }
 {
     for entry in entries {
@@ -251,9 +273,13 @@ fn is_complete(entries: &[Entry], rings: &Rings) -> bool
 /// The packet of a held record is made to wait.
 fn put_packet(session: &mut Session, rings: &Rings, found: Candidate)
     requires { HoldsThere rings.now found.station found.place found.position }
-    ensures session { (r : Holding) (x : Held) → slice_get rings.now.rings found.station ≡ Some r → held_at r found.place ≡ Some x →
-        session.new ≡ record session.old { state = Transfer (found.position + 1); waiting = packet (number_at r found.place) x.bytes } }
-    ensures capacity { (r : Holding) → slice_get rings.now.rings found.station ≡ Some r → 1 ≤ r.capacity }
+    ensures session { (r : RingValue) (x : Held) → slice_get rings.now.rings found.station ≡ Some r
+        → held_at r found.place ≡ Some x →
+        session.new ≡ record session.old {
+          state = Transfer (found.position + 1);
+          waiting = packet (number_at r found.place) x.bytes;
+        } }
+    ensures capacity { (r : RingValue) → slice_get rings.now.rings found.station ≡ Some r → 1 ≤ r.capacity }
 {
     let _arrivals = rings.arrivals();
     let Some(ring) = rings.ring(found.station) else {
@@ -271,7 +297,8 @@ fn put_packet(session: &mut Session, rings: &Rings, found: Candidate)
 fn pass_one(session: &mut Session, rings: &Rings, index: usize, next: u64)
     requires { index < length (chosen_of session.old.mode) }
     ensures same { but_for_cursors session.new ≡ but_for_cursors session.old }
-    ensures passed { OfAll (PassedIn rings.now next) (chosen_of session.old.mode) → OfAll (PassedIn rings.now next) (chosen_of session.new.mode) }
+    ensures passed { OfAll (PassedIn rings.now next) (chosen_of session.old.mode)
+        → OfAll (PassedIn rings.now next) (chosen_of session.new.mode) }
 {
     let cursor = cursor_of(session, index, rings, next);
     session.pass(index, cursor);
@@ -281,10 +308,17 @@ fn pass_one(session: &mut Session, rings: &Rings, index: usize, next: u64)
 fn send(session: &mut Session, rings: &Rings, found: Candidate)
     requires there { HoldsThere rings.now found.station found.place found.position }
     requires index { found.index < length (chosen_of session.old.mode) }
-    ensures session { (r : Holding) (x : Held) → slice_get rings.now.rings found.station ≡ Some r → held_at r found.place ≡ Some x →
-        but_for_cursors session.new ≡ but_for_cursors (record session.old { state = Transfer (found.position + 1); waiting = packet (number_at r found.place) x.bytes }) }
-    ensures capacity { (r : Holding) → slice_get rings.now.rings found.station ≡ Some r → 1 ≤ r.capacity }
-    ensures passed { (next : ℕ) → next ≤ found.position → OfAll (RestsIn rings.now next) (chosen_of session.old.mode) → ArePassed rings.now session.new }
+    ensures session { (r : RingValue) (x : Held) → slice_get rings.now.rings found.station ≡ Some r
+        → held_at r found.place ≡ Some x →
+        but_for_cursors session.new ≡ but_for_cursors
+        (record session.old {
+          state = Transfer (found.position + 1);
+          waiting = packet (number_at r found.place) x.bytes;
+        }) }
+    ensures capacity { (r : RingValue) → slice_get rings.now.rings found.station ≡ Some r → 1 ≤ r.capacity }
+    ensures passed { (next : ℕ) → next ≤ found.position
+        → OfAll (RestsIn rings.now next) (chosen_of session.old.mode)
+        → ArePassed rings.now session.new }
 {
     put_packet(session, rings, found);
     if let State::Transfer(next) = session.state() {
@@ -292,25 +326,32 @@ fn send(session: &mut Session, rings: &Rings, found: Candidate)
     }
 }
 
-/// In a transfer, while nothing waits: of all held records that some request wants, and that arrived after the last one that was
-/// sent, the packet of the one that arrived first is made to wait. Where there is none and nothing more can come, `END` is made to
-/// wait, and the session is in its end. Else, and in another state, nothing changes but how far the requests have come.
+/// In a transfer, while nothing waits: of all held records that some request wants, and that arrived after the last
+/// one that was sent, the packet of the one that arrived first is made to wait. Where there is none and nothing
+/// more can come, `END` is made to wait, and the session is in its end. Else, and in another state, nothing changes
+/// but how far the requests have come.
 ///
-/// It looks at no record before a request's cursor, and moves each cursor up to the next record that is wanted. Where nothing was
-/// pushed to the ring of a request since that was last looked at, it looks at none of its records. What was passed
-/// before has to be unwanted, as it is after `start` and after `choose`, and stays so while records arrive.
+/// It looks at no record before a request's cursor, and moves each cursor up to the next record that is wanted.
+/// Where nothing was pushed to the ring of a request since that was last looked at, it looks at none of its
+/// records. What was passed before has to be unwanted, as it is after `start` and after `choose`, and stays so
+/// while records arrive.
 pub fn choose(session: &mut Session, config: &Config, rings: &Rings) -> Chosen
     requires { session.old.waiting ≡ [] }
-    ensures client { is_transfer session.old.state ≡ true → ArePassed rings.now session.old → (h : List Arrival) → rings.now ≡ holdings_of config.now h →
+    ensures client { is_transfer session.old.state ≡ true → ArePassed rings.now session.old → (h : List Arrival)
+        → rings.now ≡ holdings_of config.now h →
         client_in config.now h session.new ≡ offered h (client_in config.now h session.old) }
-    ensures answer { (h : List Arrival) (q : ℕ) → rings.now ≡ holdings_of config.now h → session.old.state ≡ Transfer q → ArePassed rings.now session.old →
+    ensures answer { (h : List Arrival) (q : ℕ) → rings.now ≡ holdings_of config.now h
+        → session.old.state ≡ Transfer q
+        → ArePassed rings.now session.old →
         let requests = filter_map (request_in config.now) (chosen_of session.old.mode) in
         result ≡ answer_of (next_position h requests q) (list_all (is_over h) requests) }
     ensures elsewhere { is_transfer session.old.state ≡ false → result ≡ Nothing }
     ensures unchanged { result ≡ Nothing → but_for_cursors session.new ≡ but_for_cursors session.old }
     ensures passed { ArePassed rings.now session.old → ArePassed rings.now session.new }
-    ensures reached { is_transfer session.old.state ≡ true → ArePassed rings.now session.old → result ≡ Nothing → OfAll (IsReached rings.now) (chosen_of session.new.mode) }
-    ensures sleeps { is_transfer session.old.state ≡ true → ArePassed rings.now session.old → result ≡ Nothing → Sleeps rings.now session.new }
+    ensures reached { is_transfer session.old.state ≡ true → ArePassed rings.now session.old → result ≡ Nothing
+        → OfAll (IsReached rings.now) (chosen_of session.new.mode) }
+    ensures sleeps { is_transfer session.old.state ≡ true → ArePassed rings.now session.old → result ≡ Nothing
+        → Sleeps rings.now session.new }
     ensures something { result ≢ Nothing → is_nothing session.new.waiting ≡ false }
     ensures requests { all_at_start session.new.mode ≡ all_at_start session.old.mode }
     ensures settled { session.old.state ≢ Starting → session.new.state ≢ Starting }
@@ -330,16 +371,18 @@ pub fn choose(session: &mut Session, config: &Config, rings: &Rings) -> Chosen
     }
 }
 
-/// Whether `choose` would find something, in a transfer while nothing waits: a packet, or the end. Nothing changes but how far the
-/// requests have come.
+/// Whether `choose` would find something, in a transfer while nothing waits: a packet, or the end. Nothing changes
+/// but how far the requests have come.
 pub fn finds(session: &mut Session, rings: &Rings) -> bool
     requires { session.old.waiting ≡ [] }
-    ensures answer { is_transfer session.old.state ≡ true → ArePassed rings.now session.old → (config : ProtocolConfig) (h : List Arrival) → rings.now ≡ holdings_of config h →
+    ensures answer { is_transfer session.old.state ≡ true → ArePassed rings.now session.old
+        → (config : ProtocolConfig) (h : List Arrival) → rings.now ≡ holdings_of config h →
         result ≡ not (is_nothing (offered h (client_in config h session.old)).waiting) }
     ensures elsewhere { is_transfer session.old.state ≡ false → result ≡ false }
     ensures same { but_for_cursors session.new ≡ but_for_cursors session.old }
     ensures passed { ArePassed rings.now session.old → ArePassed rings.now session.new }
-    ensures sleeps { is_transfer session.old.state ≡ true → ArePassed rings.now session.old → result ≡ false → Sleeps rings.now session.new }
+    ensures sleeps { is_transfer session.old.state ≡ true → ArePassed rings.now session.old → result ≡ false
+        → Sleeps rings.now session.new }
 {
     let State::Transfer(next) = session.state() else {
         return false;
@@ -352,12 +395,16 @@ pub fn finds(session: &mut Session, rings: &Rings) -> bool
 
 /// Where nothing more can come, a transfer ends.
 fn end_if_complete(session: &mut Session, rings: &Rings) -> Chosen
-    ensures complete { (next : ℕ) → OfAll (RestsIn rings.now next) (chosen_of session.old.mode) → OfAll (IsReached rings.now) (chosen_of session.old.mode) → (config : ProtocolConfig) (h : List Arrival) → rings.now ≡ holdings_of config h →
+    ensures complete { (next : ℕ) → OfAll (RestsIn rings.now next) (chosen_of session.old.mode)
+        → OfAll (IsReached rings.now) (chosen_of session.old.mode) → (config : ProtocolConfig) (h : List Arrival)
+        → rings.now ≡ holdings_of config h →
         result ≡ answer_of None (list_all (is_over h) (filter_map (request_in config) (chosen_of session.old.mode))) }
-    ensures ended { result ≡ Complete → session.new ≡ record session.old { state = Ending; unread = []; waiting = codes "END" } }
+    ensures ended { result ≡ Complete →
+        session.new ≡ record session.old { state = Ending; unread = []; waiting = codes "END" } }
     ensures unchanged { result ≡ Nothing → session.new ≡ session.old }
     ensures nothing_chosen { result ≢ Packet }
-    ensures more { (next : ℕ) → OfAll (RestsIn rings.now next) (chosen_of session.old.mode) → OfAll (IsReached rings.now) (chosen_of session.old.mode) → result ≡ Nothing →
+    ensures more { (next : ℕ) → OfAll (RestsIn rings.now next) (chosen_of session.old.mode)
+        → OfAll (IsReached rings.now) (chosen_of session.old.mode) → result ≡ Nothing →
         MoreMayCome rings.now (chosen_of session.old.mode) }
     ensures mode { session.new.mode ≡ session.old.mode }
 {

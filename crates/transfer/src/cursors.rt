@@ -4,11 +4,11 @@ ghost use Rattle.transfer.specs.Cursors.{cursors_of};
 
 use session_state::{Entry, Session};
 
-/// The cursor of the i-th request of a session in a transfer: the place in its station's ring before which it wants nothing more.
-/// A named station that is asked for nothing is no request.
+/// The cursor of the i-th request of a session in a transfer: the place in its station's ring before which it wants
+/// nothing more. A named station that is asked for nothing is no request.
 ///
-/// `start` puts it to the place at which the request begins. After `choose` no record of the station that is held before it is
-/// wanted any more, and where that answered Nothing it is the ring's count of pushes.
+/// `start` puts it to the place at which the request begins. After `choose` no record of the station that is held
+/// before it is wanted any more, and where that answered Nothing it is the ring's count of pushes.
 pub fn cursor(session: &Session, i: usize) -> u64
     requires { i < length (cursors_of session.now.mode) }
     ensures { Some result ≡ slice_get (cursors_of session.now.mode) i }

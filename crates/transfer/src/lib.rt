@@ -1,5 +1,5 @@
-//! Transfers: from which arrival on each request wants records, which record comes next, and when all was sent (SeedLink 3, DATA,
-//! FETCH and TIME). No call takes memory.
+//! Transfers: from which arrival on each request wants records, which record comes next, and when all was sent
+//! (SeedLink 3, DATA, FETCH and TIME). No call takes memory.
 #![tactic(auto)]
 
 mod choosing;

@@ -3,9 +3,9 @@ ghost use Rattle.std.specs.Prelude.{◌≡◌, ◌≤◌, List, slice_get, Some}
 ghost use Rattle.protocol.specs.Catalog.{Config as ProtocolConfig};
 ghost use Rattle.protocol.specs.History.{Arrival, first_wanted};
 ghost use Rattle.catalog.specs.Places.{station_at};
-ghost use Rattle.station_ring.specs.Rings.{Holding, first_place};
-ghost use Rattle.held_records.specs.Holdings.{IsBefore, holdings_of, place_from};
-ghost use Rattle.session_state.specs.Naming.{Choice, entry_of};
+ghost use Rattle.station_ring.specs.Rings.{RingValue, first_place};
+ghost use Rattle.held_records.specs.Rings.{IsBefore, holdings_of, place_from};
+ghost use Rattle.session_state.specs.NamedValues.{Choice, entry_of};
 ghost use Rattle.session_state.specs.Choices.{action_value, chosen_of};
 ghost use Rattle.session_state.specs.Sessions.{client_in, but_for_cursors, HasFirst};
 ghost use Rattle.transfer.specs.Cursors.{ArePassed, BeginsIn, IsAtBegin, OfAll, StartsIn, begin_place};
@@ -17,10 +17,12 @@ use session_state::{Action, Cursor, Entry, Session};
 use sl_packet::Seq;
 use station_ring::{Ring, places_found};
 
-/// The position from which on a request that starts now wants records of the station at a place: with the number of a held record,
-/// that record; else, for DATA without a number and for the number that is to come, the next arrival; else the oldest held record.
+/// The position from which on a request that starts now wants records of the station at a place: with the number of a
+/// held record, that record; else, for DATA without a number and for the number that is to come, the next arrival; else
+/// the oldest held record.
 fn first_wanted(rings: &Rings, place: usize, action: Action) -> u64
-    ensures before { (r : Holding) → slice_get rings.now.rings place ≡ Some r → IsBefore r (begin_place r action) result }
+    ensures before { (r : RingValue) → slice_get rings.now.rings place ≡ Some r
+        → IsBefore r (begin_place r action) result }
     ensures first { (config : ProtocolConfig) (h : List Arrival) → rings.now ≡ holdings_of config h →
         result ≡ first_wanted (station_at config.entries place) h (action_value action) }
 {
@@ -90,7 +92,8 @@ fn oldest_place(ring: &Ring) -> u64
     }
 }
 
-/// The held place with a number; else that of the next record, if it is to have the number; else that of the oldest record.
+/// The held place with a number; else that of the next record, if it is to have the number; else that of the oldest
+/// record.
 fn place_from(ring: &Ring, number: Seq) -> u64
     ensures place { result ≡ place_from ring.now number }
     ensures within { result ≤ ring.now.pushes }
@@ -134,7 +137,8 @@ fn cursor_of(entry: &Entry, rings: &Rings) -> Cursor
 fn place_cursors(session: &mut Session, rings: &Rings)
     ensures same { but_for_cursors session.new ≡ but_for_cursors session.old }
     ensures starts { OfAll (StartsIn rings.now) (chosen_of session.new.mode) }
-    ensures begin { OfAll (BeginsIn rings.now) (chosen_of session.old.mode) → OfAll (BeginsIn rings.now) (chosen_of session.new.mode) }
+    ensures begin { OfAll (BeginsIn rings.now) (chosen_of session.old.mode)
+        → OfAll (BeginsIn rings.now) (chosen_of session.new.mode) }
 {
     let count = session.choices().len();
     for i in 0..count {
@@ -146,7 +150,8 @@ fn place_cursors(session: &mut Session, rings: &Rings)
 /// The position from which on a request for a named station wants records, where something is asked of it.
 fn first_of(entry: &Entry, rings: &Rings) -> u64
     ensures before { (c : Choice) → entry_of c ≡ entry.now → BeginsIn rings.now (record c { first = result }) }
-    ensures first { (c : Choice) → entry_of c ≡ entry.now → (config : ProtocolConfig) (h : List Arrival) → rings.now ≡ holdings_of config h →
+    ensures first { (c : Choice) → entry_of c ≡ entry.now → (config : ProtocolConfig) (h : List Arrival)
+        → rings.now ≡ holdings_of config h →
         HasFirst config h (record c { first = result }) }
 {
     match entry.action {
@@ -155,9 +160,9 @@ fn first_of(entry: &Entry, rings: &Rings) -> u64
     }
 }
 
-/// A transfer that was asked for starts: it is kept from which arrival on each request wants records, and its cursor is put to
-/// the place of that arrival in its station's ring. None of what is held is gone through.
-#[tactic(auto, using(crate::proofs::Keeping::start_lemmas))]
+/// A transfer that was asked for starts: it is kept from which arrival on each request wants records, and its cursor is
+/// put to the place of that arrival in its station's ring. None of what is held is gone through.
+#[tactic(auto, using(crate::proofs::KeptLemmas::start_lemmas))]
 pub fn start(session: &mut Session, rings: &Rings)
     requires { session.old.state ≡ Starting }
     ensures client { (config : ProtocolConfig) (h : List Arrival) → rings.now ≡ holdings_of config h →

@@ -3,7 +3,7 @@ ghost use Rattle.std.specs.Prelude.{◌≡◌, ◌≤◌, ◌<◌, ℕ, find, le
 ghost use Rattle.std.specs.List.{list_any};
 ghost use Rattle.protocol.specs.History.{ends_from, starts_by};
 ghost use Rattle.session_state.specs.Choices.{chosen_of};
-ghost use Rattle.session_state.specs.Naming.{Choice, entry_of};
+ghost use Rattle.session_state.specs.NamedValues.{Choice, entry_of};
 ghost use Rattle.station_ring.specs.declared.held.Held.{Held as HeldValue};
 ghost use Rattle.station_ring.specs.Rings.{held_at};
 ghost use Rattle.transfer.specs.Wanting.{facts_of, is_in_window_of, wants_held, HoldsRecord};
@@ -56,7 +56,8 @@ fn is_in_window(entry: &Entry, summary: &Summary) -> bool
     }
 }
 
-/// Whether the request for the i-th named station wants a held record, where `next` is the first arrival that may still be sent.
+/// Whether the request for the i-th named station wants a held record, where `next` is the first arrival that may still
+/// be sent.
 fn wants(session: &Session, i: usize, next: u64, held: &Held) -> bool
     requires { i < length (chosen_of session.now.mode) }
     ensures { (c : Choice) → slice_get (chosen_of session.now.mode) i ≡ Some c → result ≡ wants_held c next held.now }
@@ -69,8 +70,8 @@ fn wants(session: &Session, i: usize, next: u64, held: &Held) -> bool
         && is_in_window(entry, summary)
 }
 
-/// A held record that a request wants: the request's index among the named stations, the place of its station in the configuration,
-/// its own place in that station's ring, and its position in the history.
+/// A held record that a request wants: the request's index among the named stations, the place of its station in the
+/// configuration, its own place in that station's ring, and its position in the history.
 #[derive(Clone, Copy, Debug, PartialEq, Eq)]
 pub struct Candidate {
     pub index: usize,
@@ -125,7 +126,8 @@ enum Found {
 
 fn found_at(ring: &Ring, place: u64, session: &Session, i: usize, next: u64) -> Found
     requires { i < length (chosen_of session.now.mode) }
-    ensures { (c : Choice) (x : HeldValue) → slice_get (chosen_of session.now.mode) i ≡ Some c → held_at ring.now place ≡ Some x → result ≡ found_of c next x }
+    ensures { (c : Choice) (x : HeldValue) → slice_get (chosen_of session.now.mode) i ≡ Some c
+        → held_at ring.now place ≡ Some x → result ≡ found_of c next x }
 {
     let Some(held) = ring.get(place) else {
         return Found::Unwanted;
@@ -139,11 +141,12 @@ fn found_at(ring: &Ring, place: u64, session: &Session, i: usize, next: u64) -> 
     }
 }
 
-/// How far the request for the i-th named station comes that passes what it doesn't want: to the first record from its cursor on that it wants, else to the
-/// end. A cursor that was overrun goes on at the oldest record.
+/// How far the request for the i-th named station comes that passes what it doesn't want: to the first record from its
+/// cursor on that it wants, else to the end. A cursor that was overrun goes on at the oldest record.
 pub fn cursor_in(ring: &Ring, session: &Session, i: usize, next: u64) -> Cursor
     requires { i < length (chosen_of session.now.mode) }
-    ensures { (c : Choice) → slice_get (chosen_of session.now.mode) i ≡ Some c → HasPassed ring.now next c c.cursor → RestsAt ring.now next c result }
+    ensures { (c : Choice) → slice_get (chosen_of session.now.mode) i ≡ Some c → HasPassed ring.now next c c.cursor
+        → RestsAt ring.now next c result }
 {
     ring.holds_its_last();
     let entry = session.choice(i);
@@ -188,7 +191,12 @@ fn at_end(ring: &Ring, after_end: Option<u64>) -> Cursor
 
 /// The cursor of a request at a place of its ring.
 fn at_record(ring: &Ring, place: u64, after_end: Option<u64>) -> Cursor
-    ensures { result ≡ record { place = place; after_end = after_end; seen = ring.now.pushes; ahead = option_map (λ x. x.stamp) (held_at ring.now place) } }
+    ensures { result ≡ record {
+      place = place;
+      after_end = after_end;
+      seen = ring.now.pushes;
+      ahead = option_map (λ x. x.stamp) (held_at ring.now place);
+    } }
 {
     Cursor {
         place,
@@ -210,7 +218,8 @@ fn stamp_at(ring: &Ring, place: u64) -> Option<u64>
 
 /// Whether a record is held that starts after the end of TIME, of a request that has passed all.
 pub fn has_passed_its_end(ring: &Ring, entry: &Entry) -> bool
-    ensures { (c : Choice) → entry_of c ≡ entry.now → (next : ℕ) → HasPassed ring.now next c c.cursor → c.cursor.place ≡ ring.now.pushes →
+    ensures { (c : Choice) → entry_of c ≡ entry.now → (next : ℕ) → HasPassed ring.now next c c.cursor
+        → c.cursor.place ≡ ring.now.pushes →
         result ≡ list_any (is_after_end c.action) ring.now.held }
 {
     ring.holds_its_last();

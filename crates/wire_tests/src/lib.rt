@@ -1,5 +1,5 @@
-//! Tests of what a client's bytes spell: moments, sequence numbers and packets, selectors, addresses, lines and commands. Nothing
-//! but tests.
+//! Tests of what a client's bytes spell: moments, sequence numbers and packets, selectors, addresses, lines and
+//! commands. Nothing but tests.
 #![tactic(auto)]
 
 #[cfg(test)]

@@ -122,8 +122,8 @@ impl Dialogue {
     }
 }
 
-/// What a client is answered that has named 255 stations: there is no room for another one, which leaves no station current,
-/// and those that were named can be named again.
+/// What a client is answered that has named 255 stations: there is no room for another one, which leaves no station
+/// current, and those that were named can be named again.
 static BEYOND_255: [(&[u8], &[u8]); 7] = [
     (b"STATION WLF\r", ERROR),
     (b"SELECT\r", ERROR),

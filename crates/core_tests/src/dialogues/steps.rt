@@ -6,8 +6,8 @@ use server_core::{Event, Handed, run};
 use std::alloc::Global;
 use std::test::Fail;
 
-/// A record by its station and its number: it starts as many seconds after the start of 2024-02-29 as there are records of the
-/// station before it, and ends a second later. The channel is BHZ.
+/// A record by its station and its number: it starts as many seconds after the start of 2024-02-29 as there are records
+/// of the station before it, and ends a second later. The channel is BHZ.
 #[derive(Clone, Copy)]
 pub enum Record {
     /// Of GE APE.

@@ -279,7 +279,8 @@ fn other_event(alloc: Global, place: usize) -> Result<Option<Event>, Fail> {
     })
 }
 
-/// The events of a client, with forty arrivals at the station that nobody may use, and with three other clients between them.
+/// The events of a client, with forty arrivals at the station that nobody may use, and with three other clients between
+/// them.
 fn among_others(alloc: Global, own: Vec<Event>) -> Result<Vec<Event>, Fail> {
     let mut events = Vec::new(alloc);
     for (place, event) in own.into_iter().enumerate() {
@@ -311,8 +312,8 @@ fn others_and_hidden_arrivals_change_nothing(rt: HostRuntime) -> Result<(), Fail
     Ok(())
 }
 
-/// The events of a client, and behind each of them an arrival at the station that nobody may use, and a stranger that comes and
-/// goes.
+/// The events of a client, and behind each of them an arrival at the station that nobody may use, and a stranger that
+/// comes and goes.
 fn among_strangers(alloc: Global, own: Vec<Event>) -> Result<Vec<Event>, Fail> {
     let mut events = Vec::new(alloc);
     let mut count: u16 = 0;
@@ -342,7 +343,8 @@ fn a_hidden_station_and_strangers_change_nothing(rt: HostRuntime) -> Result<(), 
     Ok(())
 }
 
-/// A client takes a byte of the packet of the first of so many records, the others arrive, and it takes three times more.
+/// A client takes a byte of the packet of the first of so many records, the others arrive, and it takes three times
+/// more.
 fn overrun(alloc: Global, count: u16) -> Result<Vec<Event>, Fail> {
     let mut events = Vec::new(alloc);
     events.push(Event::Open(outside()))?;

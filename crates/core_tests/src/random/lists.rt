@@ -141,7 +141,8 @@ impl Maker {
     }
 }
 
-/// How many steps a list has, but for a few more: 20 to 60 of short ones; and how many clients it begins with, of which any may act.
+/// How many steps a list has, but for a few more: 20 to 60 of short ones; and how many clients it begins with, of which
+/// any may act.
 #[derive(Clone, Copy, Drop)]
 pub enum Length {
     /// With a client or two, of which the last eight act.

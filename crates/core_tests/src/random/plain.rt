@@ -45,7 +45,8 @@ pub fn run(alloc: Global, centre: &Centre, steps: &[Step]) -> Result<Vec<Given>,
     Ok(given)
 }
 
-/// How many stations a client has named at most in a list of steps, and how many patterns its stations had together at most.
+/// How many stations a client has named at most in a list of steps, and how many patterns its stations had together at
+/// most.
 pub fn most_named(
     alloc: Global,
     centre: &Centre,

@@ -1,5 +1,5 @@
 use Rattle.std.proofs.Common.{arith}
-use Rattle.decimal.proofs.Digits.{power_nine}
+use Rattle.decimal.proofs.DigitLemmas.{power_nine}
 use Rattle.decimal.proofs.spelled.Goals as goal
 
 pub overflow_mul-number : goal.overflow_mul-number
@@ -8,4 +8,8 @@ overflow_mul-number c =
 
 pub overflow_add-number : goal.overflow_add-number
 overflow_add-number c =
-    omega (arith, power_nine c.loop-byte.byte-index c.loop-byte.number (omega arith) c.loop-byte.invariant.below, c.in_ok-number.ensures.below)
+    omega (
+      arith,
+      power_nine c.loop-byte.byte-index c.loop-byte.number (omega arith) c.loop-byte.invariant.below,
+      c.in_ok-number.ensures.below,
+    )

@@ -1,4 +1,4 @@
-use Rattle.held_records.proofs.Arrivals.{arrives_by_place}
+use Rattle.held_records.proofs.ArrivalLemmas.{arrives_by_place}
 use Rattle.held_records.proofs.arrivals_by_place.Goals as goal
 
 pub returns : goal.returns

@@ -113,7 +113,8 @@ impl Log {
     ) -> Result<Got, PortFault>
         requires { IsGiven answer (length buffer.now) }
         ensures bound { IsGiven result (length buffer.now) }
-        ensures call { Tells (told self.old) (told self.new) (Read port (length buffer.now) (given result buffer.now) ∷ []) }
+        ensures call { Tells (told self.old) (told self.new)
+            (Read port (length buffer.now) (given result buffer.now) ∷ []) }
         ensures failure { CountsFailure self.old.failures self.new.failures result }
         ensures answer { IsSome (told self.new) → result ≡ answer }
         ensures failed { IsErr answer → IsErr result }

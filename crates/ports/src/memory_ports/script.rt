@@ -1,5 +1,5 @@
-//! What ports in memory are to answer. At the end of a list nothing more happens, a read finds nothing for now, and a write
-//! takes all.
+//! What ports in memory are to answer. At the end of a list nothing more happens, a read finds nothing for now, and a
+//! write takes all.
 ghost use Rattle.std.specs.Prelude.{◌≡◌, length, ◌<◌, ◌≤◌};
 ghost use Rattle.ports.specs.Calls.{IsGiven, IsTaken};
 

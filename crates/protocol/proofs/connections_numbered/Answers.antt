@@ -1,4 +1,6 @@
-use Rattle.protocol.proofs.Connections.{slice_get-at_same, slice_get-at_apart, length-at, at_past_the_end, none_past_the_end, slice_get-push_last, slice_get-push_apart, slice_get-each, length-each}
+use Rattle.protocol.proofs.Connections.{slice_get-at_same, slice_get-at_apart, length-at, at_past_the_end}
+use Rattle.protocol.proofs.Connections.{none_past_the_end, slice_get-push_last, slice_get-push_apart, slice_get-each}
+use Rattle.protocol.proofs.Connections.{length-each}
 use Rattle.protocol.proofs.connections_numbered.Goals as goal
 
 pub returns : goal.returns

@@ -1,4 +1,4 @@
-use Rattle.protocol.proofs.Unread.{read_on-unread, read_on-step}
+use Rattle.protocol.proofs.UnreadLemmas.{read_on-unread, read_on-step}
 use Rattle.protocol.proofs.unread_replaced.Goals as goal
 
 pub returns : goal.returns

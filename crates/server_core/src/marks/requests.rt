@@ -54,7 +54,7 @@ fn add(rows: &mut [Row], slot: usize, choices: &[Entry])
 }
 
 /// A slot's bit is set in the rows of the stations for which a session asks something, and in no other row.
-#[tactic(auto, using(crate::proofs::Rows::asked_entries))]
+#[tactic(auto, using(crate::proofs::RowLemmas::asked_entries))]
 pub fn keep(rows: &mut [Row], slot: usize, session: &Session)
     requires { (place : ℕ) → RoomBy (slice_get rows.old place) slot }
     ensures asked { (place : ℕ) → place < length rows.new →

@@ -13,15 +13,17 @@ use catalog::Config;
 impl Session {
     ghost use Rattle.session_state.specs.Choices.{negotiated_in};
     ghost use Rattle.session_state.specs.Asking.{outcome_by, outcome_of_lines, says_bye, is_leaving};
-    ghost use Rattle.session_state.specs.Sessions.{client_in, sitting_view, HasPlaces, KeepsTransfer, never_starts};
+    ghost use Rattle.session_state.specs.Sessions.{client_in, session_view, HasPlaces, KeepsTransfer, never_starts};
     ghost use Rattle.session_state.specs.declared.session.State.TheVariants.{Negotiating, Starting, Transfer};
 
     /// What the line asks that a byte ends, where it ends one.
-    #[tactic(auto, using(crate::proofs::Following::ask_lemmas))]
+    #[tactic(auto, using(crate::proofs::LineLemmas::ask_lemmas))]
     fn ask(&mut self, config: &Config, byte: u8) -> Asked
         requires { HasPlaces config.now self.old }
         ensures line { self.new ≡ record self.old { open_line = open_after self.old.open_line (byte ∷ []) } }
-        ensures outcome { (n : Negotiated) → outcome_of_lines (sitting_view config.now self.old) n (cut_from self.old.open_line (byte ∷ [])) ≡ outcome_by config.now (sitting_view config.now self.old) n result }
+        ensures outcome { (n : Negotiated)
+            → outcome_of_lines (session_view config.now self.old) n (cut_from self.old.open_line (byte ∷ []))
+            ≡ outcome_by config.now (session_view config.now self.old) n result }
         ensures leaving { says_bye (cut_from self.old.open_line (byte ∷ [])) ≡ is_leaving result }
     {
         let _ = &self.state;
@@ -32,12 +34,15 @@ impl Session {
     }
 
     /// The command is obeyed, while nothing waits in negotiation.
-    #[tactic(auto, using(crate::proofs::Following::answer_lemmas))]
+    #[tactic(auto, using(crate::proofs::LineLemmas::answer_lemmas))]
     fn answer(&mut self, config: &Config, asked: Asked)
         requires negotiating { self.old.state ≡ Negotiating }
         requires nothing_waits { self.old.waiting ≡ [] }
         ensures client { (h : List Arrival) → client_in config.now h self.new
-            ≡ follow (sitting_view config.now self.old) h (client_in config.now h self.old) (negotiated_in config.now self.old.mode) (outcome_by config.now (sitting_view config.now self.old) (negotiated_in config.now self.old.mode) asked) }
+            ≡ follow (session_view config.now self.old) h (client_in config.now h self.old)
+            (negotiated_in config.now self.old.mode)
+            (outcome_by config.now (session_view config.now self.old)
+            (negotiated_in config.now self.old.mode) asked) }
         ensures places { self.new.places ≡ self.old.places }
         ensures unread { self.new.unread ≡ self.old.unread }
         ensures elsewhere { (next : ℕ) → self.new.state ≢ Transfer next }
@@ -56,13 +61,13 @@ impl Session {
     }
 
     /// One more byte is read, while nothing waits in negotiation.
-    #[tactic(auto, using(crate::proofs::Following::reads_byte))]
+    #[tactic(auto, using(crate::proofs::LineLemmas::reads_byte))]
     fn read_command(&mut self, config: &Config, byte: u8)
         requires places { HasPlaces config.now self.old }
         requires negotiating { self.old.state ≡ Negotiating }
         requires nothing_waits { self.old.waiting ≡ [] }
         ensures client { (h : List Arrival) → client_in config.now h self.new
-            ≡ read_byte (sitting_view config.now self.old) h byte (client_in config.now h self.old) }
+            ≡ read_byte (session_view config.now self.old) h byte (client_in config.now h self.old) }
         ensures places { self.new.places ≡ self.old.places }
         ensures unread { self.new.unread ≡ self.old.unread }
         ensures elsewhere { (next : ℕ) → self.new.state ≢ Transfer next }
@@ -73,12 +78,12 @@ impl Session {
     }
 
     /// One more byte is read in a transfer, where BYE alone acts.
-    #[tactic(auto, using(crate::proofs::Following::passing_lemmas))]
+    #[tactic(auto, using(crate::proofs::LineLemmas::passing_lemmas))]
     fn read_past(&mut self, config: &Config, byte: u8, next: u64)
         requires places { HasPlaces config.now self.old }
         requires transfer { self.old.state ≡ Transfer next }
         ensures client { (h : List Arrival) → client_in config.now h self.new
-            ≡ read_byte (sitting_view config.now self.old) h byte (client_in config.now h self.old) }
+            ≡ read_byte (session_view config.now self.old) h byte (client_in config.now h self.old) }
         ensures places { self.new.places ≡ self.old.places }
         ensures unread { self.new.unread ≡ self.old.unread }
         ensures stays { never_starts self.new.state ≡ true }
@@ -91,10 +96,12 @@ impl Session {
         }
     }
 
-    #[tactic(auto, using(crate::proofs::Following::no_bytes))]
+    #[tactic(auto, using(crate::proofs::LineLemmas::no_bytes))]
     pub(super) fn is_reading(&self) -> bool
-        ensures may { result ≡ true → (config : ProtocolConfig) (h : List Arrival) → reads (client_in config h self.now).state self.now.waiting ≡ true }
-        ensures may_not { result ≡ false → self.now.state ≢ Starting → (config : ProtocolConfig) (h : List Arrival) → reads (client_in config h self.now).state self.now.waiting ≡ false }
+        ensures may { result ≡ true → (config : ProtocolConfig) (h : List Arrival)
+            → reads (client_in config h self.now).state self.now.waiting ≡ true }
+        ensures may_not { result ≡ false → self.now.state ≢ Starting → (config : ProtocolConfig) (h : List Arrival)
+            → reads (client_in config h self.now).state self.now.waiting ≡ false }
         ensures negotiating { result ≡ true → self.now.state ≡ Negotiating → self.now.waiting ≡ [] }
         ensures not_starting { result ≡ true → self.now.state ≢ Starting }
     {
@@ -114,7 +121,7 @@ impl Session {
         requires not_starting { self.old.state ≢ Starting }
         requires reads { (h : List Arrival) → reads (client_in config.now h self.old).state self.old.waiting ≡ true }
         ensures client { (h : List Arrival) → client_in config.now h self.new
-            ≡ read_byte (sitting_view config.now self.old) h byte (client_in config.now h self.old) }
+            ≡ read_byte (session_view config.now self.old) h byte (client_in config.now h self.old) }
         ensures places { self.new.places ≡ self.old.places }
         ensures unread { self.new.unread ≡ self.old.unread }
         ensures stays { never_starts self.old.state ≡ true → never_starts self.new.state ≡ true }

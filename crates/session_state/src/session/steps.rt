@@ -12,7 +12,8 @@ use catalog::Config;
 impl Session {
     ghost use Rattle.session_state.specs.Choices.{chosen_of, negotiated_in, passed_in};
     ghost use Rattle.session_state.specs.Changes.{changed_by, outcome_after};
-    ghost use Rattle.session_state.specs.Sessions.{sitting_view, effected, kept_unread, listed_in, line_made, HasPlaces};
+    ghost use Rattle.session_state.specs.Sessions.{session_view, effected, kept_unread, listed_in, line_made};
+    ghost use Rattle.session_state.specs.Sessions.{HasPlaces};
 
     pub(super) fn turn_to(&mut self, state: State)
         ensures { self.new ≡ record self.old { state = state } }
@@ -22,7 +23,7 @@ impl Session {
     }
 
     pub(super) fn greet(&mut self, config: &Config)
-        ensures { self.new ≡ record self.old { waiting = greeting (sitting_view config.now self.old) } }
+        ensures { self.new ≡ record self.old { waiting = greeting (session_view config.now self.old) } }
     {
         put_greeting(&mut self.waiting, config, &self.view);
         self.sent = 0;
@@ -54,7 +55,8 @@ impl Session {
 
     pub(super) fn make(&mut self, config: &Config, change: Change) -> Effect
         ensures mode { self.new ≡ record self.old { mode = self.new.mode } }
-        ensures effect { outcome_after result (negotiated_in config.now self.new.mode) ≡ changed_by (sitting_view config.now self.old) config.now (negotiated_in config.now self.old.mode) change }
+        ensures effect { outcome_after result (negotiated_in config.now self.new.mode)
+            ≡ changed_by (session_view config.now self.old) config.now (negotiated_in config.now self.old.mode) change }
     {
         let _ = &self.state;
         make_change(&mut self.mode, &self.view, config, change)
@@ -128,7 +130,7 @@ impl Session {
     }
 
     /// The line of a listing after so many is made to wait, where there is one.
-    #[tactic(auto, using(crate::proofs::Taking::line_lemmas))]
+    #[tactic(auto, using(crate::proofs::TookLemmas::line_lemmas))]
     pub(super) fn make_line(&mut self, config: &Config, made: usize)
         requires { HasPlaces config.now self.old }
         ensures { self.new ≡ line_made config.now made self.old }

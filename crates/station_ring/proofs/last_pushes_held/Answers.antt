@@ -1,5 +1,5 @@
-use Rattle.station_ring.proofs.Holdings.{empty-holding_of, pushed-holding_of, pushed_all-empty}
-use Rattle.station_ring.proofs.Reaching.{held_at-holding_of}
+use Rattle.station_ring.proofs.PushLemmas.{empty-holding_of, pushed-holding_of, pushed_all-empty}
+use Rattle.station_ring.proofs.ReachLemmas.{held_at-holding_of}
 use Rattle.station_ring.proofs.last_pushes_held.Goals as goal
 
 pub returns : goal.returns

@@ -1,4 +1,4 @@
-use Rattle.station_ring.proofs.Numbers.{place_with_law}
+use Rattle.station_ring.proofs.NumberLemmas.{place_with_law}
 use Rattle.station_ring.proofs.places_found.Goals as goal
 
 pub returns : goal.returns

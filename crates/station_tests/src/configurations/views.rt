@@ -137,8 +137,8 @@ fn codes_have_a_place(rt: HostRuntime) -> Result<(), Fail> {
 
 #[test]
 fn an_own_list_stands_in_place_of_the_global_one(rt: HostRuntime) -> Result<(), Fail> {
-    // The global list lets everybody in, the station's own only addresses that begin with 10; an own list that is empty admits
-    // nobody; without one the global list decides.
+    // The global list lets everybody in, the station's own only addresses that begin with 10; an own list that is empty
+    // admits nobody; without one the global list decides.
     let rows: [(&str, Ipv4Addr, &[usize]); 3] = [
         ("access = \"10.0.0.0/8\"", outside(), &[]),
         ("access = \"\"", inside(), &[]),

@@ -182,8 +182,8 @@ fn an_access_text_is_judged_before_duplicates(rt: HostRuntime) {
     );
 }
 
-/// How many connections a configuration lets in where the line under a word is another one, and the number of the first record
-/// of its only station.
+/// How many connections a configuration lets in where the line under a word is another one, and the number of the first
+/// record of its only station.
 fn numbers_with(
     alloc: Global,
     word: &str,

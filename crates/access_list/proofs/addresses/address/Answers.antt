@@ -3,7 +3,7 @@ use Rattle.std.specs.Int.{w32, from_be_bytes}
 use Rattle.std.specs.Net.Addr.{ipv4_bits}
 use Rattle.protocol.specs.Pieces.{split}
 use Rattle.access_list.specs.Addresses.{is_dot, octets_of}
-use Rattle.access_list.proofs.Dots.{bits_of, four_octets}
+use Rattle.access_list.proofs.OctetLemmas.{bits_of, four_octets}
 use Rattle.access_list.proofs.addresses.address.Goals as goal
 
 pub returns : goal.returns

@@ -1,5 +1,5 @@
 use Rattle.std.proofs.Common.{◌+◌}
-use Rattle.protocol.proofs.Splitting.{first_cut, rest_whole}
+use Rattle.protocol.proofs.SplitLemmas.{first_cut, rest_whole}
 use Rattle.access_list.specs.Addresses.{is_dot}
 use Rattle.access_list.proofs.addresses.cut_at_dot.Goals as goal
 

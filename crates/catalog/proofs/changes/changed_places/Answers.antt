@@ -1,4 +1,5 @@
-use Rattle.std.proofs.Common.{rules, ◌≡◌, ◌∙◌, true, false, Some, List, ℕ, [], ◌∷◌, ◌++◌, sym, ap, length, length-append, arith, eqb-true}
+use Rattle.std.proofs.Common.{rules, ◌≡◌, ◌∙◌, true, false, Some, List, ℕ, [], ◌∷◌, ◌++◌, sym, ap, length}
+use Rattle.std.proofs.Common.{length-append, arith, eqb-true}
 use Rattle.std.proofs.lemmas.Bool.{eqb-false}
 use Rattle.catalog.specs.Changes.{changed_places, is_changed_at, places_below}
 use Rattle.catalog.proofs.ChangesLemmas.{below_no, below_yes, few_enough, one_too_many}
@@ -10,7 +11,8 @@ loop-place-init c = record { places = c.new-places.ensures; room = omega (arith,
 
 pub returns-then-is_full : goal.returns-then-is_full
 returns-then-is_full c =
-    let full : length c.loop-place.places.items ≡ 256 = eqb-true _ _ (sym c.is_full.ensures.value ∙ c.if-is_full.true) in
+    let full : length c.loop-place.places.items
+    ≡ 256 = eqb-true _ _ (sym c.is_full.ensures.value ∙ c.if-is_full.true) in
     let changed : is_changed_at c.args.stations.now c.args.others.now c.loop-place.place ≡ true =
     sym c.is_changed_at.ensures ∙ c.if-is_changed_at.true in
     sym (one_too_many c.args.stations.now c.args.others.now c.loop-place.place c.loop-place.places.items

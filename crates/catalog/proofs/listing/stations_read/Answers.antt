@@ -2,8 +2,8 @@ use Rattle.std.proofs.Common.{rules, ◌≡◌, ◌∙◌, false, [], ◌∷◌,
 use Rattle.toml.specs.View.{view}
 use Rattle.catalog.specs.Places.{HasDistinctCodes}
 use Rattle.catalog.specs.Reading.{is_repeated, station_of}
-use Rattle.catalog.proofs.Distinct.{distinct_more}
-use Rattle.catalog.proofs.ReadOn.{read_on}
+use Rattle.catalog.proofs.DistinctLemmas.{distinct_more}
+use Rattle.catalog.proofs.ReadLemmas.{read_on}
 use Rattle.catalog.proofs.listing.stations_read.Goals as goal
 
 pub loop-value-preserved : goal.loop-value-preserved
@@ -16,6 +16,9 @@ loop-value-preserved c =
     let more : c.push.new.self.items ≡ earlier ++ station ∷ [] = search rules in
     let read = ap (λ es. station_of es (view value)) (sym c.as_slice.ensures.value) ∙ c.in_ok-station.ensures.ok in
     record {
-      read = read_on earlier c.push.new.self.items c.args.values.now c.loop-value.value-index value station c.loop-value-test.true c.value-item.is more read ∙ c.loop-value.invariant.read;
-      distinct = subst HasDistinctCodes (sym more) (distinct_more earlier station c.loop-value.invariant.distinct apart c.in_ok-station.ensures.some);
+      read =
+          read_on earlier c.push.new.self.items c.args.values.now c.loop-value.value-index value station
+          c.loop-value-test.true c.value-item.is more read ∙ c.loop-value.invariant.read;
+      distinct = subst HasDistinctCodes (sym more)
+          (distinct_more earlier station c.loop-value.invariant.distinct apart c.in_ok-station.ensures.some);
     }

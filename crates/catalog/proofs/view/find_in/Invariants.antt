@@ -1,6 +1,6 @@
 use Rattle.std.proofs.Common.{◌≡◌, option_map}
 use Rattle.catalog.specs.Finding.{fits}
-use Rattle.catalog.proofs.Finds.{from_place}
+use Rattle.catalog.proofs.FindLemmas.{from_place}
 use Rattle.catalog.proofs.view.find_in.Given as goal
 
 abbrev pub invariant-loop-place : goal.invariant-loop-place

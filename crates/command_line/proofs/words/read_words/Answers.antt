@@ -1,7 +1,8 @@
 use Rattle.std.proofs.Common.{◌∙◌, ap, ap₂, inl, refl, subst, sym, map, option_map, string_bytes}
 use Rattle.clap.specs.Words.{Kinds, fault_of, is_simple, is_simple_and_free, subcommand_of}
 use Rattle.command_line.specs.Jobs.{IsTold, asked, asked_by}
-use Rattle.command_line.proofs.Refusing.{is_told, left_over, no_job, only_memory, program_is_simple, program_takes_plain_words}
+use Rattle.command_line.proofs.Refusing.{is_told, left_over, no_job, only_memory, program_is_simple}
+use Rattle.command_line.proofs.Refusing.{program_takes_plain_words}
 use Rattle.command_line.proofs.words.read_words.Goals as goal
 
 pub returns-clause-err : goal.returns-clause-err
@@ -30,7 +31,8 @@ pub returns-in-Ok-None-clause-err : goal.returns-in-Ok-None-clause-err
 returns-in-Ok-None-clause-err c =
     let simple = ap is_simple c.in-Ok.ensures ∙ program_takes_plain_words in
     let rows = (c.in-Ok-try_get_matches_from.ensures.matches simple).1 ∙ ap₂ subcommand_of c.in-Ok.ensures refl in
-    no_job (map string_bytes c.args.words.now) _ (ap asked_by (sym rows) ∙ sym c.in-Ok-None.ensures ∙ ap (option_map asked) c.in-Ok-None.field-0-is)
+    no_job (map string_bytes c.args.words.now) _ (ap asked_by (sym rows) ∙ sym c.in-Ok-None.ensures
+    ∙ ap (option_map asked) c.in-Ok-None.field-0-is)
 
 pub returns-in-Ok-None-clause-told : goal.returns-in-Ok-None-clause-told
 returns-in-Ok-None-clause-told c =

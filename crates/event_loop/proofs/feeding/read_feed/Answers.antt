@@ -1,8 +1,8 @@
 use Rattle.std.proofs.Common.{rules, ◌≡◌, arith, length, Some, None}
 use Rattle.event_loop.specs.Feeding.{FeedReads, feed_seat, feed_tally}
 use Rattle.event_loop.specs.Feeding.FeedReads.{enough}
-use Rattle.event_loop.proofs.Going.{goes-on-from, ends-from, runs-out-at}
-use Rattle.event_loop.proofs.Steps.{once-on, once-stops, once-over}
+use Rattle.event_loop.proofs.DeedLemmas.{goes-on-from, ends-from, runs-out-at}
+use Rattle.event_loop.proofs.StepLemmas.{once-on, once-stops, once-over}
 use Rattle.event_loop.proofs.feeding.read_feed.Goals as goal
 
 pub reads-preserved : goal.reads-preserved
@@ -15,8 +15,15 @@ reads-preserved g c =
           let t' = feed_tally happenings c.read_feed_once.new.dropped in
           let s = feed_seat c.args.port c.reads.cutter c.reads.readable writable in
           let s' = feed_seat c.args.port c.read_feed_once.new.cutter c.read_feed_once.new.readable writable in
-          goes-on-from (FeedReads config) c.args.limit c.reads.left (omega (arith, c.reads-test.true)) config w (calls c.args.ports.now) (calls c.reads.ports) (calls c.read_feed_once.new.ports) c.reads.server c.read_feed_once.new.server (feed_tally happenings c.args.dropped.now) t t' (feed_seat c.args.port c.args.cutter.now c.args.readable.now writable) s s' (c.reads.invariant.goes writable happenings config w stands)
-          (λ v there. once-on (FeedReads config) config v (calls c.reads.ports) (calls c.read_feed_once.new.ports) c.read_feed_once.new.server t t' s s' _ (c.read_feed_once.ensures.goes writable happenings config v there) c.in-On.is);
+          goes-on-from (FeedReads config) c.args.limit c.reads.left (omega (arith, c.reads-test.true)) config w
+          (calls c.args.ports.now) (calls c.reads.ports)
+          (calls c.read_feed_once.new.ports) c.reads.server c.read_feed_once.new.server
+          (feed_tally happenings c.args.dropped.now) t t'
+          (feed_seat c.args.port c.args.cutter.now c.args.readable.now writable) s s'
+          (c.reads.invariant.goes writable happenings config w stands)
+          (λ v there. once-on (FeedReads config) config v (calls c.reads.ports)
+          (calls c.read_feed_once.new.ports) c.read_feed_once.new.server t t' s s' _
+          (c.read_feed_once.ensures.goes writable happenings config v there) c.in-On.is);
       some = omega (arith, same, c.reads.invariant.some);
       short = omega (arith, same, c.reads.invariant.short);
     }
@@ -30,8 +37,15 @@ returns-in-Stop g c =
           let t' = feed_tally happenings c.read_feed_once.new.dropped in
           let s = feed_seat c.args.port c.reads.cutter c.reads.readable writable in
           let s' = feed_seat c.args.port c.read_feed_once.new.cutter c.read_feed_once.new.readable writable in
-          ends-from (FeedReads config) c.args.limit c.reads.left (omega (arith, c.reads-test.true)) config w (calls c.args.ports.now) (calls c.reads.ports) (calls c.read_feed_once.new.ports) c.reads.server c.read_feed_once.new.server (feed_tally happenings c.args.dropped.now) t t' (feed_seat c.args.port c.args.cutter.now c.args.readable.now writable) s (Some s') (c.reads.invariant.goes writable happenings config w stands)
-          (λ v there. once-stops (FeedReads config) config v (calls c.reads.ports) (calls c.read_feed_once.new.ports) c.read_feed_once.new.server t t' s s' _ (c.read_feed_once.ensures.goes writable happenings config v there) c.in-Stop.is);
+          ends-from (FeedReads config) c.args.limit c.reads.left (omega (arith, c.reads-test.true)) config w
+          (calls c.args.ports.now) (calls c.reads.ports)
+          (calls c.read_feed_once.new.ports) c.reads.server c.read_feed_once.new.server
+          (feed_tally happenings c.args.dropped.now) t t'
+          (feed_seat c.args.port c.args.cutter.now c.args.readable.now writable) s (Some s')
+          (c.reads.invariant.goes writable happenings config w stands)
+          (λ v there. once-stops (FeedReads config) config v (calls c.reads.ports)
+          (calls c.read_feed_once.new.ports) c.read_feed_once.new.server t t' s s' _
+          (c.read_feed_once.ensures.goes writable happenings config v there) c.in-Stop.is);
     }
 
 pub returns-in-Over : goal.returns-in-Over
@@ -43,8 +57,15 @@ returns-in-Over g c =
           let t' = feed_tally happenings c.read_feed_once.new.dropped in
           let s = feed_seat c.args.port c.reads.cutter c.reads.readable writable in
           let s' = feed_seat c.args.port c.read_feed_once.new.cutter c.read_feed_once.new.readable writable in
-          ends-from (FeedReads config) c.args.limit c.reads.left (omega (arith, c.reads-test.true)) config w (calls c.args.ports.now) (calls c.reads.ports) (calls c.read_feed_once.new.ports) c.reads.server c.read_feed_once.new.server (feed_tally happenings c.args.dropped.now) t t' (feed_seat c.args.port c.args.cutter.now c.args.readable.now writable) s None (c.reads.invariant.goes writable happenings config w stands)
-          (λ v there. once-over (FeedReads config) config v (calls c.reads.ports) (calls c.read_feed_once.new.ports) c.read_feed_once.new.server t t' s s' _ (c.read_feed_once.ensures.goes writable happenings config v there) c.in-Over.is);
+          ends-from (FeedReads config) c.args.limit c.reads.left (omega (arith, c.reads-test.true)) config w
+          (calls c.args.ports.now) (calls c.reads.ports)
+          (calls c.read_feed_once.new.ports) c.reads.server c.read_feed_once.new.server
+          (feed_tally happenings c.args.dropped.now) t t'
+          (feed_seat c.args.port c.args.cutter.now c.args.readable.now writable) s None
+          (c.reads.invariant.goes writable happenings config w stands)
+          (λ v there. once-over (FeedReads config) config v (calls c.reads.ports)
+          (calls c.read_feed_once.new.ports) c.read_feed_once.new.server t t' s s' _
+          (c.read_feed_once.ensures.goes writable happenings config v there) c.in-Over.is);
     }
 
 pub returns : goal.returns
@@ -53,5 +74,9 @@ returns g c =
     record {
       goes = λ writable happenings config w stands.
           let s = feed_seat c.args.port c.reads.cutter c.reads.readable writable in
-          runs-out-at (FeedReads config) c.args.limit c.reads.left (omega (arith, c.reads-test.false)) config w (calls c.args.ports.now) (calls c.reads.ports) c.reads.server (feed_tally happenings c.args.dropped.now) (feed_tally happenings c.reads.dropped) (feed_seat c.args.port c.args.cutter.now c.args.readable.now writable) s (Some s) (λ v. enough) (c.reads.invariant.goes writable happenings config w stands);
+          runs-out-at (FeedReads config) c.args.limit c.reads.left (omega (arith, c.reads-test.false)) config w
+          (calls c.args.ports.now) (calls c.reads.ports) c.reads.server (feed_tally happenings c.args.dropped.now)
+          (feed_tally happenings c.reads.dropped)
+          (feed_seat c.args.port c.args.cutter.now c.args.readable.now writable) s (Some s) (λ v. enough)
+          (c.reads.invariant.goes writable happenings config w stands);
     }

@@ -1,7 +1,7 @@
 use Rattle.std.proofs.Common.{ℕ, ◌<◌, ◌≤◌, Bool, length}
 use Rattle.protocol.specs.Catalog.{Config}
 use Rattle.protocol.specs.World.{World}
-use Rattle.server_core.specs.Standing.{StandsAt}
+use Rattle.server_core.specs.ServerValues.{StandsAt}
 use Rattle.event_loop.specs.Feeding.{FeedReads, feed_seat, feed_tally}
 use Rattle.event_loop.specs.Going.{SoFar}
 use Rattle.event_loop.proofs.feeding.read_feed.Given as goal

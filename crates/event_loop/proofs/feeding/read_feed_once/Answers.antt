@@ -1,13 +1,14 @@
 use Rattle.std.proofs.Common.{rules, ◌≤◌, length, take, ap, ◌∙◌, subst, [], ◌∷◌, Ok}
 use Rattle.ports.specs.Calls.{Tells, given}
 use Rattle.ports.specs.Calls.Call.{Read}
-use Rattle.event_loop.proofs.FeedSteps.{feed-refused, feed-piece, feed-later, feed-closed, feed-failed}
+use Rattle.event_loop.proofs.FeedStepLemmas.{feed-refused, feed-piece, feed-later, feed-closed, feed-failed}
 use Rattle.event_loop.proofs.feeding.read_feed_once.Goals as goal
 
 pub returns-then-not-readable : goal.returns-then-not-readable
 returns-then-not-readable g c = record {
   goes = λ writable happenings config w stands.
-      feed-refused config w happenings c.args.dropped.now c.args.port c.args.cutter.now c.args.readable.now writable (g.P.Ports.calls c.args.ports.now) c.args.server.now stands c.if-not-readable.true;
+      feed-refused config w happenings c.args.dropped.now c.args.port c.args.cutter.now c.args.readable.now writable
+      (g.P.Ports.calls c.args.ports.now) c.args.server.now stands c.if-not-readable.true;
 }
 
 pub returns-in-Ok-Bytes : goal.returns-in-Ok-Bytes
@@ -17,8 +18,11 @@ returns-in-Ok-Bytes g c = record {
       let b = g.P.Ports.calls c.read.new.self in
       let short : length c.read.new.buffer ≤ 512 = search rules in
       feed-piece config w happenings c.args.dropped.now c.args.port c.args.cutter.now c.args.readable.now writable
-      c.if-not-readable.false (length c.read.new.buffer) short a b (take c.in-Ok-Bytes.count c.read.new.buffer) c.take_records.new.server c.take_records.new.dropped c.take_records.new.cutter
-      (subst (λ r. Tells a b (Read c.args.port (length c.read.new.buffer) (given r c.read.new.buffer) ∷ [])) (c.in-Ok-Bytes.is ∙ ap Ok c.in-Ok-Bytes.field-0-is) c.read.ensures.call)
+      c.if-not-readable.false (length c.read.new.buffer) short a b
+      (take c.in-Ok-Bytes.count c.read.new.buffer) c.take_records.new.server c.take_records.new.dropped
+      c.take_records.new.cutter
+      (subst (λ r. Tells a b (Read c.args.port (length c.read.new.buffer) (given r c.read.new.buffer) ∷ []))
+      (c.in-Ok-Bytes.is ∙ ap Ok c.in-Ok-Bytes.field-0-is) c.read.ensures.call)
       (c.take_records.ensures.arrives config w stands) c.take_records.ensures.rest;
 }
 
@@ -30,7 +34,8 @@ returns-in-Ok-Later g c = record {
       let short : length c.read.new.buffer ≤ 512 = search rules in
       feed-later config w happenings c.args.dropped.now c.args.port c.args.cutter.now c.args.readable.now writable
       c.if-not-readable.false (length c.read.new.buffer) short a b c.args.server.now stands
-      (subst (λ r. Tells a b (Read c.args.port (length c.read.new.buffer) (given r c.read.new.buffer) ∷ [])) (c.in-Ok-Later.is ∙ ap Ok c.in-Ok-Later.field-0-is) c.read.ensures.call);
+      (subst (λ r. Tells a b (Read c.args.port (length c.read.new.buffer) (given r c.read.new.buffer) ∷ []))
+      (c.in-Ok-Later.is ∙ ap Ok c.in-Ok-Later.field-0-is) c.read.ensures.call);
 }
 
 pub returns-in-Ok-Closed : goal.returns-in-Ok-Closed
@@ -40,8 +45,10 @@ returns-in-Ok-Closed g c = record {
       let b = g.P.Ports.calls c.read.new.self in
       let short : length c.read.new.buffer ≤ 512 = search rules in
       feed-closed config w happenings c.args.dropped.now c.args.port c.args.cutter.now c.args.readable.now writable
-      c.if-not-readable.false (length c.read.new.buffer) short a b (g.P.Ports.calls c.shut.new.self) c.args.server.now stands
-      (subst (λ r. Tells a b (Read c.args.port (length c.read.new.buffer) (given r c.read.new.buffer) ∷ [])) (c.in-Ok-Closed.is ∙ ap Ok c.in-Ok-Closed.field-0-is) c.read.ensures.call)
+      c.if-not-readable.false (length c.read.new.buffer) short a b
+      (g.P.Ports.calls c.shut.new.self) c.args.server.now stands
+      (subst (λ r. Tells a b (Read c.args.port (length c.read.new.buffer) (given r c.read.new.buffer) ∷ []))
+      (c.in-Ok-Closed.is ∙ ap Ok c.in-Ok-Closed.field-0-is) c.read.ensures.call)
       c.shut.ensures.call;
 }
 
@@ -52,7 +59,9 @@ returns-in-Err g c = record {
       let b = g.P.Ports.calls c.read.new.self in
       let short : length c.read.new.buffer ≤ 512 = search rules in
       feed-failed config w happenings c.args.dropped.now c.args.port c.args.cutter.now c.args.readable.now writable
-      c.if-not-readable.false (length c.read.new.buffer) short a b (g.P.Ports.calls c.shut-in-Err.new.self) c.args.server.now stands
-      (subst (λ r. Tells a b (Read c.args.port (length c.read.new.buffer) (given r c.read.new.buffer) ∷ [])) c.in-Err.is c.read.ensures.call)
+      c.if-not-readable.false (length c.read.new.buffer) short a b
+      (g.P.Ports.calls c.shut-in-Err.new.self) c.args.server.now stands
+      (subst (λ r. Tells a b (Read c.args.port (length c.read.new.buffer) (given r c.read.new.buffer) ∷ [])) c.in-Err.is
+      c.read.ensures.call)
       c.shut-in-Err.ensures.call;
 }

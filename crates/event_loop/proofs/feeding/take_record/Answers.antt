@@ -1,7 +1,7 @@
 use Rattle.std.proofs.Common.{◌≡◌, ◌∙◌, ap, sym, if◌then◌else◌, Bool, true, false, arith}
 use Rattle.std.specs.Result.{is_err}
 use Rattle.event_loop.specs.Deeds.{refused_more}
-use Rattle.event_loop.proofs.Feeds.{arrives-one, on-ok}
+use Rattle.event_loop.proofs.FeedLemmas.{arrives-one, on-ok}
 use Rattle.event_loop.proofs.feeding.take_record.Goals as goal
 
 pub returns-then-is_err : goal.returns-then-is_err
@@ -9,7 +9,8 @@ returns-then-is_err c = λ config w stands.
     let arrive = c.arrive.ensures in
     let refused : true ≡ is_err c.arrive.result = sym c.if-is_err.true ∙ c.is_err.ensures.value in
     let one : c.saturating_add.result ≡ refused_more c.args.dropped.now 1 = omega arith in
-    arrives-one config w c.args.whole.now c.arrive.result c.args.server.now c.arrive.new.self c.args.dropped.now c.saturating_add.result
+    arrives-one config w c.args.whole.now c.arrive.result c.args.server.now c.arrive.new.self c.args.dropped.now
+    c.saturating_add.result
     (record {
       stands = λ e. arrive.stands e config w stands;
       answer = λ e. arrive.answer e config w stands;
@@ -24,7 +25,8 @@ returns-else-is_err c = λ config w stands.
     let arrive = c.arrive.ensures in
     let taken : false ≡ is_err c.arrive.result = sym c.if-is_err.false ∙ c.is_err.ensures.value in
     let none : c.args.dropped.now ≡ refused_more c.args.dropped.now 0 = omega arith in
-    arrives-one config w c.args.whole.now c.arrive.result c.args.server.now c.arrive.new.self c.args.dropped.now c.args.dropped.now
+    arrives-one config w c.args.whole.now c.arrive.result c.args.server.now c.arrive.new.self c.args.dropped.now
+    c.args.dropped.now
     (record {
       stands = λ e. arrive.stands e config w stands;
       answer = λ e. arrive.answer e config w stands;

@@ -5,10 +5,10 @@ use Rattle.std.proofs.lemmas.List.{take_rest}
 use Rattle.protocol.specs.Catalog.{Config}
 use Rattle.protocol.specs.Streams.{FeedRead}
 use Rattle.protocol.specs.World.{World}
-use Rattle.server_core.specs.Standing.{StandsAt}
+use Rattle.server_core.specs.ServerValues.{StandsAt}
 use Rattle.feeder.specs.Feedings.{lent_records, left_over}
 use Rattle.event_loop.specs.Feeding.{fed, world_fed, Arrives}
-use Rattle.event_loop.proofs.Feeds.{arrives-none, arrives-then, fed-in-two}
+use Rattle.event_loop.proofs.FeedLemmas.{arrives-none, arrives-then, fed-in-two}
 use Rattle.event_loop.proofs.feeding.take_records.Goals as goal
 use Rattle.event_loop.proofs.feeding.take_records.Goals.{in-Some, in-None}
 
@@ -20,18 +20,30 @@ records-preserved c =
       | in-Some w ↦ w.cutter-is ∙ c.feed.follows.holds-at-none
       | in-None w ↦ w.cutter-is ∙ c.feed.follows.holds-at-none
     ] in
-    let one : (config : Config) (v : World) → StandsAt c.records.server config v → Arrives config v (lent_records whole) c.match-whole.server c.records.dropped c.match-whole.dropped = elim c.match-whole.branch [
-      | in-Some w ↦ λ config v stands. rw (w.in-Some.is, w.server-is, w.dropped-is) (w.take_record.ensures config v stands)
-      | in-None w ↦ λ config v stands. rw (w.in-None.is, w.server-is, w.dropped-is) (arrives-none config v c.records.server c.records.dropped stands)
+    let one : (config : Config) (v : World) → StandsAt c.records.server config v
+    → Arrives config v (lent_records whole) c.match-whole.server c.records.dropped c.match-whole.dropped =
+    elim c.match-whole.branch [
+      | in-Some w ↦ λ config v stands. rw (
+        w.in-Some.is,
+        w.server-is,
+        w.dropped-is,
+      ) (w.take_record.ensures config v stands)
+      | in-None w ↦ λ config v stands. rw (
+        w.in-None.is,
+        w.server-is,
+        w.dropped-is,
+      ) (arrives-none config v c.records.server c.records.dropped stands)
     ] in
     let rest = take_rest c.records.left.now c.feed.result.used in
-    let parts = fed-in-two c.records.cutter c.records.left.now c.match-whole.cutter _ c.feed.result.used whole c.feed.ensures.read after rest in
+    let parts = fed-in-two c.records.cutter c.records.left.now c.match-whole.cutter _ c.feed.result.used whole
+    c.feed.ensures.read after rest in
     record {
       arrives = λ config w stands.
           let x = h.arrives config w stands in (
             x.0 ++ lent_records whole,
             append_assoc x.0 (lent_records whole) _ ∙ ap (λ (f : FeedRead). x.0 ++ f.records) (sym parts) ∙ x.1,
-            arrives-then config w x.0 (lent_records whole) c.records.server c.match-whole.server c.args.dropped.now c.records.dropped c.match-whole.dropped x.2 (one config (world_fed config w x.0) x.2.stands),
+            arrives-then config w x.0 (lent_records whole) c.records.server c.match-whole.server c.args.dropped.now
+                c.records.dropped c.match-whole.dropped x.2 (one config (world_fed config w x.0) x.2.stands),
           );
       rest = ap (λ (f : FeedRead). f.rest) (sym parts) ∙ h.rest;
     }

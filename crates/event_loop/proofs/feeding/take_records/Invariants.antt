@@ -2,14 +2,15 @@
 use Rattle.std.proofs.Common.{◌≡◌, ◌++◌, ℕ, List, length}
 use Rattle.protocol.specs.Catalog.{Config}
 use Rattle.protocol.specs.World.{World}
-use Rattle.server_core.specs.Standing.{StandsAt}
+use Rattle.server_core.specs.ServerValues.{StandsAt}
 use Rattle.event_loop.specs.Feeding.{fed, Arrives}
 use Rattle.event_loop.proofs.feeding.take_records.Given as goal
 
 abbrev pub invariant-records : goal.invariant-records
 invariant-records l = record {
   arrives : (config : Config) (w : World) → StandsAt l.fn.server config w →
-      (done : List (List ℕ)) × (done ++ (fed l.cutter l.left).records ≡ (fed l.fn.cutter l.piece).records) × Arrives config w done l.server l.fn.dropped l.dropped;
+      (done : List (List ℕ)) × (done ++ (fed l.cutter l.left).records ≡ (fed l.fn.cutter l.piece).records)
+      × Arrives config w done l.server l.fn.dropped l.dropped;
   rest : (fed l.cutter l.left).rest ≡ (fed l.fn.cutter l.piece).rest;
 }
 

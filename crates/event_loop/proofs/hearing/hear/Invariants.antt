@@ -1,7 +1,7 @@
 use Rattle.std.proofs.Common.{◌≡◌, ◌≤◌, ◌-◌}
 use Rattle.protocol.specs.Catalog.{Config}
 use Rattle.protocol.specs.World.{World}
-use Rattle.server_core.specs.Standing.{StandsAt}
+use Rattle.server_core.specs.ServerValues.{StandsAt}
 use Rattle.event_loop.specs.Deeds.{no_tally}
 use Rattle.event_loop.specs.Going.{SoFar}
 use Rattle.event_loop.specs.Tables.{IsTable, HeardBy, heard_so_far}
@@ -14,7 +14,9 @@ invariant-hearing g l =
       fits : l.left ≤ l.limit;
       table : IsTable l.most l.seats.items;
       failures : g.P.Ports.failures l.ports ≡ g.P.Ports.failures l.fn.ports;
-      goes : (config : Config) (w : World) → StandsAt l.fn.server config w → SoFar (HeardBy config l.most) l.limit l.left config w (calls l.fn.ports) (calls l.ports) l.server no_tally (heard_so_far (l.limit - l.left)) l.fn.seats.items l.seats.items;
+      goes : (config : Config) (w : World) → StandsAt l.fn.server config w
+          → SoFar (HeardBy config l.most) l.limit l.left config w (calls l.fn.ports) (calls l.ports) l.server no_tally
+          (heard_so_far (l.limit - l.left)) l.fn.seats.items l.seats.items;
     }
 
 abbrev pub decreases-hearing : goal.decreases-hearing

@@ -9,16 +9,18 @@ use Rattle.ports.specs.declared.answers.Happening.TheVariants.{Joined}
 use Rattle.event_loop.specs.Hearing.{joining, clients_in}
 use Rattle.event_loop.specs.Tables.{IsTable, IsSeatOf, IsGapFor, HearsOnce}
 use Rattle.event_loop.specs.declared.hearing.Hark.TheVariants.{Happened}
-use Rattle.event_loop.proofs.Places.{is-seated, is-unseated, inserted, table-client}
-use Rattle.event_loop.proofs.Hears.{hears-old, hears-away, hears-open}
+use Rattle.event_loop.proofs.TableLemmas.{is-seated, is-unseated, inserted, table-client}
+use Rattle.event_loop.proofs.HearLemmas.{hears-old, hears-away, hears-open}
 use Rattle.event_loop.proofs.hearing.join_client.Goals as goal
-use Rattle.event_loop.proofs.hearing.join_client.Goals.{then-clients-most-via-then-clients-most, then-clients-most-via-else-clients-most+then-is_err}
+use Rattle.event_loop.proofs.hearing.join_client.Goals.{then-clients-most-via-then-clients-most}
+use Rattle.event_loop.proofs.hearing.join_client.Goals.{then-clients-most-via-else-clients-most+then-is_err}
 
 pub returns-in_default-clause-goes : goal.returns-in_default-clause-goes
 returns-in_default-clause-goes g c = λ t calls config w tells stands.
     let ss = c.args.seats.now.items in
     let found : IsSeatOf ss c.args.port c.in_default.field-0 = search rules in
-    hears-old config c.args.most w calls (g.P.Ports.calls c.args.ports.now) c.args.server.now t ss ss (Joined c.args.port c.args.address)
+    hears-old config c.args.most w calls (g.P.Ports.calls c.args.ports.now) c.args.server.now t ss ss
+    (Joined c.args.port c.args.address)
     refl (is-seated ss c.args.port c.in_default.field-0 found) refl tells stands
 
 pub returns-then-clients-most-clause-goes : goal.returns-then-clients-most-clause-goes
@@ -29,8 +31,10 @@ returns-then-clients-most-clause-goes g c = λ t calls config w tells stands.
       | then-clients-most-via-then-clients-most x ↦ ap (λ v. v.items) x.seats-is
       | then-clients-most-via-else-clients-most+then-is_err x ↦ ap (λ v. v.items) x.seats-is ∙ x.reserve.ensures.items
     ] in
-    subst (λ xs. HearsOnce config c.args.most w calls (g.P.Ports.calls c.shut.new.self) c.args.server.now t ss xs Happened) (sym same)
-    (hears-away config c.args.most w calls (g.P.Ports.calls c.args.ports.now) c.args.server.now t ss (g.P.Ports.calls c.shut.new.self)
+    subst (λ xs. HearsOnce config c.args.most w calls
+    (g.P.Ports.calls c.shut.new.self) c.args.server.now t ss xs Happened) (sym same)
+    (hears-away config c.args.most w calls (g.P.Ports.calls c.args.ports.now) c.args.server.now t ss
+    (g.P.Ports.calls c.shut.new.self)
     c.args.port c.args.address (is-unseated ss c.args.port c.in-Err.at gap) tells c.shut.ensures.call stands)
 
 pub returns-in-Ok-clause-table : goal.returns-in-Ok-clause-table
@@ -54,15 +58,19 @@ returns-in-Ok-clause-goes g c = λ t calls config w tells stands.
     let kept : c.insert-kept.new.self.items ≡ insert ss c.in-Err.at new = grind (arith, common_steps) in
     let few : clients_in ss < c.args.most = grind (arith, common_steps) in
     let number : c.in-Ok.client ≡ length w.connections = c.in-Ok.ensures.number ∙ stands.count in
-    hears-open config c.args.most w calls (g.P.Ports.calls c.args.ports.now) c.args.server.now t ss c.open.new.self c.insert-kept.new.self.items
-    c.args.port c.args.address c.in-Ok.client (is-unseated ss c.args.port c.in-Err.at gap) few number (kept ∙ inserted ss new c.in-Err.at gap)
+    hears-open config c.args.most w calls
+    (g.P.Ports.calls c.args.ports.now) c.args.server.now t ss c.open.new.self c.insert-kept.new.self.items
+    c.args.port c.args.address c.in-Ok.client (is-unseated ss c.args.port c.in-Err.at gap) few number
+    (kept ∙ inserted ss new c.in-Err.at gap)
     tells (c.in-Ok.ensures.ok config w stands)
 
 pub returns-in-Err-open-clause-goes : goal.returns-in-Err-open-clause-goes
 returns-in-Err-open-clause-goes g c = λ t calls config w tells stands.
     let ss = c.args.seats.now.items in
     let gap : IsGapFor ss c.args.port c.in-Err.at = search rules in
-    subst (λ xs. HearsOnce config c.args.most w calls (g.P.Ports.calls c.shut-in-Err-open.new.self) c.open.new.self t ss xs Happened) (sym c.reserve.ensures.items)
-    (hears-away config c.args.most w calls (g.P.Ports.calls c.args.ports.now) c.open.new.self t ss (g.P.Ports.calls c.shut-in-Err-open.new.self)
+    subst (λ xs. HearsOnce config c.args.most w calls
+    (g.P.Ports.calls c.shut-in-Err-open.new.self) c.open.new.self t ss xs Happened) (sym c.reserve.ensures.items)
+    (hears-away config c.args.most w calls (g.P.Ports.calls c.args.ports.now) c.open.new.self t ss
+    (g.P.Ports.calls c.shut-in-Err-open.new.self)
     c.args.port c.args.address (is-unseated ss c.args.port c.in-Err.at gap) tells c.shut-in-Err-open.ensures.call
     (rw c.in-Err-open.ensures.err stands))

@@ -9,16 +9,18 @@ use Rattle.ports.specs.declared.answers.Happening.TheVariants.{JoinedFeed}
 use Rattle.event_loop.specs.Hearing.{joining, feeds_in}
 use Rattle.event_loop.specs.Tables.{IsTable, IsSeatOf, IsGapFor, HearsOnce}
 use Rattle.event_loop.specs.declared.hearing.Hark.TheVariants.{Happened}
-use Rattle.event_loop.proofs.Places.{is-seated, is-unseated, inserted, table-feed}
-use Rattle.event_loop.proofs.Hears.{hears-old, hears-away-feed, hears-feed}
+use Rattle.event_loop.proofs.TableLemmas.{is-seated, is-unseated, inserted, table-feed}
+use Rattle.event_loop.proofs.HearLemmas.{hears-old, hears-away-feed, hears-feed}
 use Rattle.event_loop.proofs.hearing.join_feed.Goals as goal
-use Rattle.event_loop.proofs.hearing.join_feed.Goals.{then-feeds-ge-FEEDS-via-then-feeds-ge-FEEDS, then-feeds-ge-FEEDS-via-else-feeds-ge-FEEDS+then-is_err}
+use Rattle.event_loop.proofs.hearing.join_feed.Goals.{then-feeds-ge-FEEDS-via-then-feeds-ge-FEEDS}
+use Rattle.event_loop.proofs.hearing.join_feed.Goals.{then-feeds-ge-FEEDS-via-else-feeds-ge-FEEDS+then-is_err}
 
 pub returns-in_default-clause-goes : goal.returns-in_default-clause-goes
 returns-in_default-clause-goes g c = λ t calls config w tells stands.
     let ss = c.args.seats.now.items in
     let found : IsSeatOf ss c.args.port c.in_default.field-0 = search rules in
-    hears-old config c.args.most w calls (g.P.Ports.calls c.args.ports.now) c.args.server.now t ss ss (JoinedFeed c.args.port)
+    hears-old config c.args.most w calls (g.P.Ports.calls c.args.ports.now) c.args.server.now t ss ss
+    (JoinedFeed c.args.port)
     refl (is-seated ss c.args.port c.in_default.field-0 found) refl tells stands
 
 pub returns-then-feeds-ge-FEEDS-clause-goes : goal.returns-then-feeds-ge-FEEDS-clause-goes
@@ -27,10 +29,13 @@ returns-then-feeds-ge-FEEDS-clause-goes g c = λ t calls config w tells stands.
     let gap : IsGapFor ss c.args.port c.in-Err.at = search rules in
     let same : c.then-feeds-ge-FEEDS.seats.items ≡ ss = elim c.then-feeds-ge-FEEDS.branch [
       | then-feeds-ge-FEEDS-via-then-feeds-ge-FEEDS x ↦ ap (λ v. v.items) x.seats-is
-      | then-feeds-ge-FEEDS-via-else-feeds-ge-FEEDS+then-is_err x ↦ ap (λ v. v.items) x.seats-is ∙ x.reserve.ensures.items
+      | then-feeds-ge-FEEDS-via-else-feeds-ge-FEEDS+then-is_err x ↦ ap (λ v. v.items) x.seats-is
+          ∙ x.reserve.ensures.items
     ] in
-    subst (λ xs. HearsOnce config c.args.most w calls (g.P.Ports.calls c.shut.new.self) c.args.server.now t ss xs Happened) (sym same)
-    (hears-away-feed config c.args.most w calls (g.P.Ports.calls c.args.ports.now) c.args.server.now t ss (g.P.Ports.calls c.shut.new.self)
+    subst (λ xs. HearsOnce config c.args.most w calls
+    (g.P.Ports.calls c.shut.new.self) c.args.server.now t ss xs Happened) (sym same)
+    (hears-away-feed config c.args.most w calls (g.P.Ports.calls c.args.ports.now) c.args.server.now t ss
+    (g.P.Ports.calls c.shut.new.self)
     c.args.port (is-unseated ss c.args.port c.in-Err.at gap) tells c.shut.ensures.call stands)
 
 pub returns-in-Ok-clause-table : goal.returns-in-Ok-clause-table
@@ -53,14 +58,16 @@ returns-in-Ok-clause-goes g c = λ t calls config w tells stands.
     let ok : IsOk c.insert-kept.result = c.insert-kept.ensures.succeeds room in
     let kept : c.insert-kept.new.self.items ≡ insert ss c.in-Err.at new = grind (arith, common_steps) in
     let few : feeds_in ss < 16 = grind (arith, common_steps) in
-    hears-feed config c.args.most w calls (g.P.Ports.calls c.args.ports.now) c.args.server.now t ss c.insert-kept.new.self.items
+    hears-feed config c.args.most w calls
+    (g.P.Ports.calls c.args.ports.now) c.args.server.now t ss c.insert-kept.new.self.items
     c.args.port (is-unseated ss c.args.port c.in-Err.at gap) few (kept ∙ inserted ss new c.in-Err.at gap) tells stands
 
 pub returns-in-Err-new-clause-goes : goal.returns-in-Err-new-clause-goes
 returns-in-Err-new-clause-goes g c = λ t calls config w tells stands.
     let ss = c.args.seats.now.items in
     let gap : IsGapFor ss c.args.port c.in-Err.at = search rules in
-    subst (λ xs. HearsOnce config c.args.most w calls (g.P.Ports.calls c.shut-in-Err-new.new.self) c.args.server.now t ss xs
+    subst (λ xs. HearsOnce config c.args.most w calls
+    (g.P.Ports.calls c.shut-in-Err-new.new.self) c.args.server.now t ss xs
     Happened) (sym c.reserve.ensures.items)
     (hears-away-feed config c.args.most w calls (g.P.Ports.calls c.args.ports.now) c.args.server.now t ss
     (g.P.Ports.calls c.shut-in-Err-new.new.self) c.args.port (is-unseated ss c.args.port c.in-Err.at gap) tells

@@ -1,7 +1,7 @@
 use Rattle.std.proofs.Common.{◌≡◌}
 use Rattle.protocol.specs.Catalog.{Config}
 use Rattle.protocol.specs.World.{World}
-use Rattle.server_core.specs.Standing.{StandsAt}
+use Rattle.server_core.specs.ServerValues.{StandsAt}
 use Rattle.event_loop.specs.declared.seat.Role.TheVariants.{Client}
 use Rattle.event_loop.specs.Deeds.{Tally}
 use Rattle.event_loop.specs.Passes.{ClientWrites}
@@ -14,7 +14,9 @@ invariant-writes g l =
     record {
       role : l.seat.role ≡ Client l.client;
       port : l.seat.port ≡ l.fn.seat.port;
-      goes : (t : Tally) (config : Config) (w : World) → StandsAt l.fn.server config w → SoFar (ClientWrites config l.client) l.limit l.left config w (calls l.fn.ports) (calls l.ports) l.server t t l.fn.seat l.seat;
+      goes : (t : Tally) (config : Config) (w : World) → StandsAt l.fn.server config w
+          → SoFar (ClientWrites config l.client) l.limit l.left config w (calls l.fn.ports)
+          (calls l.ports) l.server t t l.fn.seat l.seat;
     }
 
 abbrev pub decreases-writes : goal.decreases-writes

@@ -3,7 +3,7 @@ use Rattle.std.proofs.lemmas.List.{get_or_default}
 use Rattle.event_loop.specs.declared.seat.Seat.{Seat}
 use Rattle.event_loop.specs.Hearing.{writable_at}
 use Rattle.event_loop.specs.Tables.{no_seat, IsSeatOf, IsGapFor}
-use Rattle.event_loop.proofs.Places.{one-marked, none-marked-unseated, is-unseated, rise-from}
+use Rattle.event_loop.proofs.TableLemmas.{one-marked, none-marked-unseated, is-unseated, rise-from}
 use Rattle.event_loop.proofs.table.mark_writable.Goals as goal
 
 pub returns-in-Ok : goal.returns-in-Ok
@@ -13,10 +13,12 @@ returns-in-Ok c =
     let is = get_or_default ss c.in-Ok.at c.index_mut.result.now no_seat found.inside in
     let here = c.index_mut.ensures.value ∙ is in
     ap (λ (s : Seat). set ss c.in-Ok.at (record s { writable = true })) here
-    ∙ sym (one-marked c.args.port (λ s. record s { writable = true }) (writable_at c.args.port) ss c.in-Ok.at (λ s. refl) (rise-from ss c.requires) found)
+    ∙ sym (one-marked c.args.port (λ s. record s { writable = true }) (writable_at c.args.port) ss c.in-Ok.at
+    (λ s. refl) (rise-from ss c.requires) found)
 
 pub returns-in_default : goal.returns-in_default
 returns-in_default c =
     let ss = c.args.seats.now.items in
     let gap : IsGapFor ss c.args.port c.in_default.field-0 = search rules in
-    sym (none-marked-unseated c.args.port (λ s. record s { writable = true }) (writable_at c.args.port) ss (λ s. refl) (is-unseated ss c.args.port c.in_default.field-0 gap))
+    sym (none-marked-unseated c.args.port (λ s. record s { writable = true }) (writable_at c.args.port) ss (λ s. refl)
+    (is-unseated ss c.args.port c.in_default.field-0 gap))

@@ -1,6 +1,6 @@
 use Rattle.std.proofs.Common.{rules}
 use Rattle.std.proofs.lemmas.List.Sorted.{answers_always}
-use Rattle.event_loop.proofs.Places.{searched}
+use Rattle.event_loop.proofs.TableLemmas.{searched}
 use Rattle.event_loop.proofs.table.place_of.Goals as goal
 
 pub returns : goal.returns

@@ -1,7 +1,7 @@
 use Rattle.std.proofs.Common.{◌≤◌, ◌-◌, ℕ, take, drop, length, vec_len}
 use Rattle.protocol.specs.Catalog.{Config}
 use Rattle.protocol.specs.World.{World}
-use Rattle.server_core.specs.Standing.{StandsAt}
+use Rattle.server_core.specs.ServerValues.{StandsAt}
 use Rattle.event_loop.specs.Feeding.{feed_tally}
 use Rattle.event_loop.specs.Tables.{IsTable, PassesSoFar}
 use Rattle.event_loop.proofs.turning.pass_all.Given as goal

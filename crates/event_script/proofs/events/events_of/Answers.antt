@@ -1,4 +1,5 @@
-use Rattle.std.proofs.Common.{Option, Some, None, map, rules, tests, ◌≡◌, ◌∙◌, ◌<◌, ◌+◌, List, length, drop, get_or, sym, arith}
+use Rattle.std.proofs.Common.{Option, Some, None, map, rules, tests, ◌≡◌, ◌∙◌, ◌<◌, ◌+◌, List, length, drop, get_or}
+use Rattle.std.proofs.Common.{sym, arith}
 use Rattle.std.proofs.lemmas.Iterator.{YieldsList}
 use Rattle.std.specs.Iterator.{Yields}
 use Rattle.std.specs.List.{slice_split}
@@ -13,30 +14,50 @@ use Rattle.event_script.proofs.Lines.{left-more, left-fault, left-end}
 use Rattle.event_script.proofs.events.events_of.Goals as goal
 
 -- where the line at hand stands, and at the end how many there were, by the steps first
-turn_of : {S A B : Type 0} {steps : S → Option A → S → Type 0} {v : A → B} {s : S} {all : List B} (xs : List A) (t : S) (y : Yields steps s xs t) → (r : Option A) (u : S) (x : A) → r ≡ Some x → steps t r u → (e : YieldsList steps v s all) → (length xs < length all) × (v x ≡ get_or all (length xs) (v x))
+turn_of : {S A B : Type 0} {steps : S → Option A → S → Type 0} {v : A → B} {s : S} {all : List B} (xs : List A) (t : S)
+    (y : Yields steps s xs t) → (r : Option A) (u : S) (x : A) → r ≡ Some x → steps t r u
+    → (e : YieldsList steps v s all) → (length xs < length all) × (v x ≡ get_or all (length xs) (v x))
 turn_of xs t y r u x is step e = YieldsList-turn e xs t y r u x is step
 
-end_of : {S A B : Type 0} {steps : S → Option A → S → Type 0} {v : A → B} {s : S} {all : List B} (xs : List A) (t : S) (y : Yields steps s xs t) → (r : Option A) (u : S) → r ≡ None → steps t r u → (e : YieldsList steps v s all) → (map v xs ≡ all) × (length xs ≡ length all)
+end_of : {S A B : Type 0} {steps : S → Option A → S → Type 0} {v : A → B} {s : S} {all : List B} (xs : List A) (t : S)
+    (y : Yields steps s xs t) → (r : Option A) (u : S) → r ≡ None → steps t r u → (e : YieldsList steps v s all)
+    → (map v xs ≡ all) × (length xs ≡ length all)
 end_of xs t y r u is step e = YieldsList-end e xs t y r u is step
 
 pub loop-line-preserved : goal.loop-line-preserved
 loop-line-preserved c =
-    let turn = turn_of c.loop-line.yielded _ c.loop-line.yielded_by _ _ c.in-Some.line c.in-Some.is c.next.ensures.steps (YieldsList-at c.into_iter-line-iterator.ensures.into_iter_gives (YieldsList-from_slice_split _ is_line_feed c.args.text.now c.split-lines.ensures.rest c.split-lines.ensures.done c.split-lines.ensures.closure (λ x b q k. search (rules, tests)))) in
+    let turn = turn_of c.loop-line.yielded _ c.loop-line.yielded_by _ _ c.in-Some.line c.in-Some.is c.next.ensures.steps
+    (YieldsList-at c.into_iter-line-iterator.ensures.into_iter_gives
+    (YieldsList-from_slice_split _ is_line_feed c.args.text.now c.split-lines.ensures.rest
+    c.split-lines.ensures.done c.split-lines.ensures.closure (λ x b q k. search (rules, tests)))) in
     let ls = slice_split is_line_feed c.args.text.now in
     rw (length_push c.loop-line.yielded c.in-Some.line)
-    (c.loop-line.invariant ∙ left-more (map event_value c.loop-line.events.items) (map event_value c.read_line.new.events.items) ls (length c.loop-line.yielded) c.in-Some.line.now turn.0 turn.1 (c.in_ok-read_line.ensures.ok (drop (length c.loop-line.yielded + 1) ls)))
+    (c.loop-line.invariant
+    ∙ left-more (map event_value c.loop-line.events.items) (map event_value c.read_line.new.events.items) ls
+    (length c.loop-line.yielded) c.in-Some.line.now turn.0 turn.1
+    (c.in_ok-read_line.ensures.ok (drop (length c.loop-line.yielded + 1) ls)))
 
 pub returns-in_err-read_line-clause-script : goal.returns-in_err-read_line-clause-script
 returns-in_err-read_line-clause-script c =
-    let turn = turn_of c.loop-line.yielded _ c.loop-line.yielded_by _ _ c.in-Some.line c.in-Some.is c.next.ensures.steps (YieldsList-at c.into_iter-line-iterator.ensures.into_iter_gives (YieldsList-from_slice_split _ is_line_feed c.args.text.now c.split-lines.ensures.rest c.split-lines.ensures.done c.split-lines.ensures.closure (λ x b q k. search (rules, tests)))) in
+    let turn = turn_of c.loop-line.yielded _ c.loop-line.yielded_by _ _ c.in-Some.line c.in-Some.is c.next.ensures.steps
+    (YieldsList-at c.into_iter-line-iterator.ensures.into_iter_gives
+    (YieldsList-from_slice_split _ is_line_feed c.args.text.now c.split-lines.ensures.rest
+    c.split-lines.ensures.done c.split-lines.ensures.closure (λ x b q k. search (rules, tests)))) in
     let ls = slice_split is_line_feed c.args.text.now in
     let told : c.in_err-read_line.field-0.0 ≡ Script → events_of c.args.text.now ≡ None =
-    λ script. c.loop-line.invariant ∙ left-fault (map event_value c.loop-line.events.items) ls (length c.loop-line.yielded) c.in-Some.line.now turn.0 turn.1 (c.in_err-read_line.ensures.script script (drop (length c.loop-line.yielded + 1) ls)) in
+    λ script. c.loop-line.invariant
+    ∙ left-fault (map event_value c.loop-line.events.items) ls
+    (length c.loop-line.yielded) c.in-Some.line.now turn.0 turn.1
+    (c.in_err-read_line.ensures.script script (drop (length c.loop-line.yielded + 1) ls)) in
     let p = err_from_is_err_and c.from_residual.result c.from_residual.ensures.1 in
     rw p.1 (λ e. told (sym p.2 ∙ e))
 
 pub returns-clause-ok : goal.returns-clause-ok
 returns-clause-ok c =
-    let end = end_of c.loop-line.yielded _ c.loop-line.yielded_by _ _ c.in-None.is c.next.ensures.steps (YieldsList-at c.into_iter-line-iterator.ensures.into_iter_gives (YieldsList-from_slice_split _ is_line_feed c.args.text.now c.split-lines.ensures.rest c.split-lines.ensures.done c.split-lines.ensures.closure (λ x b q k. search (rules, tests)))) in
+    let end = end_of c.loop-line.yielded _ c.loop-line.yielded_by _ _ c.in-None.is c.next.ensures.steps
+    (YieldsList-at c.into_iter-line-iterator.ensures.into_iter_gives
+    (YieldsList-from_slice_split _ is_line_feed c.args.text.now c.split-lines.ensures.rest
+    c.split-lines.ensures.done c.split-lines.ensures.closure (λ x b q k. search (rules, tests)))) in
     let ls = slice_split is_line_feed c.args.text.now in
-    c.loop-line.invariant ∙ left-end (map event_value c.loop-line.events.items) ls (length c.loop-line.yielded) (drop_all (length c.loop-line.yielded) ls (omega (arith, end.1)))
+    c.loop-line.invariant ∙ left-end (map event_value c.loop-line.events.items) ls (length c.loop-line.yielded)
+    (drop_all (length c.loop-line.yielded) ls (omega (arith, end.1)))

@@ -6,4 +6,5 @@ use Rattle.event_script.proofs.Lines.{left}
 use Rattle.event_script.proofs.events.events_of.Given as goal
 
 abbrev pub invariant-loop-line : goal.invariant-loop-line
-invariant-loop-line l = events_of l.text ≡ left (map event_value l.events.items) (slice_split is_line_feed l.text) (length l.yielded)
+invariant-loop-line l = events_of l.text
+    ≡ left (map event_value l.events.items) (slice_split is_line_feed l.text) (length l.yielded)

@@ -1,8 +1,10 @@
 -- Each way out says what was sent of the whole.
-use Rattle.std.proofs.Common.{◌≡◌, ◌∙◌, ◌<◌, ◌+◌, ◌/◌, ℕ, List, take, length, length-take-le, rules, arith, subst, sym, ap}
-use Rattle.sl_io.proofs.Totals.{Made-more}
+use Rattle.std.proofs.Common.{◌≡◌, ◌∙◌, ◌<◌, ◌+◌, ◌/◌, ℕ, List, take, length, length-take-le, rules, arith, subst, sym}
+use Rattle.std.proofs.Common.{ap}
+use Rattle.sl_io.proofs.TotalLemmas.{Made-more}
 use Rattle.feeder.specs.Sending.{capped}
-use Rattle.feeder.proofs.Whole.{SoFar, goes_on, begins, breaks, count_at_end, written_at_end, nothing_left, partial_at_end, begins_at_end, more_sent}
+use Rattle.feeder.proofs.SendLemmas.{SoFar, goes_on, begins, breaks, count_at_end, written_at_end, nothing_left}
+use Rattle.feeder.proofs.SendLemmas.{partial_at_end, begins_at_end, more_sent}
 use Rattle.feeder.proofs.sending.send.Goals as goal
 
 pub returns-in-Err-clause-begun : goal.returns-in-Err-clause-begun
@@ -11,18 +13,21 @@ returns-in-Err-clause-begun g c = breaks _ _ _ _ _ _ _ _ c.reads.invariant.stand
 pub returns-then-held-eq0-clause-count : goal.returns-then-held-eq0-clause-count
 returns-then-held-eq0-clause-count g c =
     let s = c.reads.invariant.stands in
-    count_at_end _ _ _ _ _ _ _ _ _ _ s.1 c.in-Ok.ensures.passes c.if-count-eq0.true (c.in-Ok.ensures.end c.if-count-eq0.true) _ s.2
+    count_at_end _ _ _ _ _ _ _ _ _ _ s.1 c.in-Ok.ensures.passes c.if-count-eq0.true
+    (c.in-Ok.ensures.end c.if-count-eq0.true) _ s.2
 
 pub returns-then-held-eq0-clause-ok : goal.returns-then-held-eq0-clause-ok
 returns-then-held-eq0-clause-ok g c =
     let s = c.reads.invariant.stands in
-    written_at_end _ _ _ _ _ _ _ _ _ _ s.1 c.in-Ok.ensures.passes c.if-count-eq0.true (c.in-Ok.ensures.end c.if-count-eq0.true)
+    written_at_end _ _ _ _ _ _ _ _ _ _ s.1 c.in-Ok.ensures.passes c.if-count-eq0.true
+    (c.in-Ok.ensures.end c.if-count-eq0.true)
 
 pub returns-then-held-eq0-clause-all : goal.returns-then-held-eq0-clause-all
 returns-then-held-eq0-clause-all g c =
     let s = c.reads.invariant.stands in
     let size = c.reads.invariant.size in
-    nothing_left _ _ _ _ _ _ _ _ _ _ s.1 c.in-Ok.ensures.passes c.if-count-eq0.true (c.in-Ok.ensures.end c.if-count-eq0.true)
+    nothing_left _ _ _ _ _ _ _ _ _ _ s.1 c.in-Ok.ensures.passes c.if-count-eq0.true
+    (c.in-Ok.ensures.end c.if-count-eq0.true)
     (size ∙ c.if-held-eq0.true)
 
 pub returns-else-held-eq0-clause-partial : goal.returns-else-held-eq0-clause-partial
@@ -30,13 +35,15 @@ returns-else-held-eq0-clause-partial g c = λ is.
     let s = c.reads.invariant.stands in
     let size = c.reads.invariant.size in
     let some : 0 < c.reads.held = omega (arith, c.if-held-eq0.false) in
-    partial_at_end _ _ _ _ _ _ _ _ _ _ s.1 c.in-Ok.ensures.passes c.if-count-eq0.true (c.in-Ok.ensures.end c.if-count-eq0.true)
+    partial_at_end _ _ _ _ _ _ _ _ _ _ s.1 c.in-Ok.ensures.passes c.if-count-eq0.true
+    (c.in-Ok.ensures.end c.if-count-eq0.true)
     (subst (λ m. 0 < m) (sym size) some)
 
 pub returns-else-held-eq0-clause-begun : goal.returns-else-held-eq0-clause-begun
 returns-else-held-eq0-clause-begun g c =
     let s = c.reads.invariant.stands in
-    begins_at_end _ _ _ _ _ _ _ _ _ _ s.1 c.in-Ok.ensures.passes c.if-count-eq0.true (c.in-Ok.ensures.end c.if-count-eq0.true)
+    begins_at_end _ _ _ _ _ _ _ _ _ _ s.1 c.in-Ok.ensures.passes c.if-count-eq0.true
+    (c.in-Ok.ensures.end c.if-count-eq0.true)
 
 pub reads-preserved : goal.reads-preserved
 reads-preserved g c =

@@ -1,8 +1,8 @@
 -- What was sent so far, nothing failed, and there was a read for each turn.
 use Rattle.std.proofs.Common.{◌≡◌, ◌<◌, ℕ, length, take}
-use Rattle.sl_io.proofs.Totals.{Made}
+use Rattle.sl_io.proofs.TotalLemmas.{Made}
 use Rattle.feeder.specs.Sending.{capped}
-use Rattle.feeder.proofs.Whole.{SoFar}
+use Rattle.feeder.proofs.SendLemmas.{SoFar}
 use Rattle.feeder.proofs.sending.send.Given as goal
 
 abbrev pub invariant-reads : goal.invariant-reads

@@ -1,5 +1,5 @@
 use Rattle.std.proofs.Common.{◌≡◌, ℕ, rules, arith, length, take, drop, length-take-le}
-use Rattle.feeder.proofs.Whole.{passes, breaks_off}
+use Rattle.feeder.proofs.SendLemmas.{passes, breaks_off}
 use Rattle.feeder.proofs.sending.send_once.Goals as goal
 
 pub returns-in-Ok-write_all-clause-passes : goal.returns-in-Ok-write_all-clause-passes
@@ -8,7 +8,8 @@ returns-in-Ok-write_all-clause-passes g c =
     let n = c.in-Ok.count in
     let size : length (take h c.args.rest.now) ≡ h = search rules in
     passes _ _ _ _ c.read_behind.new.block (take h c.args.rest.now) _ _ c.put_rest.new.rest h n size
-    c.in-Ok.ensures.start c.in-Ok.ensures.bound c.in-Ok.ensures.consumed (search rules) c.in-Ok-write_all.ensures.ok (search rules) c.put_rest.ensures
+    c.in-Ok.ensures.start c.in-Ok.ensures.bound c.in-Ok.ensures.consumed (search rules) c.in-Ok-write_all.ensures.ok
+    (search rules) c.put_rest.ensures
 
 pub returns-in-Err-write_all-clause-begun : goal.returns-in-Err-write_all-clause-begun
 returns-in-Err-write_all-clause-begun g c =

@@ -12,5 +12,8 @@ pub returns-clause-ok : goal.returns-clause-ok
 unfolding output_after
 returns-clause-ok c =
     ap (option_map (output_after c.args.config)) c.in_ok-events.ensures.ok
-    ∙ ap Some (sym (c.in_ok-output.ensures ∙ ap (λ (hs : List Handed). output_of (map handed_value hs)) c.as_slice-2.ensures.value ∙ ap output_of c.in_ok-takes.ensures.handed
+    ∙ ap Some
+    (sym
+    (c.in_ok-output.ensures ∙ ap (λ (hs : List Handed). output_of (map handed_value hs)) c.as_slice-2.ensures.value
+    ∙ ap output_of c.in_ok-takes.ensures.handed
     ∙ ap (λ (es : List Event). output_of (handed c.args.config (map event_value es))) c.as_slice.ensures.value))

@@ -1,4 +1,4 @@
-use Rattle.event_loop.proofs.Serving.{turn-serves, fail-serves}
+use Rattle.event_loop.proofs.ServesLemmas.{turn-serves, fail-serves}
 use Rattle.jobs.proofs.serving.one_turn.Goals as goal
 
 pub returns-in-Ok-clause-serves : goal.returns-in-Ok-clause-serves

@@ -1,5 +1,5 @@
 use Rattle.std.proofs.Common.{◌-◌}
-use Rattle.mseed_header.proofs.Walk.{Walks}
+use Rattle.mseed_header.proofs.ChainLemmas.{Walks}
 use Rattle.mseed_header.proofs.chain.blockettes_of.Given as goal
 
 abbrev pub invariant-loop-at : goal.invariant-loop-at

@@ -1,5 +1,5 @@
 use Rattle.std.proofs.Common.{arith}
-use Rattle.mseed_header.proofs.Ranges.{of_bytes}
+use Rattle.mseed_header.proofs.RangeLemmas.{of_bytes}
 use Rattle.mseed_header.proofs.fields.is_contents.Goals as goal
 
 pub returns : goal.returns

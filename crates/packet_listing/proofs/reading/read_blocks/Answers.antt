@@ -2,9 +2,9 @@
 use Rattle.std.proofs.Common.{◌≡◌, ◌∙◌, subst, Ok, Err}
 use Rattle.std.specs.Prelude.{OnOk, Result}
 use Rattle.std.proofs.KnownBytes.{Keeps-refl}
-use Rattle.sl_io.proofs.Totals.{Made-more}
+use Rattle.sl_io.proofs.TotalLemmas.{Made-more}
 use Rattle.packet_listing.specs.Pieces.{Takes}
-use Rattle.packet_listing.proofs.Listing.{led-no-limit, listed-sent, goes-on-listed, ends, stops, fails, not-memory}
+use Rattle.packet_listing.proofs.ReadLaws.{led-no-limit, listed-sent, goes-on-listed, ends, stops, fails, not-memory}
 use Rattle.packet_listing.proofs.reading.read_blocks.Goals as goal
 
 on-ok : {T E : Type 0} → (P Q : Type 0) → (r : Result T E) → OnOk r P → (P → Q) → OnOk r Q
@@ -13,32 +13,40 @@ on-ok P Q (Err e) h f = tt
 
 pub take_piece-taken-requires : goal.take_piece-taken-requires
 take_piece-taken-requires g c =
-    let t = listed-sent _ _ _ _ _ _ _ _ _ _ _ _ _ _ c.reads.invariant.listed c.in-Ok.ensures.written c.in-Ok.ensures.sent in
+    let t = listed-sent _ _ _ _ _ _ _ _ _ _ _ _ _ _ c.reads.invariant.listed c.in-Ok.ensures.written
+    c.in-Ok.ensures.sent in
     record { plan = led-no-limit _ _ _ _ _ _ _ _ _ _ _ _ t c.requires.plan }
 
 pub returns-in-None-clause-told : goal.returns-in-None-clause-told
 returns-in-None-clause-told g c = λ _.
-    let t = listed-sent _ _ _ _ _ _ _ _ _ _ _ _ _ _ c.reads.invariant.listed c.in-Ok.ensures.written c.in-Ok.ensures.sent in
+    let t = listed-sent _ _ _ _ _ _ _ _ _ _ _ _ _ _ c.reads.invariant.listed c.in-Ok.ensures.written
+    c.in-Ok.ensures.sent in
     stops _ _ _ _ _ _ _ _ _ _ _ _ _ _ t c.in-None.ensures.kept tt
 
 pub returns-in-Ok-true-clause-ends : goal.returns-in-Ok-true-clause-ends
 returns-in-Ok-true-clause-ends g c =
-    let t = listed-sent _ _ _ _ _ _ _ _ _ _ _ _ _ _ c.reads.invariant.listed c.in-Ok.ensures.written c.in-Ok.ensures.sent in
+    let t = listed-sent _ _ _ _ _ _ _ _ _ _ _ _ _ _ c.reads.invariant.listed c.in-Ok.ensures.written
+    c.in-Ok.ensures.sent in
     on-ok _ _ c.finish.result c.finish.ensures.written (λ more.
-    ends _ _ _ _ _ _ _ _ _ _ _ _ _ _ _ _ _ _ _ _ t (subst (Takes _ _ _ _ _) c.in-Ok-true.field-0-test c.in-Ok-true.ensures.taken) c.in-Some.ensures.consumed
+    ends _ _ _ _ _ _ _ _ _ _ _ _ _ _ _ _ _ _ _ _ t
+    (subst (Takes _ _ _ _ _) c.in-Ok-true.field-0-test c.in-Ok-true.ensures.taken) c.in-Some.ensures.consumed
     c.in-Ok-write_output.ensures.lines c.in-Ok-write_output.ensures.records c.in-Ok-write_output.ensures.cleared more)
 
 pub returns-in-Err-taken-clause-told : goal.returns-in-Err-taken-clause-told
 returns-in-Err-taken-clause-told g c = λ told.
-    let t = listed-sent _ _ _ _ _ _ _ _ _ _ _ _ _ _ c.reads.invariant.listed c.in-Ok.ensures.written c.in-Ok.ensures.sent in
-    fails c.in-Err-taken.fault _ _ _ _ _ _ _ _ _ _ _ _ _ _ _ _ _ _ _ t (c.in-Err-taken.ensures.failed (not-memory c.in-Err-taken.fault told)) c.in-Some.ensures.consumed
+    let t = listed-sent _ _ _ _ _ _ _ _ _ _ _ _ _ _ c.reads.invariant.listed c.in-Ok.ensures.written
+    c.in-Ok.ensures.sent in
+    fails c.in-Err-taken.fault _ _ _ _ _ _ _ _ _ _ _ _ _ _ _ _ _ _ _ t
+    (c.in-Err-taken.ensures.failed (not-memory c.in-Err-taken.fault told)) c.in-Some.ensures.consumed
     c.in-Ok-write_output.ensures.lines c.in-Ok-write_output.ensures.records c.in-Ok-write_output.ensures.cleared
 
 pub reads-preserved : goal.reads-preserved
 reads-preserved g c =
-    let t = listed-sent _ _ _ _ _ _ _ _ _ _ _ _ _ _ c.reads.invariant.listed c.in-Ok.ensures.written c.in-Ok.ensures.sent in
+    let t = listed-sent _ _ _ _ _ _ _ _ _ _ _ _ _ _ c.reads.invariant.listed c.in-Ok.ensures.written
+    c.in-Ok.ensures.sent in
     record {
-      listed = goes-on-listed _ _ _ _ _ _ _ _ _ _ _ _ _ _ _ _ _ _ _ t (subst (Takes _ _ _ _ _) c.in-Ok-false.field-0-test c.in-Ok-false.ensures.taken) c.in-Some.ensures.consumed
+      listed = goes-on-listed _ _ _ _ _ _ _ _ _ _ _ _ _ _ _ _ _ _ _ t
+          (subst (Takes _ _ _ _ _) c.in-Ok-false.field-0-test c.in-Ok-false.ensures.taken) c.in-Some.ensures.consumed
           c.in-Ok-write_output.ensures.lines c.in-Ok-write_output.ensures.records c.in-Ok-write_output.ensures.cleared;
       failures = c.in-Some.ensures.ended ∙ c.reads.invariant.failures;
       made = Made-more _ _ _ _ c.reads.invariant.made c.in-Some.ensures.call;

@@ -1,13 +1,14 @@
 -- All that came is told, nothing failed so far, and there was a read for each turn.
 use Rattle.std.proofs.Common.{◌≡◌}
-use Rattle.sl_io.proofs.Totals.{Made}
-use Rattle.packet_listing.proofs.Listing.{ListedTo}
+use Rattle.sl_io.proofs.TotalLemmas.{Made}
+use Rattle.packet_listing.proofs.ReadLaws.{ListedTo}
 use Rattle.packet_listing.proofs.reading.read_blocks.Given as goal
 
 abbrev pub invariant-reads : goal.invariant-reads
 invariant-reads g l = record {
   listed : ListedTo l.fn.core l.core l.fn.output l.output
-      (g.R.Source.left l.fn.reader) (g.R.Source.left l.reader) (g.W.Sink.written l.fn.writer) (g.W.Sink.written l.writer)
+      (g.R.Source.left l.fn.reader) (g.R.Source.left l.reader) (g.W.Sink.written l.fn.writer)
+      (g.W.Sink.written l.writer)
       (g.O.Sink.written l.fn.out) (g.O.Sink.written l.out) (g.P.Sink.written l.fn.records) (g.P.Sink.written l.records);
   failures : g.R.Source.failures l.reader ≡ g.R.Source.failures l.fn.reader;
   made : Made (g.R.Source.calls l.fn.reader) (g.R.Source.calls l.reader) l.counter;

@@ -8,7 +8,7 @@ use Rattle.slreader.specs.Comings.{IsNotBegun}
 use Rattle.packet_listing.specs.declared.fault.ListingFault.TheVariants.{Reader}
 use Rattle.packet_listing.specs.Lines.{OutputValue}
 use Rattle.packet_listing.specs.Whole.{is_told_before}
-use Rattle.packet_listing.proofs.Listing.{stops-as}
+use Rattle.packet_listing.proofs.ReadLaws.{stops-as}
 use Rattle.packet_listing.proofs.reading.read_over.Goals as goal
 
 on-err : {T E : Type 0} → (P Q : E → Type 0) → (r : Result T E) → IfErr r P → ((e : E) → P e → Q e) → IfErr r Q
@@ -25,10 +25,12 @@ not-begun BadReply plan h told = absurd h
 pub returns-in-Ok-new-clause-told : goal.returns-in-Ok-new-clause-told
 returns-in-Ok-new-clause-told g c =
     on-err _ _ c.read_blocks.result c.read_blocks.ensures.told (λ fault h told.
-    stops-as fault _ _ _ _ _ _ _ _ _ _ _ _ c.in-Ok-new.ensures.begun (ap (λ (o : OutputValue). o.refusals) c.in-Ok.ensures) (h told))
+    stops-as fault _ _ _ _ _ _ _ _ _ _ _ _ c.in-Ok-new.ensures.begun
+    (ap (λ (o : OutputValue). o.refusals) c.in-Ok.ensures) (h told))
 
 pub returns-in-Ok-new-clause-limit : goal.returns-in-Ok-new-clause-limit
-returns-in-Ok-new-clause-limit g c = on-err _ _ c.read_blocks.result c.read_blocks.ensures.plan (λ fault h is. absurd (h is))
+returns-in-Ok-new-clause-limit g c =
+    on-err _ _ c.read_blocks.result c.read_blocks.ensures.plan (λ fault h is. absurd (h is))
 
 pub returns-clause-told : goal.returns-clause-told
 returns-clause-told g c = λ told. absurd (not-begun c.in-Err.fault _ c.in-Err.ensures.fault told)

@@ -2,11 +2,12 @@
 use Rattle.std.proofs.Common.{◌≡◌, sym, ap, ◌∙◌}
 use Rattle.slreader.specs.Dialogue.Outcome.{Gave}
 use Rattle.slreader.specs.Whats.{what_value}
-use Rattle.packet_listing.proofs.Taking.{takes-nothing, takes-end, taken-on, fails-in, taken-no-limit}
+use Rattle.packet_listing.proofs.PieceLaws.{takes-nothing, takes-end, taken-on, fails-in, taken-no-limit}
 use Rattle.packet_listing.proofs.reading.take_piece.Goals as goal
 
 pub returns-in-Err-clause-failed : goal.returns-in-Err-clause-failed
-returns-in-Err-clause-failed c = λ _. fails-in _ _ _ _ _ _ _ _ c.given.invariant c.in-Err.ensures.outcome c.incoming.follows.holds-at-none
+returns-in-Err-clause-failed c =
+    λ _. fails-in _ _ _ _ _ _ _ _ c.given.invariant c.in-Err.ensures.outcome c.incoming.follows.holds-at-none
 
 pub returns-in-Nothing-clause-taken : goal.returns-in-Nothing-clause-taken
 returns-in-Nothing-clause-taken c =
@@ -20,7 +21,8 @@ returns-in-End-clause-taken c =
 
 pub given-preserved : goal.given-preserved
 given-preserved c =
-    taken-on _ _ _ _ _ _ _ _ _ _ c.given.invariant c.in-Ok.ensures.outcome c.incoming.follows.holds-at-none c.in-Ok-put.ensures
+    taken-on _ _ _ _ _ _ _ _ _ _ c.given.invariant c.in-Ok.ensures.outcome c.incoming.follows.holds-at-none
+    c.in-Ok-put.ensures
 
 pub returns-in-Err-clause-plan : goal.returns-in-Err-clause-plan
 returns-in-Err-clause-plan c = taken-no-limit _ _ _ _ _ _ _ c.given.invariant c.in-Err.ensures.outcome c.requires.plan

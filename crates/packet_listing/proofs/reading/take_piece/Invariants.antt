@@ -1,5 +1,5 @@
 use Rattle.std.proofs.Common.{◌≡◌, ◌++◌, List, ℕ, length}
-use Rattle.packet_listing.proofs.Taking.{TakenTo}
+use Rattle.packet_listing.proofs.PieceLaws.{TakenTo}
 use Rattle.packet_listing.proofs.reading.take_piece.Given as goal
 
 -- The dialogue went on over what came before the rest of the piece.

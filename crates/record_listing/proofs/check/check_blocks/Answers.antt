@@ -1,24 +1,31 @@
 -- Each way out says what the check that stands there says of the whole.
 use Rattle.std.proofs.Common.{ap, ◌∙◌, arith}
-use Rattle.sl_io.proofs.Totals.{Made-more}
+use Rattle.sl_io.proofs.TotalLemmas.{Made-more}
 use Rattle.record_listing.specs.Checks.{Progress}
-use Rattle.record_listing.proofs.Checking.{stands_read, stands_written, stands_begun, stands_failed, stands_whole, stands_ended, stands_verdict, answers_verdict, on_ok, on_err}
+use Rattle.record_listing.proofs.CheckLemmas.{stands_read, stands_written, stands_begun, stands_failed, stands_whole}
+use Rattle.record_listing.proofs.CheckLemmas.{stands_ended, stands_verdict, answers_verdict, on_ok, on_err}
 use Rattle.record_listing.proofs.check.check_blocks.Goals as goal
 
 pub returns-in-Ok-eq0-clause-verdict : goal.returns-in-Ok-eq0-clause-verdict
 returns-in-Ok-eq0-clause-verdict g c =
-    let stands = stands_read _ _ _ _ _ _ _ _ _ _ c.reads.invariant.stands c.in-Ok-eq0.ensures.consumed c.in-Ok-eq0.ensures.listed c.in-Ok-eq0.ensures.rest in
-    answers_verdict _ _ _ c.finish.ensures.answer (stands_verdict _ _ _ _ _ _ _ stands (c.in-Ok-eq0.ensures.end c.in-Ok-eq0.field-0-test) c.rest.ensures.rest)
+    let stands = stands_read _ _ _ _ _ _ _ _ _ _ c.reads.invariant.stands c.in-Ok-eq0.ensures.consumed
+    c.in-Ok-eq0.ensures.listed c.in-Ok-eq0.ensures.rest in
+    answers_verdict _ _ _ c.finish.ensures.answer
+    (stands_verdict _ _ _ _ _ _ _ stands (c.in-Ok-eq0.ensures.end c.in-Ok-eq0.field-0-test) c.rest.ensures.rest)
 
 pub returns-in-Ok-eq0-clause-written : goal.returns-in-Ok-eq0-clause-written
 returns-in-Ok-eq0-clause-written g c =
-    let stands = stands_read _ _ _ _ _ _ _ _ _ _ c.reads.invariant.stands c.in-Ok-eq0.ensures.consumed c.in-Ok-eq0.ensures.listed c.in-Ok-eq0.ensures.rest in
-    on_ok _ _ _ c.finish.ensures.ok (stands_whole _ _ _ _ _ _ _ _ stands (c.in-Ok-eq0.ensures.end c.in-Ok-eq0.field-0-test) c.rest.ensures.rest)
+    let stands = stands_read _ _ _ _ _ _ _ _ _ _ c.reads.invariant.stands c.in-Ok-eq0.ensures.consumed
+    c.in-Ok-eq0.ensures.listed c.in-Ok-eq0.ensures.rest in
+    on_ok _ _ _ c.finish.ensures.ok
+    (stands_whole _ _ _ _ _ _ _ _ stands (c.in-Ok-eq0.ensures.end c.in-Ok-eq0.field-0-test) c.rest.ensures.rest)
 
 pub returns-in-Ok-eq0-clause-begun : goal.returns-in-Ok-eq0-clause-begun
 returns-in-Ok-eq0-clause-begun g c =
-    let stands = stands_read _ _ _ _ _ _ _ _ _ _ c.reads.invariant.stands c.in-Ok-eq0.ensures.consumed c.in-Ok-eq0.ensures.listed c.in-Ok-eq0.ensures.rest in
-    on_err _ _ _ c.finish.ensures.err (stands_ended _ _ _ _ _ _ _ _ stands (c.in-Ok-eq0.ensures.end c.in-Ok-eq0.field-0-test) c.rest.ensures.rest)
+    let stands = stands_read _ _ _ _ _ _ _ _ _ _ c.reads.invariant.stands c.in-Ok-eq0.ensures.consumed
+    c.in-Ok-eq0.ensures.listed c.in-Ok-eq0.ensures.rest in
+    on_err _ _ _ c.finish.ensures.err
+    (stands_ended _ _ _ _ _ _ _ _ stands (c.in-Ok-eq0.ensures.end c.in-Ok-eq0.field-0-test) c.rest.ensures.rest)
 
 pub returns-in-Err-OutOfMemory-clause-begun : goal.returns-in-Err-OutOfMemory-clause-begun
 returns-in-Err-OutOfMemory-clause-begun g c = stands_begun _ _ _ _ _ _ c.reads.invariant.stands
@@ -28,13 +35,15 @@ returns-in-Err-Read-clause-begun g c = stands_begun _ _ _ _ _ _ c.reads.invarian
 
 pub returns-in-Err-clause-begun : goal.returns-in-Err-clause-begun
 returns-in-Err-clause-begun g c =
-    let stands = stands_read _ _ _ _ _ _ _ _ _ _ c.reads.invariant.stands c.in-Ok.ensures.consumed c.in-Ok.ensures.listed c.in-Ok.ensures.rest in
+    let stands = stands_read _ _ _ _ _ _ _ _ _ _ c.reads.invariant.stands c.in-Ok.ensures.consumed
+    c.in-Ok.ensures.listed c.in-Ok.ensures.rest in
     stands_failed _ _ _ _ _ _ _ stands c.in-Err.ensures.err
 
 pub reads-preserved : goal.reads-preserved
 reads-preserved g c =
     let h = c.reads.invariant in
-    let stands = stands_read _ _ _ _ _ _ _ _ _ _ h.stands c.in-Ok.ensures.consumed c.in-Ok.ensures.listed c.in-Ok.ensures.rest in
+    let stands = stands_read _ _ _ _ _ _ _ _ _ _ h.stands c.in-Ok.ensures.consumed c.in-Ok.ensures.listed
+    c.in-Ok.ensures.rest in
     let w = c.in-Ok-write_many.ensures in
     let kept = ap (λ (p : Progress). p.count) w.kept in
     let listed = c.in-Ok.ensures.count in

@@ -4,7 +4,7 @@ use Rattle.std.proofs.lemmas.Grind.{common_steps}
 use Rattle.std.proofs.lemmas.List.{take_rest}
 use Rattle.feeder.specs.Feedings.{lent_records, left_over}
 use Rattle.record_listing.specs.Checks.{Progress, with_records}
-use Rattle.record_listing.proofs.Pieces.{listed_by_feeding, rest_by_feeding}
+use Rattle.record_listing.proofs.PieceLemmas.{listed_by_feeding, rest_by_feeding}
 use Rattle.record_listing.proofs.check.list_piece.Goals as goal
 use Rattle.record_listing.proofs.check.list_piece.Goals.{in-Some+in_ok-list-in-Some, in-None}
 
@@ -16,12 +16,14 @@ records-preserved c =
       | in-Some+in_ok-list-in-Some w ↦ w.cutter-is ∙ c.feed.follows.holds-at-none
       | in-None w ↦ w.cutter-is ∙ c.feed.follows.holds-at-none
     ] in
-    let listed : c.match-whole.listing ≡ with_records c.records.listing (lent_records whole) = elim c.match-whole.branch [
+    let listed : c.match-whole.listing
+    ≡ with_records c.records.listing (lent_records whole) = elim c.match-whole.branch [
       | in-Some+in_ok-list-in-Some w ↦ rw w.in-Some.is (w.listing-is ∙ w.in_ok-list-in-Some.ensures)
       | in-None w ↦ rw w.in-None.is w.listing-is
     ] in
     let count : c.match-whole.listing.count ≤ c.records.listing.count + 1 = elim c.match-whole.branch [
-      | in-Some+in_ok-list-in-Some w ↦ let e = ap (λ (p : Progress). p.count) (w.listing-is ∙ w.in_ok-list-in-Some.ensures) in omega arith
+      | in-Some+in_ok-list-in-Some w ↦ let e =
+          ap (λ (p : Progress). p.count) (w.listing-is ∙ w.in_ok-list-in-Some.ensures) in omega arith
       | in-None w ↦ let e = ap (λ (p : Progress). p.count) w.listing-is in omega arith
     ] in
     let rest = take_rest c.records.left.now c.feed.result.used in

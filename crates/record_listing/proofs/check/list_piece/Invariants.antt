@@ -5,7 +5,8 @@ use Rattle.record_listing.proofs.check.list_piece.Given as goal
 
 abbrev pub invariant-records : goal.invariant-records
 invariant-records l = record {
-  listed : with_records l.listing (piece_read l.cutter l.left).records ≡ with_records l.fn.listing (piece_read l.fn.cutter l.piece).records;
+  listed : with_records l.listing (piece_read l.cutter l.left).records
+      ≡ with_records l.fn.listing (piece_read l.fn.cutter l.piece).records;
   rest : (piece_read l.cutter l.left).rest ≡ (piece_read l.fn.cutter l.piece).rest;
   count : l.listing.count + length l.left ≤ l.fn.listing.count + length l.piece;
 }

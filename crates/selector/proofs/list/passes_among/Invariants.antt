@@ -8,6 +8,7 @@ invariant-loop-selector l =
     let is_match = matches_parts l.location l.channel l.kind in
     let rest = drop l.selector-index l.selectors in record {
       positive : list_any (λ p. not p.negated) l.selectors ≡ (l.chooses || list_any (λ p. not p.negated) rest);
-      chosen : list_any (λ p. not p.negated && is_match p) l.selectors ≡ (l.is_chosen || list_any (λ p. not p.negated && is_match p) rest);
+      chosen : list_any (λ p. not p.negated && is_match p) l.selectors
+          ≡ (l.is_chosen || list_any (λ p. not p.negated && is_match p) rest);
       refused : list_any (λ p. p.negated && is_match p) l.selectors ≡ list_any (λ p. p.negated && is_match p) rest;
     }

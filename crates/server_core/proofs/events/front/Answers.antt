@@ -4,7 +4,8 @@ use Rattle.protocol.specs.Client.{Client}
 use Rattle.server_core.specs.Runs.{first_waiting}
 use Rattle.server_core.proofs.events.front.Goals as goal
 
-first-of : (n : ℕ) (bytes : List ℕ) (o : Option Client) → Some bytes ≡ option_map (λ c. c.waiting) o → take n bytes ≡ first_waiting n o
+first-of : (n : ℕ) (bytes : List ℕ) (o : Option Client) → Some bytes ≡ option_map (λ c. c.waiting) o
+    → take n bytes ≡ first_waiting n o
 first-of n bytes None e = absurd cc
 first-of n bytes (Some c) e = ap (λ (x : Option (List ℕ)). take n (unwrap_or x bytes)) e
 

@@ -37,7 +37,9 @@ loop-one-preserved c =
     }
 
 pub returns-clause-each : goal.returns-clause-each
-returns-clause-each c = all-reviewed c.args.config.now c.args.opened.now c.args.slots.now c.loop-one.slots c.loop-one.one-index (omega arith) c.loop-one.invariant.done
+returns-clause-each c =
+    all-reviewed c.args.config.now c.args.opened.now c.args.slots.now c.loop-one.slots c.loop-one.one-index
+    (omega arith) c.loop-one.invariant.done
 
 pub review_unless_spared-requires-clause-current : goal.review_unless_spared-requires-clause-current
 review_unless_spared-requires-clause-current c =

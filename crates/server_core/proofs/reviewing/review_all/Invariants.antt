@@ -1,6 +1,6 @@
 use Rattle.std.proofs.Common.{◌≡◌, length}
 use Rattle.server_core.specs.Marks.{AreMarked}
-use Rattle.server_core.specs.Standing.{AreSettled, StayOpen}
+use Rattle.server_core.specs.ServerValues.{AreSettled, StayOpen}
 use Rattle.server_core.proofs.ReloadLemmas.{IsDone, IsLeft}
 use Rattle.server_core.proofs.reviewing.review_all.Given as goal
 

@@ -9,5 +9,7 @@ use Rattle.session_state.proofs.modes.act.Goals as goal
 pub returns-in-Some : goal.returns-in-Some
 returns-in-Some c = λ config.
     let first : slice_get c.args.view.now 0 ≡ Some c.in-Some.place.now = search rules in
-    alone-acted config c.mode.inside.is_multi c.mode.inside.named _ c.args.view.now c.in-Some.place.now c.args.action c.if-mode.false (c.mode.invariant c.if-mode.false) first c.ask_alone.ensures
-    ∙ ap (λ m. act (view_in config c.args.view.now) (negotiated_in config m) (action_value c.args.action)) c.mode.view_is
+    alone-acted config c.mode.inside.is_multi c.mode.inside.named _ c.args.view.now c.in-Some.place.now c.args.action
+    c.if-mode.false (c.mode.invariant c.if-mode.false) first c.ask_alone.ensures
+    ∙ ap (λ m. act (view_in config c.args.view.now) (negotiated_in config m) (action_value c.args.action))
+    c.mode.view_is

@@ -1,6 +1,6 @@
 -- What was read before and at the fault is what was taken.
 use Rattle.std.proofs.lemmas.Result.{err_from_is_err_and}
-use Rattle.sl_io.proofs.Totals.{ConsumesSome-after}
+use Rattle.sl_io.proofs.TotalLemmas.{ConsumesSome-after}
 use Rattle.sl_io.proofs.whole.read_all.Goals as goal
 
 pub returns-in_err-read_block-clause-lost : goal.returns-in_err-read_block-clause-lost

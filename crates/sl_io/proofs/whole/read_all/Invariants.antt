@@ -1,7 +1,7 @@
 -- What was read so far is what was consumed, no read failed, and there was a read for each turn.
 use Rattle.std.proofs.Common.{◌≡◌}
 use Rattle.std.specs.Io.KnownBytes.{Consumes}
-use Rattle.sl_io.proofs.Totals.{Made}
+use Rattle.sl_io.proofs.TotalLemmas.{Made}
 use Rattle.sl_io.proofs.whole.read_all.Given as goal
 
 abbrev pub invariant-reads : goal.invariant-reads

@@ -1,7 +1,7 @@
 -- The bytes that a write took come after what was written, and one that took some is not empty.
 use Rattle.std.proofs.Common.{◌<◌, ◌++◌, take, ◌∙◌, arith}
 use Rattle.std.proofs.KnownBytes.{Appends-trans}
-use Rattle.sl_io.proofs.Totals.{split-again}
+use Rattle.sl_io.proofs.TotalLemmas.{split-again}
 use Rattle.sl_io.proofs.whole.write_all.Goals as goal
 
 pub writes-preserved : goal.writes-preserved

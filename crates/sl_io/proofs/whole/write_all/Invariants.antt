@@ -5,7 +5,8 @@ use Rattle.sl_io.proofs.whole.write_all.Given as goal
 
 abbrev pub invariant-writes : goal.invariant-writes
 invariant-writes g l = record {
-  written : (done : List ℕ) × (l.bytes ≡ done ++ l.rest) × Appends (g.S.Sink.written l.fn.sink) (g.S.Sink.written l.sink) done;
+  written : (done : List ℕ) × (l.bytes ≡ done ++ l.rest)
+      × Appends (g.S.Sink.written l.fn.sink) (g.S.Sink.written l.sink) done;
   failures : g.S.Sink.failures l.sink ≡ g.S.Sink.failures l.fn.sink;
   empty : g.S.Sink.empty_writes l.sink ≡ g.S.Sink.empty_writes l.fn.sink;
 }

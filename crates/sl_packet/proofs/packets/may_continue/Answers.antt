@@ -1,6 +1,6 @@
 -- The header was judged, and what stands behind it may be anything.
 use Rattle.std.proofs.Common.{sym, ◌∙◌, arith}
-use Rattle.sl_packet.proofs.Judging.{rest_continues}
+use Rattle.sl_packet.proofs.ByteLemmas.{rest_continues}
 use Rattle.sl_packet.proofs.packets.may_continue.Goals as goal
 
 pub returns : goal.returns

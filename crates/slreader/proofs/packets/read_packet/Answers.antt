@@ -4,11 +4,13 @@ use Rattle.slreader.proofs.packets.read_packet.Goals as goal
 
 pub returns-in-Nothing-clause-first : goal.returns-in-Nothing-clause-first
 returns-in-Nothing-clause-first c = λ r.
-    cut_nothing r _ _ _ _ _ c.in-Ok.is c.feed.ensures.for_good c.in-Ok.ensures.fed c.in-Nothing.is c.feed.follows.holds-at-none
+    cut_nothing r _ _ _ _ _ c.in-Ok.is c.feed.ensures.for_good c.in-Ok.ensures.fed c.in-Nothing.is
+    c.feed.follows.holds-at-none
 
 pub returns-in-Packet-clause-first : goal.returns-in-Packet-clause-first
 returns-in-Packet-clause-first c = λ r.
-    cut_packet r _ _ _ _ _ _ _ c.in-Ok.is c.feed.ensures.for_good c.in-Ok.ensures.fed c.in-Packet.is c.feed.follows.holds-at-none c.copy_from_slice.ensures.after
+    cut_packet r _ _ _ _ _ _ _ c.in-Ok.is c.feed.ensures.for_good c.in-Ok.ensures.fed c.in-Packet.is
+    c.feed.follows.holds-at-none c.copy_from_slice.ensures.after
 
 pub returns-in-End-clause-first : goal.returns-in-End-clause-first
 returns-in-End-clause-first c = λ r.

@@ -5,4 +5,5 @@ use Rattle.slreader.specs.WantTexts.{texts}
 use Rattle.slreader.proofs.spelling.are_patterns.Given as goal
 
 abbrev pub invariant-loop-pattern : goal.invariant-loop-pattern
-invariant-loop-pattern l = list_all is_pattern (texts l.patterns) ≡ list_all is_pattern (texts (drop l.pattern-index l.patterns))
+invariant-loop-pattern l = list_all is_pattern (texts l.patterns)
+    ≡ list_all is_pattern (texts (drop l.pattern-index l.patterns))

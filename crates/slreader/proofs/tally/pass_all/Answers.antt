@@ -6,4 +6,5 @@ use Rattle.slreader.proofs.tally.pass_all.Goals as goal
 
 pub loop-index-preserved : goal.loop-index-preserved
 loop-index-preserved c =
-    set_next (passed c.args.number.now c.args.header.now) c.args.resumes.now.items _ c.loop-index.index _ _ c.loop-index.invariant (omega (arith, c.args.resumes.now.ok.0)) c.index_mut-resume.ensures.value c.pass.ensures
+    set_next (passed c.args.number.now c.args.header.now) c.args.resumes.now.items _ c.loop-index.index _ _
+    c.loop-index.invariant (omega (arith, c.args.resumes.now.ok.0)) c.index_mut-resume.ensures.value c.pass.ensures

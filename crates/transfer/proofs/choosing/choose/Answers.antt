@@ -6,14 +6,14 @@ use Rattle.protocol.specs.Packet.{packet}
 use Rattle.station_ring.specs.Rings.{number_at}
 use Rattle.session_state.specs.declared.session.State.TheVariants.{Transfer}
 use Rattle.session_state.specs.Choices.{chosen_of, request_in}
-use Rattle.session_state.specs.Sessions.{Sitting, but_for_cursors}
+use Rattle.session_state.specs.Sessions.{SessionValue, but_for_cursors}
 use Rattle.transfer.specs.Choosing.{answer_of}
-use Rattle.transfer.proofs.Beginning.{client-same, requests-same}
-use Rattle.transfer.proofs.Going.{ended-passes, ended-reached, passed-all, same-next}
-use Rattle.transfer.proofs.Leading.{leads-to-packet, leads-on}
-use Rattle.transfer.proofs.Packets.{arrived-there}
+use Rattle.transfer.proofs.StartLemmas.{client-same, requests-same}
+use Rattle.transfer.proofs.PassedLemmas.{ended-passes, ended-reached, passed-all, same-next}
+use Rattle.transfer.proofs.ChooseLemmas.{leads-to-packet, leads-on}
+use Rattle.transfer.proofs.PacketLemmas.{arrived-there}
 use Rattle.transfer.specs.Sleeping.{Sleeps}
-use Rattle.transfer.proofs.Waits.{all-reached, sleeps-so}
+use Rattle.transfer.proofs.SleepLemmas.{all-reached, sleeps-so}
 use Rattle.transfer.proofs.choosing.choose.Goals as goal
 
 pub returns-in-Some-clause-client : goal.returns-in-Some-clause-client
@@ -23,12 +23,19 @@ returns-in-Some-clause-client c = λ transfers passed h holds.
     let config = c.args.config.now in
     let mid = c.found_next.new.session in
     let before = passed-all c.args.rings.now c.args.session.now passed c.in-Transfer.next (sym c.in-Transfer.ensures) in
-    let made : Sitting = record mid { state = Transfer (c.in-Some.found.position + 1); waiting = packet (number_at there.ring c.in-Some.found.place) item.bytes } in
-    client-same config h c.send.new.session made (c.send.ensures.session there.ring item there.ring_there there.holds.there)
-    ∙ leads-to-packet config h mid made c.in-Transfer.next (number_at there.ring c.in-Some.found.place) c.in-Some.found.position item c.codes_are_distinct.ensures
-    (ap (λ (s : Sitting). s.state) c.found_next.ensures.same ∙ sym c.in-Transfer.ensures) (ap (λ (s : Sitting). s.waiting) c.found_next.ensures.same ∙ c.requires) there.holds.stamp
+    let made : SessionValue = record mid {
+      state = Transfer (c.in-Some.found.position + 1);
+      waiting = packet (number_at there.ring c.in-Some.found.place) item.bytes;
+    } in
+    client-same config h c.send.new.session made
+    (c.send.ensures.session there.ring item there.ring_there there.holds.there)
+    ∙ leads-to-packet config h mid made c.in-Transfer.next
+    (number_at there.ring c.in-Some.found.place) c.in-Some.found.position item c.codes_are_distinct.ensures
+    (ap (λ (s : SessionValue). s.state) c.found_next.ensures.same ∙ sym c.in-Transfer.ensures)
+    (ap (λ (s : SessionValue). s.waiting) c.found_next.ensures.same ∙ c.requires) there.holds.stamp
     (c.in-Some.ensures.position before config h holds)
-    (arrived-there c.arrivals_by_place.ensures config h c.args.rings.now c.in-Some.found.station c.in-Some.found.place there.ring item holds there.ring_there (c.send.ensures.capacity there.ring there.ring_there) there.holds.there)
+    (arrived-there c.arrivals_by_place.ensures config h c.args.rings.now c.in-Some.found.station c.in-Some.found.place
+    there.ring item holds there.ring_there (c.send.ensures.capacity there.ring there.ring_there) there.holds.there)
     refl
     ∙ ap (offered h) (client-same config h mid c.args.session.now c.found_next.ensures.same)
 
@@ -36,9 +43,12 @@ pub returns-in-Some-clause-answer : goal.returns-in-Some-clause-answer
 returns-in-Some-clause-answer c = λ h q holds state passed.
     let same : c.in-Transfer.next ≡ q = same-next c.in-Transfer.next q (c.in-Transfer.ensures ∙ state) in
     let before = passed-all c.args.rings.now c.args.session.now passed c.in-Transfer.next (sym c.in-Transfer.ensures) in
-    ap (λ o. answer_of o (list_all (is_over h) (filter_map (request_in c.args.config.now) (chosen_of c.args.session.now.mode))))
+    ap
+    (λ o. answer_of o
+    (list_all (is_over h) (filter_map (request_in c.args.config.now) (chosen_of c.args.session.now.mode))))
     (c.in-Some.ensures.position before c.args.config.now h holds
-    ∙ ap (λ rs. next h rs c.in-Transfer.next) (requests-same c.args.config.now c.found_next.new.session c.args.session.now c.found_next.ensures.same)
+    ∙ ap (λ rs. next h rs c.in-Transfer.next)
+    (requests-same c.args.config.now c.found_next.new.session c.args.session.now c.found_next.ensures.same)
     ∙ ap (next h (filter_map (request_in c.args.config.now) (chosen_of c.args.session.now.mode))) same)
 
 pub returns-in-Some-clause-passed : goal.returns-in-Some-clause-passed
@@ -46,7 +56,13 @@ returns-in-Some-clause-passed c = λ passed.
     let before = passed-all c.args.rings.now c.args.session.now passed c.in-Transfer.next (sym c.in-Transfer.ensures) in
     c.send.ensures.passed c.in-Transfer.next (c.in-Some.ensures.late before) (c.found_next.ensures.rest before)
 
-sent : (c : goal.After-send) → but_for_cursors c.send.new.session ≡ but_for_cursors (record (c.found_next.new.session) { state = Transfer (c.in-Some.found.position + 1); waiting = packet (number_at (c.in-Some.ensures.held).ring c.in-Some.found.place) ((c.in-Some.ensures.held).holds.item).bytes })
+sent : (c : goal.After-send) → but_for_cursors c.send.new.session
+    ≡ but_for_cursors
+    (record (c.found_next.new.session) {
+      state = Transfer (c.in-Some.found.position + 1);
+      waiting = packet (number_at (c.in-Some.ensures.held).ring c.in-Some.found.place)
+          ((c.in-Some.ensures.held).holds.item).bytes;
+    })
 sent c =
     let there = c.in-Some.ensures.held in
     c.send.ensures.session there.ring there.holds.item there.ring_there there.holds.there
@@ -56,11 +72,15 @@ returns-in-None-clause-client c = λ transfers passed h holds.
     let before = passed-all c.args.rings.now c.args.session.now passed c.in-Transfer.next (sym c.in-Transfer.ensures) in
     let rests = c.found_next.ensures.rest before in
     let reached = all-reached c.args.rings.now c.in-Transfer.next _ (c.in-None.ensures.none before refl) in
-    leads-on c.args.config.now h c.found_next.new.session c.end_if_complete.new.session c.in-Transfer.next c.end_if_complete.result
-    (ap (λ (s : Sitting). s.state) c.found_next.ensures.same ∙ sym c.in-Transfer.ensures) (ap (λ (s : Sitting). s.waiting) c.found_next.ensures.same ∙ c.requires)
+    leads-on c.args.config.now h c.found_next.new.session c.end_if_complete.new.session c.in-Transfer.next
+    c.end_if_complete.result
+    (ap (λ (s : SessionValue). s.state) c.found_next.ensures.same ∙ sym c.in-Transfer.ensures)
+    (ap (λ (s : SessionValue). s.waiting) c.found_next.ensures.same ∙ c.requires)
     (c.in-None.ensures.position before c.args.config.now h holds)
-    (c.end_if_complete.ensures.complete c.in-Transfer.next rests reached c.args.config.now h holds) c.end_if_complete.ensures.ended c.end_if_complete.ensures.unchanged
-    ∙ ap (offered h) (client-same c.args.config.now h c.found_next.new.session c.args.session.now c.found_next.ensures.same)
+    (c.end_if_complete.ensures.complete c.in-Transfer.next rests reached c.args.config.now h holds)
+    c.end_if_complete.ensures.ended c.end_if_complete.ensures.unchanged
+    ∙ ap (offered h)
+    (client-same c.args.config.now h c.found_next.new.session c.args.session.now c.found_next.ensures.same)
 
 pub returns-in-None-clause-answer : goal.returns-in-None-clause-answer
 returns-in-None-clause-answer c = λ h q holds state passed.
@@ -68,10 +88,13 @@ returns-in-None-clause-answer c = λ h q holds state passed.
     let before = passed-all c.args.rings.now c.args.session.now passed c.in-Transfer.next (sym c.in-Transfer.ensures) in
     let rests = c.found_next.ensures.rest before in
     let reached = all-reached c.args.rings.now c.in-Transfer.next _ (c.in-None.ensures.none before refl) in
-    let requests = requests-same c.args.config.now c.found_next.new.session c.args.session.now c.found_next.ensures.same in
+    let requests = requests-same c.args.config.now c.found_next.new.session c.args.session.now c.found_next.ensures.same
+    in
     c.end_if_complete.ensures.complete c.in-Transfer.next rests reached c.args.config.now h holds
     ∙ ap (λ rs. answer_of None (list_all (is_over h) rs)) requests
-    ∙ ap (λ o. answer_of o (list_all (is_over h) (filter_map (request_in c.args.config.now) (chosen_of c.args.session.now.mode))))
+    ∙ ap
+    (λ o. answer_of o
+    (list_all (is_over h) (filter_map (request_in c.args.config.now) (chosen_of c.args.session.now.mode))))
     (c.in-None.ensures.position before c.args.config.now h holds
     ∙ ap (λ rs. next h rs c.in-Transfer.next) requests
     ∙ ap (next h (filter_map (request_in c.args.config.now) (chosen_of c.args.session.now.mode))) same)
@@ -80,15 +103,18 @@ pub returns-in-None-clause-passed : goal.returns-in-None-clause-passed
 returns-in-None-clause-passed c = λ passed.
     let before = passed-all c.args.rings.now c.args.session.now passed c.in-Transfer.next (sym c.in-Transfer.ensures) in
     let rests = c.found_next.ensures.rest before in
-    ended-passes c.args.rings.now c.found_next.new.session c.end_if_complete.new.session c.in-Transfer.next c.end_if_complete.result c.end_if_complete.ensures.ended c.end_if_complete.ensures.unchanged c.end_if_complete.ensures.nothing_chosen
-    (ap (λ (s : Sitting). s.state) c.found_next.ensures.same ∙ sym c.in-Transfer.ensures) rests
+    ended-passes c.args.rings.now c.found_next.new.session c.end_if_complete.new.session c.in-Transfer.next
+    c.end_if_complete.result c.end_if_complete.ensures.ended c.end_if_complete.ensures.unchanged
+    c.end_if_complete.ensures.nothing_chosen
+    (ap (λ (s : SessionValue). s.state) c.found_next.ensures.same ∙ sym c.in-Transfer.ensures) rests
 
 pub returns-in-None-clause-reached : goal.returns-in-None-clause-reached
 returns-in-None-clause-reached c = λ transfers passed nothing.
     let before = passed-all c.args.rings.now c.args.session.now passed c.in-Transfer.next (sym c.in-Transfer.ensures) in
     let rests = c.found_next.ensures.rest before in
     let reached = all-reached c.args.rings.now c.in-Transfer.next _ (c.in-None.ensures.none before refl) in
-    ended-reached c.args.rings.now c.found_next.new.session c.end_if_complete.new.session (c.end_if_complete.ensures.unchanged nothing) reached
+    ended-reached c.args.rings.now c.found_next.new.session c.end_if_complete.new.session
+    (c.end_if_complete.ensures.unchanged nothing) reached
 
 pub returns-in-None-clause-sleeps : goal.returns-in-None-clause-sleeps
 returns-in-None-clause-sleeps c = λ transfers passed nothing.
@@ -97,5 +123,7 @@ returns-in-None-clause-sleeps c = λ transfers passed nothing.
     let none = c.in-None.ensures.none before refl in
     subst (Sleeps c.args.rings.now) (sym (c.end_if_complete.ensures.unchanged nothing))
     (sleeps-so c.args.rings.now c.found_next.new.session c.in-Transfer.next
-    (ap (λ (s : Sitting). s.state) c.found_next.ensures.same ∙ sym c.in-Transfer.ensures) (ap (λ (s : Sitting). s.waiting) c.found_next.ensures.same ∙ c.requires) none
-    (c.end_if_complete.ensures.more c.in-Transfer.next rests (all-reached c.args.rings.now c.in-Transfer.next _ none) nothing))
+    (ap (λ (s : SessionValue). s.state) c.found_next.ensures.same ∙ sym c.in-Transfer.ensures)
+    (ap (λ (s : SessionValue). s.waiting) c.found_next.ensures.same ∙ c.requires) none
+    (c.end_if_complete.ensures.more c.in-Transfer.next rests
+    (all-reached c.args.rings.now c.in-Transfer.next _ none) nothing))

@@ -10,9 +10,11 @@ loop-index-init c = λ cs same. (λ j x low high at. absurd (omega (arith, low, 
 
 pub loop-index-preserved : goal.loop-index-preserved
 loop-index-preserved c = λ cs same.
-    let x = entry-at cs c.args.entries.now c.loop-index.index c.index-entries-index.result same (omega (arith, c.loop-index-test.true)) c.index-entries-index.is in
+    let x = entry-at cs c.args.entries.now c.loop-index.index c.index-entries-index.result same
+    (omega (arith, c.loop-index-test.true)) c.index-entries-index.is in
     let so_far = c.loop-index.invariant cs same in (
-      rest-more c.args.rings.now c.args.next c.args.from c.loop-index.index cs x.choice x.there (c.is_fresh.ensures c.if-not-is_fresh.false x.choice x.entry) so_far.0,
+      rest-more c.args.rings.now c.args.next c.args.from c.loop-index.index cs x.choice x.there
+          (c.is_fresh.ensures c.if-not-is_fresh.false x.choice x.entry) so_far.0,
       λ e. c.earlier-best.ensures
           ∙ ap (λ (y : Entry). earlier c.loop-index.best c.loop-index.index y.cursor.ahead) (sym x.entry)
           ∙ ap (λ b. earlier b c.loop-index.index x.choice.cursor.ahead) (so_far.1 e)

@@ -1,4 +1,4 @@
-use Rattle.transfer.proofs.Waits.{sleeps-on}
+use Rattle.transfer.proofs.SleepLemmas.{sleeps-on}
 use Rattle.transfer.proofs.sleeping.sleeping_goes_on.Goals as goal
 
 pub returns : goal.returns

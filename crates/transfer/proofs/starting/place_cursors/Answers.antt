@@ -1,8 +1,8 @@
 use Rattle.std.proofs.Common.{◌<◌, ◌∙◌, arith, length, sym}
 use Rattle.session_state.specs.Choices.{chosen_of}
-use Rattle.transfer.proofs.Beginning.{begins-moved}
+use Rattle.transfer.proofs.StartLemmas.{begins-moved}
 use Rattle.transfer.proofs.EntryLemmas.{choice-there, same-length}
-use Rattle.transfer.proofs.Resting.{moves-all, moves-none, moves-on}
+use Rattle.transfer.proofs.RestLemmas.{moves-all, moves-none, moves-on}
 use Rattle.transfer.proofs.starting.place_cursors.Goals as goal
 
 pub loop-i-init : goal.loop-i-init
@@ -16,12 +16,25 @@ pass-requires c = omega (arith, c.loop-i-test.true, c.loop-i.invariant.2, c.loop
 
 pub loop-i-preserved : goal.loop-i-preserved
 loop-i-preserved c =
-    let within : c.loop-i.i < length (chosen_of c.loop-i.session.mode) = omega (arith, c.loop-i-test.true, c.loop-i.invariant.2, c.loop-i.invariant.0.count) in
+    let within : c.loop-i.i < length (chosen_of c.loop-i.session.mode) = omega (
+      arith,
+      c.loop-i-test.true,
+      c.loop-i.invariant.2,
+      c.loop-i.invariant.0.count,
+    ) in
     let x = choice-there (chosen_of c.loop-i.session.mode) c.loop-i.i within in
     let entry = sym (c.choice.ensures x.0 x.1) in (
       moves-on _ c.loop-i.i c.cursor_of-cursor.result c.loop-i.session c.pass.new.self c.args.session.now x.0
-          (record { same = c.pass.ensures.same; here = c.pass.ensures.here; others = c.pass.ensures.others; count = c.pass.ensures.count }) x.1
-          (c.cursor_of-cursor.ensures x.0 entry, λ all. begins-moved c.args.rings.now x.0 c.cursor_of-cursor.result (all c.loop-i.i x.0 (sym (c.loop-i.invariant.0.rest c.loop-i.i (omega arith)) ∙ x.1)))
+          (record {
+            same = c.pass.ensures.same;
+            here = c.pass.ensures.here;
+            others = c.pass.ensures.others;
+            count = c.pass.ensures.count;
+          }) x.1 (
+            c.cursor_of-cursor.ensures x.0 entry,
+            λ all. begins-moved c.args.rings.now x.0 c.cursor_of-cursor.result
+                (all c.loop-i.i x.0 (sym (c.loop-i.invariant.0.rest c.loop-i.i (omega arith)) ∙ x.1)),
+          )
           c.loop-i.invariant.0,
       omega (arith, c.loop-i-test.true),
       c.loop-i.invariant.2,
@@ -32,8 +45,10 @@ returns-clause-same c = c.loop-i.invariant.0.same
 
 pub returns-clause-starts : goal.returns-clause-starts
 returns-clause-starts c = λ j x at.
-    (moves-all _ c.loop-i.i c.loop-i.session c.args.session.now (omega (arith, c.loop-i-test.false, c.loop-i.invariant.2)) c.loop-i.invariant.0 j x at).0
+    (moves-all _ c.loop-i.i c.loop-i.session c.args.session.now
+    (omega (arith, c.loop-i-test.false, c.loop-i.invariant.2)) c.loop-i.invariant.0 j x at).0
 
 pub returns-clause-begin : goal.returns-clause-begin
 returns-clause-begin c = λ all j x at.
-    (moves-all _ c.loop-i.i c.loop-i.session c.args.session.now (omega (arith, c.loop-i-test.false, c.loop-i.invariant.2)) c.loop-i.invariant.0 j x at).1 all
+    (moves-all _ c.loop-i.i c.loop-i.session c.args.session.now
+    (omega (arith, c.loop-i-test.false, c.loop-i.invariant.2)) c.loop-i.invariant.0 j x at).1 all

@@ -6,6 +6,9 @@ use Rattle.catalog.proofs.config.Config.view.Given as goal
 
 abbrev pub invariant-loop-place : goal.invariant-loop-place
 invariant-loop-place l = record {
-  visible : map (station_at l.self-inside.stations.items) l.places.items ≡ map (λ e. e.station) (filter (λ e. sees e.access l.self-inside.access (ipv4_bits l.address)) (take l.place l.self-inside.stations.items));
+  visible : map (station_at l.self-inside.stations.items) l.places.items
+      ≡ map (λ e. e.station)
+      (filter (λ e. sees e.access l.self-inside.access (ipv4_bits l.address))
+      (take l.place l.self-inside.stations.items));
   places : All (λ p. p < length l.self-inside.stations.items) l.places.items;
 }

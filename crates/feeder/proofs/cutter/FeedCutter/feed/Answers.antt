@@ -1,6 +1,6 @@
 -- Each way out reads the used bytes as the feed does.
 use Rattle.std.proofs.Common.{◌-◌, refl, arith}
-use Rattle.feeder.proofs.Cutting.{nothing_held, reads_piece, reads_record}
+use Rattle.feeder.proofs.CutterLemmas.{nothing_held, reads_piece, reads_record}
 use Rattle.feeder.proofs.cutter.FeedCutter.feed.Goals as goal
 
 pub returns-then-piece-missing : goal.returns-then-piece-missing
@@ -25,7 +25,8 @@ returns-then-held-eq0 c =
       (refl, λ _. tt, nothing),
       record {
         used = omega arith;
-        read = λ records. reads_record records c.args.self.now c.args.piece.now c.unwrap.result.now 512 (omega arith) (omega arith) (omega arith) (rw nothing chunk.same);
+        read = λ records. reads_record records c.args.self.now c.args.piece.now c.unwrap.result.now 512 (omega arith)
+            (omega arith) (omega arith) (rw nothing chunk.same);
         bound = omega arith;
         rest = tt;
       },
@@ -38,7 +39,8 @@ returns c =
       (refl, λ _. tt, c.complete.follows.holds-at-none),
       record {
         used = omega arith;
-        read = λ records. reads_record records c.args.self.now c.args.piece.now c.complete.result.now (512 - c.rest-held.result) (omega arith) (omega arith) (omega arith) c.complete.ensures.whole;
+        read = λ records. reads_record records c.args.self.now c.args.piece.now c.complete.result.now
+            (512 - c.rest-held.result) (omega arith) (omega arith) (omega arith) c.complete.ensures.whole;
         bound = omega arith;
         rest = tt;
       },

@@ -1,5 +1,5 @@
 use Rattle.std.proofs.Common.{◌≡◌, [], take}
-use Rattle.held_records.proofs.Stations.{rings_of}
+use Rattle.held_records.proofs.RingsLemmas.{rings_of}
 use Rattle.held_records.proofs.rings.Rings.new.Given as goal
 
 abbrev pub invariant-loop-station : goal.invariant-loop-station

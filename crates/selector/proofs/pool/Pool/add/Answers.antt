@@ -1,13 +1,17 @@
-use Rattle.std.proofs.Common.{◌≡◌, ◌≤◌, ◌+◌, ◌⊎◌, inl, inr, length, get_or, refl, not, ap, ◌∙◌, arith, set, [], ◌∷◌, ◌++◌, subst}
+use Rattle.std.proofs.Common.{◌≡◌, ◌≤◌, ◌+◌, ◌⊎◌, inl, inr, length, get_or, refl, not, ap, ◌∙◌, arith, set, [], ◌∷◌}
+use Rattle.std.proofs.Common.{◌++◌, subst}
 use Rattle.std.specs.Prelude.{◌≢◌}
 use Rattle.std.specs.List.{insert}
 use Rattle.selector.specs.Pools.{HasRoom, list_at, together}
-use Rattle.selector.proofs.PoolLemmas.{all_full, at_most, end_fits, few_after, has_room, laid-inserted, list_full, no_room, taken_where_ok, view-inserted}
+use Rattle.selector.proofs.PoolLemmas.{all_full, at_most, end_fits, few_after, has_room, laid-inserted, list_full}
+use Rattle.selector.proofs.PoolLemmas.{no_room, taken_where_ok, view-inserted}
 use Rattle.selector.proofs.pool.Pool.add.Goals as goal
-use Rattle.selector.proofs.pool.Pool.add.Goals.{then-count-eq-EACH-via-then-count-eq-EACH, then-count-eq-EACH-via-else-count-eq-EACH+then-len-eq-TOGETHER}
+use Rattle.selector.proofs.pool.Pool.add.Goals.{then-count-eq-EACH-via-then-count-eq-EACH}
+use Rattle.selector.proofs.pool.Pool.add.Goals.{then-count-eq-EACH-via-else-count-eq-EACH+then-len-eq-TOGETHER}
 
 -- Where nothing is added, the list or all lists are full.
-full : (c : goal.Joined-then-count-eq-EACH) → (length (list_at c.args.self.now c.args.list) ≡ 64) ⊎ (together c.args.self.now ≡ 1024)
+full : (c : goal.Joined-then-count-eq-EACH)
+    → (length (list_at c.args.self.now c.args.list) ≡ 64) ⊎ (together c.args.self.now ≡ 1024)
 full c =
     let p = c.self.inside in
     let i = c.args.list in
@@ -15,16 +19,21 @@ full c =
     let lists : length p.counts ≡ 255 = c.self.invariant.0.lists in
     subst (λ ls. (length (list_at ls i) ≡ 64) ⊎ (together ls ≡ 1024)) c.self.view_is (elim b [
       | then-count-eq-EACH-via-then-count-eq-EACH w ↦
-          inl (list_full p.selectors.items p.starts p.counts i c.self.invariant.0 (omega (arith, c.requires)) w.if-count-eq-EACH.true)
+          inl
+          (list_full p.selectors.items p.starts p.counts i c.self.invariant.0
+          (omega (arith, c.requires)) w.if-count-eq-EACH.true)
       | then-count-eq-EACH-via-else-count-eq-EACH+then-len-eq-TOGETHER w ↦
-          inr (all_full p.selectors.items p.starts p.counts c.self.invariant.0 (omega (arith, w.len.ensures, w.if-len-eq-TOGETHER.true, p.selectors.ok.0)))
+          inr
+          (all_full p.selectors.items p.starts p.counts c.self.invariant.0
+          (omega (arith, w.len.ensures, w.if-len-eq-TOGETHER.true, p.selectors.ok.0)))
     ])
 
 pub returns-then-count-eq-EACH-clause-full : goal.returns-then-count-eq-EACH-clause-full
 returns-then-count-eq-EACH-clause-full c = full c
 
 pub returns-then-count-eq-EACH-clause-room : goal.returns-then-count-eq-EACH-clause-room
-returns-then-count-eq-EACH-clause-room c = (λ e. absurd (cc), λ room. absurd (no_room c.args.self.now c.args.list (full c) room))
+returns-then-count-eq-EACH-clause-room c =
+    (λ e. absurd (cc), λ room. absurd (no_room c.args.self.now c.args.list (full c) room))
 
 pub insert-requires : goal.insert-requires
 insert-requires c =
@@ -40,19 +49,24 @@ lay_out-requires-clause-few c =
     let lists : length p.counts ≡ 255 = c.self.invariant.0.lists in
     let few : get_or p.counts c.args.list 0 ≤ 64 =
     at_most p.selectors.items p.starts p.counts c.args.list c.self.invariant.0 (omega (arith, c.requires)) in
-    few_after p.selectors.items p.starts p.counts c.args.list _ c.self.invariant.0 (omega (arith, c.requires)) (omega arith)
+    few_after p.selectors.items p.starts p.counts c.args.list _ c.self.invariant.0 (omega (arith, c.requires))
+    (omega arith)
 
 inserted : (c : goal.After-lay_out) →
-    c.insert.new.self.items ≡ insert c.self.inside.selectors.items (get_or c.self.inside.starts c.args.list 0 + get_or c.self.inside.counts c.args.list 0) c.args.selector
-inserted c = c.insert.ensures.items ∙ taken_where_ok c.insert.result _ _ (c.is_err.ensures.negation ∙ ap not c.if-is_err.false)
+    c.insert.new.self.items ≡ insert c.self.inside.selectors.items
+    (get_or c.self.inside.starts c.args.list 0 + get_or c.self.inside.counts c.args.list 0) c.args.selector
+inserted c = c.insert.ensures.items
+    ∙ taken_where_ok c.insert.result _ _ (c.is_err.ensures.negation ∙ ap not c.if-is_err.false)
 
 pub invariant_of-self-2 : goal.invariant_of-self-2
 invariant_of-self-2 c =
     let p = c.self.inside in
     let i = c.args.list in
     let lists : length p.counts ≡ 255 = c.self.invariant.0.lists in
-    let apart : length p.selectors.items ≢ 1024 = λ e. c.if-len-eq-TOGETHER.false (omega (arith, e, c.len.ensures, p.selectors.ok.0)) in (
-      laid-inserted p.selectors.items _ p.starts p.counts _ i c.args.selector c.self.invariant.0 (omega (arith, c.requires)) c.if-count-eq-EACH.false apart (inserted c) c.lay_out.ensures,
+    let apart : length p.selectors.items
+    ≢ 1024 = λ e. c.if-len-eq-TOGETHER.false (omega (arith, e, c.len.ensures, p.selectors.ok.0)) in (
+      laid-inserted p.selectors.items _ p.starts p.counts _ i c.args.selector c.self.invariant.0
+          (omega (arith, c.requires)) c.if-count-eq-EACH.false apart (inserted c) c.lay_out.ensures,
       omega (arith, c.self.invariant.1, c.insert.ensures.capacity),
     )
 
@@ -61,13 +75,19 @@ returns-clause-room c =
     let p = c.self.inside in
     let i = c.args.list in
     let lists : length p.counts ≡ 255 = c.self.invariant.0.lists in
-    let apart : length p.selectors.items ≢ 1024 = λ e. c.if-len-eq-TOGETHER.false (omega (arith, e, c.len.ensures, p.selectors.ok.0)) in
-    (λ _. subst (λ ls. HasRoom ls i) c.self.view_is (has_room p.selectors.items p.starts p.counts i c.self.invariant.0 (omega (arith, c.requires)) c.if-count-eq-EACH.false apart), λ _. refl)
+    let apart : length p.selectors.items
+    ≢ 1024 = λ e. c.if-len-eq-TOGETHER.false (omega (arith, e, c.len.ensures, p.selectors.ok.0)) in (
+      λ _. subst (λ ls. HasRoom ls i) c.self.view_is
+          (has_room p.selectors.items p.starts p.counts i c.self.invariant.0
+          (omega (arith, c.requires)) c.if-count-eq-EACH.false apart),
+      λ _. refl,
+    )
 
 pub returns-clause-added : goal.returns-clause-added
 returns-clause-added c =
     let p = c.self.inside in
     let i = c.args.list in
     let lists : length p.counts ≡ 255 = c.self.invariant.0.lists in
-    view-inserted p.selectors.items _ p.starts p.counts i c.args.selector c.self.invariant.0 (omega (arith, c.requires)) (inserted c)
+    view-inserted p.selectors.items _ p.starts p.counts i c.args.selector c.self.invariant.0 (omega (arith, c.requires))
+    (inserted c)
     ∙ ap (λ ls. set ls i (list_at ls i ++ c.args.selector ∷ [])) c.self.view_is

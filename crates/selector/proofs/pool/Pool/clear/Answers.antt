@@ -12,13 +12,15 @@ pub lay_out-requires-clause-few : goal.lay_out-requires-clause-few
 lay_out-requires-clause-few c =
     let p = c.self.inside in
     let lists : length p.counts ≡ 255 = c.self.invariant.0.lists in
-    few_after p.selectors.items p.starts p.counts c.args.list 0 c.self.invariant.0 (omega (arith, c.requires)) (omega arith)
+    few_after p.selectors.items p.starts p.counts c.args.list 0 c.self.invariant.0 (omega (arith, c.requires))
+    (omega arith)
 
 pub invariant_of-self : goal.invariant_of-self
 invariant_of-self c =
     let p = c.self.inside in
     let lists : length p.counts ≡ 255 = c.self.invariant.0.lists in (
-      laid-emptied p.selectors.items _ p.starts p.counts _ c.args.list c.self.invariant.0 (omega (arith, c.requires)) c.take_away.ensures.items c.lay_out.ensures,
+      laid-emptied p.selectors.items _ p.starts p.counts _ c.args.list c.self.invariant.0
+          (omega (arith, c.requires)) c.take_away.ensures.items c.lay_out.ensures,
       omega (arith, c.self.invariant.1, c.take_away.ensures.capacity),
     )
 
@@ -26,5 +28,6 @@ pub returns : goal.returns
 returns c =
     let p = c.self.inside in
     let lists : length p.counts ≡ 255 = c.self.invariant.0.lists in
-    view-emptied p.selectors.items _ p.starts p.counts c.args.list c.self.invariant.0 (omega (arith, c.requires)) c.take_away.ensures.items
+    view-emptied p.selectors.items _ p.starts p.counts c.args.list c.self.invariant.0
+    (omega (arith, c.requires)) c.take_away.ensures.items
     ∙ ap (λ l. set l c.args.list []) c.self.view_is

@@ -1,8 +1,9 @@
 use Rattle.std.proofs.Common.{rules, ◌≡◌, ap, sym, subst, None, refl}
 use Rattle.std.specs.Prelude.{IsSome}
 use Rattle.server_core.specs.Clients.{IsNumberAt, in_slot, slot_in}
-use Rattle.server_core.proofs.Numbers.{its-slot-at}
-use Rattle.server_core.proofs.Slots.{closes-addresses, closes-no-address, closes-nothing, closes-sessions, closes-table, settled-leaves}
+use Rattle.server_core.proofs.NumberLemmas.{its-slot-at}
+use Rattle.server_core.proofs.SlotLemmas.{closes-addresses, closes-no-address, closes-nothing, closes-sessions}
+use Rattle.server_core.proofs.SlotLemmas.{closes-table, settled-leaves}
 use Rattle.server_core.proofs.clients.Clients.close.Goals as goal
 
 pub returns-in_err-at-clause-closed : goal.returns-in_err-at-clause-closed
@@ -14,31 +15,51 @@ pub returns-clause-table : goal.returns-clause-table
 returns-clause-table c =
     let os = c.args.self.now.opened.items in
     let found : IsNumberAt os c.args.number c.in_ok-at.at = search rules in
-    let its-slot = its-slot-at os c.args.number c.in_ok-at.at c.remove-gone.result c.requires.rising found c.remove-gone.ensures.value in
-    closes-table c.args.self.now (record { opens = c.args.self.now.opens; opened = c.remove-gone.new.self; near = c.args.self.now.near; slots = c.try_remove-session.new.self })
-    c.args.number c.in_ok-at.at c.remove-gone.result.slot c.requires found its-slot refl c.remove-gone.ensures.items c.try_remove-session.ensures.updates
+    let its-slot = its-slot-at os c.args.number c.in_ok-at.at c.remove-gone.result c.requires.rising found
+    c.remove-gone.ensures.value in
+    closes-table c.args.self.now
+    (record {
+      opens = c.args.self.now.opens;
+      opened = c.remove-gone.new.self;
+      near = c.args.self.now.near;
+      slots = c.try_remove-session.new.self;
+    })
+    c.args.number c.in_ok-at.at c.remove-gone.result.slot c.requires found its-slot refl c.remove-gone.ensures.items
+    c.try_remove-session.ensures.updates
 
 pub returns-clause-closed : goal.returns-clause-closed
 returns-clause-closed c =
     let os = c.args.self.now.opened.items in
     let found : IsNumberAt os c.args.number c.in_ok-at.at = search rules in
-    let its-slot = its-slot-at os c.args.number c.in_ok-at.at c.remove-gone.result c.requires.rising found c.remove-gone.ensures.value in
-    closes-sessions c.args.self.now (record { opens = c.args.self.now.opens; opened = c.remove-gone.new.self; near = c.args.self.now.near; slots = c.try_remove-session.new.self })
-    c.args.number c.in_ok-at.at c.remove-gone.result.slot c.requires found its-slot refl c.remove-gone.ensures.items c.try_remove-session.ensures.updates
+    let its-slot = its-slot-at os c.args.number c.in_ok-at.at c.remove-gone.result c.requires.rising found
+    c.remove-gone.ensures.value in
+    closes-sessions c.args.self.now
+    (record {
+      opens = c.args.self.now.opens;
+      opened = c.remove-gone.new.self;
+      near = c.args.self.now.near;
+      slots = c.try_remove-session.new.self;
+    })
+    c.args.number c.in_ok-at.at c.remove-gone.result.slot c.requires found its-slot refl c.remove-gone.ensures.items
+    c.try_remove-session.ensures.updates
 
 pub returns-clause-answer : goal.returns-clause-answer
 returns-clause-answer c =
     let os = c.args.self.now.opened.items in
     let found : IsNumberAt os c.args.number c.in_ok-at.at = search rules in
-    let its-slot = its-slot-at os c.args.number c.in_ok-at.at c.remove-gone.result c.requires.rising found c.remove-gone.ensures.value in
-    sym (subst IsSome (ap (in_slot c.args.self.now.slots) (sym its-slot)) (c.requires.there c.args.number c.remove-gone.result.slot its-slot))
+    let its-slot = its-slot-at os c.args.number c.in_ok-at.at c.remove-gone.result c.requires.rising found
+    c.remove-gone.ensures.value in
+    sym
+    (subst IsSome (ap (in_slot c.args.self.now.slots) (sym its-slot))
+    (c.requires.there c.args.number c.remove-gone.result.slot its-slot))
 
 pub returns-clause-freed : goal.returns-clause-freed
 returns-clause-freed c = c.try_remove-session.ensures.updates
 
 pub returns-clause-settled : goal.returns-clause-settled
 returns-clause-settled c = λ config rings settled.
-    settled-leaves config rings c.args.self.now.slots c.try_remove-session.new.self c.remove-gone.result.slot settled c.try_remove-session.ensures.updates
+    settled-leaves config rings c.args.self.now.slots c.try_remove-session.new.self c.remove-gone.result.slot settled
+    c.try_remove-session.ensures.updates
 
 pub returns-in_err-at-clause-left : goal.returns-in_err-at-clause-left
 returns-in_err-at-clause-left c =
@@ -49,5 +70,11 @@ pub returns-clause-left : goal.returns-clause-left
 returns-clause-left c =
     let os = c.args.self.now.opened.items in
     let found : IsNumberAt os c.args.number c.in_ok-at.at = search rules in
-    closes-addresses c.args.self.now (record { opens = c.args.self.now.opens; opened = c.remove-gone.new.self; near = c.args.self.now.near; slots = c.try_remove-session.new.self })
+    closes-addresses c.args.self.now
+    (record {
+      opens = c.args.self.now.opens;
+      opened = c.remove-gone.new.self;
+      near = c.args.self.now.near;
+      slots = c.try_remove-session.new.self;
+    })
     c.args.number c.in_ok-at.at c.requires found refl c.remove-gone.ensures.items

@@ -1,4 +1,4 @@
-use Rattle.server_core.proofs.Rows.{Adds}
+use Rattle.server_core.proofs.RowLemmas.{Adds}
 use Rattle.server_core.proofs.marks.requests.add.Given as goal
 
 -- What is set, or still to be set, is what was set before or is asked for.

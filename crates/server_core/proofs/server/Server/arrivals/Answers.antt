@@ -1,6 +1,6 @@
 use Rattle.std.proofs.Common.{◌∙◌, ap, subst, sym}
-use Rattle.held_records.specs.Holdings.{holdings_of}
-use Rattle.server_core.specs.Standing.{StandsAt}
+use Rattle.held_records.specs.Rings.{holdings_of}
+use Rattle.server_core.specs.ServerValues.{StandsAt}
 use Rattle.server_core.proofs.server.Server.arrivals.Goals as goal
 
 pub returns : goal.returns

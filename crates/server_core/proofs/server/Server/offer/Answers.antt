@@ -1,22 +1,26 @@
 use Rattle.std.proofs.Common.{◌∙◌, Some, ap, sym, subst, option_map}
-use Rattle.session_state.specs.Sessions.{Sitting}
+use Rattle.session_state.specs.Sessions.{SessionValue}
 use Rattle.slab.specs.Slab.{Slab}
-use Rattle.server_core.specs.Standing.{AreSettled}
+use Rattle.server_core.specs.ServerValues.{AreSettled}
 use Rattle.protocol.specs.Client.{Client, offered}
 use Rattle.server_core.specs.Refusals.{offer_of}
 use Rattle.server_core.specs.Marks.{AreMarked, marks_of}
-use Rattle.server_core.proofs.GoingOn.{found, goes-nowhere, goes-there, seen-nowhere, seen-there, with-marks}
-use Rattle.server_core.proofs.Slots.{written-table}
-use Rattle.server_core.proofs.Sparing.{mark-there}
+use Rattle.server_core.proofs.SessionLemmas.{found, goes-nowhere, goes-there, seen-nowhere, seen-there, with-marks}
+use Rattle.server_core.proofs.SlotLemmas.{written-table}
+use Rattle.server_core.proofs.SpareLemmas.{mark-there}
 use Rattle.server_core.proofs.CurrentLemmas.{current-goes, current-same, offered-over}
 use Rattle.server_core.specs.Clients.{addresses_of, sessions_of}
 use Rattle.server_core.proofs.server.Server.offer.Goals as goal
 
 pub offer_in-requires-clause-settled : goal.offer_in-requires-clause-settled
-offer_in-requires-clause-settled c = subst (λ (slots : Slab Sitting). AreSettled c.self.inside.config c.self.inside.rings slots) (sym c.seek.ensures.slots) c.self.invariant.1
+offer_in-requires-clause-settled c =
+    subst (λ (slots : Slab SessionValue). AreSettled c.self.inside.config c.self.inside.rings slots)
+    (sym c.seek.ensures.slots) c.self.invariant.1
 
 pub offer_in-requires-clause-marked : goal.offer_in-requires-clause-marked
-offer_in-requires-clause-marked c = subst (λ (slots : Slab Sitting). AreMarked c.self.inside.config c.self.inside.rings c.self.inside.marks slots) (sym c.seek.ensures.slots) c.self.invariant.3
+offer_in-requires-clause-marked c =
+    subst (λ (slots : Slab SessionValue). AreMarked c.self.inside.config c.self.inside.rings c.self.inside.marks slots)
+    (sym c.seek.ensures.slots) c.self.invariant.3
 
 pub invariant_of-self : goal.invariant_of-self
 invariant_of-self c = (
@@ -38,9 +42,11 @@ invariant_of-self c = (
 pub invariant_of-self-in-None : goal.invariant_of-self-in-None
 invariant_of-self-in-None c = (
   c.seek.ensures.table,
-  subst (λ (slots : Slab Sitting). AreSettled c.self.inside.config c.self.inside.rings slots) (sym c.seek.ensures.slots) c.self.invariant.1,
+  subst (λ (slots : Slab SessionValue). AreSettled c.self.inside.config c.self.inside.rings slots)
+      (sym c.seek.ensures.slots) c.self.invariant.1,
   c.self.invariant.2,
-  subst (λ (slots : Slab Sitting). AreMarked c.self.inside.config c.self.inside.rings c.self.inside.marks slots) (sym c.seek.ensures.slots) c.self.invariant.3,
+  subst (λ (slots : Slab SessionValue). AreMarked c.self.inside.config c.self.inside.rings c.self.inside.marks slots)
+      (sym c.seek.ensures.slots) c.self.invariant.3,
   c.self.invariant.4,
   c.self.invariant.5,
   current-same c.self.inside.config (sessions_of c.self.inside.clients) (sessions_of c.seek.new.self)
@@ -50,27 +56,50 @@ invariant_of-self-in-None c = (
 
 pub returns-in-Some-clause-stands : goal.returns-in-Some-clause-stands
 returns-in-Some-clause-stands c = λ config w stands.
-    let here = found c.self.inside.config c.self.inside.rings c.self.inside.clients c.seek.new.self (marks_of c.self.inside.clients c.self.inside.marks) c.args.self.now config w c.self.view_is c.seek.ensures.sessions c.seek.ensures.addresses stands in
-    rw (← c.number.ensures) (with-marks _ (marks_of (record c.seek.new.self { slots = c.offer_in.new.slots }) c.offer_in.new.marks) config _ (goes-there c.self.inside.config c.self.inside.rings c.seek.new.self c.number.result config w (λ v x. offered w.history x) c.offer_in.new.slots c.in-Some.slot c.seek.ensures.table (sym c.in-Some.ensures.slot) (c.offer_in.ensures.changed w.history here.holds) here))
+    let here = found c.self.inside.config c.self.inside.rings c.self.inside.clients c.seek.new.self
+    (marks_of c.self.inside.clients c.self.inside.marks) c.args.self.now config w c.self.view_is
+    c.seek.ensures.sessions c.seek.ensures.addresses stands in
+    rw (← c.number.ensures)
+    (with-marks _ (marks_of (record c.seek.new.self { slots = c.offer_in.new.slots }) c.offer_in.new.marks) config _
+    (goes-there c.self.inside.config c.self.inside.rings c.seek.new.self c.number.result config w
+    (λ v x. offered w.history x) c.offer_in.new.slots c.in-Some.slot c.seek.ensures.table
+    (sym c.in-Some.ensures.slot) (c.offer_in.ensures.changed w.history here.holds) here))
 
 pub returns-in-Some-clause-answer : goal.returns-in-Some-clause-answer
 returns-in-Some-clause-answer c = λ config w stands.
-    let here = found c.self.inside.config c.self.inside.rings c.self.inside.clients c.seek.new.self (marks_of c.self.inside.clients c.self.inside.marks) c.args.self.now config w c.self.view_is c.seek.ensures.sessions c.seek.ensures.addresses stands in
-    rw (← c.number.ensures) (c.offer_in.ensures.answer w.history here.holds ∙ ap (option_map (λ (x : Client). offer_of (offered w.history x))) (seen-there c.self.inside.config c.self.inside.rings c.seek.new.self c.number.result config w c.in-Some.slot c.seek.ensures.table (sym c.in-Some.ensures.slot) here))
+    let here = found c.self.inside.config c.self.inside.rings c.self.inside.clients c.seek.new.self
+    (marks_of c.self.inside.clients c.self.inside.marks) c.args.self.now config w c.self.view_is
+    c.seek.ensures.sessions c.seek.ensures.addresses stands in
+    rw (← c.number.ensures) (c.offer_in.ensures.answer w.history here.holds
+    ∙ ap (option_map (λ (x : Client). offer_of (offered w.history x)))
+    (seen-there c.self.inside.config c.self.inside.rings c.seek.new.self c.number.result config w c.in-Some.slot
+    c.seek.ensures.table (sym c.in-Some.ensures.slot) here))
 
 pub returns-in-None-clause-stands : goal.returns-in-None-clause-stands
 returns-in-None-clause-stands c = λ config w stands.
-    let here = found c.self.inside.config c.self.inside.rings c.self.inside.clients c.seek.new.self (marks_of c.self.inside.clients c.self.inside.marks) c.args.self.now config w c.self.view_is c.seek.ensures.sessions c.seek.ensures.addresses stands in
-    rw (← c.number.ensures) (with-marks _ (marks_of c.seek.new.self c.self.inside.marks) config _ (goes-nowhere c.self.inside.config c.self.inside.rings c.seek.new.self c.number.result config w (λ v x. offered w.history x) (sym c.in-None.ensures.slot) here))
+    let here = found c.self.inside.config c.self.inside.rings c.self.inside.clients c.seek.new.self
+    (marks_of c.self.inside.clients c.self.inside.marks) c.args.self.now config w c.self.view_is
+    c.seek.ensures.sessions c.seek.ensures.addresses stands in
+    rw (← c.number.ensures)
+    (with-marks _ (marks_of c.seek.new.self c.self.inside.marks) config _
+    (goes-nowhere c.self.inside.config c.self.inside.rings c.seek.new.self c.number.result config w
+    (λ v x. offered w.history x) (sym c.in-None.ensures.slot) here))
 
 pub returns-in-None-clause-answer : goal.returns-in-None-clause-answer
 returns-in-None-clause-answer c = λ config w stands.
-    let here = found c.self.inside.config c.self.inside.rings c.self.inside.clients c.seek.new.self (marks_of c.self.inside.clients c.self.inside.marks) c.args.self.now config w c.self.view_is c.seek.ensures.sessions c.seek.ensures.addresses stands in
-    rw (← c.number.ensures) (ap (option_map (λ (x : Client). offer_of (offered w.history x))) (seen-nowhere c.self.inside.config c.self.inside.rings c.seek.new.self c.number.result config w (sym c.in-None.ensures.slot) here))
+    let here = found c.self.inside.config c.self.inside.rings c.self.inside.clients c.seek.new.self
+    (marks_of c.self.inside.clients c.self.inside.marks) c.args.self.now config w c.self.view_is
+    c.seek.ensures.sessions c.seek.ensures.addresses stands in
+    rw (← c.number.ensures)
+    (ap (option_map (λ (x : Client). offer_of (offered w.history x)))
+    (seen-nowhere c.self.inside.config c.self.inside.rings c.seek.new.self c.number.result config w
+    (sym c.in-None.ensures.slot) here))
 
 pub returns-in-Some-clause-unmarked : goal.returns-in-Some-clause-unmarked
 returns-in-Some-clause-unmarked c = λ idle.
     rw (← c.number.ensures)
-    (mark-there c.self.inside.config c.self.inside.rings (record c.seek.new.self { slots = c.offer_in.new.slots }) c.offer_in.new.marks c.number.result
-    (written-table c.seek.new.self c.offer_in.new.slots c.seek.ensures.table c.offer_in.ensures.kept) c.in-Some.slot (sym c.in-Some.ensures.slot)
+    (mark-there c.self.inside.config c.self.inside.rings
+    (record c.seek.new.self { slots = c.offer_in.new.slots }) c.offer_in.new.marks c.number.result
+    (written-table c.seek.new.self c.offer_in.new.slots c.seek.ensures.table c.offer_in.ensures.kept) c.in-Some.slot
+    (sym c.in-Some.ensures.slot)
     ∙ ap Some (c.offer_in.ensures.idle idle))

@@ -1,18 +1,19 @@
-use Rattle.std.proofs.Common.{rules, ◌≡◌, ◌∙◌, Some, [], ◌∷◌, ◌++◌, ap, sym, refl, subst, length, List, ℕ, Bool, All, Option}
+use Rattle.std.proofs.Common.{rules, ◌≡◌, ◌∙◌, Some, [], ◌∷◌, ◌++◌, ap, sym, refl, subst, length, List, ℕ, Bool, All}
+use Rattle.std.proofs.Common.{Option}
 use Rattle.std.specs.Net.Addr.{ipv4_bits}
 use Rattle.catalog.specs.Places.{view_in, IsPlace}
 use Rattle.protocol.specs.Client.{Client}
 use Rattle.session_state.specs.declared.session.State.TheVariants.{Negotiating, Transfer}
-use Rattle.session_state.specs.Sessions.{Sitting}
-use Rattle.transfer.proofs.Going.{none-passed}
+use Rattle.session_state.specs.Sessions.{SessionValue}
+use Rattle.transfer.proofs.PassedLemmas.{none-passed}
 use Rattle.server_core.specs.Clients.{addresses_of, sessions_of}
 use Rattle.server_core.specs.Marks.{HasRooms, marks_of}
-use Rattle.server_core.specs.Standing.{IsSettled, Serving}
-use Rattle.server_core.proofs.GoingOn.{found, serving, with-marks}
-use Rattle.server_core.proofs.Marking.{marked-opens, marked-roomier, marked-same}
-use Rattle.server_core.proofs.Slots.{addresses-counted, same-addresses, sessions-counted}
-use Rattle.server_core.proofs.Sparing.{marks-same}
-use Rattle.server_core.proofs.Standings.{open-stands}
+use Rattle.server_core.specs.ServerValues.{IsSettled, ServerValue}
+use Rattle.server_core.proofs.SessionLemmas.{found, serving, with-marks}
+use Rattle.server_core.proofs.MarkLemmas.{marked-opens, marked-roomier, marked-same}
+use Rattle.server_core.proofs.SlotLemmas.{addresses-counted, same-addresses, sessions-counted}
+use Rattle.server_core.proofs.SpareLemmas.{marks-same}
+use Rattle.server_core.proofs.StandsLemmas.{open-stands}
 use Rattle.server_core.proofs.CurrentLemmas.{current-new, current-opens, current-same}
 use Rattle.server_core.proofs.server.Server.open.Goals as goal
 
@@ -21,7 +22,8 @@ invariant_of-self c = (
   c.self.invariant.0,
   c.self.invariant.1,
   c.self.invariant.2,
-  marked-roomier c.self.inside.config c.self.inside.rings c.self.inside.marks c.reserve.new.self c.self.inside.clients.slots c.reserve.ensures.kept c.self.invariant.3,
+  marked-roomier c.self.inside.config c.self.inside.rings c.self.inside.marks c.reserve.new.self
+      c.self.inside.clients.slots c.reserve.ensures.kept c.self.invariant.3,
   c.reserve.ensures.kept.rows.count ∙ c.self.invariant.4,
   c.self.invariant.5,
   c.self.invariant.6,
@@ -29,18 +31,34 @@ invariant_of-self c = (
 
 pub returns-in_err-reserve-clause-err : goal.returns-in_err-reserve-clause-err
 returns-in_err-reserve-clause-err c =
-    let is = ap (λ (ms : List Bool). record (serving c.self.inside.config c.self.inside.rings c.self.inside.clients) { marks = ms })
-    (marks-same c.self.inside.clients c.self.inside.clients c.self.inside.marks c.reserve.new.self refl refl (λ slot. c.reserve.ensures.kept.marked slot tt)) ∙ c.self.view_is in
+    let is = ap
+    (λ (ms : List Bool). record (serving c.self.inside.config c.self.inside.rings c.self.inside.clients) {
+      marks =
+          ms;
+    })
+    (marks-same c.self.inside.clients c.self.inside.clients c.self.inside.marks c.reserve.new.self refl refl
+    (λ slot. c.reserve.ensures.kept.marked slot tt)) ∙ c.self.view_is in
     search rules
 
 pub invariant_of-self-in_err-number : goal.invariant_of-self-in_err-number
 invariant_of-self-in_err-number c =
-    let settled : IsSettled c.self.inside.config c.self.inside.rings c.in_ok-session.session = record { places = subst (λ (p : List ℕ). All (IsPlace c.self.inside.config) p) (sym c.in_ok-session.ensures.places) c.in_ok-view.ensures.places; started = c.in_ok-session.ensures.settled; passed = none-passed c.self.inside.rings c.in_ok-session.session (λ next e. absurd (let t : Negotiating ≡ Transfer next = sym c.in_ok-session.ensures.negotiates ∙ e in cc)) } in (
+    let settled : IsSettled c.self.inside.config c.self.inside.rings
+    c.in_ok-session.session =
+    record {
+      places = subst (λ (p : List ℕ). All (IsPlace c.self.inside.config) p)
+          (sym c.in_ok-session.ensures.places) c.in_ok-view.ensures.places;
+      started = c.in_ok-session.ensures.settled;
+      passed = none-passed c.self.inside.rings c.in_ok-session.session
+          (λ next e. absurd (let t : Negotiating ≡ Transfer next = sym c.in_ok-session.ensures.negotiates ∙ e in cc));
+    }
+    in (
       c.open.ensures.table,
       c.open.ensures.settled c.self.inside.config c.self.inside.rings c.self.invariant.1 settled,
       c.self.invariant.2,
-      marked-same c.self.inside.config c.self.inside.rings c.reserve.new.self c.self.inside.clients.slots c.open.new.self.slots c.in_err-number.ensures.refused
-          (marked-roomier c.self.inside.config c.self.inside.rings c.self.inside.marks c.reserve.new.self c.self.inside.clients.slots c.reserve.ensures.kept c.self.invariant.3),
+      marked-same c.self.inside.config c.self.inside.rings c.reserve.new.self c.self.inside.clients.slots
+          c.open.new.self.slots c.in_err-number.ensures.refused
+          (marked-roomier c.self.inside.config c.self.inside.rings c.self.inside.marks c.reserve.new.self
+          c.self.inside.clients.slots c.reserve.ensures.kept c.self.invariant.3),
       c.reserve.ensures.kept.rows.count ∙ c.self.invariant.4,
       c.self.invariant.5,
       current-same c.self.inside.config (sessions_of c.self.inside.clients) (sessions_of c.open.new.self)
@@ -51,23 +69,48 @@ invariant_of-self-in_err-number c =
 
 pub returns-in_err-number-clause-err : goal.returns-in_err-number-clause-err
 returns-in_err-number-clause-err c =
-    let with : List (Option Sitting) → List (Option ℕ) → List Bool → Serving = λ xs from_ ms. record { config = c.self.inside.config; rings = c.self.inside.rings; sessions = xs; addresses = from_; marks = ms } in
-    let addresses = same-addresses c.self.inside.clients c.open.new.self c.in_err-number.ensures.numbers.0 c.in_err-number.ensures.numbers.1 in
-    let marks = marks-same c.self.inside.clients c.open.new.self c.self.inside.marks c.reserve.new.self c.in_err-number.ensures.numbers.0 c.in_err-number.ensures.numbers.1 (λ slot. c.reserve.ensures.kept.marked slot tt) in
-    let is : with (sessions_of c.open.new.self) (addresses_of c.open.new.self) (marks_of c.open.new.self c.reserve.new.self) ≡ c.args.self.now =
+    let with : List (Option SessionValue) → List (Option ℕ) → List Bool
+    → ServerValue = λ xs from_ ms. record {
+      config = c.self.inside.config;
+      rings = c.self.inside.rings;
+      sessions = xs;
+      addresses = from_;
+      marks = ms;
+    } in
+    let addresses = same-addresses c.self.inside.clients c.open.new.self c.in_err-number.ensures.numbers.0
+    c.in_err-number.ensures.numbers.1 in
+    let marks = marks-same c.self.inside.clients c.open.new.self c.self.inside.marks c.reserve.new.self
+    c.in_err-number.ensures.numbers.0 c.in_err-number.ensures.numbers.1
+    (λ slot. c.reserve.ensures.kept.marked slot tt) in
+    let is : with (sessions_of c.open.new.self) (addresses_of c.open.new.self)
+    (marks_of c.open.new.self c.reserve.new.self) ≡ c.args.self.now =
     (λ i. with (c.in_err-number.ensures.err i) (addresses i) (marks i)) ∙ c.self.view_is in
     search rules
 
 pub invariant_of-self-2 : goal.invariant_of-self-2
 invariant_of-self-2 c =
-    let settled : IsSettled c.self.inside.config c.self.inside.rings c.in_ok-session.session = record { places = subst (λ (p : List ℕ). All (IsPlace c.self.inside.config) p) (sym c.in_ok-session.ensures.places) c.in_ok-view.ensures.places; started = c.in_ok-session.ensures.settled; passed = none-passed c.self.inside.rings c.in_ok-session.session (λ next e. absurd (let t : Negotiating ≡ Transfer next = sym c.in_ok-session.ensures.negotiates ∙ e in cc)) } in (
+    let settled : IsSettled c.self.inside.config c.self.inside.rings
+    c.in_ok-session.session =
+    record {
+      places = subst (λ (p : List ℕ). All (IsPlace c.self.inside.config) p)
+          (sym c.in_ok-session.ensures.places) c.in_ok-view.ensures.places;
+      started = c.in_ok-session.ensures.settled;
+      passed = none-passed c.self.inside.rings c.in_ok-session.session
+          (λ next e. absurd (let t : Negotiating ≡ Transfer next = sym c.in_ok-session.ensures.negotiates ∙ e in cc));
+    }
+    in (
       c.open.ensures.table,
       c.open.ensures.settled c.self.inside.config c.self.inside.rings c.self.invariant.1 settled,
       c.self.invariant.2,
-      marked-opens c.self.inside.config c.self.inside.rings c.reserve.new.self c.self.inside.clients.slots c.open.new.self.slots c.self.inside.clients.slots.vacant_key c.in_ok-session.session
-          (marked-roomier c.self.inside.config c.self.inside.rings c.self.inside.marks c.reserve.new.self c.self.inside.clients.slots c.reserve.ensures.kept c.self.invariant.3)
-          c.in_ok-number.ensures.vacant (subst (HasRooms c.reserve.new.self) c.next_slot.ensures c.in_ok-reserve.ensures.room) c.in_ok-session.ensures.negotiates
-          (ap (λ (x : Client). x.waiting) (c.in_ok-session.ensures.client c.self.inside.config [])) c.in_ok-number.ensures.slots,
+      marked-opens c.self.inside.config c.self.inside.rings c.reserve.new.self c.self.inside.clients.slots
+          c.open.new.self.slots c.self.inside.clients.slots.vacant_key c.in_ok-session.session
+          (marked-roomier c.self.inside.config c.self.inside.rings c.self.inside.marks c.reserve.new.self
+          c.self.inside.clients.slots c.reserve.ensures.kept c.self.invariant.3)
+          c.in_ok-number.ensures.vacant
+          (subst (HasRooms c.reserve.new.self) c.next_slot.ensures c.in_ok-reserve.ensures.room)
+          c.in_ok-session.ensures.negotiates
+          (ap (λ (x : Client). x.waiting) (c.in_ok-session.ensures.client c.self.inside.config []))
+          c.in_ok-number.ensures.slots,
       c.reserve.ensures.kept.rows.count ∙ c.self.invariant.4,
       c.self.invariant.5,
       current-same c.self.inside.config (sessions_of c.self.inside.clients ++ Some c.in_ok-session.session ∷ [])
@@ -85,11 +128,16 @@ invariant_of-self-2 c =
 pub returns-clause-ok : goal.returns-clause-ok
 returns-clause-ok c = λ config w stands.
     with-marks _ (marks_of c.open.new.self c.reserve.new.self) config _
-    (open-stands (serving c.self.inside.config c.self.inside.rings c.self.inside.clients) (serving c.self.inside.config c.self.inside.rings c.open.new.self) c.in_ok-session.session (ipv4_bits c.args.address) refl refl c.in_ok-number.ensures.opened c.in_ok-number.ensures.came
+    (open-stands (serving c.self.inside.config c.self.inside.rings c.self.inside.clients)
+    (serving c.self.inside.config c.self.inside.rings c.open.new.self) c.in_ok-session.session
+    (ipv4_bits c.args.address) refl refl c.in_ok-number.ensures.opened c.in_ok-number.ensures.came
     (addresses-counted c.self.inside.clients ∙ sym (sessions-counted c.self.inside.clients))
-    (ap (λ p. view_in c.self.inside.config p) c.in_ok-session.ensures.places ∙ c.in_ok-view.ensures.view) (c.in_ok-session.ensures.client c.self.inside.config) config w
-    (found c.self.inside.config c.self.inside.rings c.self.inside.clients c.self.inside.clients (marks_of c.self.inside.clients c.self.inside.marks) c.args.self.now config w c.self.view_is refl refl stands))
+    (ap (λ p. view_in c.self.inside.config p) c.in_ok-session.ensures.places ∙ c.in_ok-view.ensures.view)
+    (c.in_ok-session.ensures.client c.self.inside.config) config w
+    (found c.self.inside.config c.self.inside.rings c.self.inside.clients c.self.inside.clients
+    (marks_of c.self.inside.clients c.self.inside.marks) c.args.self.now config w c.self.view_is refl refl stands))
 
 pub returns-clause-number : goal.returns-clause-number
 returns-clause-number c =
-    c.new-2.ensures ∙ c.in_ok-number.ensures.number ∙ sym (sessions-counted c.self.inside.clients) ∙ ap (λ (s : Serving). length s.sessions) c.self.view_is
+    c.new-2.ensures ∙ c.in_ok-number.ensures.number ∙ sym (sessions-counted c.self.inside.clients)
+    ∙ ap (λ (s : ServerValue). length s.sessions) c.self.view_is

@@ -3,24 +3,29 @@ use Rattle.std.specs.Result.{result_ok}
 use Rattle.slab.specs.Slab.{Slab}
 use Rattle.protocol.specs.Client.{Client, offered}
 use Rattle.server_core.specs.Refusals.{is_idle, offer_of}
-use Rattle.session_state.specs.Sessions.{Sitting}
+use Rattle.session_state.specs.Sessions.{SessionValue}
 use Rattle.server_core.specs.Marks.{AreMarked, marks_of}
-use Rattle.server_core.specs.Standing.{AreSettled, Serving}
-use Rattle.server_core.proofs.GoingOn.{found, looked-there, seen-nowhere, seen-there, with-marks}
-use Rattle.server_core.proofs.Slots.{written-table}
-use Rattle.server_core.proofs.Sparing.{marks-same, spared-by}
+use Rattle.server_core.specs.ServerValues.{AreSettled, ServerValue}
+use Rattle.server_core.proofs.SessionLemmas.{found, looked-there, seen-nowhere, seen-there, with-marks}
+use Rattle.server_core.proofs.SlotLemmas.{written-table}
+use Rattle.server_core.proofs.SpareLemmas.{marks-same, spared-by}
 use Rattle.server_core.proofs.CurrentLemmas.{current-goes, current-same, looked-over}
 use Rattle.server_core.specs.Clients.{addresses_of, sessions_of}
 use Rattle.server_core.proofs.server.Server.ready.Goals as goal
 
 pub is_ready_in-requires-clause-settled : goal.is_ready_in-requires-clause-settled
-is_ready_in-requires-clause-settled c = subst (λ (slots : Slab Sitting). AreSettled c.self.inside.config c.self.inside.rings slots) (sym c.seek.ensures.slots) c.self.invariant.1
+is_ready_in-requires-clause-settled c =
+    subst (λ (slots : Slab SessionValue). AreSettled c.self.inside.config c.self.inside.rings slots)
+    (sym c.seek.ensures.slots) c.self.invariant.1
 
 pub is_ready_in-requires-clause-marked : goal.is_ready_in-requires-clause-marked
-is_ready_in-requires-clause-marked c = subst (λ (slots : Slab Sitting). AreMarked c.self.inside.config c.self.inside.rings c.self.inside.marks slots) (sym c.seek.ensures.slots) c.self.invariant.3
+is_ready_in-requires-clause-marked c =
+    subst (λ (slots : Slab SessionValue). AreMarked c.self.inside.config c.self.inside.rings c.self.inside.marks slots)
+    (sym c.seek.ensures.slots) c.self.invariant.3
 
 pub is_ready_in-requires-clause-there : goal.is_ready_in-requires-clause-there
-is_ready_in-requires-clause-there c = c.seek.ensures.table.there c.number.result c.in-Some.slot (sym c.in-Some.ensures.slot)
+is_ready_in-requires-clause-there c =
+    c.seek.ensures.table.there c.number.result c.in-Some.slot (sym c.in-Some.ensures.slot)
 
 pub invariant_of-self : goal.invariant_of-self
 invariant_of-self c = (
@@ -41,9 +46,11 @@ invariant_of-self c = (
 pub invariant_of-self-in-None : goal.invariant_of-self-in-None
 invariant_of-self-in-None c = (
   c.seek.ensures.table,
-  subst (λ (slots : Slab Sitting). AreSettled c.self.inside.config c.self.inside.rings slots) (sym c.seek.ensures.slots) c.self.invariant.1,
+  subst (λ (slots : Slab SessionValue). AreSettled c.self.inside.config c.self.inside.rings slots)
+      (sym c.seek.ensures.slots) c.self.invariant.1,
   c.self.invariant.2,
-  subst (λ (slots : Slab Sitting). AreMarked c.self.inside.config c.self.inside.rings c.self.inside.marks slots) (sym c.seek.ensures.slots) c.self.invariant.3,
+  subst (λ (slots : Slab SessionValue). AreMarked c.self.inside.config c.self.inside.rings c.self.inside.marks slots)
+      (sym c.seek.ensures.slots) c.self.invariant.3,
   c.self.invariant.4,
   c.self.invariant.5,
   current-same c.self.inside.config (sessions_of c.self.inside.clients) (sessions_of c.seek.new.self)
@@ -53,43 +60,64 @@ invariant_of-self-in-None c = (
 
 pub returns-in-Some-clause-stands : goal.returns-in-Some-clause-stands
 returns-in-Some-clause-stands c = λ config w stands.
-    let here = found c.self.inside.config c.self.inside.rings c.self.inside.clients c.seek.new.self (marks_of c.self.inside.clients c.self.inside.marks) c.args.self.now config w c.self.view_is c.seek.ensures.sessions c.seek.ensures.addresses stands in
+    let here = found c.self.inside.config c.self.inside.rings c.self.inside.clients c.seek.new.self
+    (marks_of c.self.inside.clients c.self.inside.marks) c.args.self.now config w c.self.view_is
+    c.seek.ensures.sessions c.seek.ensures.addresses stands in
     with-marks _ (marks_of (record c.seek.new.self { slots = c.is_ready_in.new.slots }) c.self.inside.marks) config w
-    (looked-there c.self.inside.config c.self.inside.rings c.seek.new.self c.number.result config w c.is_ready_in.new.slots c.in-Some.slot c.seek.ensures.table (sym c.in-Some.ensures.slot) (c.is_ready_in.ensures.changed w.history here.holds) here)
+    (looked-there c.self.inside.config c.self.inside.rings c.seek.new.self c.number.result config w
+    c.is_ready_in.new.slots c.in-Some.slot c.seek.ensures.table (sym c.in-Some.ensures.slot)
+    (c.is_ready_in.ensures.changed w.history here.holds) here)
 
 pub returns-in-Some-clause-answer : goal.returns-in-Some-clause-answer
 returns-in-Some-clause-answer c = λ config w stands.
-    let here = found c.self.inside.config c.self.inside.rings c.self.inside.clients c.seek.new.self (marks_of c.self.inside.clients c.self.inside.marks) c.args.self.now config w c.self.view_is c.seek.ensures.sessions c.seek.ensures.addresses stands in
+    let here = found c.self.inside.config c.self.inside.rings c.self.inside.clients c.seek.new.self
+    (marks_of c.self.inside.clients c.self.inside.marks) c.args.self.now config w c.self.view_is
+    c.seek.ensures.sessions c.seek.ensures.addresses stands in
     rw (← c.number.ensures)
     (c.is_ready_in.ensures.answer w.history here.holds
-    ∙ ap (option_map (λ (x : Client). not (is_idle (offer_of (offered w.history x))))) (seen-there c.self.inside.config c.self.inside.rings c.seek.new.self c.number.result config w c.in-Some.slot c.seek.ensures.table (sym c.in-Some.ensures.slot) here))
+    ∙ ap (option_map (λ (x : Client). not (is_idle (offer_of (offered w.history x)))))
+    (seen-there c.self.inside.config c.self.inside.rings c.seek.new.self c.number.result config w c.in-Some.slot
+    c.seek.ensures.table (sym c.in-Some.ensures.slot) here))
 
 pub returns-in-Some-clause-spared : goal.returns-in-Some-clause-spared
 returns-in-Some-clause-spared c = λ unready config w stands.
-    let here = found c.self.inside.config c.self.inside.rings c.self.inside.clients c.seek.new.self (marks_of c.self.inside.clients c.self.inside.marks) c.args.self.now config w c.self.view_is c.seek.ensures.sessions c.seek.ensures.addresses stands in
-    let seen = seen-there c.self.inside.config c.self.inside.rings c.seek.new.self c.number.result config w c.in-Some.slot c.seek.ensures.table (sym c.in-Some.ensures.slot) here in
+    let here = found c.self.inside.config c.self.inside.rings c.self.inside.clients c.seek.new.self
+    (marks_of c.self.inside.clients c.self.inside.marks) c.args.self.now config w c.self.view_is
+    c.seek.ensures.sessions c.seek.ensures.addresses stands in
+    let seen = seen-there c.self.inside.config c.self.inside.rings c.seek.new.self c.number.result config w
+    c.in-Some.slot c.seek.ensures.table (sym c.in-Some.ensures.slot) here in
     rw (← c.number.ensures)
     (spared-by config w c.number.result (result_ok c.is_ready_in.result)
-    (c.is_ready_in.ensures.answer w.history here.holds ∙ ap (option_map (λ (x : Client). not (is_idle (offer_of (offered w.history x))))) seen)
+    (c.is_ready_in.ensures.answer w.history here.holds
+    ∙ ap (option_map (λ (x : Client). not (is_idle (offer_of (offered w.history x))))) seen)
     (ap result_ok unready) (λ x there. c.is_ready_in.ensures.spared w.history here.holds unready x (seen ∙ there)))
 
 pub returns-in-Some-clause-marks : goal.returns-in-Some-clause-marks
 returns-in-Some-clause-marks c =
-    marks-same c.self.inside.clients (record c.seek.new.self { slots = c.is_ready_in.new.slots }) c.self.inside.marks c.self.inside.marks c.seek.ensures.numbers.0 c.seek.ensures.numbers.1 (λ slot. refl)
-    ∙ ap (λ (s : Serving). s.marks) c.self.view_is
+    marks-same c.self.inside.clients
+    (record c.seek.new.self { slots = c.is_ready_in.new.slots }) c.self.inside.marks c.self.inside.marks
+    c.seek.ensures.numbers.0 c.seek.ensures.numbers.1 (λ slot. refl)
+    ∙ ap (λ (s : ServerValue). s.marks) c.self.view_is
 
 pub returns-in-None-clause-stands : goal.returns-in-None-clause-stands
 returns-in-None-clause-stands c = λ config w stands.
-    let here = found c.self.inside.config c.self.inside.rings c.self.inside.clients c.seek.new.self (marks_of c.self.inside.clients c.self.inside.marks) c.args.self.now config w c.self.view_is c.seek.ensures.sessions c.seek.ensures.addresses stands in
+    let here = found c.self.inside.config c.self.inside.rings c.self.inside.clients c.seek.new.self
+    (marks_of c.self.inside.clients c.self.inside.marks) c.args.self.now config w c.self.view_is
+    c.seek.ensures.sessions c.seek.ensures.addresses stands in
     with-marks _ (marks_of c.seek.new.self c.self.inside.marks) config w here
 
 pub returns-in-None-clause-answer : goal.returns-in-None-clause-answer
 returns-in-None-clause-answer c = λ config w stands.
-    let here = found c.self.inside.config c.self.inside.rings c.self.inside.clients c.seek.new.self (marks_of c.self.inside.clients c.self.inside.marks) c.args.self.now config w c.self.view_is c.seek.ensures.sessions c.seek.ensures.addresses stands in
+    let here = found c.self.inside.config c.self.inside.rings c.self.inside.clients c.seek.new.self
+    (marks_of c.self.inside.clients c.self.inside.marks) c.args.self.now config w c.self.view_is
+    c.seek.ensures.sessions c.seek.ensures.addresses stands in
     rw (← c.number.ensures)
-    (ap (option_map (λ (x : Client). not (is_idle (offer_of (offered w.history x))))) (seen-nowhere c.self.inside.config c.self.inside.rings c.seek.new.self c.number.result config w (sym c.in-None.ensures.slot) here))
+    (ap (option_map (λ (x : Client). not (is_idle (offer_of (offered w.history x)))))
+    (seen-nowhere c.self.inside.config c.self.inside.rings c.seek.new.self c.number.result config w
+    (sym c.in-None.ensures.slot) here))
 
 pub returns-in-None-clause-marks : goal.returns-in-None-clause-marks
 returns-in-None-clause-marks c =
-    marks-same c.self.inside.clients c.seek.new.self c.self.inside.marks c.self.inside.marks c.seek.ensures.numbers.0 c.seek.ensures.numbers.1 (λ slot. refl)
-    ∙ ap (λ (s : Serving). s.marks) c.self.view_is
+    marks-same c.self.inside.clients c.seek.new.self c.self.inside.marks c.self.inside.marks c.seek.ensures.numbers.0
+    c.seek.ensures.numbers.1 (λ slot. refl)
+    ∙ ap (λ (s : ServerValue). s.marks) c.self.view_is

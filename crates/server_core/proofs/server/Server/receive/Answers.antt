@@ -1,21 +1,25 @@
 use Rattle.std.proofs.Common.{◌∙◌, ap, sym, subst, length}
-use Rattle.session_state.specs.Sessions.{Sitting}
+use Rattle.session_state.specs.Sessions.{SessionValue}
 use Rattle.slab.specs.Slab.{Slab}
-use Rattle.server_core.specs.Standing.{AreSettled}
+use Rattle.server_core.specs.ServerValues.{AreSettled}
 use Rattle.protocol.specs.Client.{received}
 use Rattle.server_core.specs.Refusals.{receipt}
 use Rattle.server_core.specs.Marks.{AreMarked, marks_of}
-use Rattle.server_core.proofs.GoingOn.{found, goes-nowhere, goes-there, seen-nowhere, seen-there, with-marks}
-use Rattle.server_core.proofs.Slots.{written-table}
+use Rattle.server_core.proofs.SessionLemmas.{found, goes-nowhere, goes-there, seen-nowhere, seen-there, with-marks}
+use Rattle.server_core.proofs.SlotLemmas.{written-table}
 use Rattle.server_core.proofs.CurrentLemmas.{current-goes, current-same, received-over}
 use Rattle.server_core.specs.Clients.{addresses_of, sessions_of}
 use Rattle.server_core.proofs.server.Server.receive.Goals as goal
 
 pub receive_in-requires-clause-settled : goal.receive_in-requires-clause-settled
-receive_in-requires-clause-settled c = subst (λ (slots : Slab Sitting). AreSettled c.self.inside.config c.self.inside.rings slots) (sym c.seek.ensures.slots) c.self.invariant.1
+receive_in-requires-clause-settled c =
+    subst (λ (slots : Slab SessionValue). AreSettled c.self.inside.config c.self.inside.rings slots)
+    (sym c.seek.ensures.slots) c.self.invariant.1
 
 pub receive_in-requires-clause-marked : goal.receive_in-requires-clause-marked
-receive_in-requires-clause-marked c = subst (λ (slots : Slab Sitting). AreMarked c.self.inside.config c.self.inside.rings c.self.inside.marks slots) (sym c.seek.ensures.slots) c.self.invariant.3
+receive_in-requires-clause-marked c =
+    subst (λ (slots : Slab SessionValue). AreMarked c.self.inside.config c.self.inside.rings c.self.inside.marks slots)
+    (sym c.seek.ensures.slots) c.self.invariant.3
 
 pub invariant_of-self : goal.invariant_of-self
 invariant_of-self c = (
@@ -38,9 +42,11 @@ invariant_of-self c = (
 pub invariant_of-self-in-None : goal.invariant_of-self-in-None
 invariant_of-self-in-None c = (
   c.seek.ensures.table,
-  subst (λ (slots : Slab Sitting). AreSettled c.self.inside.config c.self.inside.rings slots) (sym c.seek.ensures.slots) c.self.invariant.1,
+  subst (λ (slots : Slab SessionValue). AreSettled c.self.inside.config c.self.inside.rings slots)
+      (sym c.seek.ensures.slots) c.self.invariant.1,
   c.self.invariant.2,
-  subst (λ (slots : Slab Sitting). AreMarked c.self.inside.config c.self.inside.rings c.self.inside.marks slots) (sym c.seek.ensures.slots) c.self.invariant.3,
+  subst (λ (slots : Slab SessionValue). AreMarked c.self.inside.config c.self.inside.rings c.self.inside.marks slots)
+      (sym c.seek.ensures.slots) c.self.invariant.3,
   c.self.invariant.4,
   c.self.invariant.5,
   current-same c.self.inside.config (sessions_of c.self.inside.clients) (sessions_of c.seek.new.self)
@@ -50,20 +56,41 @@ invariant_of-self-in-None c = (
 
 pub returns-in-Some-clause-stands : goal.returns-in-Some-clause-stands
 returns-in-Some-clause-stands c = λ config w stands.
-    let here = found c.self.inside.config c.self.inside.rings c.self.inside.clients c.seek.new.self (marks_of c.self.inside.clients c.self.inside.marks) c.args.self.now config w c.self.view_is c.seek.ensures.sessions c.seek.ensures.addresses stands in
-    rw (← c.number.ensures) (with-marks _ (marks_of (record c.seek.new.self { slots = c.receive_in.new.slots }) c.receive_in.new.marks) config _ (goes-there c.self.inside.config c.self.inside.rings c.seek.new.self c.number.result config w (λ v x. received v w.history c.args.bytes.now x) c.receive_in.new.slots c.in-Some.slot c.seek.ensures.table (sym c.in-Some.ensures.slot) (c.receive_in.ensures.changed w.history here.holds) here))
+    let here = found c.self.inside.config c.self.inside.rings c.self.inside.clients c.seek.new.self
+    (marks_of c.self.inside.clients c.self.inside.marks) c.args.self.now config w c.self.view_is
+    c.seek.ensures.sessions c.seek.ensures.addresses stands in
+    rw (← c.number.ensures)
+    (with-marks _ (marks_of (record c.seek.new.self { slots = c.receive_in.new.slots }) c.receive_in.new.marks)
+    config _ (goes-there c.self.inside.config c.self.inside.rings c.seek.new.self c.number.result config w
+    (λ v x. received v w.history c.args.bytes.now x) c.receive_in.new.slots c.in-Some.slot c.seek.ensures.table
+    (sym c.in-Some.ensures.slot) (c.receive_in.ensures.changed w.history here.holds) here))
 
 pub returns-in-Some-clause-answer : goal.returns-in-Some-clause-answer
 returns-in-Some-clause-answer c = λ config w stands.
-    let here = found c.self.inside.config c.self.inside.rings c.self.inside.clients c.seek.new.self (marks_of c.self.inside.clients c.self.inside.marks) c.args.self.now config w c.self.view_is c.seek.ensures.sessions c.seek.ensures.addresses stands in
-    rw (← c.number.ensures) (c.receive_in.ensures.answer w.history ∙ ap (receipt (length c.args.bytes.now)) (seen-there c.self.inside.config c.self.inside.rings c.seek.new.self c.number.result config w c.in-Some.slot c.seek.ensures.table (sym c.in-Some.ensures.slot) here))
+    let here = found c.self.inside.config c.self.inside.rings c.self.inside.clients c.seek.new.self
+    (marks_of c.self.inside.clients c.self.inside.marks) c.args.self.now config w c.self.view_is
+    c.seek.ensures.sessions c.seek.ensures.addresses stands in
+    rw (← c.number.ensures) (c.receive_in.ensures.answer w.history
+    ∙ ap (receipt (length c.args.bytes.now))
+    (seen-there c.self.inside.config c.self.inside.rings c.seek.new.self c.number.result config w c.in-Some.slot
+    c.seek.ensures.table (sym c.in-Some.ensures.slot) here))
 
 pub returns-in-None-clause-stands : goal.returns-in-None-clause-stands
 returns-in-None-clause-stands c = λ config w stands.
-    let here = found c.self.inside.config c.self.inside.rings c.self.inside.clients c.seek.new.self (marks_of c.self.inside.clients c.self.inside.marks) c.args.self.now config w c.self.view_is c.seek.ensures.sessions c.seek.ensures.addresses stands in
-    rw (← c.number.ensures) (with-marks _ (marks_of c.seek.new.self c.self.inside.marks) config _ (goes-nowhere c.self.inside.config c.self.inside.rings c.seek.new.self c.number.result config w (λ v x. received v w.history c.args.bytes.now x) (sym c.in-None.ensures.slot) here))
+    let here = found c.self.inside.config c.self.inside.rings c.self.inside.clients c.seek.new.self
+    (marks_of c.self.inside.clients c.self.inside.marks) c.args.self.now config w c.self.view_is
+    c.seek.ensures.sessions c.seek.ensures.addresses stands in
+    rw (← c.number.ensures)
+    (with-marks _ (marks_of c.seek.new.self c.self.inside.marks) config _
+    (goes-nowhere c.self.inside.config c.self.inside.rings c.seek.new.self c.number.result config w
+    (λ v x. received v w.history c.args.bytes.now x) (sym c.in-None.ensures.slot) here))
 
 pub returns-in-None-clause-answer : goal.returns-in-None-clause-answer
 returns-in-None-clause-answer c = λ config w stands.
-    let here = found c.self.inside.config c.self.inside.rings c.self.inside.clients c.seek.new.self (marks_of c.self.inside.clients c.self.inside.marks) c.args.self.now config w c.self.view_is c.seek.ensures.sessions c.seek.ensures.addresses stands in
-    rw (← c.number.ensures) (ap (receipt (length c.args.bytes.now)) (seen-nowhere c.self.inside.config c.self.inside.rings c.seek.new.self c.number.result config w (sym c.in-None.ensures.slot) here))
+    let here = found c.self.inside.config c.self.inside.rings c.self.inside.clients c.seek.new.self
+    (marks_of c.self.inside.clients c.self.inside.marks) c.args.self.now config w c.self.view_is
+    c.seek.ensures.sessions c.seek.ensures.addresses stands in
+    rw (← c.number.ensures)
+    (ap (receipt (length c.args.bytes.now))
+    (seen-nowhere c.self.inside.config c.self.inside.rings c.seek.new.self c.number.result config w
+    (sym c.in-None.ensures.slot) here))

@@ -3,18 +3,23 @@ use Rattle.protocol.specs.Catalog.{is_same_but_for_access}
 use Rattle.server_core.specs.declared.clients.Opened.{Opened}
 use Rattle.server_core.specs.Marks.{marks_of}
 use Rattle.server_core.specs.Reloads.{AreCurrentIn, AreReviewed}
-use Rattle.server_core.specs.Standing.{Serving}
-use Rattle.server_core.proofs.GoingOn.{found, with-marks}
+use Rattle.server_core.specs.ServerValues.{ServerValue}
+use Rattle.server_core.proofs.SessionLemmas.{found, with-marks}
 use Rattle.server_core.proofs.ReloadLemmas.{marked-under, refused-reload, reload-stands, same_count, settled-under}
-use Rattle.server_core.proofs.Slots.{written-table}
+use Rattle.server_core.proofs.SlotLemmas.{written-table}
 use Rattle.server_core.proofs.CurrentLemmas.{current-after, current-in-slots, history-under}
 use Rattle.server_core.proofs.server.Server.reload.Goals as goal
 
 pub review_all-requires-clause-settled : goal.review_all-requires-clause-settled
-review_all-requires-clause-settled c = settled-under c.self.inside.config c.args.config (sym c.if-not-is_same_but_for_access.ensures) c.self.inside.rings c.self.inside.clients.slots c.self.invariant.1
+review_all-requires-clause-settled c =
+    settled-under c.self.inside.config c.args.config
+    (sym c.if-not-is_same_but_for_access.ensures) c.self.inside.rings c.self.inside.clients.slots c.self.invariant.1
 
 pub review_all-requires-clause-marked : goal.review_all-requires-clause-marked
-review_all-requires-clause-marked c = marked-under c.self.inside.config c.args.config (sym c.if-not-is_same_but_for_access.ensures) c.self.inside.rings c.self.inside.marks c.self.inside.clients.slots c.self.invariant.3
+review_all-requires-clause-marked c =
+    marked-under c.self.inside.config c.args.config
+    (sym c.if-not-is_same_but_for_access.ensures) c.self.inside.rings c.self.inside.marks c.self.inside.clients.slots
+    c.self.invariant.3
 
 pub review_all-requires-clause-current : goal.review_all-requires-clause-current
 review_all-requires-clause-current c =
@@ -40,11 +45,16 @@ invariant_of-self c =
 
 pub returns-then-not-is_same_but_for_access-clause-stands : goal.returns-then-not-is_same_but_for_access-clause-stands
 returns-then-not-is_same_but_for_access-clause-stands c = λ config w stands.
-    refused-reload c.args.self.now c.args.config (ap (λ (s : Serving). is_same_but_for_access s.config c.args.config) (sym c.self.view_is) ∙ sym c.if-not-is_same_but_for_access.ensures) config w stands
+    refused-reload c.args.self.now c.args.config
+    (ap (λ (s : ServerValue). is_same_but_for_access s.config c.args.config) (sym c.self.view_is)
+    ∙ sym c.if-not-is_same_but_for_access.ensures) config w stands
 
 pub returns-clause-stands : goal.returns-clause-stands
 returns-clause-stands c = λ config w stands.
-    let here = found c.self.inside.config c.self.inside.rings c.self.inside.clients c.self.inside.clients (marks_of c.self.inside.clients c.self.inside.marks) c.args.self.now config w c.self.view_is refl refl stands in
+    let here = found c.self.inside.config c.self.inside.rings c.self.inside.clients c.self.inside.clients
+    (marks_of c.self.inside.clients c.self.inside.marks) c.args.self.now config w c.self.view_is refl refl stands in
     with-marks _ (marks_of (record c.self.inside.clients { slots = c.review_all.new.slots }) c.review_all.new.marks) _ _
-    (reload-stands c.self.inside.config c.args.config c.self.inside.rings c.self.inside.clients c.review_all.new.slots (sym c.if-not-is_same_but_for_access.ensures) c.self.invariant.0 c.review_all.ensures.kept
-    (subst (λ (os : List Opened). AreReviewed c.args.config os c.self.inside.clients.slots c.review_all.new.slots) c.as_slice.ensures.value c.review_all.ensures.each) config w here)
+    (reload-stands c.self.inside.config c.args.config c.self.inside.rings c.self.inside.clients c.review_all.new.slots
+    (sym c.if-not-is_same_but_for_access.ensures) c.self.invariant.0 c.review_all.ensures.kept
+    (subst (λ (os : List Opened). AreReviewed c.args.config os c.self.inside.clients.slots c.review_all.new.slots)
+    c.as_slice.ensures.value c.review_all.ensures.each) config w here)

@@ -1,30 +1,34 @@
 use Rattle.std.proofs.Common.{◌∙◌, ap, sym, subst, List, Option, Some, is_some, slice_get}
-use Rattle.session_state.specs.Sessions.{Sitting}
+use Rattle.session_state.specs.Sessions.{SessionValue}
 use Rattle.slab.specs.Slab.{Slab}
-use Rattle.server_core.specs.Standing.{AreSettled}
-use Rattle.server_core.specs.Standing.{Serving}
+use Rattle.server_core.specs.ServerValues.{AreSettled}
+use Rattle.server_core.specs.ServerValues.{ServerValue}
 use Rattle.server_core.specs.Clients.{addresses_of, sessions_of}
 use Rattle.server_core.specs.Marks.{AreMarked, marks_of}
-use Rattle.server_core.proofs.GoingOn.{found, seen-nowhere, seen-there, took-nowhere, took-there, with-marks}
-use Rattle.server_core.proofs.Slots.{session-there, written-table}
+use Rattle.server_core.proofs.SessionLemmas.{found, seen-nowhere, seen-there, took-nowhere, took-there, with-marks}
+use Rattle.server_core.proofs.SlotLemmas.{session-there, written-table}
 use Rattle.server_core.proofs.CurrentLemmas.{current-goes, current-same, taken-over}
-use Rattle.server_core.specs.Standing.{taking}
+use Rattle.server_core.specs.ServerValues.{taking}
 use Rattle.server_core.proofs.server.Server.took.Goals as goal
 
 pub took_in-requires-clause-settled : goal.took_in-requires-clause-settled
-took_in-requires-clause-settled c = subst (λ (slots : Slab Sitting). AreSettled c.self.inside.config c.self.inside.rings slots) (sym c.seek.ensures.slots) c.self.invariant.1
+took_in-requires-clause-settled c =
+    subst (λ (slots : Slab SessionValue). AreSettled c.self.inside.config c.self.inside.rings slots)
+    (sym c.seek.ensures.slots) c.self.invariant.1
 
 pub took_in-requires-clause-count : goal.took_in-requires-clause-count
 took_in-requires-clause-count c = λ s there.
     c.requires s
-    (ap (λ (x : Serving). slice_get x.sessions c.args.client) (sym c.self.view_is)
-    ∙ ap (λ (xs : List (Option Sitting)). slice_get xs c.args.client) (sym c.seek.ensures.sessions)
+    (ap (λ (x : ServerValue). slice_get x.sessions c.args.client) (sym c.self.view_is)
+    ∙ ap (λ (xs : List (Option SessionValue)). slice_get xs c.args.client) (sym c.seek.ensures.sessions)
     ∙ ap (slice_get (sessions_of c.seek.new.self)) (sym c.number.ensures)
     ∙ session-there c.seek.new.self c.number.result c.in-Some.slot c.seek.ensures.table (sym c.in-Some.ensures.slot)
     ∙ ap Some there)
 
 pub took_in-requires-clause-marked : goal.took_in-requires-clause-marked
-took_in-requires-clause-marked c = subst (λ (slots : Slab Sitting). AreMarked c.self.inside.config c.self.inside.rings c.self.inside.marks slots) (sym c.seek.ensures.slots) c.self.invariant.3
+took_in-requires-clause-marked c =
+    subst (λ (slots : Slab SessionValue). AreMarked c.self.inside.config c.self.inside.rings c.self.inside.marks slots)
+    (sym c.seek.ensures.slots) c.self.invariant.3
 
 pub invariant_of-self : goal.invariant_of-self
 invariant_of-self c = (
@@ -46,9 +50,11 @@ invariant_of-self c = (
 pub invariant_of-self-in-None : goal.invariant_of-self-in-None
 invariant_of-self-in-None c = (
   c.seek.ensures.table,
-  subst (λ (slots : Slab Sitting). AreSettled c.self.inside.config c.self.inside.rings slots) (sym c.seek.ensures.slots) c.self.invariant.1,
+  subst (λ (slots : Slab SessionValue). AreSettled c.self.inside.config c.self.inside.rings slots)
+      (sym c.seek.ensures.slots) c.self.invariant.1,
   c.self.invariant.2,
-  subst (λ (slots : Slab Sitting). AreMarked c.self.inside.config c.self.inside.rings c.self.inside.marks slots) (sym c.seek.ensures.slots) c.self.invariant.3,
+  subst (λ (slots : Slab SessionValue). AreMarked c.self.inside.config c.self.inside.rings c.self.inside.marks slots)
+      (sym c.seek.ensures.slots) c.self.invariant.3,
   c.self.invariant.4,
   c.self.invariant.5,
   current-same c.self.inside.config (sessions_of c.self.inside.clients) (sessions_of c.seek.new.self)
@@ -58,20 +64,40 @@ invariant_of-self-in-None c = (
 
 pub returns-in-Some-clause-stands : goal.returns-in-Some-clause-stands
 returns-in-Some-clause-stands c = λ config w stands.
-    let here = found c.self.inside.config c.self.inside.rings c.self.inside.clients c.seek.new.self (marks_of c.self.inside.clients c.self.inside.marks) c.args.self.now config w c.self.view_is c.seek.ensures.sessions c.seek.ensures.addresses stands in
-    rw (← c.number.ensures) (with-marks _ (marks_of (record c.seek.new.self { slots = c.took_in.new.slots }) c.took_in.new.marks) config _ (took-there c.self.inside.config c.self.inside.rings c.seek.new.self c.number.result config w c.args.count c.took_in.new.slots c.in-Some.slot c.seek.ensures.table (sym c.in-Some.ensures.slot) (c.took_in.ensures.changed w.history here.holds) here))
+    let here = found c.self.inside.config c.self.inside.rings c.self.inside.clients c.seek.new.self
+    (marks_of c.self.inside.clients c.self.inside.marks) c.args.self.now config w c.self.view_is
+    c.seek.ensures.sessions c.seek.ensures.addresses stands in
+    rw (← c.number.ensures)
+    (with-marks _ (marks_of (record c.seek.new.self { slots = c.took_in.new.slots }) c.took_in.new.marks) config _
+    (took-there c.self.inside.config c.self.inside.rings c.seek.new.self c.number.result config w c.args.count
+    c.took_in.new.slots c.in-Some.slot c.seek.ensures.table (sym c.in-Some.ensures.slot)
+    (c.took_in.ensures.changed w.history here.holds) here))
 
 pub returns-in-Some-clause-answer : goal.returns-in-Some-clause-answer
 returns-in-Some-clause-answer c = λ config w stands.
-    let here = found c.self.inside.config c.self.inside.rings c.self.inside.clients c.seek.new.self (marks_of c.self.inside.clients c.self.inside.marks) c.args.self.now config w c.self.view_is c.seek.ensures.sessions c.seek.ensures.addresses stands in
-    rw (← c.number.ensures) (c.took_in.ensures.answer w.history ∙ ap is_some (seen-there c.self.inside.config c.self.inside.rings c.seek.new.self c.number.result config w c.in-Some.slot c.seek.ensures.table (sym c.in-Some.ensures.slot) here))
+    let here = found c.self.inside.config c.self.inside.rings c.self.inside.clients c.seek.new.self
+    (marks_of c.self.inside.clients c.self.inside.marks) c.args.self.now config w c.self.view_is
+    c.seek.ensures.sessions c.seek.ensures.addresses stands in
+    rw (← c.number.ensures) (c.took_in.ensures.answer w.history
+    ∙ ap is_some
+    (seen-there c.self.inside.config c.self.inside.rings c.seek.new.self c.number.result config w c.in-Some.slot
+    c.seek.ensures.table (sym c.in-Some.ensures.slot) here))
 
 pub returns-in-None-clause-stands : goal.returns-in-None-clause-stands
 returns-in-None-clause-stands c = λ config w stands.
-    let here = found c.self.inside.config c.self.inside.rings c.self.inside.clients c.seek.new.self (marks_of c.self.inside.clients c.self.inside.marks) c.args.self.now config w c.self.view_is c.seek.ensures.sessions c.seek.ensures.addresses stands in
-    rw (← c.number.ensures) (with-marks _ (marks_of c.seek.new.self c.self.inside.marks) config _ (took-nowhere c.self.inside.config c.self.inside.rings c.seek.new.self c.number.result config w c.args.count (sym c.in-None.ensures.slot) here))
+    let here = found c.self.inside.config c.self.inside.rings c.self.inside.clients c.seek.new.self
+    (marks_of c.self.inside.clients c.self.inside.marks) c.args.self.now config w c.self.view_is
+    c.seek.ensures.sessions c.seek.ensures.addresses stands in
+    rw (← c.number.ensures)
+    (with-marks _ (marks_of c.seek.new.self c.self.inside.marks) config _
+    (took-nowhere c.self.inside.config c.self.inside.rings c.seek.new.self c.number.result config w c.args.count
+    (sym c.in-None.ensures.slot) here))
 
 pub returns-in-None-clause-answer : goal.returns-in-None-clause-answer
 returns-in-None-clause-answer c = λ config w stands.
-    let here = found c.self.inside.config c.self.inside.rings c.self.inside.clients c.seek.new.self (marks_of c.self.inside.clients c.self.inside.marks) c.args.self.now config w c.self.view_is c.seek.ensures.sessions c.seek.ensures.addresses stands in
-    rw (← c.number.ensures) (ap is_some (seen-nowhere c.self.inside.config c.self.inside.rings c.seek.new.self c.number.result config w (sym c.in-None.ensures.slot) here))
+    let here = found c.self.inside.config c.self.inside.rings c.self.inside.clients c.seek.new.self
+    (marks_of c.self.inside.clients c.self.inside.marks) c.args.self.now config w c.self.view_is
+    c.seek.ensures.sessions c.seek.ensures.addresses stands in
+    rw (← c.number.ensures)
+    (ap is_some (seen-nowhere c.self.inside.config c.self.inside.rings c.seek.new.self c.number.result config w
+    (sym c.in-None.ensures.slot) here))

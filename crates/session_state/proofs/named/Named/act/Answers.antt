@@ -1,7 +1,7 @@
 use Rattle.std.proofs.Common.{ap, sym, ◌∙◌}
-use Rattle.session_state.specs.Naming.{Naming}
+use Rattle.session_state.specs.NamedValues.{NamedValue}
 use Rattle.session_state.proofs.NamedLemmas.{current-below}
-use Rattle.session_state.proofs.Choosing.{acted}
+use Rattle.session_state.proofs.ChoiceLemmas.{acted}
 use Rattle.session_state.proofs.named.Named.act.Goals as goal
 
 pub act_for-requires : goal.act_for-requires
@@ -9,4 +9,6 @@ act_for-requires c = current-below _ _ _ _ c.in-Some.i _ c.self.invariant c.self
 
 pub returns-in-Some : goal.returns-in-Some
 returns-in-Some c = λ config.
-    acted config c.args.self.now c.act_for.new.self c.in-Some.i c.args.action (ap (λ (x : Naming). x.current) (sym c.self.view_is) ∙ c.in-Some.is) (current-below _ _ _ _ c.in-Some.i _ c.self.invariant c.self.view_is c.in-Some.is) c.act_for.ensures
+    acted config c.args.self.now c.act_for.new.self c.in-Some.i c.args.action
+    (ap (λ (x : NamedValue). x.current) (sym c.self.view_is) ∙ c.in-Some.is)
+    (current-below _ _ _ _ c.in-Some.i _ c.self.invariant c.self.view_is c.in-Some.is) c.act_for.ensures

@@ -7,14 +7,21 @@ pub add-requires : goal.add-requires
 add-requires c = below-all _ _ _ _ c.args.i _ c.self.invariant c.self.view_is c.requires
 
 pub invariant_of-self : goal.invariant_of-self
-invariant_of-self c = added-naming c.add.result c.self.inside.entries.items c.self.inside.current c.self.inside.pool _ _ c.args.i c.args.selector c.add.ensures.added c.add.ensures.unchanged c.self.invariant (below _ _ _ c.args.i _ c.self.view_is c.requires)
+invariant_of-self c =
+    added-naming c.add.result c.self.inside.entries.items c.self.inside.current c.self.inside.pool _ _ c.args.i
+    c.args.selector c.add.ensures.added c.add.ensures.unchanged c.self.invariant
+    (below _ _ _ c.args.i _ c.self.view_is c.requires)
 
 pub returns-clause-new : goal.returns-clause-new
-returns-clause-new c = λ choice there. list-widened c.add.result c.self.inside.entries.items c.self.inside.current c.self.inside.pool _ _ c.args.i c.args.selector _ choice c.add.ensures.room c.add.ensures.added c.add.ensures.unchanged c.self.invariant c.self.view_is c.requires there
+returns-clause-new c =
+    λ choice there. list-widened c.add.result c.self.inside.entries.items c.self.inside.current c.self.inside.pool _ _
+    c.args.i c.args.selector _ choice c.add.ensures.room c.add.ensures.added c.add.ensures.unchanged c.self.invariant
+    c.self.view_is c.requires there
 
 pub returns-clause-effect : goal.returns-clause-effect
 returns-clause-effect c = λ choice there.
-    let led = list-widening c.add.result c.self.inside.entries.items c.self.inside.current c.self.inside.pool _ c.args.i _ choice c.add.ensures.room c.self.invariant c.self.view_is there in
+    let led = list-widening c.add.result c.self.inside.entries.items c.self.inside.current c.self.inside.pool _ c.args.i
+    _ choice c.add.ensures.room c.self.invariant c.self.view_is there in
     elim c.match-add.branch [
       | in-Ok w ↦ w.result-is ∙ ap effect_of (sym w.in-Ok.is) ∙ led
       | in-Err w ↦ w.result-is ∙ ap effect_of (sym w.in-Err.is) ∙ led

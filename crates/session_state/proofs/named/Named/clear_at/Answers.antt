@@ -6,4 +6,6 @@ pub clear-requires : goal.clear-requires
 clear-requires c = below-all _ _ _ _ c.args.i _ c.self.invariant c.self.view_is c.requires
 
 pub returns : goal.returns
-returns c = λ choice there. list-changed c.self.inside.entries.items c.self.inside.current c.self.inside.pool _ _ c.args.i [] _ choice c.self.invariant c.self.view_is c.requires there c.clear.ensures
+returns c =
+    λ choice there. list-changed c.self.inside.entries.items c.self.inside.current c.self.inside.pool _ _ c.args.i [] _
+    choice c.self.invariant c.self.view_is c.requires there c.clear.ensures

@@ -1,8 +1,11 @@
 use Rattle.std.proofs.Common.{◌∙◌, ap, sym, length}
-use Rattle.session_state.specs.Naming.{Naming}
+use Rattle.session_state.specs.NamedValues.{NamedValue}
 use Rattle.session_state.proofs.NamedLemmas.{naming-none, with-length}
 use Rattle.session_state.proofs.named.Named.forget.Goals as goal
 
 pub invariant_of-self : goal.invariant_of-self
 invariant_of-self c =
-    naming-none c.self.inside.entries.items _ c.self.inside.current c.self.inside.pool _ _ _ c.self.invariant (sym (with-length c.self.inside.entries.items c.self.inside.pool) ∙ ap (λ (x : Naming). length x.choices) c.self.view_is ∙ c.requires) c.clear-2.ensures.items c.clear.ensures c.clear-2.ensures.capacity
+    naming-none c.self.inside.entries.items _ c.self.inside.current c.self.inside.pool _ _ _ c.self.invariant
+    (sym (with-length c.self.inside.entries.items c.self.inside.pool)
+    ∙ ap (λ (x : NamedValue). length x.choices) c.self.view_is
+    ∙ c.requires) c.clear-2.ensures.items c.clear.ensures c.clear-2.ensures.capacity

@@ -5,4 +5,5 @@ use Rattle.session_state.proofs.NamedLemmas.{any-entries}
 use Rattle.session_state.proofs.named.Named.is_asked.Goals as goal
 
 pub returns : goal.returns
-returns c = c.are_asked.ensures ∙ ap (list_any (λ e. is_some e.action)) c.choices.ensures ∙ any-entries c.args.self.now.choices
+returns c = c.are_asked.ensures ∙ ap (list_any (λ e. is_some e.action)) c.choices.ensures
+    ∙ any-entries c.args.self.now.choices

@@ -8,4 +8,5 @@ passes-requires c = below-all _ _ _ _ c.args.i _ c.self.invariant c.self.view_is
 
 pub returns : goal.returns
 returns c = λ choice x there location channel kind.
-    c.passes.ensures.facts x location channel kind ∙ ap (λ ps. passes ps x) (sym (selectors-at _ _ _ c.args.i _ choice c.self.view_is there))
+    c.passes.ensures.facts x location channel kind
+    ∙ ap (λ ps. passes ps x) (sym (selectors-at _ _ _ c.args.i _ choice c.self.view_is there))

@@ -8,4 +8,5 @@ use Rattle.session_state.proofs.named.Named.position_of.Goals as goal
 pub returns : goal.returns
 returns c =
     let s = station_at c.args.config.now.entries c.args.place in
-    c.position_among.ensures ∙ ap (position (is_entry_of_station c.args.config.now s)) c.choices.ensures ∙ position-entries c.args.config.now s c.args.self.now.choices
+    c.position_among.ensures ∙ ap (position (is_entry_of_station c.args.config.now s)) c.choices.ensures
+    ∙ position-entries c.args.config.now s c.args.self.now.choices

@@ -1,7 +1,7 @@
 use Rattle.session_state.proofs.NamedLemmas.{with-length}
 use Rattle.std.proofs.Common.{ap, sym, ◌∙◌, length, subst, ◌<◌}
 use Rattle.std.specs.Prelude.{IfSome}
-use Rattle.session_state.specs.Naming.{Naming}
+use Rattle.session_state.specs.NamedValues.{NamedValue}
 use Rattle.session_state.proofs.named.Named.set_current.Goals as goal
 
 pub invariant_of-self : goal.invariant_of-self
@@ -10,6 +10,8 @@ invariant_of-self c =
       count = c.self.invariant.count;
       few = c.self.invariant.few;
       spare = c.self.invariant.spare;
-      within = subst (λ k. IfSome c.args.current (λ i. i < k)) (ap (λ (x : Naming). length x.choices) (sym c.self.view_is) ∙ with-length c.self.inside.entries.items c.self.inside.pool) c.requires;
+      within = subst (λ k. IfSome c.args.current (λ i. i < k))
+          (ap (λ (x : NamedValue). length x.choices) (sym c.self.view_is)
+          ∙ with-length c.self.inside.entries.items c.self.inside.pool) c.requires;
       rest = c.self.invariant.rest;
     }

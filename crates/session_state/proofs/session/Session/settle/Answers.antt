@@ -1,24 +1,36 @@
 use Rattle.std.proofs.Common.{ap, sym, ◌∙◌}
 use Rattle.protocol.specs.Client.{reads}
-use Rattle.session_state.specs.Sessions.{Sitting, client_in}
-use Rattle.session_state.proofs.Settling.{settle-step, settles, settles-kept, read_on-nothing, read_on-stopped}
+use Rattle.session_state.specs.Sessions.{SessionValue, client_in}
+use Rattle.session_state.proofs.SettleLemmas.{settle-step, settles, settles-kept, read_on-nothing, read_on-stopped}
 use Rattle.session_state.proofs.session.Session.settle.Goals.{then-loop-self-test+else-is_reading, else-loop-self-test}
 use Rattle.session_state.proofs.session.Session.settle.Goals as goal
 
 pub read_byte-requires-clause-reads : goal.read_byte-requires-clause-reads
-read_byte-requires-clause-reads c = λ h. ap (λ (s : Sitting). reads (client_in c.args.config.now h s).state s.waiting) c.next_byte-byte.ensures.rest ∙ c.is_reading.ensures.may c.if-is_reading.true c.args.config.now h
+read_byte-requires-clause-reads c =
+    λ h. ap (λ (s : SessionValue). reads (client_in c.args.config.now h s).state s.waiting)
+    c.next_byte-byte.ensures.rest ∙ c.is_reading.ensures.may c.if-is_reading.true c.args.config.now h
 
 pub loop-self-preserved : goal.loop-self-preserved
-loop-self-preserved c = settle-step c.args.config.now c.loop-self.self c.next_byte-byte.new.self c.read_byte.new.self _ c.next_byte-byte.ensures.byte c.next_byte-byte.ensures.rest c.read_byte.ensures.client c.read_byte.ensures.places c.read_byte.ensures.unread c.read_byte.ensures.stays c.read_byte.ensures.kept (λ h. c.is_reading.ensures.may c.if-is_reading.true c.args.config.now h) c.args.self.now c.loop-self.invariant
+loop-self-preserved c =
+    settle-step c.args.config.now c.loop-self.self c.next_byte-byte.new.self c.read_byte.new.self _
+    c.next_byte-byte.ensures.byte c.next_byte-byte.ensures.rest c.read_byte.ensures.client c.read_byte.ensures.places
+    c.read_byte.ensures.unread c.read_byte.ensures.stays c.read_byte.ensures.kept
+    (λ h. c.is_reading.ensures.may c.if-is_reading.true c.args.config.now h) c.args.self.now c.loop-self.invariant
 
 pub returns-clause-client : goal.returns-clause-client
 returns-clause-client c = λ h.
-    settles c.args.config.now h c.loop-self.self c.drop_if_ending.new.self c.args.self.now c.settled.result c.settled.ensures.start c.settled.ensures.rest c.drop_if_ending.ensures
+    settles c.args.config.now h c.loop-self.self c.drop_if_ending.new.self c.args.self.now c.settled.result
+    c.settled.ensures.start c.settled.ensures.rest c.drop_if_ending.ensures
     (λ apart. elim c.loop-self-test.branch [
-      | then-loop-self-test+else-is_reading w ↦ read_on-stopped c.args.config.now _ h c.loop-self.self (w.is_reading.ensures.may_not w.if-is_reading.false apart c.args.config.now h)
-      | else-loop-self-test w ↦ read_on-nothing c.args.config.now _ h c.loop-self.self (sym c.has_unread.ensures ∙ w.loop-self-test.false)
+      | then-loop-self-test+else-is_reading w ↦
+          read_on-stopped c.args.config.now _ h c.loop-self.self
+          (w.is_reading.ensures.may_not w.if-is_reading.false apart c.args.config.now h)
+      | else-loop-self-test w ↦ read_on-nothing c.args.config.now _ h c.loop-self.self
+          (sym c.has_unread.ensures ∙ w.loop-self-test.false)
     ])
     c.loop-self.invariant
 
 pub returns-clause-kept : goal.returns-clause-kept
-returns-clause-kept c = settles-kept c.args.config.now c.loop-self.self c.drop_if_ending.new.self c.args.self.now c.drop_if_ending.ensures c.loop-self.invariant
+returns-clause-kept c =
+    settles-kept c.args.config.now c.loop-self.self c.drop_if_ending.new.self c.args.self.now c.drop_if_ending.ensures
+    c.loop-self.invariant

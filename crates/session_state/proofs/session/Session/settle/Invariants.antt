@@ -1,5 +1,5 @@
 use Rattle.std.proofs.Common.{length}
-use Rattle.session_state.proofs.Settling.{SettlesAs}
+use Rattle.session_state.proofs.SettleLemmas.{SettlesAs}
 use Rattle.session_state.proofs.session.Session.settle.Given as goal
 
 -- What is left will be read as all of it would have been.

@@ -2,8 +2,8 @@
 use Rattle.std.proofs.Common.{◌≡◌, ◌==◌, false, length, refl}
 use Rattle.sl_packet.specs.Progress.{HasBadByte}
 use Rattle.sl_packet.specs.Progress.Progress.{Finished, Faulty}
-use Rattle.sl_packet.proofs.Pieces.{no_stream_of_bad}
-use Rattle.sl_packet.proofs.Feeding.{bad_behind_end, no_stream_on_err, bad_on_err, no_stream_when_faulty}
+use Rattle.sl_packet.proofs.PieceLemmas.{no_stream_of_bad}
+use Rattle.sl_packet.proofs.CutterLemmas.{bad_behind_end, no_stream_on_err, bad_on_err, no_stream_when_faulty}
 use Rattle.sl_packet.proofs.cutter.PacketCutter.feed.Goals as goal
 
 pub returns-else-is_first_e : goal.returns-else-is_first_e
@@ -37,7 +37,8 @@ returns-else-is_empty c =
     let at_end = rw c.in-AtEnd.is at c.self.view_is in
     let ended : c.args.self.now ≡ Finished = cc in
     let some : (length c.args.piece.now == 0) ≡ false = cc in
-    let bad : HasBadByte c.args.self.now c.args.piece.now = bad_behind_end c.args.self.now c.args.piece.now ended some in (
+    let bad : HasBadByte c.args.self.now c.args.piece.now = bad_behind_end c.args.self.now c.args.piece.now ended some
+    in (
       (refl, λ _. tt, c.refuse.ensures),
       record {
         fed = tt;

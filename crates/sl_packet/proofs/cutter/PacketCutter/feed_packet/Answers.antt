@@ -1,7 +1,7 @@
 -- Each way out reads the used bytes as the stream does.
 use Rattle.std.proofs.Common.{◌≡◌, ◌-◌, true, false, length, refl, ap, ◌∙◌, arith}
 use Rattle.protocol.specs.Streams.{may_continue}
-use Rattle.sl_packet.proofs.Feeding.{begun_in_packet, feeds_part, feeds_packet, bad_packet, goes_on, nothing_held}
+use Rattle.sl_packet.proofs.CutterLemmas.{begun_in_packet, feeds_part, feeds_packet, bad_packet, goes_on, nothing_held}
 use Rattle.sl_packet.specs.Progress.{rest_in}
 use Rattle.sl_packet.specs.Progress.Progress.{Amid}
 use Rattle.sl_packet.proofs.cutter.PacketCutter.feed_packet.Goals as goal
@@ -17,7 +17,8 @@ returns-then-not-may_continue c =
       (refl, λ _. tt, c.refuse.ensures),
       record {
         fed = tt;
-        bad = bad_packet c.args.self.now c.args.piece.now c.requires.amid c.held-held.ensures.begun c.requires.first more;
+        bad =
+            bad_packet c.args.self.now c.args.piece.now c.requires.amid c.held-held.ensures.begun c.requires.first more;
         left = tt;
       },
     )
@@ -29,7 +30,9 @@ returns-then-piece-missing c =
     let bound = c.held-held.ensures.bound in (
       (refl, λ _. tt, c.hold.ensures ∙ goes_on c.args.self.now c.args.piece.now c.requires.amid),
       record {
-        fed = feeds_part c.args.self.now c.args.piece.now c.requires.amid c.held-held.ensures.begun c.requires.first more (omega arith);
+        fed =
+            feeds_part c.args.self.now c.args.piece.now c.requires.amid c.held-held.ensures.begun c.requires.first more
+            (omega arith);
         bad = tt;
         left = tt;
       },
@@ -44,7 +47,9 @@ returns-then-held-eq0 c =
     let chunk = rw c.unwrap.ensures at c.first_chunk.ensures.cases in (
       (refl, λ _. tt, c.requires.amid ∙ ap Amid nothing),
       record {
-        fed = feeds_packet c.args.self.now c.args.piece.now _ 520 c.requires.amid c.held-held.ensures.begun c.requires.first more (omega arith) (omega arith) (omega arith) (rw nothing chunk.same);
+        fed =
+            feeds_packet c.args.self.now c.args.piece.now _ 520 c.requires.amid c.held-held.ensures.begun
+            c.requires.first more (omega arith) (omega arith) (omega arith) (rw nothing chunk.same);
         bad = tt;
         left = tt;
       },
@@ -57,7 +62,9 @@ returns c =
     let bound = c.held-held.ensures.bound in (
       (refl, λ _. tt, c.complete.follows.holds-at-none),
       record {
-        fed = feeds_packet c.args.self.now c.args.piece.now _ (520 - c.held-held.result) c.requires.amid c.held-held.ensures.begun c.requires.first more (omega arith) (omega arith) (omega arith) c.complete.ensures.whole;
+        fed = feeds_packet c.args.self.now c.args.piece.now _
+            (520 - c.held-held.result) c.requires.amid c.held-held.ensures.begun c.requires.first more (omega arith)
+            (omega arith) (omega arith) c.complete.ensures.whole;
         bad = tt;
         left = tt;
       },

@@ -1,4 +1,4 @@
-use Rattle.sl_time.proofs.Splitting.{over_is}
+use Rattle.sl_time.proofs.PartLemmas.{over_is}
 use Rattle.sl_time.proofs.parts.Parts.is_over.Goals as goal
 
 pub returns : goal.returns

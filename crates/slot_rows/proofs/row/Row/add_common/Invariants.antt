@@ -1,4 +1,4 @@
-use Rattle.slot_rows.proofs.Bits.{AddedTo}
+use Rattle.slot_rows.proofs.RowLemmas.{AddedTo}
 use Rattle.slot_rows.proofs.row.Row.add_common.Given as goal
 
 -- So many words are added.

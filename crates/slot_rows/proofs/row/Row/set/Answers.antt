@@ -2,7 +2,7 @@ use Rattle.std.proofs.Common.{◌/◌, ◌%◌, ◌*◌, ◌^◌, ◌<◌, ◌�
 use Rattle.std.specs.Prelude.{bit_or}
 use Rattle.std.proofs.lemmas.List.{get_or_read}
 use Rattle.slot_rows.specs.Rows.{bit_in}
-use Rattle.slot_rows.proofs.Bits.{set-here, set-others}
+use Rattle.slot_rows.proofs.RowLemmas.{set-here, set-others}
 use Rattle.slot_rows.proofs.row.Row.set.Goals as goal
 
 pub returns-clause-here : goal.returns-clause-here
@@ -10,7 +10,8 @@ returns-clause-here c =
     let words = c.args.self.now.words.items in
     let n = c.args.slot in
     let within : n / 64 < length words = omega (arith, c.requires) in
-    ap (λ w. bit_in (set words (n / 64) (bit_or w (1 * 2 ^ (n % 64) % 2 ^ 64))) n) (get_or_read words (n / 64) _ within c.index-word.ensures 0)
+    ap (λ w. bit_in (set words (n / 64) (bit_or w (1 * 2 ^ (n % 64) % 2 ^ 64))) n)
+    (get_or_read words (n / 64) _ within c.index-word.ensures 0)
     ∙ set-here words n within
 
 pub returns-clause-others : goal.returns-clause-others
@@ -18,5 +19,6 @@ returns-clause-others c = λ k other.
     let words = c.args.self.now.words.items in
     let n = c.args.slot in
     let within : n / 64 < length words = omega (arith, c.requires) in
-    ap (λ w. bit_in (set words (n / 64) (bit_or w (1 * 2 ^ (n % 64) % 2 ^ 64))) k) (get_or_read words (n / 64) _ within c.index-word.ensures 0)
+    ap (λ w. bit_in (set words (n / 64) (bit_or w (1 * 2 ^ (n % 64) % 2 ^ 64))) k)
+    (get_or_read words (n / 64) _ within c.index-word.ensures 0)
     ∙ set-others words n k within other

@@ -1,11 +1,16 @@
 use Rattle.std.proofs.Common.{sym}
-use Rattle.station_ring.specs.Rings.{Holding}
-use Rattle.station_ring.proofs.Numbers.{IsFrom, place_with-near, place_with-far}
+use Rattle.station_ring.specs.Rings.{RingValue}
+use Rattle.station_ring.proofs.NumberLemmas.{IsFrom, place_with-near, place_with-far}
 use Rattle.station_ring.proofs.ring.Ring.find.Goals as goal
 
 pub returns-then-distance-self : goal.returns-then-distance-self
 returns-then-distance-self c =
-    let r : Holding = record { capacity = c.self.inside.held.capacity; first = c.self.inside.first; pushes = c.self.inside.pushes; held = c.self.inside.held.items } in
+    let r : RingValue = record {
+      capacity = c.self.inside.held.capacity;
+      first = c.self.inside.first;
+      pushes = c.self.inside.pushes;
+      held = c.self.inside.held.items;
+    } in
     let is : IsFrom r c.args.number c.first_place-start.result c.number_of.result c.distance-distance.result = record {
       holds = c.self.invariant;
       start_is = rw (← c.self.view_is) at c.first_place-start.ensures.place;
@@ -18,7 +23,12 @@ returns-then-distance-self c =
 
 pub returns-else-distance-self : goal.returns-else-distance-self
 returns-else-distance-self c =
-    let r : Holding = record { capacity = c.self.inside.held.capacity; first = c.self.inside.first; pushes = c.self.inside.pushes; held = c.self.inside.held.items } in
+    let r : RingValue = record {
+      capacity = c.self.inside.held.capacity;
+      first = c.self.inside.first;
+      pushes = c.self.inside.pushes;
+      held = c.self.inside.held.items;
+    } in
     let is : IsFrom r c.args.number c.first_place-start.result c.number_of.result c.distance-distance.result = record {
       holds = c.self.invariant;
       start_is = rw (← c.self.view_is) at c.first_place-start.ensures.place;

@@ -1,0 +1,63 @@
+-- A turn: what was heard, and the passes after it.
+use Rattle.std.proofs.Common.{ℕ, List, ◌++◌, refl, sym, subst, Option}
+use Rattle.protocol.specs.Catalog.{Config}
+use Rattle.protocol.specs.World.{World}
+use Rattle.server_core.specs.ServerValues.{ServerValue, StandsAt}
+use Rattle.event_loop.specs.declared.seat.Seat.{Seat}
+use Rattle.event_loop.specs.declared.hearing.Report.{Report}
+use Rattle.event_loop.specs.declared.turning.Turned.{Turned}
+use Rattle.ports.specs.Calls.{Call}
+use Rattle.event_loop.specs.Deeds.{Deed, Tally, no_tally, world_beyond}
+use Rattle.event_loop.specs.Feeding.{feed_tally}
+use Rattle.event_loop.specs.Going.{Does}
+use Rattle.event_loop.specs.Hearing.End.{Faulted}
+use Rattle.event_loop.specs.Turns.{Passes, Turns, Fails, tally_of}
+use Rattle.event_loop.specs.Tables.{WholeHearing, PassesAll, tally_heard_by, heard_end}
+use Rattle.event_loop.proofs.DeedLemmas.{does-then, world_beyond-append}
+use Rattle.event_loop.proofs.HandsLemmas.{hands-as-alone}
+
+-- what a turn answers, by what it heard
+abbrev pub turned_by : Report → ℕ → Turned
+turned_by report dropped = record { happenings = report.happenings; quiet = report.quiet; dropped = dropped }
+
+module _ (config : Config) (most limit : ℕ) (w : World) (a b : Option (List Call)) (mid : ServerValue)
+    (ss mid_ss : List Seat) where
+  pub turn-made : (c : Option (List Call)) (last : ServerValue) (ss' : List Seat) (report : Report) (dropped : ℕ) →
+      WholeHearing config most limit w a b mid (tally_heard_by report) ss mid_ss (heard_end report) →
+      ((v : World) → StandsAt mid config v →
+      PassesAll limit config v b c last (feed_tally report.happenings 0)
+      (feed_tally report.happenings dropped) mid_ss ss') →
+      Turns config most limit w a c last ss ss' (turned_by report dropped)
+  turn-made c last ss' report dropped hearing passes =
+      let v : World = world_beyond config w hearing.deeds in
+      let x : PassesAll limit config v b c last (feed_tally report.happenings 0)
+      (feed_tally report.happenings dropped) mid_ss ss' = passes v hearing.does.stands in
+      let deeds : List Deed = hearing.deeds ++ x.deeds in
+      let does : Does config w a c last no_tally (tally_of (turned_by report dropped)) deeds =
+      does-then config w a b c mid last no_tally (tally_heard_by report)
+      (tally_of (turned_by report dropped)) hearing.deeds x.deeds hearing.does x.does in
+      record {
+        deeds = deeds;
+        does = does;
+        how = record {
+          heard_deeds = hearing.deeds;
+          pass_deeds = x.deeds;
+          between = v;
+          open_then = mid_ss;
+          whole = refl;
+          first = hearing.how;
+          passes = subst (λ u. Passes config limit v mid_ss x.deeds u ss')
+              (sym (world_beyond-append config w hearing.deeds x.deeds)) x.how;
+        };
+        isolation = hands-as-alone config w deeds does.faithful;
+      }
+
+  pub turn-failed : (t : Tally) → WholeHearing config most limit w a b mid t ss mid_ss Faulted →
+      Fails config most limit w a b mid ss mid_ss
+  turn-failed t hearing = record {
+    deeds = hearing.deeds;
+    counts = t;
+    does = hearing.does;
+    how = hearing.how;
+    isolation = hands-as-alone config w hearing.deeds hearing.does.faithful;
+  }

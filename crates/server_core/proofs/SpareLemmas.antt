@@ -1,0 +1,150 @@
+-- Marks by number, and offers that are spared.
+use Rattle.std.proofs.Common.{◌≡◌, ℕ, ◌<◌, ◌||◌, ◌&&◌, Bool, true, false, not, map, Option, Some, None, option_map}
+use Rattle.std.proofs.Common.{length, slice_get, slice_index_or, refl, sym, ap, ap₂, ◌∙◌, arith}
+use Rattle.std.specs.Prelude.{IsSome}
+use Rattle.std.specs.List.{range_with_len}
+use Rattle.slab.specs.Slab.{get}
+use Rattle.slot_rows.specs.Rows.{bit_of, HasRoom}
+use Rattle.protocol.specs.Catalog.{Config}
+use Rattle.protocol.specs.Client.{Client, offered}
+use Rattle.protocol.specs.World.{World, client_of}
+use Rattle.held_records.specs.Rings.{RingsValue}
+use Rattle.session_state.specs.Choices.{chosen_of}
+use Rattle.session_state.specs.Sessions.{SessionValue}
+use Rattle.transfer.specs.Choosing.{is_transfer}
+use Rattle.server_core.specs.declared.clients.Clients.{Clients}
+use Rattle.server_core.specs.declared.marks.Marks.{Marks}
+use Rattle.server_core.specs.Clients.{IsTable, in_slot, sessions_of, slot_in}
+use Rattle.server_core.specs.Marks.{AreMarked, IsSpared, MarksThose, asked, asks, bit_by, mark_in, mark_of, marks_of}
+use Rattle.server_core.specs.Refusals.{is_idle, offer_of}
+use Rattle.server_core.specs.ServerValues.{ServerValue, StandsAt, mark_at}
+use Rattle.server_core.proofs.SessionLemmas.{seen-there, serving}
+use Rattle.server_core.proofs.MarkLemmas.{unmarked-idle}
+use Rattle.server_core.proofs.NumberLemmas.{slot_in-below}
+use Rattle.server_core.proofs.SlotLemmas.{index-of, session-is, value-inside, values-same}
+use Rattle.server_core.proofs.TakeLemmas.{idle-offer}
+
+-- a server of these clients with their marks
+abbrev pub serving-with : Config → RingsValue → Clients → Marks → ServerValue
+serving-with g rings c marks = record (serving g rings c) { marks = marks_of c marks }
+
+-- the mark of an open number
+mark-inside : (c : Clients) (marks : Marks) (k slot : ℕ) → IsTable c → slot_in c.opened.items k ≡ Some slot
+    → slice_index_or (marks_of c marks) k false ≡ bit_of marks.marked slot
+unfolding marks_of
+mark-inside c marks k slot table there =
+    index-of (map (mark_of c.opened.items marks.marked) (range_with_len 0 c.opens)) k false _
+    (value-inside (mark_of c.opened.items marks.marked) 0 c.opens k k
+    (slot_in-below c.opens c.opened.items k slot table.below there) (omega arith))
+    ∙ ap (mark_in marks.marked) there
+
+module _ (g : Config) (rings : RingsValue) (c : Clients) (marks : Marks) (k : ℕ) (table : IsTable c) where
+  pub mark-there : (slot : ℕ) → slot_in c.opened.items k ≡ Some slot
+      → mark_at (serving-with g rings c marks) k ≡ Some (bit_of marks.marked slot)
+  mark-there slot there =
+      ap (option_map (λ s. slice_index_or (marks_of c marks) k false))
+      (session-is c k table ∙ ap (in_slot c.slots) there)
+      ∙ by (get c.slots slot) (table.there k slot there)
+      ∙ ap Some (mark-inside c marks k slot table there)
+    where
+      by : (o : Option SessionValue) → IsSome o
+          → option_map (λ s. slice_index_or (marks_of c marks) k false) o
+          ≡ Some (slice_index_or (marks_of c marks) k false)
+      by None e = absurd (let q : false ≡ true = e in cc)
+      by (Some s) e = refl
+
+  pub mark-nowhere : slot_in c.opened.items k ≡ None → mark_at (serving-with g rings c marks) k ≡ None
+  mark-nowhere none = ap (option_map (λ s. slice_index_or (marks_of c marks) k false))
+      (session-is c k table ∙ ap (in_slot c.slots) none)
+
+-- Marks are the same where the bits and the numbers are.
+pub marks-same : (c d : Clients) (old new : Marks) → d.opens ≡ c.opens → d.opened.items ≡ c.opened.items
+    → ((slot : ℕ) → bit_of new.marked slot ≡ bit_of old.marked slot) → marks_of d new ≡ marks_of c old
+unfolding marks_of
+marks-same c d old new opens opened bits =
+    ap (λ n. map (mark_of d.opened.items new.marked) (range_with_len 0 n)) opens
+    ∙ ap (λ os. map (mark_of os new.marked) (range_with_len 0 c.opens)) opened
+    ∙ values-same (mark_of c.opened.items new.marked) (mark_of c.opened.items old.marked) 0 c.opens
+    (λ j le lt. by (slot_in c.opened.items j))
+  where
+    by : (o : Option ℕ) → mark_in new.marked o ≡ mark_in old.marked o
+    by None = refl
+    by (Some slot) = bits slot
+
+-- ---- what is spared
+
+pub bool-inside : (a b : Bool) → Some a ≡ Some b → a ≡ b
+bool-inside a b e = cc
+
+pub spares : (config : Config) (w : World) (k : ℕ)
+    → ((x : Client) → client_of (slice_get w.connections k) ≡ Some x
+    → (offered w.history x ≡ x) × (is_idle (offer_of (offered w.history x)) ≡ true)) → IsSpared config w k
+spares config w k each = record {
+  idle = λ x there. (each x there).1;
+  nothing = idle-offer config w k (λ x there. (each x there).0);
+}
+
+-- where the client is not marked
+pub spared-there : (g : Config) (rings : RingsValue) (c : Clients) (marks : Marks) (k slot : ℕ) (config : Config)
+    (w : World) → IsTable c → slot_in c.opened.items k ≡ Some slot → AreMarked g rings marks c.slots
+    → bit_of marks.marked slot ≡ false → StandsAt (serving g rings c) config w → IsSpared config w k
+spared-there g rings c marks k slot config w table there are unmarked stands =
+    spares config w k
+    (λ x is. unmarked-idle g w.history rings marks c.slots slot stands.holds are unmarked x
+    (seen-there g rings c k config w slot table there stands ∙ is))
+
+-- where it is found not to be ready
+pub spared-by : (config : Config) (w : World) (k : ℕ) (ready : Option Bool)
+    → ready ≡ option_map (λ x. not (is_idle (offer_of (offered w.history x)))) (client_of (slice_get w.connections k))
+    → ready ≡ Some false → ((x : Client) → client_of (slice_get w.connections k) ≡ Some x → offered w.history x ≡ x)
+    → IsSpared config w k
+spared-by config w k ready answer unready nothing =
+    spares config w k
+    (λ x there. (
+      nothing x there,
+      unset _
+          (bool-inside _ _ (sym unready ∙ answer
+          ∙ ap (option_map (λ y. not (is_idle (offer_of (offered w.history y))))) there)),
+    ))
+  where
+    unset : (b : Bool) → false ≡ not b → b ≡ true
+    unset true e = refl
+    unset false e = e
+
+-- ---- what a record marks
+
+both-ways : (t a b : Bool) → (t ≡ true → a ≡ b) → (a && t) ≡ (t && b)
+both-ways true true b e = e refl
+both-ways true false b e = e refl
+both-ways false true b e = refl
+both-ways false false b e = refl
+
+pub marks-those : (g : Config) (before after : RingsValue) (c : Clients) (old new : Marks) (place : ℕ) → IsTable c
+    → AreMarked g before old c.slots → place < length old.rows.items →
+    ((slot : ℕ) → HasRoom old.marked slot
+    → bit_of new.marked slot
+    ≡ (bit_of old.marked slot || (bit_by (slice_get old.rows.items place) slot && bit_of old.sending slot))) →
+    MarksThose place (serving-with g before c old) (serving-with g after c new)
+marks-those g before after c old new place table are within bits =
+    record { marks = λ k s mark session marked. by k s mark session marked (slot_in c.opened.items k) refl }
+  where
+    some-same : {X : Type 0} (a b : X) → Some a ≡ Some b → a ≡ b
+    some-same a b e = cc
+
+    by : (k : ℕ) (s : SessionValue) (mark : Bool) → slice_index_or (sessions_of c) k None ≡ Some s
+        → mark_at (serving-with g before c old) k ≡ Some mark → (o : Option ℕ) → slot_in c.opened.items k ≡ o
+        → mark_at (serving-with g after c new) k ≡ Some (mark || asks place s)
+    by k s mark session marked None e =
+        absurd (let q : None ≡ Some s = sym (session-is c k table ∙ ap (in_slot c.slots) e) ∙ session in cc)
+    by k s mark session marked (Some slot) e =
+        let held : get c.slots slot ≡ Some s = sym (session-is c k table ∙ ap (in_slot c.slots) e) ∙ session in
+        let is = are.held slot s held in
+        let was : bit_of old.marked slot
+        ≡ mark = some-same (bit_of old.marked slot) mark (sym (mark-there g before c old k table slot e)
+        ∙ marked) in
+        mark-there g after c new k table slot e
+        ∙ ap Some (bits slot (let room = is.room in room.marked)
+        ∙ ap₂ (λ (a b : Bool). a || b) was
+        (ap (λ b. bit_by (slice_get old.rows.items place) slot && b) is.sends
+        ∙ both-ways (is_transfer s.state) (bit_by (slice_get old.rows.items place) slot)
+        (asked place (chosen_of s.mode)) (λ sends. is.asks sends place within)))

@@ -1,0 +1,233 @@
+-- A session that does what its line asks obeys the line.
+use Rattle.std.proofs.Common.{◌≡◌, ℕ, true, false, Bool, List, [], ◌∷◌, filter_map, refl, sym, ap, ◌∙◌, ◌≤◌, nat_eq}
+use Rattle.std.proofs.Common.{length, drop, arith, length-drop}
+use Rattle.protocol.specs.Catalog.{Config, View}
+use Rattle.protocol.specs.Lines.{Line, is_line_end, open_after, cut_from}
+use Rattle.protocol.specs.Lines.Line.{Text, TooLong}
+use Rattle.protocol.specs.Command.{Command, command_of}
+use Rattle.protocol.specs.Command.Command.{Blank, Hello, Cat, Bye, End, Station, Select, Data, Fetch, Time, Bad}
+use Rattle.protocol.specs.History.{Arrival, Request}
+use Rattle.protocol.specs.Session.{Negotiated, outcome_of}
+use Rattle.protocol.specs.Session.Outcome.{Stays, Lists, Ends}
+use Rattle.protocol.specs.Client.{Client, follow, leave, read_byte, is_nothing}
+use Rattle.protocol.specs.Client.State.{Negotiating as ClientNegotiating, Transfer as ClientTransfer}
+use Rattle.protocol.specs.Client.State.{Ending as ClientEnding}
+use Rattle.protocol.proofs.FoundLemmas.{both}
+use Rattle.session_state.specs.NamedValues.{ModeValue}
+use Rattle.session_state.specs.declared.modes.Change.{Change}
+use Rattle.session_state.specs.declared.modes.Effect.{Effect}
+use Rattle.session_state.specs.declared.modes.Effect.TheVariants.{Done, Refused, Starts}
+use Rattle.session_state.specs.declared.asked.Asked.{Asked}
+use Rattle.session_state.specs.declared.asked.Asked.TheVariants.{Nothing}
+use Rattle.session_state.specs.declared.session.State.TheVariants.{Negotiating, Listing, Transfer, Ending}
+use Rattle.session_state.specs.Choices.{negotiated_in, chosen_of, request_in}
+use Rattle.session_state.specs.Changes.{changed_by, outcome_after}
+use Rattle.session_state.specs.Asking.{outcome_by, outcome_of_lines, is_bye, says_bye, is_leaving}
+use Rattle.session_state.specs.Sessions.{SessionValue, client_in, session_view, effected}
+use Rattle.session_state.proofs.CursorLemmas.{effected-elsewhere}
+
+-- a session that negotiates while nothing waits
+abbrev pub reading : List ℕ → ModeValue → Line → List ℕ → SessionValue
+reading places mode l u = record {
+  places = places;
+  mode = mode;
+  state = Negotiating;
+  open_line = l;
+  unread = u;
+  waiting = [];
+}
+
+is_reading : (a : SessionValue) → a.state ≡ Negotiating → a.waiting ≡ []
+    → a ≡ reading a.places a.mode a.open_line a.unread
+is_reading a state none = ap (λ t. record a { state = t }) state
+    ∙ ap (λ w. record a { state = Negotiating; waiting = w }) none
+
+pub silent : (config : Config) (h : List Arrival) (a : SessionValue) → a.state ≡ Negotiating → a.waiting ≡ []
+    → client_in config h a ≡ follow (session_view config a) h (client_in config h a) (negotiated_in config a.mode)
+    (Stays [] (negotiated_in config a.mode))
+silent config h a state none = ap (client_in config h) (is_reading a state none)
+
+pub said : (config : Config) (h : List Arrival) (a r : SessionValue) (reply : List ℕ) → a.state ≡ Negotiating
+    → a.waiting ≡ [] → r ≡ record a { waiting = reply }
+    → client_in config h r ≡ follow (session_view config a) h (client_in config h a) (negotiated_in config a.mode)
+    (Stays reply (negotiated_in config a.mode))
+said config h a r reply state none e = ap (client_in config h) e
+    ∙ ap (λ (x : SessionValue). client_in config h (record x { waiting = reply })) (is_reading a state none)
+
+pub lists : (config : Config) (h : List Arrival) (a r : SessionValue) → a.state ≡ Negotiating → a.waiting ≡ []
+    → r ≡ record a { state = Listing 0 }
+    → client_in config h r ≡ follow (session_view config a) h (client_in config h a) (negotiated_in config a.mode) Lists
+lists config h a r state none e = ap (client_in config h) e
+
+pub leaves : (config : Config) (h : List Arrival) (a r : SessionValue) → a.state ≡ Negotiating → a.waiting ≡ []
+    → r ≡ record a { state = Ending }
+    → client_in config h r ≡ follow (session_view config a) h (client_in config h a) (negotiated_in config a.mode) Ends
+leaves config h a r state none e = ap (client_in config h) e
+
+-- a session in which a change was made
+effect-follows : (config : Config) (h : List Arrival) (places : List ℕ) (mode new : ModeValue) (l : Line) (u : List ℕ)
+    (effect : Effect) → client_in config h (effected (record (reading places mode l u) { mode = new }) effect)
+    ≡ follow (session_view config (reading places mode l u)) h (client_in config h (reading places mode l u))
+    (negotiated_in config mode) (outcome_after effect (negotiated_in config new))
+effect-follows config h places mode new l u Done = refl
+effect-follows config h places mode new l u Refused = refl
+effect-follows config h places mode new l u Starts = refl
+
+pub changes : (config : Config) (h : List Arrival) (a m r : SessionValue) (effect : Effect) (change : Change)
+    → a.state ≡ Negotiating → a.waiting ≡ [] → m ≡ record a { mode = m.mode }
+    → outcome_after effect (negotiated_in config m.mode)
+    ≡ changed_by (session_view config a) config (negotiated_in config a.mode) change → r ≡ effected m effect
+    → client_in config h r ≡ follow (session_view config a) h (client_in config h a) (negotiated_in config a.mode)
+    (changed_by (session_view config a) config (negotiated_in config a.mode) change)
+changes config h a m r effect change state none made outcome e =
+    ap (client_in config h) e
+    ∙ ap (λ x. client_in config h (effected x effect))
+    (made ∙ ap (λ (x : SessionValue). record x { mode = m.mode }) (is_reading a state none))
+    ∙ effect-follows config h a.places a.mode m.mode a.open_line a.unread effect
+    ∙ ap (λ (x : SessionValue). follow (session_view config x) h (client_in config h x) (negotiated_in config a.mode)
+    (outcome_after effect (negotiated_in config m.mode))) (sym (is_reading a state none))
+    ∙ ap (follow (session_view config a) h (client_in config h a) (negotiated_in config a.mode)) outcome
+
+pub effected-places : (m : SessionValue) (effect : Effect) → (effected m effect).places ≡ m.places
+effected-places m Done = refl
+effected-places m Refused = refl
+effected-places m Starts = refl
+
+pub effected-unread : (m : SessionValue) (effect : Effect) → (effected m effect).unread ≡ m.unread
+effected-unread m Done = refl
+effected-unread m Refused = refl
+effected-unread m Starts = refl
+
+pub ruleset answer_lemmas = (silent, said, lists, leaves, changes, effected-places, effected-unread, effected-elsewhere)
+
+-- A byte that ends a line is read as the line's command, also where the line is empty; another byte changes the open
+-- line alone.
+read_byte-lines : (v : View) (h : List Arrival) (line : Line) (n : Negotiated) (u : List ℕ) (b : ℕ)
+    → read_byte v h b (record { state = ClientNegotiating n; open_line = line; unread = u; waiting = [] })
+    ≡ follow v h
+    (record { state = ClientNegotiating n; open_line = open_after line (b ∷ []); unread = u; waiting = [] }) n
+    (outcome_of_lines v n (cut_from line (b ∷ [])))
+read_byte-lines v h (Text []) n u b = both (is_line_end b) (λ y. rw y) (λ x. rw x)
+read_byte-lines v h (Text (c ∷ bs)) n u b = both (is_line_end b) (λ y. rw y) (λ x. rw x)
+read_byte-lines v h TooLong n u b = both (is_line_end b) (λ y. rw y) (λ x. rw x)
+
+pub reads_byte : (config : Config) (h : List Arrival) (a n r : SessionValue) (asked : Asked) (b : ℕ)
+    → a.state ≡ Negotiating → a.waiting ≡ [] → n ≡ record a { open_line = open_after a.open_line (b ∷ []) }
+    → client_in config h r ≡ follow (session_view config n) h (client_in config h n) (negotiated_in config n.mode)
+    (outcome_by config (session_view config n) (negotiated_in config n.mode) asked)
+    → ((m : Negotiated) → outcome_of_lines (session_view config a) m (cut_from a.open_line (b ∷ []))
+    ≡ outcome_by config (session_view config a) m asked)
+    → client_in config h r ≡ read_byte (session_view config a) h b (client_in config h a)
+reads_byte config h a n r asked b state none line answers same =
+    let a_is = is_reading a state none in
+    let n_is : n ≡ reading a.places a.mode (open_after a.open_line (b ∷ [])) a.unread = line
+    ∙ ap (λ (x : SessionValue). record x { open_line = open_after a.open_line (b ∷ []) }) a_is in
+    answers
+    ∙ ap (λ (x : SessionValue). follow (session_view config x) h (client_in config h x) (negotiated_in config x.mode)
+    (outcome_by config (session_view config x) (negotiated_in config x.mode) asked)) n_is
+    ∙ ap
+    (follow (session_view config a) h
+    (client_in config h (reading a.places a.mode (open_after a.open_line (b ∷ [])) a.unread))
+    (negotiated_in config a.mode)) (sym (same (negotiated_in config a.mode)))
+    ∙ sym (read_byte-lines (session_view config a) h a.open_line (negotiated_in config a.mode) a.unread b)
+    ∙ ap (λ (x : SessionValue). read_byte (session_view config a) h b (client_in config h x)) (sym a_is)
+
+-- In a transfer a line that says BYE ends it, and nothing else acts.
+abbrev left_if : Bool → Client → Client
+left_if true c = record c { state = ClientEnding }
+left_if false c = c
+
+leave-bye : (c : Client) (command : Command) → leave c command ≡ left_if (is_bye command) c
+leave-bye c Blank = refl
+leave-bye c Hello = refl
+leave-bye c Cat = refl
+leave-bye c Bye = refl
+leave-bye c End = refl
+leave-bye c (Station code network) = refl
+leave-bye c (Select text) = refl
+leave-bye c (Data number begin) = refl
+leave-bye c (Fetch number begin) = refl
+leave-bye c (Time begin last) = refl
+leave-bye c Bad = refl
+
+read_byte-past : (v : View) (h : List Arrival) (line : Line) (rs : List Request) (q : ℕ) (u w : List ℕ) (b : ℕ)
+    → read_byte v h b (record { state = ClientTransfer rs q; open_line = line; unread = u; waiting = w })
+    ≡ left_if (says_bye (cut_from line (b ∷ [])))
+    (record { state = ClientTransfer rs q; open_line = open_after line (b ∷ []); unread = u; waiting = w })
+read_byte-past v h (Text []) rs q u w b = both (is_line_end b) (λ y. rw y) (λ x. rw x)
+read_byte-past v h (Text (c ∷ bs)) rs q u w b =
+    both (is_line_end b)
+    (λ y. rw y (leave-bye (record { state = ClientTransfer rs q; open_line = Text []; unread = u; waiting = w })
+    (command_of (Text (c ∷ bs))))) (λ x. rw x)
+read_byte-past v h TooLong rs q u w b =
+    both (is_line_end b)
+    (λ y. rw y (leave-bye (record { state = ClientTransfer rs q; open_line = Text []; unread = u; waiting = w })
+    (command_of TooLong))) (λ x. rw x)
+
+past-line : (config : Config) (h : List Arrival) (a : SessionValue) (next b : ℕ) → a.state ≡ Transfer next
+    → read_byte (session_view config a) h b (client_in config h a)
+    ≡ left_if (says_bye (cut_from a.open_line (b ∷ [])))
+    (client_in config h (record a { open_line = open_after a.open_line (b ∷ []) }))
+past-line config h a next b state =
+    ap (λ t. read_byte (session_view config a) h b (client_in config h (record a { state = t }))) state
+    ∙ read_byte-past (session_view config a) h a.open_line
+    (filter_map (request_in config) (chosen_of a.mode)) next a.unread a.waiting b
+    ∙ ap
+    (λ t. left_if (says_bye (cut_from a.open_line (b ∷ [])))
+    (client_in config h (record a { state = t; open_line = open_after a.open_line (b ∷ []) }))) (sym state)
+
+pub past-bye : (config : Config) (h : List Arrival) (a n r : SessionValue) (next b : ℕ) (asked : Asked)
+    → a.state ≡ Transfer next → n ≡ record a { open_line = open_after a.open_line (b ∷ []) }
+    → says_bye (cut_from a.open_line (b ∷ [])) ≡ is_leaving asked → is_leaving asked ≡ true
+    → r ≡ record n { state = Ending }
+    → client_in config h r ≡ read_byte (session_view config a) h b (client_in config h a)
+past-bye config h a n r next b asked state line says bye e =
+    ap (client_in config h) e
+    ∙ ap (λ (x : SessionValue). client_in config h (record x { state = Ending })) line
+    ∙ ap (λ t. left_if t (client_in config h (record a { open_line = open_after a.open_line (b ∷ []) })))
+    (sym (says ∙ bye))
+    ∙ sym (past-line config h a next b state)
+
+pub past-other : (config : Config) (h : List Arrival) (a n : SessionValue) (next b : ℕ) (asked : Asked)
+    → a.state ≡ Transfer next → n ≡ record a { open_line = open_after a.open_line (b ∷ []) }
+    → says_bye (cut_from a.open_line (b ∷ [])) ≡ is_leaving asked → is_leaving asked ≡ false
+    → client_in config h n ≡ read_byte (session_view config a) h b (client_in config h a)
+past-other config h a n next b asked state line says bye =
+    ap (client_in config h) line
+    ∙ ap (λ t. left_if t (client_in config h (record a { open_line = open_after a.open_line (b ∷ []) })))
+    (sym (says ∙ bye))
+    ∙ sym (past-line config h a next b state)
+
+pub ruleset passing_lemmas = (past-bye, past-other)
+
+-- what is asked by the line that a byte ends
+pub asked_none : (config : Config) (v : View) (n : Negotiated) (lines : List Line) → [] ≡ lines
+    → outcome_of_lines v n lines ≡ outcome_by config v n Nothing
+asked_none config v n lines e = ap (outcome_of_lines v n) (sym e)
+
+pub asked_line : (config : Config) (v : View) (n : Negotiated) (lines : List Line) (line : Line) (asked : Asked)
+    → line ∷ [] ≡ lines → outcome_of v n (command_of line) ≡ outcome_by config v n asked
+    → outcome_of_lines v n lines ≡ outcome_by config v n asked
+asked_line config v n lines line asked e same = ap (outcome_of_lines v n) (sym e) ∙ same
+
+pub says_none : (lines : List Line) → [] ≡ lines → says_bye lines ≡ is_leaving Nothing
+says_none lines e = ap says_bye (sym e)
+
+pub says_line : (lines : List Line) (line : Line) (asked : Asked) → line ∷ [] ≡ lines
+    → is_bye (command_of line) ≡ is_leaving asked → says_bye lines ≡ is_leaving asked
+says_line lines line asked e same = ap says_bye (sym e) ∙ same
+
+pub ruleset ask_lemmas = (asked_none, asked_line, says_none, says_line)
+
+pub no_bytes : (ws : List ℕ) → is_nothing ws ≡ true → ws ≡ []
+no_bytes [] e = refl
+no_bytes (x ∷ ws) e = absurd (grind arith)
+
+pub nothing_drop : (sent : ℕ) (xs : List ℕ) → sent ≤ length xs → nat_eq sent (length xs) ≡ is_nothing (drop sent xs)
+nothing_drop sent xs h =
+    let same : nat_eq sent (length xs) ≡ nat_eq (length (drop sent xs)) 0 = grind (arith, length-drop sent xs) in
+    same ∙ test (drop sent xs)
+  where
+    test : (ys : List ℕ) → nat_eq (length ys) 0 ≡ is_nothing ys
+    test [] = refl
+    test (y ∷ ys) = grind arith

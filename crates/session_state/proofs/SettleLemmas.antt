@@ -1,0 +1,112 @@
+-- What a session does, step by step, is what its client does.
+use Rattle.std.proofs.Common.{◌≡◌, ◌≢◌, ℕ, true, false, List, [], ◌∷◌, length, refl, sym, ap, ◌∙◌, arith, nat_lt}
+use Rattle.protocol.specs.Catalog.{Config, View}
+use Rattle.protocol.specs.History.{Arrival}
+use Rattle.protocol.specs.Client.{Client, reads, read_byte, read_on}
+use Rattle.protocol.proofs.UnreadLemmas.{read_on-step}
+use Rattle.catalog.specs.Places.{view_in}
+use Rattle.session_state.specs.declared.session.State.{State}
+use Rattle.session_state.specs.declared.session.State.TheVariants.{Negotiating, Listing, Starting, Transfer, Ending}
+use Rattle.session_state.specs.declared.session.Settled.{Settled}
+use Rattle.session_state.specs.declared.session.Settled.TheVariants.{Rest, Start}
+use Rattle.session_state.specs.Sessions.{SessionValue, client_in, session_view, kept_unread, Comes, KeepsTransfer}
+use Rattle.session_state.specs.Sessions.{never_starts}
+use Rattle.session_state.proofs.CursorLemmas.{keeps-apart, keeps-then}
+
+-- the session will read on as the first one would
+pub record SettlesAs (config : Config) (now first : SessionValue) : Type 0 where
+  pub same : (h : List Arrival) → read_on (session_view config now) h now.unread (client_in config h now)
+      ≡ read_on (session_view config first) h first.unread (client_in config h first)
+  pub places : now.places ≡ first.places
+  pub stays : never_starts first.state ≡ true → never_starts now.state ≡ true
+  pub kept : KeepsTransfer first now
+
+-- a session that has nothing unread, or that may not read
+pub read_on-nothing : (config : Config) (v : View) (h : List Arrival) (s : SessionValue)
+    → nat_lt 0 (length s.unread) ≡ false
+    → client_in config h (record s { unread = kept_unread s.state s.unread })
+    ≡ read_on v h s.unread (client_in config h s)
+read_on-nothing config v h s e = nothing s.state s.unread e
+  where
+    nothing : (t : State) (u : List ℕ) → nat_lt 0 (length u) ≡ false
+        → client_in config h (record s { state = t; unread = kept_unread t u })
+        ≡ read_on v h u (client_in config h (record s { state = t; unread = u }))
+    nothing Negotiating [] e = refl
+    nothing (Listing n) [] e = refl
+    nothing Starting [] e = refl
+    nothing (Transfer q) [] e = refl
+    nothing Ending [] e = refl
+    nothing t (b ∷ u) e = absurd (grind arith)
+
+pub read_on-stopped : (config : Config) (v : View) (h : List Arrival) (s : SessionValue)
+    → reads (client_in config h s).state s.waiting ≡ false
+    → client_in config h (record s { unread = kept_unread s.state s.unread })
+    ≡ read_on v h s.unread (client_in config h s)
+read_on-stopped config v h s e = stopped s.state s.unread e
+  where
+    stopped : (t : State) (u : List ℕ) → reads (client_in config h (record s { state = t })).state s.waiting ≡ false
+        → client_in config h (record s { state = t; unread = kept_unread t u })
+        ≡ read_on v h u (client_in config h (record s { state = t; unread = u }))
+    stopped Negotiating [] e = refl
+    stopped (Listing n) [] e = refl
+    stopped Starting [] e = refl
+    stopped (Transfer q) [] e = refl
+    stopped Ending [] e = refl
+    stopped Negotiating (b ∷ u) e = rw e
+    stopped (Listing n) (b ∷ u) e = refl
+    stopped Starting (b ∷ u) e = absurd (grind arith)
+    stopped (Transfer q) (b ∷ u) e = absurd (grind arith)
+    stopped Ending (b ∷ u) e = refl
+
+three : (f : List ℕ → List ℕ → Client → Client) (p p' u u' : List ℕ) (c c' : Client) → p ≡ p' → u ≡ u' → c ≡ c'
+    → f p u c ≡ f p' u' c'
+three f p p' u u' c c' a b d = rw (a, b, d)
+
+-- one more byte is read
+pub settle-step : (config : Config) (a n r : SessionValue) (b : ℕ) → a.unread ≡ b ∷ n.unread
+    → n ≡ record a { unread = n.unread }
+    → ((h : List Arrival) → client_in config h r ≡ read_byte (session_view config n) h b (client_in config h n))
+    → r.places ≡ n.places → r.unread ≡ n.unread → (never_starts n.state ≡ true → never_starts r.state ≡ true)
+    → KeepsTransfer n r → ((h : List Arrival) → reads (client_in config h a).state a.waiting ≡ true)
+    → (first : SessionValue) → SettlesAs config a first → SettlesAs config r first
+settle-step config a n r b byte rest client places unread stays kept may first so_far =
+    record {
+      same = λ h.
+          three (λ q u c. read_on (view_in config q) h u c) r.places n.places r.unread n.unread (client_in config h r)
+          (read_byte (session_view config n) h b (client_in config h n)) places unread (client h)
+          ∙ ap
+          (λ (s : SessionValue). read_on (session_view config s) h s.unread
+          (read_byte (session_view config s) h b (client_in config h s))) rest
+          ∙ read_on-step (session_view config a) h b n.unread (client_in config h a) (may h)
+          ∙ ap (λ u. read_on (session_view config a) h u (client_in config h a)) (sym byte)
+          ∙ so_far.same h;
+      places = places ∙ ap (λ (s : SessionValue). s.places) rest ∙ so_far.places;
+      stays = λ e. stays (ap (λ (s : SessionValue). never_starts s.state) rest ∙ so_far.stays e);
+      kept = keeps-then first a r so_far.kept
+          (keeps-then a n r
+          (keeps-apart a n (ap (λ (s : SessionValue). s.state) rest) (ap (λ (s : SessionValue). s.mode) rest)) kept);
+    }
+
+-- what a session comes to that has read what it may
+pub settles : (config : Config) (h : List Arrival) (a d first : SessionValue) (settled : Settled)
+    → (settled ≡ Start → d.state ≡ Starting) → (settled ≡ Rest → d.state ≢ Starting)
+    → d ≡ record a { unread = kept_unread a.state a.unread }
+    → (a.state ≢ Starting → client_in config h (record a { unread = kept_unread a.state a.unread })
+    ≡ read_on (session_view config a) h a.unread (client_in config h a)) → SettlesAs config a first
+    → Comes settled config h d (read_on (session_view config first) h first.unread (client_in config h first))
+settles config h a d first Rest start rest kept done so_far =
+    let here : a.state ≢ Starting = λ e. rest refl (ap (λ (s : SessionValue). s.state) kept ∙ e) in
+    ap (client_in config h) kept ∙ done here ∙ so_far.same h
+settles config h a d first Start start rest kept done so_far =
+    let state : a.state ≡ Starting = sym (ap (λ (s : SessionValue). s.state) kept) ∙ start refl in
+    let d_is : d ≡ a = kept ∙ ap (λ t. record a { unread = kept_unread t a.unread }) state in (
+      start refl,
+      ap (λ (s : SessionValue). read_on (session_view config s) h s.unread (client_in config h s)) d_is
+          ∙ so_far.same h,
+    )
+
+pub settles-kept : (config : Config) (a d first : SessionValue) → d ≡ record a { unread = kept_unread a.state a.unread }
+    → SettlesAs config a first → KeepsTransfer first d
+settles-kept config a d first kept so_far =
+    keeps-then first a d so_far.kept
+    (keeps-apart a d (ap (λ (s : SessionValue). s.state) kept) (ap (λ (s : SessionValue). s.mode) kept))

@@ -1,0 +1,77 @@
+-- The values of the stations that a client named, and of what was negotiated.
+-- SeedLink 3, STATION, SELECT, DATA, FETCH and TIME.
+use Rattle.std.specs.Prelude.{◌≡◌, ℕ, ◌<◌, ◌≤◌, Bool, true, false, List, [], ◌∷◌, length, drop, Option, None, IfSome}
+use Rattle.protocol.specs.Pattern.{Pattern}
+use Rattle.selector.specs.Pools.{list_at}
+use Rattle.session_state.specs.declared.choices.Action.{Action}
+use Rattle.session_state.specs.declared.choices.Cursor.{Cursor}
+use Rattle.session_state.specs.declared.choices.Entry.{Entry}
+
+-- a named station: its place in the configuration, which of its records are wanted, what is asked of it, from which
+-- arrival on, and how far the transfer has come
+pub record Choice : Type 0 where
+  pub place : ℕ
+  pub selectors : List Pattern
+  pub action : Option Action
+  pub first : ℕ
+  pub cursor : Cursor
+
+-- the cursor of a transfer that has not begun
+abbrev pub start : Cursor
+start = record { place = 0; after_end = None; seen = 0; ahead = None }
+
+-- a station of which this is asked, while no transfer has begun
+abbrev pub begun : ℕ → Option Action → Entry
+begun place action = record { place = place; action = action; first = 0; cursor = start }
+
+-- an entry with its selectors
+abbrev pub choice_of : Entry → List Pattern → Choice
+choice_of e ps = record { place = e.place; selectors = ps; action = e.action; first = e.first; cursor = e.cursor }
+
+-- a named station without them
+abbrev pub entry_of : Choice → Entry
+entry_of c = record { place = c.place; action = c.action; first = c.first; cursor = c.cursor }
+
+-- a station without a place, selectors and an action
+abbrev pub blank : Choice
+blank = choice_of (begun 0 None) []
+
+-- entries with the list of selectors that stands at each one's place
+abbrev pub choices_with : List Entry → List (List Pattern) → List Choice
+choices_with [] lists = []
+choices_with (e ∷ es) lists = choice_of e (list_at lists 0) ∷ choices_with es (drop 1 lists)
+
+-- named stations, in the order in which they were named, and the place among them of the current one
+pub record NamedValue : Type 0 where
+  pub choices : List Choice
+  pub current : Option ℕ
+
+-- There is room for 255 entries, each has its list, and all other lists are empty.
+pub record IsNamed (entries : List Entry) (current : Option ℕ) (lists : List (List Pattern)) (room : ℕ) : Type 0 where
+  pub count : length lists ≡ 255
+  pub few : length entries ≤ 255
+  pub spare : 255 ≤ room
+  pub within : IfSome current (λ i. i < length entries)
+  pub rest : (i : ℕ) → length entries ≤ i → list_at lists i ≡ []
+
+-- One station is there.
+pub record IsAlone (n : NamedValue) : Type 0 where
+  pub choice : Choice
+  pub alone : n.choices ≡ choice ∷ []
+
+-- what was negotiated
+pub data ModeValue : Type 0 where
+  -- one station, the first that the client sees, with these selectors
+  Uni : (patterns : List Pattern) → ModeValue
+  -- the stations that the client named
+  Multi : NamedValue → ModeValue
+
+-- the selectors of the first station, where there is one
+abbrev pub first_selectors : List Choice → List Pattern
+first_selectors [] = []
+first_selectors (c ∷ cs) = c.selectors
+
+-- the mode, whether in multi-station mode or in uni-station mode, where one station keeps the selectors
+abbrev pub mode_of : (is_multi : Bool) → NamedValue → ModeValue
+mode_of true n = Multi n
+mode_of false n = Uni (first_selectors n.choices)

@@ -1,0 +1,179 @@
+-- A session that goes on in its transfer has still passed nothing that it wants.
+use Rattle.std.proofs.Common.{◌≡◌, ◌≢◌, ℕ, ◌+◌, ◌≤◌, true, false, nat_le, List, [], refl, sym, ap, subst, ◌∙◌, arith}
+use Rattle.std.proofs.Common.{codes, slice_get, Some, unwrap_or}
+use Rattle.std.specs.Prelude.{◌==◌}
+use Rattle.std.proofs.lemmas.Bool.Decides.{nat_tests}
+use Rattle.protocol.proofs.FoundLemmas.{both}
+use Rattle.station_ring.specs.declared.held.Held.{Held}
+use Rattle.station_ring.specs.Rings.{RingValue}
+use Rattle.held_records.specs.Rings.{RingsValue, AllGrow}
+use Rattle.session_state.specs.NamedValues.{Choice}
+use Rattle.session_state.specs.declared.choices.Cursor.{Cursor}
+use Rattle.session_state.specs.declared.session.State.TheVariants.{Transfer, Ending}
+use Rattle.session_state.specs.Choices.{chosen_of}
+use Rattle.session_state.specs.Sessions.{SessionValue, KeepsTransfer, but_for_cursors}
+use Rattle.transfer.specs.declared.choosing.Chosen.{Chosen}
+use Rattle.transfer.specs.declared.choosing.Chosen.TheVariants.{Packet, Nothing, Complete}
+use Rattle.transfer.specs.Wanting.{wants_held}
+use Rattle.transfer.specs.Cursors.{ArePassed, HasPassed, IsReached, OfAll, PassedIn, RestedAt, RestsIn}
+use Rattle.transfer.proofs.RestLemmas.{Passes}
+
+pub same-next : (q next : ℕ) → Transfer q ≡ Transfer next → q ≡ next
+same-next q next e = cc
+
+-- what a session has passed
+pub passed-all : (rings : RingsValue) (s : SessionValue) → ArePassed rings s → (next : ℕ) → s.state ≡ Transfer next
+    → OfAll (PassedIn rings next) (chosen_of s.mode)
+unfolding ArePassed
+passed-all rings s passed next state = passed.passed next state
+
+-- What is not wanted from one position on is not wanted from a later one on.
+unwanted-later : (c : Choice) (q next : ℕ) (x : Held) → q ≤ next → wants_held c q x ≡ false
+    → wants_held c next x ≡ false
+unwanted-later c q next x later e =
+    both (nat_le next x.stamp)
+    (λ y. let before : nat_le q x.stamp ≡ true = grind (arith, nat_tests) in rw y (rw before at e))
+    (λ n. rw n refl)
+
+-- What is wanted and may still be sent is wanted from a later position on.
+wanted-later : (c : Choice) (q next : ℕ) (x : Held) → next ≤ x.stamp → wants_held c q x ≡ true
+    → wants_held c next x ≡ true
+wanted-later c q next x late e =
+    let test : nat_le next x.stamp ≡ true = grind (arith, nat_tests) in
+    both (nat_le q x.stamp)
+    (λ y. rw test (rw y at e))
+    (λ n. absurd (let t : false ≡ true = rw n at e in cc))
+
+passed-later : (r : RingValue) (q next : ℕ) (c : Choice) (k : Cursor) → q ≤ next → HasPassed r q c k
+    → HasPassed r next c k
+passed-later r q next c k later passed = record {
+  within = passed.within;
+  unwanted = λ place x low there. unwanted-later c q next x later (passed.unwanted place x low there);
+  told = passed.told;
+  before = passed.before;
+  after = passed.after;
+}
+
+pub rests-passed : (rings : RingsValue) (q next : ℕ) (c : Choice) → q ≤ next → RestsIn rings q c → PassedIn rings next c
+rests-passed rings q next c later rests = record {
+  passed = λ r action there asked. let rest = rests.rests r action there asked in record {
+    passed = passed-later r q next c c.cursor later rest.passed;
+    seen = omega (arith, rest.seen);
+    fresh = λ e. record {
+      low = rest.low;
+      wanted = λ x held late. wanted-later c q next x late (rest.wanted x held);
+      ahead = rest.ahead;
+      holding = rest.holding;
+    };
+  };
+  quiet = rests.quiet;
+}
+
+pub packet-passes : (rings : RingsValue) (a n : SessionValue) (q p : ℕ) (w : List ℕ)
+    → n ≡ record a { state = Transfer (p + 1); waiting = w } → q ≤ p → OfAll (RestsIn rings q) (chosen_of a.mode)
+    → ArePassed rings n
+unfolding ArePassed
+packet-passes rings a n q p w made late rests = record {
+  passed = λ next state i c at.
+      let is : p + 1 ≡ next = same-next (p + 1) next (ap (λ (s : SessionValue). s.state) (sym made) ∙ state) in
+      rests-passed rings q next c (omega arith)
+      (rests i c (ap (λ (s : SessionValue). slice_get (chosen_of s.mode) i) (sym made) ∙ at));
+}
+
+pub same-passes : (rings : RingsValue) (a : SessionValue) (q : ℕ) → a.state ≡ Transfer q
+    → OfAll (RestsIn rings q) (chosen_of a.mode) → ArePassed rings a
+unfolding ArePassed
+same-passes rings a q state rests = record {
+  passed = λ next now i c at.
+      let is : q ≡ next = same-next q next (sym state ∙ now) in
+      rests-passed rings q next c (omega arith) (rests i c at);
+}
+
+pub ended-passes : (rings : RingsValue) (a n : SessionValue) (q : ℕ) (answer : Chosen)
+    → (answer ≡ Complete → n ≡ record a { state = Ending; unread = []; waiting = codes "END" })
+    → (answer ≡ Nothing → n ≡ a) → answer ≢ Packet → a.state ≡ Transfer q → OfAll (RestsIn rings q) (chosen_of a.mode)
+    → ArePassed rings n
+unfolding ArePassed
+ended-passes rings a n q Packet ends same other state rests = absurd (other refl)
+ended-passes rings a n q Nothing ends same other state rests =
+    subst (ArePassed rings) (sym (same refl)) (same-passes rings a q state rests)
+ended-passes rings a n q Complete ends same other state rests = record {
+  passed = λ next now i c at. absurd (
+      let t : Ending ≡ Transfer next = ap (λ (s : SessionValue). s.state) (sym (ends refl)) ∙ now in cc);
+}
+
+pub ended-reached : (rings : RingsValue) (a n : SessionValue) → n ≡ a → OfAll (IsReached rings) (chosen_of a.mode)
+    → OfAll (IsReached rings) (chosen_of n.mode)
+ended-reached rings a n same reached =
+    subst (λ (s : SessionValue). OfAll (IsReached rings) (chosen_of s.mode)) (sym same) reached
+
+-- ---- what others do
+
+-- A call that keeps a session in its transfer, if it is in one, changes nothing of its requests.
+pub keeps-passed : (rings : RingsValue) (a n : SessionValue) → KeepsTransfer a n → ArePassed rings a → ArePassed rings n
+unfolding ArePassed
+keeps-passed rings a n keeps passed = record {
+  passed = λ next state i c at.
+      let was = keeps.kept next state in
+      passed.passed next was.0 i c (ap (λ m. slice_get (chosen_of m) i) (sym was.1) ∙ at);
+}
+
+-- A session that is in no transfer has passed nothing.
+pub none-passed : (rings : RingsValue) (s : SessionValue) → ((next : ℕ) → s.state ≢ Transfer next) → ArePassed rings s
+unfolding ArePassed
+none-passed rings s none = record { passed = λ next state. absurd (none next state) }
+
+-- What was passed stays so while records arrive: they come behind each cursor.
+pub grown-passed : (before after : RingsValue) (s : SessionValue) → AllGrow before.rings after.rings
+    → ArePassed before s → ArePassed after s
+unfolding ArePassed
+grown-passed before after s grow passed = record {
+  passed = λ next state i c at. record {
+    passed = λ r action there asked.
+        let was = grow c.place r there in
+        let seen = (passed.passed next state i c at).passed was.ring action was.is_there asked in
+        let old = seen.passed in
+        record {
+          passed = record {
+            within = omega (arith, old.within, was.grows.pushes);
+            unwanted = λ place x low held. old.unwanted place x low
+                (was.grows.held place x (omega (arith, old.within)) held);
+            told = λ place x low held after_end. old.told place x low
+                (was.grows.held place x (omega (arith, old.within)) held) after_end;
+            before = old.before;
+            after = λ place x e held. old.after place x e
+                (was.grows.held place x (let low = old.before place e in omega (arith, old.within)) held);
+          };
+          seen = omega (arith, seen.seen, was.grows.pushes);
+          fresh = λ e.
+              let still : r.pushes ≡ was.ring.pushes = omega (arith, e, seen.seen, was.grows.pushes) in
+              subst (λ (y : RingValue). RestedAt y next c c.cursor) (sym (was.grows.same still))
+              (seen.fresh (e ∙ still));
+        };
+    quiet = (passed.passed next state i c at).quiet;
+  };
+}
+
+-- One request more has passed what it doesn't want.
+pub one-passes : (rings : RingsValue) (a n : SessionValue) → but_for_cursors n ≡ but_for_cursors a
+    → ((next : ℕ) → a.state ≡ Transfer next → OfAll (PassedIn rings next) (chosen_of a.mode)
+    → OfAll (PassedIn rings next) (chosen_of n.mode)) → ArePassed rings a → ArePassed rings n
+unfolding ArePassed
+one-passes rings a n same passes passed = record {
+  passed = λ next state.
+      let was : a.state ≡ Transfer next = ap (λ (s : SessionValue). s.state) (sym same) ∙ state in
+      passes next was (passed.passed next was);
+}
+
+pub one-rests : (rings : RingsValue) (next i : ℕ) (cursor : Cursor) (a n : SessionValue) (c : Choice)
+    → Passes i cursor a n → slice_get (chosen_of a.mode) i ≡ Some c
+    → (PassedIn rings next c → RestsIn rings next (record c { cursor = cursor }))
+    → OfAll (PassedIn rings next) (chosen_of a.mode) → OfAll (PassedIn rings next) (chosen_of n.mode)
+one-rests rings next i cursor a n c passes at rests all j x there = both (j == i)
+    (λ y. let here : j ≡ i = grind (arith, nat_tests) in
+    let is : Some x ≡ Some (record c { cursor = cursor }) = sym there ∙ ap (slice_get (chosen_of n.mode)) here
+    ∙ passes.here c at in
+    subst (PassedIn rings next) (ap (λ o. unwrap_or o x) (sym is))
+    (rests-passed rings next next (record c { cursor = cursor }) (omega arith) (rests (all i c at))))
+    (λ m. let apart : j ≢ i = λ e. absurd (grind (arith, nat_tests)) in
+    all j x (sym (passes.others j apart) ∙ there))
