@@ -37,7 +37,7 @@ impl Model for Rings {
 
 impl Rings {
     /// Rings that hold nothing yet, one for each station. It fails only where there is no memory for them.
-    #[tactic(auto, unfolding(crate::specs::RingsValue::holdings_of))]
+    #[tactic(auto, unfolding(crate::specs::Rings::holdings_of))]
     pub fn new(alloc: Global, config: &Config) -> Result<Rings, AllocError>
         ensures { IfOk result (λ rings. rings ≡ holdings_of config.now []) }
     {
@@ -49,7 +49,7 @@ impl Rings {
     }
 
     /// How many records arrived.
-    #[tactic(auto, unfolding(crate::specs::RingsValue::holdings_of))]
+    #[tactic(auto, unfolding(crate::specs::Rings::holdings_of))]
     pub fn arrivals(&self) -> u64
         ensures value { result ≡ self.now.arrivals }
         ensures count { (config : ProtocolConfig) (h : List Arrival) → self.now ≡ holdings_of config h

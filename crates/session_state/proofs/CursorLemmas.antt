@@ -86,7 +86,8 @@ mode-others (Multi n) i cursor j apart = passed-others n.choices i cursor j apar
 
 pub pass-same : (a n : SessionValue) (i : ℕ) (cursor : Cursor) → n ≡ record a { mode = passed_in a.mode i cursor }
     → but_for_cursors n ≡ but_for_cursors a
-pass-same a n i cursor made = ap but_for_cursors made ∙ ap (λ m. record a { mode = m }) (same-mode a.mode i cursor)
+pass-same a n i cursor made =
+    ap but_for_cursors made ∙ ap (λ m. record a { mode = m; looked = None }) (same-mode a.mode i cursor)
 
 pub pass-here : (a n : SessionValue) (i : ℕ) (cursor : Cursor) → n ≡ record a { mode = passed_in a.mode i cursor }
     → (c : Choice) → slice_get (chosen_of a.mode) i ≡ Some c
@@ -103,12 +104,16 @@ pub pass-length : (a n : SessionValue) (i : ℕ) (cursor : Cursor) → n ≡ rec
     → length (chosen_of n.mode) ≡ length (chosen_of a.mode)
 pass-length a n i cursor made = ap (λ (s : SessionValue). length (chosen_of s.mode)) made ∙ mode-length a.mode i cursor
 
-pub ruleset pass_lemmas = (pass-same, pass-here, pass-others, pass-length)
+pub pass-looked : (a n : SessionValue) (i : ℕ) (cursor : Cursor) → n ≡ record a { mode = passed_in a.mode i cursor }
+    → n.looked ≡ a.looked
+pass-looked a n i cursor made = ap (λ (s : SessionValue). s.looked) made
+
+pub ruleset pass_lemmas = (pass-same, pass-here, pass-others, pass-length, pass-looked)
 
 -- ---- sessions that stay in their transfer
 
 pub keeps-same : (a : SessionValue) → KeepsTransfer a a
-keeps-same a = record { kept = λ next e. (e, refl) }
+keeps-same a = record { kept = λ next e. (e, refl); looked = λ next e. refl }
 
 pub keeps-then : (a b c : SessionValue) → KeepsTransfer a b → KeepsTransfer b c → KeepsTransfer a c
 keeps-then a b c first second = record {
@@ -116,15 +121,19 @@ keeps-then a b c first second = record {
       let later = second.kept next e in
       let before = first.kept next later.0 in
       (before.0, later.1 ∙ before.1);
+  looked = λ next e. second.looked next e ∙ first.looked next (second.kept next e).0;
 }
 
--- a step that changes neither the state nor the requests
-pub keeps-apart : (a b : SessionValue) → b.state ≡ a.state → b.mode ≡ a.mode → KeepsTransfer a b
-keeps-apart a b state mode = record { kept = λ next e. (sym state ∙ e, mode) }
+-- a step that changes neither the state nor the requests, nor what is known of them
+pub keeps-apart : (a b : SessionValue) → b.state ≡ a.state → b.mode ≡ a.mode → b.looked ≡ a.looked → KeepsTransfer a b
+keeps-apart a b state mode looked = record { kept = λ next e. (sym state ∙ e, mode); looked = λ next e. looked }
 
 -- a step after which it is in no transfer
 pub keeps-none : (a b : SessionValue) → ((next : ℕ) → b.state ≢ Transfer next) → KeepsTransfer a b
-keeps-none a b none = record { kept = λ next e. absurd (none next e) }
+keeps-none a b none = record {
+  kept = λ next e. absurd (none next e);
+  looked = λ next e. absurd (none next e);
+}
 
 pub effected-elsewhere : (m : SessionValue) (effect : Effect) (next : ℕ) → m.state ≡ Negotiating
     → (effected m effect).state ≢ Transfer next
@@ -148,6 +157,7 @@ listed-keeps a b ends = record {
     listed-kept a.places a.state next (ap (λ (s : SessionValue). s.state) (sym ends) ∙ e),
     ap (λ (s : SessionValue). s.mode) ends,
   );
+  looked = λ next e. ap (λ (s : SessionValue). s.looked) ends;
 }
 
 pub lined-keeps : (config : Config) (made : ℕ) (a b : SessionValue) → b ≡ line_made config made a → KeepsTransfer a b

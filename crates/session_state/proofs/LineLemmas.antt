@@ -1,6 +1,6 @@
 -- A session that does what its line asks obeys the line.
 use Rattle.std.proofs.Common.{◌≡◌, ℕ, true, false, Bool, List, [], ◌∷◌, filter_map, refl, sym, ap, ◌∙◌, ◌≤◌, nat_eq}
-use Rattle.std.proofs.Common.{length, drop, arith, length-drop}
+use Rattle.std.proofs.Common.{length, drop, arith, length-drop, Option}
 use Rattle.protocol.specs.Catalog.{Config, View}
 use Rattle.protocol.specs.Lines.{Line, is_line_end, open_after, cut_from}
 use Rattle.protocol.specs.Lines.Line.{Text, TooLong}
@@ -27,18 +27,19 @@ use Rattle.session_state.specs.Sessions.{SessionValue, client_in, session_view, 
 use Rattle.session_state.proofs.CursorLemmas.{effected-elsewhere}
 
 -- a session that negotiates while nothing waits
-abbrev pub reading : List ℕ → ModeValue → Line → List ℕ → SessionValue
-reading places mode l u = record {
+abbrev pub reading : List ℕ → ModeValue → Line → List ℕ → Option ℕ → SessionValue
+reading places mode l u looked = record {
   places = places;
   mode = mode;
   state = Negotiating;
   open_line = l;
   unread = u;
   waiting = [];
+  looked = looked;
 }
 
 is_reading : (a : SessionValue) → a.state ≡ Negotiating → a.waiting ≡ []
-    → a ≡ reading a.places a.mode a.open_line a.unread
+    → a ≡ reading a.places a.mode a.open_line a.unread a.looked
 is_reading a state none = ap (λ t. record a { state = t }) state
     ∙ ap (λ w. record a { state = Negotiating; waiting = w }) none
 
@@ -66,12 +67,13 @@ leaves config h a r state none e = ap (client_in config h) e
 
 -- a session in which a change was made
 effect-follows : (config : Config) (h : List Arrival) (places : List ℕ) (mode new : ModeValue) (l : Line) (u : List ℕ)
-    (effect : Effect) → client_in config h (effected (record (reading places mode l u) { mode = new }) effect)
-    ≡ follow (session_view config (reading places mode l u)) h (client_in config h (reading places mode l u))
+    (looked : Option ℕ) (effect : Effect)
+    → client_in config h (effected (record (reading places mode l u looked) { mode = new }) effect)
+    ≡ follow (session_view config (reading places mode l u looked)) h (client_in config h (reading places mode l u looked))
     (negotiated_in config mode) (outcome_after effect (negotiated_in config new))
-effect-follows config h places mode new l u Done = refl
-effect-follows config h places mode new l u Refused = refl
-effect-follows config h places mode new l u Starts = refl
+effect-follows config h places mode new l u looked Done = refl
+effect-follows config h places mode new l u looked Refused = refl
+effect-follows config h places mode new l u looked Starts = refl
 
 pub changes : (config : Config) (h : List Arrival) (a m r : SessionValue) (effect : Effect) (change : Change)
     → a.state ≡ Negotiating → a.waiting ≡ [] → m ≡ record a { mode = m.mode }
@@ -83,7 +85,7 @@ changes config h a m r effect change state none made outcome e =
     ap (client_in config h) e
     ∙ ap (λ x. client_in config h (effected x effect))
     (made ∙ ap (λ (x : SessionValue). record x { mode = m.mode }) (is_reading a state none))
-    ∙ effect-follows config h a.places a.mode m.mode a.open_line a.unread effect
+    ∙ effect-follows config h a.places a.mode m.mode a.open_line a.unread a.looked effect
     ∙ ap (λ (x : SessionValue). follow (session_view config x) h (client_in config h x) (negotiated_in config a.mode)
     (outcome_after effect (negotiated_in config m.mode))) (sym (is_reading a state none))
     ∙ ap (follow (session_view config a) h (client_in config h a) (negotiated_in config a.mode)) outcome
@@ -120,14 +122,14 @@ pub reads_byte : (config : Config) (h : List Arrival) (a n r : SessionValue) (as
     → client_in config h r ≡ read_byte (session_view config a) h b (client_in config h a)
 reads_byte config h a n r asked b state none line answers same =
     let a_is = is_reading a state none in
-    let n_is : n ≡ reading a.places a.mode (open_after a.open_line (b ∷ [])) a.unread = line
+    let n_is : n ≡ reading a.places a.mode (open_after a.open_line (b ∷ [])) a.unread a.looked = line
     ∙ ap (λ (x : SessionValue). record x { open_line = open_after a.open_line (b ∷ []) }) a_is in
     answers
     ∙ ap (λ (x : SessionValue). follow (session_view config x) h (client_in config h x) (negotiated_in config x.mode)
     (outcome_by config (session_view config x) (negotiated_in config x.mode) asked)) n_is
     ∙ ap
     (follow (session_view config a) h
-    (client_in config h (reading a.places a.mode (open_after a.open_line (b ∷ [])) a.unread))
+    (client_in config h (reading a.places a.mode (open_after a.open_line (b ∷ [])) a.unread a.looked))
     (negotiated_in config a.mode)) (sym (same (negotiated_in config a.mode)))
     ∙ sym (read_byte-lines (session_view config a) h a.open_line (negotiated_in config a.mode) a.unread b)
     ∙ ap (λ (x : SessionValue). read_byte (session_view config a) h b (client_in config h x)) (sym a_is)

@@ -79,7 +79,8 @@ begun-state config h a (Multi n) all =
     (requests-begin config h n.choices all)
 
 pub starts : (config : Config) (h : List Arrival) (a t : SessionValue) → a.state ≡ Starting
-    → t ≡ record a { state = Transfer 0 } → HasFirsts config h a → client_in config h t ≡ client_in config h a
+    → t ≡ record a { state = Transfer 0; looked = None } → HasFirsts config h a
+    → client_in config h t ≡ client_in config h a
 starts config h a t state turned firsts =
     ap (client_in config h) turned ∙ sym (begun-state config h a a.mode firsts)
     ∙ ap (λ x. client_in config h (record a { state = x })) (sym state)

@@ -84,7 +84,8 @@ settle-step config a n r b byte rest client places unread stays kept may first s
       stays = λ e. stays (ap (λ (s : SessionValue). never_starts s.state) rest ∙ so_far.stays e);
       kept = keeps-then first a r so_far.kept
           (keeps-then a n r
-          (keeps-apart a n (ap (λ (s : SessionValue). s.state) rest) (ap (λ (s : SessionValue). s.mode) rest)) kept);
+          (keeps-apart a n (ap (λ (s : SessionValue). s.state) rest) (ap (λ (s : SessionValue). s.mode) rest)
+          (ap (λ (s : SessionValue). s.looked) rest)) kept);
     }
 
 -- what a session comes to that has read what it may
@@ -109,4 +110,5 @@ pub settles-kept : (config : Config) (a d first : SessionValue) → d ≡ record
     → SettlesAs config a first → KeepsTransfer first d
 settles-kept config a d first kept so_far =
     keeps-then first a d so_far.kept
-    (keeps-apart a d (ap (λ (s : SessionValue). s.state) kept) (ap (λ (s : SessionValue). s.mode) kept))
+    (keeps-apart a d (ap (λ (s : SessionValue). s.state) kept) (ap (λ (s : SessionValue). s.mode) kept)
+    (ap (λ (s : SessionValue). s.looked) kept))

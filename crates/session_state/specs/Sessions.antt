@@ -27,6 +27,8 @@ pub record SessionValue : Type 0 where
   pub open_line : Line
   pub unread : List ℕ
   pub waiting : List ℕ
+  -- how many records had arrived when all requests were last found to have looked at their rings
+  pub looked : Option ℕ
 
 -- The state, where so many lines of a listing were made to wait. A transfer that is to start is in the definitions one
 -- that has started after the history.
@@ -83,11 +85,12 @@ line_made config made s = with_line made s (slice_get (listing (session_view con
 
 -- the session but for how far its requests have come
 abbrev pub but_for_cursors : SessionValue → SessionValue
-but_for_cursors s = record s { mode = all_at_start s.mode }
+but_for_cursors s = record s { mode = all_at_start s.mode; looked = None }
 
--- A session that is in a transfer after a call was in it before, with the same requests.
+-- A session that is in a transfer after a call was in it before, with the same requests, and knows the same of them.
 pub record KeepsTransfer (before after : SessionValue) : Type 0 where
   pub kept : (next : ℕ) → after.state ≡ Transfer next → (before.state ≡ Transfer next) × (after.mode ≡ before.mode)
+  pub looked : (next : ℕ) → after.state ≡ Transfer next → after.looked ≡ before.looked
 
 -- It is a listing.
 abbrev pub is_listing : State → Bool

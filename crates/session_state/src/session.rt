@@ -1,6 +1,6 @@
 //! One client's side of the server.
 ghost use Rattle.std.specs.Prelude.{◌≡◌, ◌≢◌, ◌≤◌, ◌<◌, ◌+◌, ◌-◌, ◌&&◌, IfOk, OnErr, List, [], ◌∷◌, ◌++◌, length, drop};
-ghost use Rattle.std.specs.Prelude.{map, nat_lt, not, is_ok, is_some, true, false, codes, ℕ, Some, slice_get};
+ghost use Rattle.std.specs.Prelude.{◌↔◌, map, nat_lt, not, is_ok, is_some, true, false, codes, ℕ, Some, slice_get};
 ghost use Rattle.protocol.specs.History.{Arrival};
 ghost use Rattle.protocol.specs.Client.{read_on, received, offered, after_take, cut, new_client, is_ending, is_nothing};
 
@@ -60,6 +60,7 @@ pub struct Session {
     read: usize,
     waiting: Waiting,
     sent: usize,
+    looked: Option<u64>,
 }
 
 impl Model for Session {
@@ -75,6 +76,7 @@ impl Model for Session {
       open_line = s.cutter;
       unread = drop s.read s.unread.items;
       waiting = drop s.sent s.waiting.items;
+      looked = s.looked;
     } };
 
     ghost invariant = { λ s. (s.read ≤ length s.unread.items) × (s.sent ≤ length s.waiting.items)
@@ -111,6 +113,7 @@ impl Session {
             read: 0,
             waiting: ArrayVec::new(),
             sent: 0,
+            looked: None,
         })
     }
 
@@ -167,6 +170,14 @@ impl Session {
             result ≡ passes c.selectors x }
     {
         self.mode.passes(i, location, channel, kind)
+    }
+
+    /// Whether all requests of its transfer have looked at their rings since so many records had arrived, as far as it
+    /// was kept.
+    pub fn has_looked_at(&self, arrivals: u64) -> bool
+        ensures { (result ≡ true) ↔ (self.now.looked ≡ Some arrivals) }
+    {
+        self.looked == Some(arrivals)
     }
 
     /// Whether nothing waits.
@@ -267,10 +278,11 @@ impl Session {
     #[tactic(auto, using(crate::proofs::ReceiveLemmas::start_lemmas))]
     pub fn enter(&mut self)
         requires { self.old.state ≡ Starting }
-        ensures state { self.new ≡ record self.old { state = Transfer 0 } }
+        ensures state { self.new ≡ record self.old { state = Transfer 0; looked = None } }
         ensures client { (config : ProtocolConfig) (h : List Arrival) → HasFirsts config h self.old →
             client_in config h self.new ≡ client_in config h self.old }
     {
+        self.forget_look();
         self.turn_to(State::Transfer(0));
     }
 
@@ -379,7 +391,16 @@ impl Session {
         ensures others { (j : ℕ) → j ≢ i
             → slice_get (chosen_of self.new.mode) j ≡ slice_get (chosen_of self.old.mode) j }
         ensures count { length (chosen_of self.new.mode) ≡ length (chosen_of self.old.mode) }
+        ensures looked { self.new.looked ≡ self.old.looked }
     {
         self.pass_to(i, cursor);
+    }
+
+    /// Keeps that all requests have looked at their rings since so many records had arrived.
+    pub fn keep_look(&mut self, arrivals: u64)
+        ensures { self.new ≡ record self.old { looked = Some arrivals } }
+    {
+        let _ = &self.state;
+        self.looked = Some(arrivals);
     }
 }

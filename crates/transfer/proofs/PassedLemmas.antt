@@ -1,5 +1,5 @@
 -- A session that goes on in its transfer has still passed nothing that it wants.
-use Rattle.std.proofs.Common.{◌≡◌, ◌≢◌, ℕ, ◌+◌, ◌≤◌, true, false, nat_le, List, [], refl, sym, ap, subst, ◌∙◌, arith}
+use Rattle.std.proofs.Common.{◌≡◌, ◌≢◌, ℕ, ◌+◌, ◌<◌, ◌≤◌, true, false, nat_le, List, [], refl, sym, ap, subst, ◌∙◌, arith}
 use Rattle.std.proofs.Common.{codes, slice_get, Some, unwrap_or}
 use Rattle.std.specs.Prelude.{◌==◌}
 use Rattle.std.proofs.lemmas.Bool.Decides.{nat_tests}
@@ -15,7 +15,8 @@ use Rattle.session_state.specs.Sessions.{SessionValue, KeepsTransfer, but_for_cu
 use Rattle.transfer.specs.declared.choosing.Chosen.{Chosen}
 use Rattle.transfer.specs.declared.choosing.Chosen.TheVariants.{Packet, Nothing, Complete}
 use Rattle.transfer.specs.Wanting.{wants_held}
-use Rattle.transfer.specs.Cursors.{ArePassed, HasPassed, IsReached, OfAll, PassedIn, RestedAt, RestsIn}
+use Rattle.transfer.specs.Cursors.{ArePassed, HasLooked, HasPassed, HasPassedAll, IsLooked, IsReached, OfAll, PassedIn}
+use Rattle.transfer.specs.Cursors.{RestedAt, RestsIn}
 use Rattle.transfer.proofs.RestLemmas.{Passes}
 
 pub same-next : (q next : ℕ) → Transfer q ≡ Transfer next → q ≡ next
@@ -23,9 +24,9 @@ same-next q next e = cc
 
 -- what a session has passed
 pub passed-all : (rings : RingsValue) (s : SessionValue) → ArePassed rings s → (next : ℕ) → s.state ≡ Transfer next
-    → OfAll (PassedIn rings next) (chosen_of s.mode)
+    → HasPassedAll rings next s
 unfolding ArePassed
-passed-all rings s passed next state = passed.passed next state
+passed-all rings s passed next state = passed.all next state
 
 -- What is not wanted from one position on is not wanted from a later one on.
 unwanted-later : (c : Choice) (q next : ℕ) (x : Held) → q ≤ next → wants_held c q x ≡ false
@@ -69,36 +70,56 @@ rests-passed rings q next c later rests = record {
   quiet = rests.quiet;
 }
 
-pub packet-passes : (rings : RingsValue) (a n : SessionValue) (q p : ℕ) (w : List ℕ)
-    → n ≡ record a { state = Transfer (p + 1); waiting = w } → q ≤ p → OfAll (RestsIn rings q) (chosen_of a.mode)
-    → ArePassed rings n
-unfolding ArePassed
-packet-passes rings a n q p w made late rests = record {
-  passed = λ next state i c at.
-      let is : p + 1 ≡ next = same-next (p + 1) next (ap (λ (s : SessionValue). s.state) (sym made) ∙ state) in
-      rests-passed rings q next c (omega arith)
-      (rests i c (ap (λ (s : SessionValue). slice_get (chosen_of s.mode) i) (sym made) ∙ at));
+-- A session whose requests rest has looked at all rings.
+rests-looked : (rings : RingsValue) (q : ℕ) (s : SessionValue) → s.looked ≡ Some rings.arrivals
+    → OfAll (RestsIn rings q) (chosen_of s.mode) → IsLooked rings s
+rests-looked rings q s kept rests = record {
+  late = λ n e. let t : Some n ≡ Some rings.arrivals = sym e ∙ kept in
+      let same : n ≡ rings.arrivals = cc in omega (arith, same);
+  seen = λ e i c at. record {
+    seen = λ r action there asked. ((rests i c at).rests r action there asked).seen;
+    nowhere = (rests i c at).nowhere;
+  };
 }
 
-pub same-passes : (rings : RingsValue) (a : SessionValue) (q : ℕ) → a.state ≡ Transfer q
-    → OfAll (RestsIn rings q) (chosen_of a.mode) → ArePassed rings a
+pub packet-passes : (rings : RingsValue) (a n : SessionValue) (q p : ℕ) (w : List ℕ)
+    → n ≡ record a { state = Transfer (p + 1); waiting = w } → q ≤ p → a.looked ≡ Some rings.arrivals
+    → OfAll (RestsIn rings q) (chosen_of a.mode) → ArePassed rings n
 unfolding ArePassed
-same-passes rings a q state rests = record {
-  passed = λ next now i c at.
+packet-passes rings a n q p w made late kept rests =
+    let still : OfAll (RestsIn rings q) (chosen_of n.mode) =
+    (λ i c at. rests i c (ap (λ (s : SessionValue). slice_get (chosen_of s.mode) i) (sym made) ∙ at)) in
+    record {
+      all = λ next state.
+          let is : p + 1 ≡ next = same-next (p + 1) next (ap (λ (s : SessionValue). s.state) (sym made) ∙ state) in
+          record {
+            passed = λ i c at. rests-passed rings q next c (omega arith) (still i c at);
+            looked = rests-looked rings q n (ap (λ (s : SessionValue). s.looked) made ∙ kept) still;
+          };
+    }
+
+pub same-passes : (rings : RingsValue) (a : SessionValue) (q : ℕ) → a.state ≡ Transfer q
+    → a.looked ≡ Some rings.arrivals → OfAll (RestsIn rings q) (chosen_of a.mode) → ArePassed rings a
+unfolding ArePassed
+same-passes rings a q state kept rests = record {
+  all = λ next now.
       let is : q ≡ next = same-next q next (sym state ∙ now) in
-      rests-passed rings q next c (omega arith) (rests i c at);
+      record {
+        passed = λ i c at. rests-passed rings q next c (omega arith) (rests i c at);
+        looked = rests-looked rings q a kept rests;
+      };
 }
 
 pub ended-passes : (rings : RingsValue) (a n : SessionValue) (q : ℕ) (answer : Chosen)
     → (answer ≡ Complete → n ≡ record a { state = Ending; unread = []; waiting = codes "END" })
-    → (answer ≡ Nothing → n ≡ a) → answer ≢ Packet → a.state ≡ Transfer q → OfAll (RestsIn rings q) (chosen_of a.mode)
-    → ArePassed rings n
+    → (answer ≡ Nothing → n ≡ a) → answer ≢ Packet → a.state ≡ Transfer q → a.looked ≡ Some rings.arrivals
+    → OfAll (RestsIn rings q) (chosen_of a.mode) → ArePassed rings n
 unfolding ArePassed
-ended-passes rings a n q Packet ends same other state rests = absurd (other refl)
-ended-passes rings a n q Nothing ends same other state rests =
-    subst (ArePassed rings) (sym (same refl)) (same-passes rings a q state rests)
-ended-passes rings a n q Complete ends same other state rests = record {
-  passed = λ next now i c at. absurd (
+ended-passes rings a n q Packet ends same other state kept rests = absurd (other refl)
+ended-passes rings a n q Nothing ends same other state kept rests =
+    subst (ArePassed rings) (sym (same refl)) (same-passes rings a q state kept rests)
+ended-passes rings a n q Complete ends same other state kept rests = record {
+  all = λ next now. absurd (
       let t : Ending ≡ Transfer next = ap (λ (s : SessionValue). s.state) (sym (ends refl)) ∙ now in cc);
 }
 
@@ -113,67 +134,105 @@ ended-reached rings a n same reached =
 pub keeps-passed : (rings : RingsValue) (a n : SessionValue) → KeepsTransfer a n → ArePassed rings a → ArePassed rings n
 unfolding ArePassed
 keeps-passed rings a n keeps passed = record {
-  passed = λ next state i c at.
+  all = λ next state.
       let was = keeps.kept next state in
-      passed.passed next was.0 i c (ap (λ m. slice_get (chosen_of m) i) (sym was.1) ∙ at);
+      let old = passed.all next was.0 in
+      let kept = keeps.looked next state in
+      record {
+        passed = λ i c at. old.passed i c (ap (λ m. slice_get (chosen_of m) i) (sym was.1) ∙ at);
+        looked = record {
+          late = λ k e. old.looked.late k (sym kept ∙ e);
+          seen = λ e i c at. old.looked.seen (sym kept ∙ e) i c (ap (λ m. slice_get (chosen_of m) i) (sym was.1) ∙ at);
+        };
+      };
 }
 
 -- A session that is in no transfer has passed nothing.
 pub none-passed : (rings : RingsValue) (s : SessionValue) → ((next : ℕ) → s.state ≢ Transfer next) → ArePassed rings s
 unfolding ArePassed
-none-passed rings s none = record { passed = λ next state. absurd (none next state) }
+none-passed rings s none = record { all = λ next state. absurd (none next state) }
 
--- What was passed stays so while records arrive: they come behind each cursor.
-pub grown-passed : (before after : RingsValue) (s : SessionValue) → AllGrow before.rings after.rings
-    → ArePassed before s → ArePassed after s
-unfolding ArePassed
-grown-passed before after s grow passed = record {
-  passed = λ next state i c at. record {
-    passed = λ r action there asked.
-        let was = grow c.place r there in
-        let seen = (passed.passed next state i c at).passed was.ring action was.is_there asked in
-        let old = seen.passed in
-        record {
-          passed = record {
-            within = omega (arith, old.within, was.grows.pushes);
-            unwanted = λ place x low held. old.unwanted place x low
-                (was.grows.held place x (omega (arith, old.within)) held);
-            told = λ place x low held after_end. old.told place x low
-                (was.grows.held place x (omega (arith, old.within)) held) after_end;
-            before = old.before;
-            after = λ place x e held. old.after place x e
-                (was.grows.held place x (let low = old.before place e in omega (arith, old.within)) held);
-          };
-          seen = omega (arith, seen.seen, was.grows.pushes);
-          fresh = λ e.
-              let still : r.pushes ≡ was.ring.pushes = omega (arith, e, seen.seen, was.grows.pushes) in
-              subst (λ (y : RingValue). RestedAt y next c c.cursor) (sym (was.grows.same still))
-              (seen.fresh (e ∙ still));
+-- What a request has passed stays so while records arrive.
+grown-one : (before after : RingsValue) (next : ℕ) (c : Choice) → AllGrow before.rings after.rings
+    → PassedIn before next c → PassedIn after next c
+grown-one before after next c grow passed = record {
+  passed = λ r action there asked.
+      let was = grow c.place r there in
+      let seen = passed.passed was.ring action was.is_there asked in
+      let old = seen.passed in
+      record {
+        passed = record {
+          within = omega (arith, old.within, was.grows.pushes);
+          unwanted = λ place x low held. old.unwanted place x low
+              (was.grows.held place x (omega (arith, old.within)) held);
+          told = λ place x low held after_end. old.told place x low
+              (was.grows.held place x (omega (arith, old.within)) held) after_end;
+          before = old.before;
+          after = λ place x e held. old.after place x e
+              (was.grows.held place x (let low = old.before place e in omega (arith, old.within)) held);
         };
-    quiet = (passed.passed next state i c at).quiet;
+        seen = omega (arith, seen.seen, was.grows.pushes);
+        fresh = λ e.
+            let still : r.pushes ≡ was.ring.pushes = omega (arith, e, seen.seen, was.grows.pushes) in
+            subst (λ (y : RingValue). RestedAt y next c c.cursor) (sym (was.grows.same still))
+            (seen.fresh (e ∙ still));
+      };
+  quiet = passed.quiet;
+}
+
+-- What was passed stays so while records arrive: they come behind each cursor. What was kept of the last look tells of
+-- fewer arrivals now.
+pub grown-passed : (before after : RingsValue) (s : SessionValue) → AllGrow before.rings after.rings
+    → before.arrivals < after.arrivals → ArePassed before s → ArePassed after s
+unfolding ArePassed
+grown-passed before after s grow more passed = record {
+  all = λ next state. record {
+    passed = λ i c at. grown-one before after next c grow ((passed.all next state).passed i c at);
+    looked = record {
+      late = λ n e. let old = (passed.all next state).looked.late n e in omega (arith, old, more);
+      seen = λ e. absurd (let old = (passed.all next state).looked.late after.arrivals e in omega (arith, old, more));
+    };
   };
 }
 
 -- One request more has passed what it doesn't want.
 pub one-passes : (rings : RingsValue) (a n : SessionValue) → but_for_cursors n ≡ but_for_cursors a
-    → ((next : ℕ) → a.state ≡ Transfer next → OfAll (PassedIn rings next) (chosen_of a.mode)
-    → OfAll (PassedIn rings next) (chosen_of n.mode)) → ArePassed rings a → ArePassed rings n
+    → ((next : ℕ) → a.state ≡ Transfer next → HasPassedAll rings next a → HasPassedAll rings next n)
+    → ArePassed rings a → ArePassed rings n
 unfolding ArePassed
 one-passes rings a n same passes passed = record {
-  passed = λ next state.
+  all = λ next state.
       let was : a.state ≡ Transfer next = ap (λ (s : SessionValue). s.state) (sym same) ∙ state in
-      passes next was (passed.passed next was);
+      passes next was (passed.all next was);
 }
 
-pub one-rests : (rings : RingsValue) (next i : ℕ) (cursor : Cursor) (a n : SessionValue) (c : Choice)
-    → Passes i cursor a n → slice_get (chosen_of a.mode) i ≡ Some c
-    → (PassedIn rings next c → RestsIn rings next (record c { cursor = cursor }))
-    → OfAll (PassedIn rings next) (chosen_of a.mode) → OfAll (PassedIn rings next) (chosen_of n.mode)
-one-rests rings next i cursor a n c passes at rests all j x there = both (j == i)
+-- It is true of all choices once one has another cursor, if it is true of that one and was true of all.
+one-more : (P : Choice → Type 0) (i : ℕ) (cursor : Cursor) (a n : SessionValue) (c : Choice) → Passes i cursor a n
+    → slice_get (chosen_of a.mode) i ≡ Some c → P (record c { cursor = cursor }) → OfAll P (chosen_of a.mode)
+    → OfAll P (chosen_of n.mode)
+one-more P i cursor a n c passes at true_there all j x there = both (j == i)
     (λ y. let here : j ≡ i = grind (arith, nat_tests) in
     let is : Some x ≡ Some (record c { cursor = cursor }) = sym there ∙ ap (slice_get (chosen_of n.mode)) here
     ∙ passes.here c at in
-    subst (PassedIn rings next) (ap (λ o. unwrap_or o x) (sym is))
-    (rests-passed rings next next (record c { cursor = cursor }) (omega arith) (rests (all i c at))))
+    subst P (ap (λ o. unwrap_or o x) (sym is)) true_there)
     (λ m. let apart : j ≢ i = λ e. absurd (grind (arith, nat_tests)) in
     all j x (sym (passes.others j apart) ∙ there))
+
+pub one-rests : (rings : RingsValue) (next i : ℕ) (cursor : Cursor) (a n : SessionValue) (c : Choice)
+    → Passes i cursor a n → n.looked ≡ a.looked → slice_get (chosen_of a.mode) i ≡ Some c
+    → (PassedIn rings next c → RestsIn rings next (record c { cursor = cursor }))
+    → HasPassedAll rings next a → HasPassedAll rings next n
+one-rests rings next i cursor a n c passes kept at rests all =
+    let rest = rests (all.passed i c at) in
+    record {
+      passed = one-more (PassedIn rings next) i cursor a n c passes at
+          (rests-passed rings next next (record c { cursor = cursor }) (omega arith) rest) all.passed;
+      looked = record {
+        late = λ k e. all.looked.late k (sym kept ∙ e);
+        seen = λ e. one-more (HasLooked rings) i cursor a n c passes at
+            (record {
+              seen = λ r action there asked. (rest.rests r action there asked).seen;
+              nowhere = rest.nowhere;
+            }) (all.looked.seen (sym kept ∙ e));
+      };
+    }

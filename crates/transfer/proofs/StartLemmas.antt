@@ -109,14 +109,20 @@ begin-seen r a next c asked before begins = record {
 }
 
 -- A session whose requests have just begun has passed nothing that it wants.
-pub starts-passed : (rings : RingsValue) (s : SessionValue) → OfAll (StartsIn rings) (chosen_of s.mode)
-    → OfAll (BeginsIn rings) (chosen_of s.mode) → ArePassed rings s
+pub starts-passed : (rings : RingsValue) (s : SessionValue) → s.looked ≡ None
+    → OfAll (StartsIn rings) (chosen_of s.mode) → OfAll (BeginsIn rings) (chosen_of s.mode) → ArePassed rings s
 unfolding ArePassed
-starts-passed rings s starts begins = record {
-  passed = λ next state i c at. record {
-    passed = λ r action there asked. begin-seen r action next c asked ((begins i c at).before r action there asked)
-        ((starts i c at).starts r action there asked);
-    quiet = (starts i c at).quiet;
+starts-passed rings s unlooked starts begins = record {
+  all = λ next state. record {
+    passed = λ i c at. record {
+      passed = λ r action there asked. begin-seen r action next c asked ((begins i c at).before r action there asked)
+          ((starts i c at).starts r action there asked);
+      quiet = (starts i c at).quiet;
+    };
+    looked = record {
+      late = λ n e. absurd (let t : None ≡ Some n = sym unlooked ∙ e in cc);
+      seen = λ e. absurd (let t : None ≡ Some rings.arrivals = sym unlooked ∙ e in cc);
+    };
   };
 }
 

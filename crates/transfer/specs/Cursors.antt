@@ -120,9 +120,26 @@ pub record IsReached (rings : RingsValue) (c : Choice) : Type 0 where
 abbrev pub OfAll : (Choice → Type 0) → List Choice → Type 0
 OfAll P cs = (i : ℕ) (c : Choice) → slice_get cs i ≡ Some c → P c
 
+-- Nothing was pushed to the station's ring since the request looked at it.
+pub record HasLooked (rings : RingsValue) (c : Choice) : Type 0 where
+  pub seen : (r : RingValue) (action : Action) → slice_get rings.rings c.place ≡ Some r → c.action ≡ Some action
+      → c.cursor.seen ≡ r.pushes
+  pub nowhere : slice_get rings.rings c.place ≡ None → c.cursor.ahead ≡ None
+
+-- What a session keeps of its last look is true: no more records had arrived then than now, and if as many had,
+-- nothing was pushed to a ring since.
+pub record IsLooked (rings : RingsValue) (s : SessionValue) : Type 0 where
+  pub late : (n : ℕ) → s.looked ≡ Some n → n ≤ rings.arrivals
+  pub seen : s.looked ≡ Some rings.arrivals → OfAll (HasLooked rings) (chosen_of s.mode)
+
+-- All requests have passed nothing that may still be wanted from position `next` on.
+pub record HasPassedAll (rings : RingsValue) (next : ℕ) (s : SessionValue) : Type 0 where
+  pub passed : OfAll (PassedIn rings next) (chosen_of s.mode)
+  pub looked : IsLooked rings s
+
 -- A session in a transfer has passed nothing that it may still want.
 pub record PassesUnwanted (rings : RingsValue) (s : SessionValue) : Type 0 where
-  pub passed : (next : ℕ) → s.state ≡ Transfer next → OfAll (PassedIn rings next) (chosen_of s.mode)
+  pub all : (next : ℕ) → s.state ≡ Transfer next → HasPassedAll rings next s
 
 -- the same; contracts need not look into it
 unfoldable pub ArePassed : RingsValue → SessionValue → Type 0

@@ -1,7 +1,7 @@
 -- The first of what so many requests are to send, by what their cursors tell.
 -- SeedLink 3, DATA, FETCH and TIME.
 use Rattle.std.specs.Prelude.{◌≡◌, ℕ, ◌<◌, ◌≤◌, Bool, true, nat_le, if◌then◌else◌, List, [], ◌∷◌, ◌+◌, length, take}
-use Rattle.std.specs.Prelude.{filter_map, slice_get, Option, Some, None, IfSome, option_map}
+use Rattle.std.specs.Prelude.{filter_map, slice_get, Option, Some, None, IfSome, option_map, ⊤}
 use Rattle.protocol.specs.Catalog.{Config}
 use Rattle.protocol.specs.History.{Arrival, next}
 use Rattle.held_records.specs.Rings.{RingsValue, holdings_of}
@@ -11,7 +11,7 @@ use Rattle.transfer.specs.declared.choosing.First.{First}
 use Rattle.transfer.specs.declared.choosing.Overview.{Overview}
 use Rattle.transfer.specs.declared.choosing.Overview.TheVariants.{Stale, Fresh}
 use Rattle.transfer.specs.Choosing.{comes_before}
-use Rattle.transfer.specs.Cursors.{OfAll, PassedIn, RestsIn}
+use Rattle.transfer.specs.Cursors.{HasLooked, OfAll, PassedIn, RestsIn}
 use Rattle.transfer.specs.Sleeping.{HasNothing}
 
 -- Whether a record ahead, where there is one, may still be sent, where that is so of those from position `next` on.
@@ -73,3 +73,14 @@ abbrev pub IsOverview : RingsValue → (next : ℕ) → List Choice → (from : 
 IsOverview rings next choices from before (Stale index first) =
     IsStaleOverview rings next choices from before index first
 IsOverview rings next choices from before (Fresh first) = IsFreshOverview rings next choices from before first
+
+-- What a glance at the cursors comes to, while each tells what its request is to send; where a record that a cursor
+-- tells of was sent, nothing.
+pub record IsGlance (next : ℕ) (choices : List Choice) (first : Option First) : Type 0 where
+  pub rests : (rings : RingsValue) → OfAll (HasLooked rings) choices → OfAll (PassedIn rings next) choices
+      → OfAll (RestsIn rings next) choices
+  pub best : first ≡ best_of choices
+
+abbrev pub Glances : (next : ℕ) → List Choice → Overview → Type 0
+Glances next choices (Stale index first) = ⊤
+Glances next choices (Fresh first) = IsGlance next choices first

@@ -16,8 +16,8 @@ ghost use Rattle.session_state.specs.Sessions.{client_in, but_for_cursors};
 ghost use Rattle.session_state.specs.declared.session.State.TheVariants.{Starting, Transfer, Ending};
 ghost use Rattle.session_state.specs.declared.choices.Action.TheVariants.{Time};
 ghost use Rattle.transfer.specs.declared.choosing.Chosen.TheVariants.{Packet, Nothing, Complete};
-ghost use Rattle.transfer.specs.Cursors.{ArePassed, IsReached, OfAll, PassedIn, RestsIn};
-ghost use Rattle.transfer.specs.Firsts.{IsAhead, IsOverview, LeadsSoFar, earlier, is_unsent};
+ghost use Rattle.transfer.specs.Cursors.{ArePassed, HasPassedAll, IsReached, OfAll, PassedIn, RestsIn};
+ghost use Rattle.transfer.specs.Firsts.{Glances, IsAhead, IsOverview, LeadsSoFar, earlier, is_unsent};
 ghost use Rattle.transfer.specs.Sleeping.{HasNothing, MayCome, MoreMayCome, Sleeps, starts_after};
 ghost use Rattle.transfer.specs.Choosing.{answer_of, is_over_of, comes_before, is_transfer, HoldsThere};
 
@@ -106,6 +106,7 @@ fn earlier(best: Option<First>, index: usize, ahead: Option<u64>) -> Option<Firs
 }
 
 /// What a look over requests comes to.
+#[derive(Clone, Copy)]
 enum Overview {
     /// The request with this index has to look at its ring again; of those before it, this one's record ahead came
     /// first.
@@ -130,9 +131,43 @@ fn look(entries: &[Entry], rings: &Rings, next: u64, from: usize, before: Option
     Overview::Fresh(best)
 }
 
+/// Looks over the cursors alone, while nothing was pushed to a ring since each request looked at its own. It comes to
+/// Stale at a record that was sent.
+fn glance(entries: &[Entry], next: u64) -> Overview
+    ensures { (cs : List Choice) → map entry_of cs ≡ entries.now → Glances next cs result }
+{
+    let mut best = None;
+    for index in 0..entries.len() {
+        let entry = &entries[index];
+        if !is_unsent(entry.cursor.ahead, next) {
+            return Overview::Stale(index, best);
+        }
+        best = earlier(best, index, entry.cursor.ahead);
+    }
+    Overview::Fresh(best)
+}
+
+/// Each request passes what it doesn't want, and the one whose record came first is told. Where no record arrived
+/// since all of them did so, the cursors tell it, and no ring is looked at.
+fn rest(session: &mut Session, rings: &Rings, next: u64) -> Option<First>
+    ensures same { but_for_cursors session.new ≡ but_for_cursors session.old }
+    ensures rest { HasPassedAll rings.now next session.old → OfAll (RestsIn rings.now next) (chosen_of session.new.mode) }
+    ensures first { LeadsSoFar rings.now (chosen_of session.new.mode) (length (chosen_of session.new.mode)) result }
+    ensures looked { session.new.looked ≡ Some rings.now.arrivals }
+{
+    if session.has_looked_at(rings.arrivals()) {
+        if let Overview::Fresh(first) = glance(session.choices(), next) {
+            return first;
+        }
+    }
+    let first = rest_all(session, rings, next);
+    session.keep_look(rings.arrivals());
+    first
+}
+
 /// Each request passes what it doesn't want, where something may have come to its ring, and the one whose record
 /// came first is told. All requests are walked over once.
-fn rest(session: &mut Session, rings: &Rings, next: u64) -> Option<First>
+fn rest_all(session: &mut Session, rings: &Rings, next: u64) -> Option<First>
     ensures same { but_for_cursors session.new ≡ but_for_cursors session.old }
     ensures rest { OfAll (PassedIn rings.now next) (chosen_of session.old.mode)
         → OfAll (RestsIn rings.now next) (chosen_of session.new.mode) }
@@ -177,18 +212,19 @@ fn candidate(session: &Session, first: First, rings: &Rings) -> Option<Candidate
 /// Of all held records that some request wants, from the arrival `next` on, the one that came first.
 fn found_next(session: &mut Session, rings: &Rings, next: u64) -> Option<Candidate>
     ensures same { but_for_cursors session.new ≡ but_for_cursors session.old }
-    ensures rest { OfAll (PassedIn rings.now next) (chosen_of session.old.mode)
+    ensures rest { HasPassedAll rings.now next session.old
         → OfAll (RestsIn rings.now next) (chosen_of session.new.mode) }
     ensures index { IfSome result (λ c. c.index < length (chosen_of session.new.mode)) }
     ensures held { IfSome result (λ c. HoldsThere rings.now c.station c.place c.position) }
-    ensures position { OfAll (PassedIn rings.now next) (chosen_of session.old.mode)
+    ensures position { HasPassedAll rings.now next session.old
         → (config : ProtocolConfig) (h : List Arrival) → rings.now ≡ holdings_of config h →
         option_map (λ c. c.position) result
         ≡ next_position h (filter_map (request_in config) (chosen_of session.new.mode)) next }
-    ensures late { OfAll (PassedIn rings.now next) (chosen_of session.old.mode)
+    ensures late { HasPassedAll rings.now next session.old
         → IfSome result (λ c. next ≤ c.position) }
-    ensures none { OfAll (PassedIn rings.now next) (chosen_of session.old.mode) → result ≡ None
+    ensures none { HasPassedAll rings.now next session.old → result ≡ None
         → OfAll (HasNothing rings.now next) (chosen_of session.new.mode) }
+    ensures looked { session.new.looked ≡ Some rings.now.arrivals }
 {
     match rest(session, rings, next) {
         Some(first) => candidate(session, first, rings),
@@ -297,8 +333,7 @@ fn put_packet(session: &mut Session, rings: &Rings, found: Candidate)
 fn pass_one(session: &mut Session, rings: &Rings, index: usize, next: u64)
     requires { index < length (chosen_of session.old.mode) }
     ensures same { but_for_cursors session.new ≡ but_for_cursors session.old }
-    ensures passed { OfAll (PassedIn rings.now next) (chosen_of session.old.mode)
-        → OfAll (PassedIn rings.now next) (chosen_of session.new.mode) }
+    ensures passed { HasPassedAll rings.now next session.old → HasPassedAll rings.now next session.new }
 {
     let cursor = cursor_of(session, index, rings, next);
     session.pass(index, cursor);
@@ -316,9 +351,8 @@ fn send(session: &mut Session, rings: &Rings, found: Candidate)
           waiting = packet (number_at r found.place) x.bytes;
         }) }
     ensures capacity { (r : RingValue) → slice_get rings.now.rings found.station ≡ Some r → 1 ≤ r.capacity }
-    ensures passed { (next : ℕ) → next ≤ found.position
-        → OfAll (RestsIn rings.now next) (chosen_of session.old.mode)
-        → ArePassed rings.now session.new }
+    ensures passed { (next : ℕ) → next ≤ found.position → session.old.looked ≡ Some rings.now.arrivals
+        → OfAll (RestsIn rings.now next) (chosen_of session.old.mode) → ArePassed rings.now session.new }
 {
     put_packet(session, rings, found);
     if let State::Transfer(next) = session.state() {

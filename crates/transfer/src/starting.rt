@@ -136,6 +136,7 @@ fn cursor_of(entry: &Entry, rings: &Rings) -> Cursor
 /// The cursor of each request is put to the place at which it begins.
 fn place_cursors(session: &mut Session, rings: &Rings)
     ensures same { but_for_cursors session.new ≡ but_for_cursors session.old }
+    ensures looked { session.new.looked ≡ session.old.looked }
     ensures starts { OfAll (StartsIn rings.now) (chosen_of session.new.mode) }
     ensures begin { OfAll (BeginsIn rings.now) (chosen_of session.old.mode)
         → OfAll (BeginsIn rings.now) (chosen_of session.new.mode) }

@@ -56,13 +56,13 @@ fn is_in_window(entry: &Entry, summary: &Summary) -> bool
     }
 }
 
-/// Whether the request for the i-th named station wants a held record, where `next` is the first arrival that may still
-/// be sent.
-fn wants(session: &Session, i: usize, next: u64, held: &Held) -> bool
+/// Whether the request for the i-th named station, whose entry is given, wants a held record, where `next` is the first
+/// arrival that may still be sent.
+fn wants(session: &Session, i: usize, entry: &Entry, next: u64, held: &Held) -> bool
     requires { i < length (chosen_of session.now.mode) }
-    ensures { (c : Choice) → slice_get (chosen_of session.now.mode) i ≡ Some c → result ≡ wants_held c next held.now }
+    ensures { (c : Choice) → slice_get (chosen_of session.now.mode) i ≡ Some c → entry_of c ≡ entry.now
+        → result ≡ wants_held c next held.now }
 {
-    let entry = session.choice(i);
     let summary = &held.summary;
     next <= held.stamp
         && entry.first <= held.stamp
@@ -124,17 +124,17 @@ enum Found {
     Unwanted,
 }
 
-fn found_at(ring: &Ring, place: u64, session: &Session, i: usize, next: u64) -> Found
+fn found_at(ring: &Ring, place: u64, session: &Session, i: usize, entry: &Entry, next: u64) -> Found
     requires { i < length (chosen_of session.now.mode) }
     ensures { (c : Choice) (x : HeldValue) → slice_get (chosen_of session.now.mode) i ≡ Some c
-        → held_at ring.now place ≡ Some x → result ≡ found_of c next x }
+        → entry_of c ≡ entry.now → held_at ring.now place ≡ Some x → result ≡ found_of c next x }
 {
     let Some(held) = ring.get(place) else {
         return Found::Unwanted;
     };
-    if wants(session, i, next, held) {
+    if wants(session, i, entry, next, held) {
         Found::Wanted
-    } else if is_after_end(session.choice(i), &held.summary) {
+    } else if is_after_end(entry, &held.summary) {
         Found::AfterEnd
     } else {
         Found::Unwanted
@@ -156,7 +156,7 @@ pub fn cursor_in(ring: &Ring, session: &Session, i: usize, next: u64) -> Cursor
     let mut after_end = entry.cursor.after_end;
     let start = entry.cursor.place.max(oldest);
     for place in start..ring.pushes() {
-        match found_at(ring, place, session, i, next) {
+        match found_at(ring, place, session, i, entry, next) {
             Found::Wanted => return at_record(ring, place, after_end),
             Found::AfterEnd => after_end = Some(place),
             Found::Unwanted => {}

@@ -1,5 +1,5 @@
 //! The steps of a session, each of which changes one thing.
-ghost use Rattle.std.specs.Prelude.{◌≡◌, ◌≤◌, ◌<◌, ◌+◌, ◌∷◌, ◌++◌, length, drop, nat_lt};
+ghost use Rattle.std.specs.Prelude.{◌≡◌, ◌≤◌, ◌<◌, ◌+◌, ◌∷◌, ◌++◌, length, drop, nat_lt, None};
 ghost use Rattle.protocol.specs.Session.{greeting, ok_line, error_line};
 
 use super::{Session, State};
@@ -20,6 +20,13 @@ impl Session {
     {
         let _ = &self.mode;
         self.state = state;
+    }
+
+    pub(super) fn forget_look(&mut self)
+        ensures { self.new ≡ record self.old { looked = None } }
+    {
+        let _ = &self.mode;
+        self.looked = None;
     }
 
     pub(super) fn greet(&mut self, config: &Config)

@@ -54,7 +54,8 @@ returns-in-Some-clause-answer c = λ h q holds state passed.
 pub returns-in-Some-clause-passed : goal.returns-in-Some-clause-passed
 returns-in-Some-clause-passed c = λ passed.
     let before = passed-all c.args.rings.now c.args.session.now passed c.in-Transfer.next (sym c.in-Transfer.ensures) in
-    c.send.ensures.passed c.in-Transfer.next (c.in-Some.ensures.late before) (c.found_next.ensures.rest before)
+    c.send.ensures.passed c.in-Transfer.next (c.in-Some.ensures.late before) c.found_next.ensures.looked
+    (c.found_next.ensures.rest before)
 
 sent : (c : goal.After-send) → but_for_cursors c.send.new.session
     ≡ but_for_cursors
@@ -106,7 +107,8 @@ returns-in-None-clause-passed c = λ passed.
     ended-passes c.args.rings.now c.found_next.new.session c.end_if_complete.new.session c.in-Transfer.next
     c.end_if_complete.result c.end_if_complete.ensures.ended c.end_if_complete.ensures.unchanged
     c.end_if_complete.ensures.nothing_chosen
-    (ap (λ (s : SessionValue). s.state) c.found_next.ensures.same ∙ sym c.in-Transfer.ensures) rests
+    (ap (λ (s : SessionValue). s.state) c.found_next.ensures.same ∙ sym c.in-Transfer.ensures)
+    c.found_next.ensures.looked rests
 
 pub returns-in-None-clause-reached : goal.returns-in-None-clause-reached
 returns-in-None-clause-reached c = λ transfers passed nothing.

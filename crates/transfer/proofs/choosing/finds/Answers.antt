@@ -27,14 +27,16 @@ returns-in-Some-clause-passed c = λ passed.
     let rests = c.found_next.ensures.rest
     (passed-all c.args.rings.now c.args.session.now passed c.in-Transfer.next (sym c.in-Transfer.ensures)) in
     same-passes c.args.rings.now c.found_next.new.session c.in-Transfer.next
-    (ap (λ (s : SessionValue). s.state) c.found_next.ensures.same ∙ sym c.in-Transfer.ensures) rests
+    (ap (λ (s : SessionValue). s.state) c.found_next.ensures.same ∙ sym c.in-Transfer.ensures)
+    c.found_next.ensures.looked rests
 
 pub returns-in-None-clause-passed : goal.returns-in-None-clause-passed
 returns-in-None-clause-passed c = λ passed.
     let rests = c.found_next.ensures.rest
     (passed-all c.args.rings.now c.args.session.now passed c.in-Transfer.next (sym c.in-Transfer.ensures)) in
     same-passes c.args.rings.now c.found_next.new.session c.in-Transfer.next
-    (ap (λ (s : SessionValue). s.state) c.found_next.ensures.same ∙ sym c.in-Transfer.ensures) rests
+    (ap (λ (s : SessionValue). s.state) c.found_next.ensures.same ∙ sym c.in-Transfer.ensures)
+    c.found_next.ensures.looked rests
 
 -- What is found nowhere: nothing of any station, which all were passed.
 nothing : (c : goal.After-is_complete) → ArePassed c.args.rings.now c.args.session.now

@@ -12,4 +12,4 @@ returns-clause-passed c = λ all.
       here = c.pass.ensures.here;
       others = c.pass.ensures.others;
       count = c.pass.ensures.count;
-    }) x.1 (c.cursor_of-cursor.ensures x.0 x.1) all
+    }) c.pass.ensures.looked x.1 (c.cursor_of-cursor.ensures x.0 x.1) all

@@ -1,4 +1,4 @@
-use Rattle.std.proofs.Common.{◌<◌, ◌∙◌, arith, length, sym}
+use Rattle.std.proofs.Common.{◌<◌, ◌∙◌, arith, length, refl, sym}
 use Rattle.session_state.specs.Choices.{chosen_of}
 use Rattle.transfer.proofs.StartLemmas.{begins-moved}
 use Rattle.transfer.proofs.EntryLemmas.{choice-there, same-length}
@@ -6,7 +6,12 @@ use Rattle.transfer.proofs.RestLemmas.{moves-all, moves-none, moves-on}
 use Rattle.transfer.proofs.starting.place_cursors.Goals as goal
 
 pub loop-i-init : goal.loop-i-init
-loop-i-init c = (moves-none _ c.args.session.now, omega arith, sym (same-length _ _ (sym c.choices-count.ensures)))
+loop-i-init c = (
+  moves-none _ c.args.session.now,
+  omega arith,
+  sym (same-length _ _ (sym c.choices-count.ensures)),
+  refl,
+)
 
 pub choice-requires : goal.choice-requires
 choice-requires c = omega (arith, c.loop-i-test.true, c.loop-i.invariant.2, c.loop-i.invariant.0.count)
@@ -38,6 +43,7 @@ loop-i-preserved c =
           c.loop-i.invariant.0,
       omega (arith, c.loop-i-test.true),
       c.loop-i.invariant.2,
+      c.pass.ensures.looked ∙ c.loop-i.invariant.3,
     )
 
 pub returns-clause-same : goal.returns-clause-same
@@ -52,3 +58,6 @@ pub returns-clause-begin : goal.returns-clause-begin
 returns-clause-begin c = λ all j x at.
     (moves-all _ c.loop-i.i c.loop-i.session c.args.session.now
     (omega (arith, c.loop-i-test.false, c.loop-i.invariant.2)) c.loop-i.invariant.0 j x at).1 all
+
+pub returns-clause-looked : goal.returns-clause-looked
+returns-clause-looked c = c.loop-i.invariant.3

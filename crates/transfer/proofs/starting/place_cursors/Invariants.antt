@@ -10,3 +10,4 @@ invariant-loop-i l =
     Moves (λ c. StartsIn l.rings c × (OfAll (BeginsIn l.rings) (chosen_of l.fn.session.mode) → BeginsIn l.rings c)) l.i
     l.session l.fn.session
     × (l.i ≤ l.count) × (l.count ≡ length (chosen_of l.fn.session.mode))
+    × (l.session.looked ≡ l.fn.session.looked)

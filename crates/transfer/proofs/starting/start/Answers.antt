@@ -50,7 +50,9 @@ returns-clause-passed c =
       c.loop-i-test.false,
       c.loop-i.invariant.2,
     ) in
-    starts-passed c.args.rings.now c.place_cursors.new.session c.place_cursors.ensures.starts
+    starts-passed c.args.rings.now c.place_cursors.new.session
+    (c.place_cursors.ensures.looked ∙ ap (λ (s : SessionValue). s.looked) c.enter.ensures.state)
+    c.place_cursors.ensures.starts
     (c.place_cursors.ensures.begin
     (subst (λ (s : SessionValue). OfAll (BeginsIn c.args.rings.now) (chosen_of s.mode)) (sym c.enter.ensures.state)
     (all-begin c.args.rings.now c.loop-i.session c.args.session.now c.loop-i.i all c.loop-i.invariant.0)))

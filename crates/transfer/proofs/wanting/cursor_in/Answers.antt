@@ -15,7 +15,7 @@ returns-in-Wanted c = λ x at passed.
     let low : first_place c.args.ring.now ≤ c.loop-place.place = omega arith in
     subst (RestsAt c.args.ring.now c.args.next x) (sym c.at_record.ensures)
     (rests-wanted c.args.ring.now c.args.next x c.loop-place.place c.loop-place.after_end c.found_at.result
-    c.holds_its_last.ensures low (λ y. c.found_at.ensures x y at) c.in-Wanted.is
+    c.holds_its_last.ensures low (λ y. c.found_at.ensures x y at (sym (c.choice-entry.ensures x at))) c.in-Wanted.is
     (c.loop-place.invariant x at passed))
 
 pub returns-in_default : goal.returns-in_default
@@ -39,12 +39,12 @@ loop-place-preserved c = λ x at passed.
           subst (λ (o : Option ℕ). HasPassed c.args.ring.now c.args.next x (at_place (c.loop-place.place + 1) o))
           (sym w.after_end-is)
           (passed-after c.args.ring.now c.args.next x c.loop-place.place c.loop-place.after_end c.found_at.result
-          (omega arith) (λ y. c.found_at.ensures x y at) w.in-AfterEnd.is (c.loop-place.invariant x at passed))
+          (omega arith) (λ y. c.found_at.ensures x y at (sym (c.choice-entry.ensures x at))) w.in-AfterEnd.is (c.loop-place.invariant x at passed))
       | in-Unwanted w ↦
           subst (λ (o : Option ℕ). HasPassed c.args.ring.now c.args.next x (at_place (c.loop-place.place + 1) o))
           (sym w.after_end-is)
           (passed-unwanted c.args.ring.now c.args.next x c.loop-place.place c.loop-place.after_end c.found_at.result
-          (omega arith) (λ y. c.found_at.ensures x y at) w.in-Unwanted.is (c.loop-place.invariant x at passed))
+          (omega arith) (λ y. c.found_at.ensures x y at (sym (c.choice-entry.ensures x at))) w.in-Unwanted.is (c.loop-place.invariant x at passed))
     ]
 
 pub returns : goal.returns

@@ -3,7 +3,7 @@ use Rattle.session_state.specs.Choices.{chosen_of}
 use Rattle.transfer.specs.Cursors.{OfAll, PassedIn, RestsIn}
 use Rattle.transfer.specs.Firsts.{best_of}
 use Rattle.transfer.proofs.RestLemmas.{Moves}
-use Rattle.transfer.proofs.choosing.rest.Given as goal
+use Rattle.transfer.proofs.choosing.rest_all.Given as goal
 
 -- So many requests have passed what they don't want, and what is first among them is found. Each round comes further.
 abbrev pub invariant-loop-i : goal.invariant-loop-i
