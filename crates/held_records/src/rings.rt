@@ -81,6 +81,7 @@ impl Rings {
         ensures number { (config : ProtocolConfig) (h : List Arrival) → self.old ≡ holdings_of config h →
             result ≡ number_in_history (station_at config.entries place) h (length h) }
         ensures count { length self.new.rings ≡ length self.old.rings }
+        ensures arrivals { self.new.arrivals ≡ self.old.arrivals + 1 }
         ensures grow { AllGrow self.old.rings self.new.rings }
         ensures others { (other : ℕ) → other ≢ place → slice_get self.new.rings other ≡ slice_get self.old.rings other }
     {

@@ -143,3 +143,19 @@ pub fn asking(
     let _ = server.receive(client, b"END\r");
     Ok(client)
 }
+
+/// A client that asks for 255 stations, with 1,024 selectors together.
+pub fn asking_all(alloc: Global, server: &mut Server) -> anyhow::Result<Client> {
+    let client = server.open(alloc, Ipv4Addr::LOCALHOST)?;
+    for place in 0..255 {
+        let station = format!(in alloc; "STATION {place:05} GE\r")?;
+        say(server, client, station.as_bytes());
+        let selectors = if place < 4 { 5 } else { 4 };
+        for _ in 0..selectors {
+            say(server, client, b"SELECT BHZ\r");
+        }
+        say(server, client, b"DATA\r");
+    }
+    let _ = server.receive(client, b"END\r");
+    Ok(client)
+}

@@ -6,6 +6,7 @@
 //! them by DATA is offered something, and nothing arrived. `server_bench passed OFFERS ROUNDS`: 1,000 records arrive
 //! that no pattern of a client lets pass, and the client is offered something so many times. `server_bench visits
 //! ROUNDS`: clients come and go, one after the other. `server_bench crowd CLIENTS`: so many are open at the end.
+//! `server_bench largest CLIENTS`: the same, each of which asks for 255 stations with 1,024 selectors together.
 //! `server_bench ready ROUNDS`: a client that waits is asked whether it is ready. `server_bench apart CLIENTS ROUNDS`:
 //! a record arrives while so many clients wait at another station. `server_bench sleepers CLIENTS ROUNDS`: a turn of a
 //! loop hands one client a packet while so many others wait. `server_bench reload CLIENTS CHANGED ROUNDS`: a new
@@ -41,6 +42,7 @@ fn main(rt: HostRuntime) -> anyhow::Result<()> {
         )?,
         ("passed", [offers, rounds]) => works::passed(alloc, *offers, *rounds)?,
         ("visits", [rounds]) => works::visits(alloc, *rounds)?,
+        ("largest", [clients]) => works::largest(alloc, *clients)?,
         ("crowd", [clients]) => works::crowd(alloc, *clients)?,
         ("ready", [rounds]) => works::ready(alloc, *rounds)?,
         ("apart", [clients, rounds]) => works::apart(alloc, *clients, *rounds)?,
@@ -50,7 +52,7 @@ fn main(rt: HostRuntime) -> anyhow::Result<()> {
         )?,
         _ => {
             println!(rt;
-                "server_bench arrive|packets|idle|passed|visits|crowd|ready|apart|sleepers|reload NUMBER.. ROUNDS"
+                "server_bench arrive|packets|idle|passed|visits|crowd|largest|ready|apart|sleepers|reload NUMBER.. ROUNDS"
             )?;
             return Ok(());
         }

@@ -1,6 +1,7 @@
 //! The works whose instructions are counted. Each answers a sum of what it was answered.
 use crate::centre::{
-    arrive_all, arrive_by_turns, asking, full_server, listed_config, record_of, take_one,
+    arrive_all, arrive_by_turns, asking, asking_all, full_server, listed_config, record_of,
+    take_one,
 };
 use server_core::{Client, Offer, Server};
 use std::alloc::Global;
@@ -63,6 +64,16 @@ pub fn visits(alloc: Global, rounds: u32) -> anyhow::Result<u64> {
         let client = server.open(alloc, Ipv4Addr::LOCALHOST)?;
         last = client.number();
         let _ = server.close(client);
+    }
+    Ok(last as u64)
+}
+
+/// So many clients are open, each of which asks for 255 stations with 1,024 selectors together.
+pub fn largest(alloc: Global, clients: u32) -> anyhow::Result<u64> {
+    let mut server = full_server(alloc, 0, 255, 1)?;
+    let mut last = 0;
+    for _ in 0..clients {
+        last = asking_all(alloc, &mut server)?.number();
     }
     Ok(last as u64)
 }

@@ -181,10 +181,11 @@ placed-unknown config r x is none = ap (placed_by config) is ∙ ap place_or_unk
 
 -- What sessions have passed stays passed while a record arrives.
 pub arrive-settled : (config : Config) (before after : RingsValue) (slots : Slab SessionValue)
-    → AllGrow before.rings after.rings → AreSettled config before slots → AreSettled config after slots
-arrive-settled config before after slots grow settled k s at =
+    → AllGrow before.rings after.rings → before.arrivals < after.arrivals → AreSettled config before slots
+    → AreSettled config after slots
+arrive-settled config before after slots grow more settled k s at =
     let was = settled k s at in
-    record { places = was.places; started = was.started; passed = grown-passed before after s grow was.passed }
+    record { places = was.places; started = was.started; passed = grown-passed before after s grow more was.passed }
 
 -- ---- whether a record is accepted
 
