@@ -76,6 +76,7 @@ looked-rests rings next c e same unsent looked passed = by_action c.action refl
     by_ring a None asked there = rests-nowhere rings next c there (looked.nowhere there)
     by_ring a (Some r) asked there = fresh-rests rings next c r there (looked.seen r a there asked)
         (subst (λ (y : Entry). is_unsent next y.cursor.ahead ≡ true) (sym same) unsent) passed
+
     by_action : (o : Option Action) → c.action ≡ o → RestsIn rings next c
     by_action None none = rests-nothing rings next c none (passed.quiet none)
     by_action (Some a) asked = by_ring a (slice_get rings.rings c.place) asked refl

@@ -74,6 +74,11 @@ IsOverview rings next choices from before (Stale index first) =
     IsStaleOverview rings next choices from before index first
 IsOverview rings next choices from before (Fresh first) = IsFreshOverview rings next choices from before first
 
+-- The cursors of so many requests tell what each is to send, and what is first among them is found.
+pub record IsGlancedUpTo (next : ℕ) (choices : List Choice) (i : ℕ) (best : Option First) : Type 0 where
+  pub rests : (rings : RingsValue) → OfAll (HasLooked rings) choices → RestBetween rings next 0 i choices
+  pub first : best ≡ best_of (take i choices)
+
 -- What a glance at the cursors comes to, while each tells what its request is to send; where a record that a cursor
 -- tells of was sent, nothing.
 pub record IsGlance (next : ℕ) (choices : List Choice) (first : Option First) : Type 0 where

@@ -17,7 +17,7 @@ ghost use Rattle.session_state.specs.declared.session.State.TheVariants.{Startin
 ghost use Rattle.session_state.specs.declared.choices.Action.TheVariants.{Time};
 ghost use Rattle.transfer.specs.declared.choosing.Chosen.TheVariants.{Packet, Nothing, Complete};
 ghost use Rattle.transfer.specs.Cursors.{ArePassed, HasPassedAll, IsReached, OfAll, PassedIn, RestsIn};
-ghost use Rattle.transfer.specs.Firsts.{Glances, IsAhead, IsOverview, LeadsSoFar, earlier, is_unsent};
+ghost use Rattle.transfer.specs.Firsts.{Glances, IsAhead, IsGlancedUpTo, IsOverview, LeadsSoFar, earlier, is_unsent};
 ghost use Rattle.transfer.specs.Sleeping.{HasNothing, MayCome, MoreMayCome, Sleeps, starts_after};
 ghost use Rattle.transfer.specs.Choosing.{answer_of, is_over_of, comes_before, is_transfer, HoldsThere};
 
@@ -131,20 +131,43 @@ fn look(entries: &[Entry], rings: &Rings, next: u64, from: usize, before: Option
     Overview::Fresh(best)
 }
 
+/// Looks over the cursors of the requests from an index on, where `first` came first of those before. It comes to
+/// Stale at a record that was sent.
+fn glance_on(entries: &[Entry], next: u64, from: usize, first: First) -> Overview
+    requires { from ≤ length entries.now }
+    ensures { (cs : List Choice) → map entry_of cs ≡ entries.now → IsGlancedUpTo next cs from (Some first)
+        → Glances next cs result }
+{
+    let mut best = first;
+    for index in from..entries.len() {
+        let entry = &entries[index];
+        if let Some(stamp) = entry.cursor.ahead {
+            if stamp < next {
+                return Overview::Stale(index, Some(best));
+            }
+            if stamp < best.stamp {
+                best = First { index, stamp };
+            }
+        }
+    }
+    Overview::Fresh(Some(best))
+}
+
 /// Looks over the cursors alone, while nothing was pushed to a ring since each request looked at its own. It comes to
 /// Stale at a record that was sent.
 fn glance(entries: &[Entry], next: u64) -> Overview
     ensures { (cs : List Choice) → map entry_of cs ≡ entries.now → Glances next cs result }
 {
-    let mut best = None;
     for index in 0..entries.len() {
         let entry = &entries[index];
-        if !is_unsent(entry.cursor.ahead, next) {
-            return Overview::Stale(index, best);
+        if let Some(stamp) = entry.cursor.ahead {
+            if stamp < next {
+                return Overview::Stale(index, None);
+            }
+            return glance_on(entries, next, index + 1, First { index, stamp });
         }
-        best = earlier(best, index, entry.cursor.ahead);
     }
-    Overview::Fresh(best)
+    Overview::Fresh(None)
 }
 
 /// Each request passes what it doesn't want, and the one whose record came first is told. Where no record arrived

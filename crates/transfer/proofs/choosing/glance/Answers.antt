@@ -1,36 +1,28 @@
-use Rattle.std.proofs.Common.{◌≡◌, ◌≤◌, ◌∙◌, ap, length, sym, arith, refl}
-use Rattle.session_state.specs.declared.choices.Entry.{Entry}
-use Rattle.transfer.specs.Firsts.{earlier}
-use Rattle.transfer.proofs.EntryLemmas.{entry-at, looked-rests, same-length}
-use Rattle.transfer.proofs.BestLemmas.{best-more, best-whole, rest-more}
-use Rattle.transfer.proofs.RestLemmas.{choice-within}
+use Rattle.std.proofs.Common.{None, arith, refl}
+use Rattle.transfer.proofs.BestLemmas.{glanced-all, glanced-none, glanced-nothing, glanced-record}
+use Rattle.transfer.proofs.EntryLemmas.{entry-at, same-length}
 use Rattle.transfer.proofs.choosing.glance.Goals as goal
 
 pub loop-index-init : goal.loop-index-init
-loop-index-init c = λ cs same. (λ rings looked j x low high at. absurd (omega (arith, low, high)), refl)
+loop-index-init c = λ cs same. glanced-none c.args.next cs
+
+pub returns-in-Some : goal.returns-in-Some
+returns-in-Some c = λ cs same.
+    let x = entry-at cs c.args.entries.now c.loop-index.index c.index-entries-index.result same
+    (omega (arith, c.loop-index-test.true)) c.index-entries-index.is in
+    c.glance_on.ensures cs same
+    (glanced-record c.args.next c.loop-index.index cs x.choice c.index-entries-index.result None _ c.in-Some.stamp
+    x.entry x.there x.within x.item c.in-Some.is c.if-stamp-next.false refl (c.loop-index.invariant cs same))
 
 pub loop-index-preserved : goal.loop-index-preserved
 loop-index-preserved c = λ cs same.
     let x = entry-at cs c.args.entries.now c.loop-index.index c.index-entries-index.result same
     (omega (arith, c.loop-index-test.true)) c.index-entries-index.is in
-    let so_far = c.loop-index.invariant cs same in (
-      λ rings looked. rest-more rings c.args.next 0 c.loop-index.index cs x.choice x.there
-          (looked-rests rings c.args.next x.choice c.index-entries-index.result x.entry
-          (sym c.is_unsent.ensures ∙ c.if-not-is_unsent.false) (looked c.loop-index.index x.choice x.there))
-          (so_far.0 rings looked),
-      c.earlier-best.ensures
-          ∙ ap (λ (y : Entry). earlier c.loop-index.best c.loop-index.index y.cursor.ahead) (sym x.entry)
-          ∙ ap (λ b. earlier b c.loop-index.index x.choice.cursor.ahead) so_far.1
-          ∙ sym (best-more cs c.loop-index.index x.choice x.within x.item),
-    )
+    glanced-nothing c.args.next c.loop-index.index cs x.choice c.index-entries-index.result None x.entry x.there x.within
+    x.item c.in_default.is (c.loop-index.invariant cs same)
 
 pub returns : goal.returns
 returns c = λ cs same.
-    let long : length cs ≡ length c.args.entries.now = same-length cs c.args.entries.now same in
-    let all : length cs ≤ c.loop-index.index = omega (arith, long, c.loop-index-test.false) in
-    let so_far = c.loop-index.invariant cs same in
-    record {
-      rests = λ rings looked passed j x at. so_far.0 rings looked j x (omega arith)
-          (choice-within cs j x c.loop-index.index all at) at (passed j x at);
-      best = best-whole cs c.loop-index.index c.loop-index.best all so_far.1;
-    }
+    let long = same-length cs c.args.entries.now same in
+    glanced-all c.args.next c.loop-index.index cs None (omega (arith, long, c.loop-index-test.false))
+    (c.loop-index.invariant cs same)
