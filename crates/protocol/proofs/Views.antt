@@ -9,7 +9,7 @@ use Rattle.protocol.specs.World.{Event, reloaded, handed, is_configured, arrival
 use Rattle.protocol.specs.World.Event.{Open, Bytes, Take, Close, Arrive, Reload}
 use Rattle.protocol.specs.Alone.{OwnEvent, alone, address_of, own_view, cons_if, cons_visible, has_view, seen_from}
 use Rattle.protocol.specs.Alone.{seen, handed_to, restricted, with_new, all_restricted, reloads_accepted}
-use Rattle.protocol.specs.Alone.{configs_in_force}
+use Rattle.protocol.specs.Alone.{KeepsVisible, configs_in_force}
 use Rattle.protocol.specs.Alone.OwnEvent.{Arrives, OwnCut}
 use Rattle.protocol.proofs.FoundLemmas.{both, filter-filter}
 use Rattle.protocol.proofs.Configs.{same_configured, reloaded_where, reloaded_not}
@@ -185,24 +185,19 @@ address_restricted keep (Arrive r ∷ es) k = address_restricted keep es k
 address_restricted keep (Reload new ∷ es) k = address_restricted keep es k
 
 module _ (keep : Entry → Bool) where
-  -- What is taken away is hidden from the k-th client under each configuration in force.
-  abbrev IsHidden : Config → List Event → ℕ → Type 0
-  IsHidden config es k = (c : Config) (a : ℕ) (e : Entry) → Contains (configs_in_force config es) c
-      → address_of es k ≡ Some a → sees e.access c.access a ≡ true → keep e ≡ true
-
   abbrev SameOwn : List Event → Type 0
-  SameOwn es = (config : Config) (k : ℕ) → IsHidden config es k
+  SameOwn es = (config : Config) (k : ℕ) → KeepsVisible keep config es k
       → reloads_accepted (restricted keep config) (all_restricted keep es) ≡ reloads_accepted config es
       → own_view (restricted keep config) (all_restricted keep es) k ≡ own_view config es k
 
-  own_reload : (es : List Event) → SameOwn es → (config new : Config) (k : ℕ) → IsHidden config (Reload new ∷ es) k
+  own_reload : (es : List Event) → SameOwn es → (config new : Config) (k : ℕ) → KeepsVisible keep config (Reload new ∷ es) k
       → reloads_accepted (restricted keep config) (Reload (restricted keep new) ∷ all_restricted keep es)
       ≡ reloads_accepted config (Reload new ∷ es)
       → own_view (restricted keep config) (Reload (restricted keep new) ∷ all_restricted keep es) k
       ≡ own_view config (Reload new ∷ es) k
   own_reload es goes config new k hidden accepted =
       let parts = first_of_two accepted in
-      let later : IsHidden (reloaded config new) es k = λ c a e there. hidden c a e
+      let later : KeepsVisible keep (reloaded config new) es k = λ c a e there. hidden c a e
       (contains_there config (configs_in_force (reloaded config new) es) c there) in
       both (is_same_but_for_access config new)
       (λ y.
@@ -228,7 +223,7 @@ module _ (keep : Entry → Bool) where
   own_same (Arrive r ∷ es) config k hidden accepted = own_same es config k hidden accepted
   own_same (Reload new ∷ es) config k hidden accepted = own_reload es (own_same es) config new k hidden accepted
 
-  same_sight : (config : Config) (es : List Event) (k : ℕ) (v : View) → IsHidden config es k → (c : Config)
+  same_sight : (config : Config) (es : List Event) (k : ℕ) (v : View) → KeepsVisible keep config es k → (c : Config)
       → Contains (configs_in_force config es) c → (from : Option ℕ) → address_of es k ≡ from
       → has_view (restricted keep c) from v ≡ has_view c from v
   same_sight config es k v hidden c there None e = refl
@@ -237,8 +232,7 @@ module _ (keep : Entry → Bool) where
 
 -- a server without stations that the client doesn't see under any configuration in force
 pub without_hidden : (config : Config) (keep : Entry → Bool) (events : List Event) (k : ℕ)
-    → ((c : Config) (a : ℕ) (e : Entry) → Contains (configs_in_force config events) c → address_of events k ≡ Some a
-    → sees e.access c.access a ≡ true → keep e ≡ true)
+    → KeepsVisible keep config events k
     → reloads_accepted (restricted keep config) (all_restricted keep events) ≡ reloads_accepted config events
     → handed_to k (handed (restricted keep config) (all_restricted keep events)) ≡ handed_to k (handed config events)
 without_hidden config keep events k hidden accepted =

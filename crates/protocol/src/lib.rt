@@ -3,7 +3,7 @@
 //! proved equal to the definitions, so that the laws hold of it. `docs/DEFINITIONS.md` says in which order to read.
 #![tactic(auto)]
 
-ghost use Rattle.std.specs.Prelude.{◌≡◌, ◌≢◌, ◌<◌, ◌≤◌, ◌+◌, if◌then◌else◌, None, length, Contains, ◌↔◌, ◌⊎◌, ◌++◌, ℕ};
+ghost use Rattle.std.specs.Prelude.{◌≡◌, ◌≢◌, ◌<◌, ◌≤◌, ◌+◌, if◌then◌else◌, None, length, ◌↔◌, ◌⊎◌, ◌++◌, ℕ};
 ghost use Rattle.std.specs.Prelude.{Bool, true, false, List, [], ◌∷◌, map, option_map, slice_get, Some, Ok, Err, All};
 ghost use Rattle.std.specs.List.{list_any, concat};
 ghost use Rattle.protocol.specs.declared.record.RecordFault.{RecordFault};
@@ -18,7 +18,7 @@ ghost use Rattle.protocol.specs.Streams.StreamRead.{Going, Ended, NoStream};
 ghost use Rattle.protocol.specs.Access.{Token, allows, IsAllowed, HasMask};
 ghost use Rattle.protocol.specs.Lines.{Line, is_line_end, lines_of, rest_of, capped, cut_from, open_after};
 ghost use Rattle.protocol.specs.Lines.Line.{Text};
-ghost use Rattle.protocol.specs.Catalog.{Station, Config, Entry, View, sees, stations_of, is_same_view};
+ghost use Rattle.protocol.specs.Catalog.{Station, Config, Entry, View, stations_of, is_same_view};
 ghost use Rattle.protocol.specs.Catalog.{is_same_but_for_access};
 ghost use Rattle.protocol.specs.Pattern.{Pattern, pattern_of, passes, IsPattern, Passes};
 ghost use Rattle.protocol.specs.Command.{Command, words, uppercased, command_of_words, command_of, HasWords, AsksFor};
@@ -28,8 +28,8 @@ ghost use Rattle.protocol.specs.Choosing.{IsStart, HasHeld, IsNext, IsWanted, Is
 ghost use Rattle.protocol.specs.Client.{Client, reads, left_unread, obey, read_byte, read_on};
 ghost use Rattle.protocol.specs.World.{Event, World, Connection, accepted, at, config_after, world_from, world_after};
 ghost use Rattle.protocol.specs.World.{handed_from, handed};
-ghost use Rattle.protocol.specs.Alone.{OwnEvent, alone, address_of, own_view, seen, handed_to, restricted};
-ghost use Rattle.protocol.specs.Alone.{all_restricted, reloads_accepted, configs_in_force};
+ghost use Rattle.protocol.specs.Alone.{OwnEvent, alone, own_view, seen, handed_to, restricted};
+ghost use Rattle.protocol.specs.Alone.{all_restricted, reloads_accepted, KeepsVisible};
 ghost use Rattle.protocol.specs.Offers.{arrivals, client_after, offers, bytes_since, handed_since, client_at};
 ghost use Rattle.protocol.specs.Offers.{offers_to, handed_to_since};
 ghost use Rattle.protocol.specs.Transfers.{KeepsUp, MissesAreOverruns, HandsItsChoices, MissesNothing};
@@ -282,8 +282,7 @@ pub fn same_view()
 /// these, and the same events hand it the same, where the same new configurations are accepted.
 pub fn hidden_stations()
     ensures { (config : Config) (keep : Entry → Bool) (events : List Event) (k : ℕ) →
-        ((c : Config) (a : ℕ) (e : Entry) → Contains (configs_in_force config events) c →
-        address_of events k ≡ Some a → sees e.access c.access a ≡ true → keep e ≡ true) →
+        KeepsVisible keep config events k →
         reloads_accepted (restricted keep config) (all_restricted keep events) ≡ reloads_accepted config events →
         handed_to k (handed (restricted keep config) (all_restricted keep events))
         ≡ handed_to k (handed config events) }

@@ -1,14 +1,14 @@
 //! A whole list of events.
-ghost use Rattle.std.specs.Prelude.{◌≡◌, ℕ, ◌<◌, ◌-◌, ◌^◌, length, Contains, List, [], ◌∷◌, ◌++◌, map, slice_get};
+ghost use Rattle.std.specs.Prelude.{◌≡◌, ℕ, ◌<◌, ◌-◌, ◌^◌, length, List, [], ◌∷◌, ◌++◌, map, slice_get};
 ghost use Rattle.std.specs.Prelude.{take as first, Bool, true, Some, IfOk, OnOk};
 ghost use Rattle.std.specs.Result.{result_ok};
-ghost use Rattle.protocol.specs.Catalog.{Config as ProtocolConfig, Entry, sees};
+ghost use Rattle.protocol.specs.Catalog.{Config as ProtocolConfig, Entry};
 ghost use Rattle.protocol.specs.World.{Event as ProtocolEvent, World, config_by, step, handed, told, taken_by};
 ghost use Rattle.protocol.specs.World.{client_of};
 ghost use Rattle.protocol.specs.World.Event.{Take};
 ghost use Rattle.session_state.specs.Sessions.{SessionValue};
-ghost use Rattle.protocol.specs.Alone.{address_of, alone, own_view, seen, handed_to, restricted, all_restricted};
-ghost use Rattle.protocol.specs.Alone.{reloads_accepted, configs_in_force};
+ghost use Rattle.protocol.specs.Alone.{alone, own_view, seen, handed_to, restricted, all_restricted};
+ghost use Rattle.protocol.specs.Alone.{reloads_accepted, KeepsVisible};
 ghost use Rattle.server_core.specs.ServerValues.{StandsAt};
 ghost use Rattle.server_core.specs.Runs.{event_value, handed_value, handed_by, first_waiting, is_over_by};
 ghost use Rattle.server_core.specs.Runs.{MissesOnlyOverruns, MissesNothingThatIsHeld};
@@ -171,8 +171,7 @@ pub fn run(alloc: Global, config: Config, events: &[Event]) -> Result<Vec<Handed
         own_view config es k ≡ own_view other others j → seen config es k ≡ seen other others j →
         handed_to k (map handed_value hs.items) ≡ handed_to j (handed other others)) }
     ensures hidden_stations { IfOk result (λ hs. (keep : Entry → Bool) (k : ℕ) → let es = map event_value events.now in
-        ((c : ProtocolConfig) (a : ℕ) (e : Entry) → Contains (configs_in_force config es) c →
-        address_of es k ≡ Some a → sees e.access c.access a ≡ true → keep e ≡ true) →
+        KeepsVisible keep config es k →
         reloads_accepted (restricted keep config) (all_restricted keep es) ≡ reloads_accepted config es →
         handed_to k (handed (restricted keep config) (all_restricted keep es))
         ≡ handed_to k (map handed_value hs.items)) }
