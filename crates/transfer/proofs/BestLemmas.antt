@@ -5,7 +5,7 @@ use Rattle.std.specs.Prelude.{◌==◌, nat_lt}
 use Rattle.std.proofs.lemmas.Bool.Decides.{nat_tests}
 use Rattle.protocol.proofs.FoundLemmas.{both}
 use Rattle.held_records.specs.Rings.{RingsValue}
-use Rattle.session_state.specs.NamedValues.{Choice}
+use Rattle.session_state.specs.NamedValues.{Choice, ahead_of}
 use Rattle.session_state.specs.Choices.{chosen_of}
 use Rattle.session_state.specs.Sessions.{SessionValue}
 use Rattle.transfer.specs.declared.choosing.First.{First}
@@ -16,23 +16,23 @@ use Rattle.transfer.proofs.FirstsLemmas.{leads-more, leads-none}
 use Rattle.transfer.proofs.RestLemmas.{Moves}
 
 one-more : (cs : List Choice) (i k : ℕ) (c : Choice) (best : Option First) → i < length cs → c ≡ get_or cs i c
-    → best_after best k (take (suc i) cs) ≡ earlier (best_after best k (take i cs)) (k + i) c.cursor.ahead
+    → best_after best k (take (suc i) cs) ≡ earlier (best_after best k (take i cs)) (k + i) (ahead_of c.cursor)
 one-more [] i k c best low is = absurd (omega arith)
 one-more (x ∷ cs) zero k c best low is =
     let e : k ≡ k + 0 = omega arith in
-    ap₂ (λ n (y : Choice). earlier best n y.cursor.ahead) e (sym is)
+    ap₂ (λ n (y : Choice). earlier best n (ahead_of y.cursor)) e (sym is)
 one-more (x ∷ cs) (suc i) k c best low is =
     let e : k + 1 + i ≡ k + suc i = omega arith in
-    one-more cs i (k + 1) c (earlier best k x.cursor.ahead) (omega arith) is
-    ∙ ap (λ n. earlier (best_after (earlier best k x.cursor.ahead) (k + 1) (take i cs)) n c.cursor.ahead) e
+    one-more cs i (k + 1) c (earlier best k (ahead_of x.cursor)) (omega arith) is
+    ∙ ap (λ n. earlier (best_after (earlier best k (ahead_of x.cursor)) (k + 1) (take i cs)) n (ahead_of c.cursor)) e
 
 pub best-more : (cs : List Choice) (i : ℕ) (c : Choice) → i < length cs → c ≡ get_or cs i c
-    → best_of (take (i + 1) cs) ≡ earlier (best_of (take i cs)) i c.cursor.ahead
+    → best_of (take (i + 1) cs) ≡ earlier (best_of (take i cs)) i (ahead_of c.cursor)
 best-more cs i c low is =
     let e : 0 + i ≡ i = omega arith in
     ap (λ n. best_of (take n cs)) (add-one i)
     ∙ one-more cs i 0 c None low is
-    ∙ ap (λ n. earlier (best_of (take i cs)) n c.cursor.ahead) e
+    ∙ ap (λ n. earlier (best_of (take i cs)) n (ahead_of c.cursor)) e
 
 best-leads-to : (rings : RingsValue) (cs : List Choice) (i : ℕ) → i ≤ length cs
     → LeadsSoFar rings cs i (best_of (take i cs))

@@ -55,7 +55,7 @@ fn is_fresh(entry: &Entry, rings: &Rings, next: u64) -> bool
         → RestsIn rings.now next c }
 {
     match rings.ring(entry.place) {
-        Some(ring) if entry.cursor.seen == ring.pushes() => is_unsent(entry.cursor.ahead, next),
+        Some(ring) if entry.cursor.seen == ring.pushes() => is_unsent(entry.cursor.ahead(), next),
         Some(_ring) => entry.action.is_none(),
         None => false,
     }
@@ -126,7 +126,7 @@ fn look(entries: &[Entry], rings: &Rings, next: u64, from: usize, before: Option
         if !is_fresh(entry, rings, next) {
             return Overview::Stale(index, best);
         }
-        best = earlier(best, index, entry.cursor.ahead);
+        best = earlier(best, index, entry.cursor.ahead());
     }
     Overview::Fresh(best)
 }
@@ -139,10 +139,11 @@ fn glance(entries: &[Entry], next: u64) -> Overview
     let mut best = None;
     for index in 0..entries.len() {
         let entry = &entries[index];
-        if !is_unsent(entry.cursor.ahead, next) {
+        let ahead = entry.cursor.ahead();
+        if !is_unsent(ahead, next) {
             return Overview::Stale(index, best);
         }
-        best = earlier(best, index, entry.cursor.ahead);
+        best = earlier(best, index, ahead);
     }
     Overview::Fresh(best)
 }
@@ -182,7 +183,7 @@ fn rest_all(session: &mut Session, rings: &Rings, next: u64) -> Option<First>
             Overview::Stale(index, before) => {
                 let cursor = cursor_of(session, index, rings, next);
                 session.pass(index, cursor);
-                best = earlier(before, index, cursor.ahead);
+                best = earlier(before, index, cursor.ahead());
                 from = index + 1;
             }
         }

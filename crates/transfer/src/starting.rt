@@ -114,9 +114,9 @@ fn begin_in(ring: &Ring, action: Action) -> Cursor
     ring.holds_its_last();
     Cursor {
         place: begin_place(ring, action),
-        after_end: None,
+        ended: 0,
         seen: 0,
-        ahead: None,
+        stamp: 0,
     }
 }
 

@@ -1,6 +1,7 @@
 use Rattle.std.proofs.Common.{◌≡◌, ◌≤◌, ◌∙◌, ap, length, sym, arith, refl}
 use Rattle.session_state.specs.declared.choices.Entry.{Entry}
-use Rattle.transfer.specs.Firsts.{earlier}
+use Rattle.session_state.specs.NamedValues.{ahead_of}
+use Rattle.transfer.specs.Firsts.{earlier, is_unsent}
 use Rattle.transfer.proofs.EntryLemmas.{entry-at, looked-rests, same-length}
 use Rattle.transfer.proofs.BestLemmas.{best-more, best-whole, rest-more}
 use Rattle.transfer.proofs.RestLemmas.{choice-within}
@@ -16,11 +17,12 @@ loop-index-preserved c = λ cs same.
     let so_far = c.loop-index.invariant cs same in (
       λ rings looked. rest-more rings c.args.next 0 c.loop-index.index cs x.choice x.there
           (looked-rests rings c.args.next x.choice c.index-entries-index.result x.entry
-          (sym c.is_unsent.ensures ∙ c.if-not-is_unsent.false) (looked c.loop-index.index x.choice x.there))
+          (ap (is_unsent c.args.next) (sym c.ahead-ahead.ensures) ∙ sym c.is_unsent.ensures ∙ c.if-not-is_unsent.false) (looked c.loop-index.index x.choice x.there))
           (so_far.0 rings looked),
       c.earlier-best.ensures
-          ∙ ap (λ (y : Entry). earlier c.loop-index.best c.loop-index.index y.cursor.ahead) (sym x.entry)
-          ∙ ap (λ b. earlier b c.loop-index.index x.choice.cursor.ahead) so_far.1
+          ∙ ap (earlier c.loop-index.best c.loop-index.index) c.ahead-ahead.ensures
+          ∙ ap (λ (y : Entry). earlier c.loop-index.best c.loop-index.index (ahead_of y.cursor)) (sym x.entry)
+          ∙ ap (λ b. earlier b c.loop-index.index (ahead_of x.choice.cursor)) so_far.1
           ∙ sym (best-more cs c.loop-index.index x.choice x.within x.item),
     )
 
