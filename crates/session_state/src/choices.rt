@@ -3,6 +3,7 @@ ghost use Rattle.std.specs.Prelude.{◌≡◌, ◌<◌, ◌++◌, ◌∷◌, [],
 ghost use Rattle.std.specs.Vec.{vec_capacity, vec_len};
 ghost use Rattle.session_state.specs.NamedValues.{ahead_of, begun};
 
+use crate::wishes::Wish;
 use sl_packet::Seq;
 use sl_time::Tick;
 
@@ -59,7 +60,7 @@ pub struct Entry {
     /// Its place in the configuration.
     pub place: usize,
     /// What is asked of it.
-    pub action: Option<Action>,
+    pub action: Wish,
     /// From which arrival at the server on a transfer wants its records, as a count of the arrivals before.
     pub first: u64,
     /// How far the transfer has come in the station's ring.
@@ -73,7 +74,7 @@ impl Entry {
     {
         Entry {
             place,
-            action,
+            action: Wish::of(action),
             first: 0,
             cursor: Cursor {
                 place: 0,
@@ -109,7 +110,7 @@ pub(crate) fn act_at(entries: &mut [Entry], i: usize, action: Action)
     ensures { (e : Entry) → slice_get entries.old i ≡ Some e
         → entries.new ≡ slice_set entries.old i (record e { action = Some action }) }
 {
-    entries[i].action = Some(action);
+    entries[i].action = Wish::of(Some(action));
 }
 
 pub(crate) fn keep_at(entries: &mut [Entry], i: usize, first: u64)

@@ -244,7 +244,7 @@ fn is_over(entry: &Entry, rings: &Rings) -> bool
         → (config : ProtocolConfig) (h : List Arrival) → rings.now ≡ holdings_of config h →
         result ≡ is_over_of h (station_at config.entries c.place) c.action }
 {
-    match entry.action {
+    match entry.action.to_option() {
         None => true,
         Some(
             Action::Data {

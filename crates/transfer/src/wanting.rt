@@ -38,7 +38,7 @@ fn starts_by(last: Option<Tick>, summary: &Summary) -> bool
 fn is_in_window(entry: &Entry, summary: &Summary) -> bool
     ensures { result ≡ is_in_window_of entry.now.action (facts_of summary.now) }
 {
-    match entry.action {
+    match entry.action.to_option() {
         None => false,
         Some(
             Action::Data {
@@ -84,7 +84,7 @@ pub struct Candidate {
 fn is_after_end(entry: &Entry, summary: &Summary) -> bool
     ensures { (x : HeldValue) → x.summary ≡ summary.now → result ≡ is_after_end entry.now.action x }
 {
-    match entry.action {
+    match entry.action.to_option() {
         None => false,
         Some(
             Action::Data {
