@@ -1,35 +1,75 @@
 //! One selector.
 ghost use Rattle.std.specs.Prelude.{◌≡◌};
 ghost use Rattle.std.specs.List.{list_all};
-ghost use Rattle.protocol.specs.Pattern.{body_of, byte_matches, channel_pattern, is_channel_byte, is_location_byte};
+ghost use Rattle.protocol.specs.Pattern.{body_of, byte_matches, bytes_match, channel_pattern};
+ghost use Rattle.protocol.specs.Pattern.{is_channel_byte, is_location_byte};
 ghost use Rattle.protocol.specs.Pattern.{kind_matches, kind_of_letter, kind_pattern, matches, part_matches, pattern_of};
 ghost use Rattle.protocol.specs.Pattern.{place_pattern};
 ghost use Rattle.protocol.specs.Record.{Facts};
 ghost use Rattle.selector.specs.Matching.{matches_parts};
+ghost use Rattle.selector.specs.PatternCodes.{channel_of, location_of};
 
 use protocol::record::Kind;
 use std::marker::Model;
+
+/// The location and the channel that a pattern gives.
+#[derive(Clone, Copy, Debug, PartialEq, Eq)]
+enum Codes {
+    /// Neither.
+    Nothing,
+    /// A channel alone.
+    Channel([u8; 3]),
+    /// A location and a channel.
+    Both([u8; 2], [u8; 3]),
+}
 
 /// A pattern that chooses records by their location, channel and type, or that refuses them where it is negated. What
 /// it leaves off matches anything; the default leaves off everything.
 ///
 /// In the location and the channel `?` matches any byte, `-` a space, and every other character itself.
-#[derive(Clone, Copy, Debug, PartialEq, Eq, Default)]
+#[derive(Clone, Copy, Debug, PartialEq, Eq)]
 pub struct Selector {
     negated: bool,
-    location: Option<[u8; 2]>,
-    channel: Option<[u8; 3]>,
+    codes: Codes,
     kind: Option<Kind>,
 }
 
 impl Model for Selector {
+    ghost use Rattle.std.specs.Prelude.{refl};
     ghost use Rattle.protocol.specs.Pattern.{Pattern};
+    ghost use Rattle.selector.specs.PatternCodes.{channel_of, codes_of, codes-again, location_of};
 
     ghost Value = { Pattern };
 
-    ghost view = { λ s. record { negated = s.negated; location = s.location; channel = s.channel; kind = s.kind } };
+    ghost view = { λ s. record {
+      negated = s.negated;
+      location = location_of s.codes;
+      channel = channel_of s.codes;
+      kind = s.kind;
+    } };
 
-    ghost inverse = { λ p. record { negated = p.negated; location = p.location; channel = p.channel; kind = p.kind } };
+    ghost inverse = { λ p. record {
+      negated = p.negated;
+      codes = codes_of p.location p.channel;
+      kind = p.kind;
+    } };
+
+    ghost inverse_ok = { λ s h. rw (codes-again s.codes) refl };
+}
+
+impl Default for Selector {
+    ghost use Rattle.std.specs.Prelude.{None, false};
+
+    /// The pattern that leaves off everything.
+    fn default() -> Selector
+        ensures { result ≡ record { negated = false; location = None; channel = None; kind = None } }
+    {
+        Selector {
+            negated: false,
+            codes: Codes::Nothing,
+            kind: None,
+        }
+    }
 }
 
 impl Selector {
@@ -76,8 +116,7 @@ impl Selector {
     {
         Some(Selector {
             negated,
-            location: None,
-            channel: None,
+            codes: Codes::Nothing,
             kind: Some(kind),
         })
     }
@@ -90,8 +129,7 @@ impl Selector {
         }
         Some(Selector {
             negated,
-            location: None,
-            channel: Some(channel),
+            codes: Codes::Channel(channel),
             kind,
         })
     }
@@ -109,8 +147,7 @@ impl Selector {
         }
         Some(Selector {
             negated,
-            location: Some(location),
-            channel: Some(channel),
+            codes: Codes::Both(location, channel),
             kind,
         })
     }
@@ -121,8 +158,8 @@ impl Selector {
         ensures facts { (x : Facts) → x.location ≡ location.now → x.channel ≡ channel.now → x.kind ≡ kind
             → result ≡ matches x self.now }
     {
-        location_matches(&self.location, location)
-            && channel_matches(&self.channel, channel)
+        location_matches(&self.codes, location)
+            && channel_matches(&self.codes, channel)
             && kind_matches(self.kind, kind)
     }
 
@@ -134,25 +171,34 @@ impl Selector {
     }
 }
 
-fn location_matches(pattern: &Option<[u8; 2]>, location: &[u8; 2]) -> bool
-    ensures { result ≡ part_matches pattern.now location.now }
+fn location_matches(codes: &Codes, location: &[u8; 2]) -> bool
+    ensures { result ≡ part_matches (location_of codes.now) location.now }
 {
-    match pattern {
-        Some(pattern) => byte_matches(pattern[0], location[0])
+    match codes {
+        Codes::Both(pattern, _channel) => byte_matches(pattern[0], location[0])
             && byte_matches(pattern[1], location[1]),
-        None => true,
+        Codes::Channel(_channel) => true,
+        Codes::Nothing => true,
     }
 }
 
-fn channel_matches(pattern: &Option<[u8; 3]>, channel: &[u8; 3]) -> bool
-    ensures { result ≡ part_matches pattern.now channel.now }
+fn channel_matches(codes: &Codes, channel: &[u8; 3]) -> bool
+    ensures { result ≡ part_matches (channel_of codes.now) channel.now }
 {
-    match pattern {
-        Some(pattern) => byte_matches(pattern[0], channel[0])
-            && byte_matches(pattern[1], channel[1])
-            && byte_matches(pattern[2], channel[2]),
-        None => true,
+    match codes {
+        Codes::Both(_location, pattern) => are_matched(pattern, channel),
+        Codes::Channel(pattern) => are_matched(pattern, channel),
+        Codes::Nothing => true,
     }
+}
+
+/// Whether the characters of a channel's pattern match its bytes.
+fn are_matched(pattern: &[u8; 3], channel: &[u8; 3]) -> bool
+    ensures { result ≡ bytes_match pattern.now channel.now }
+{
+    byte_matches(pattern[0], channel[0])
+        && byte_matches(pattern[1], channel[1])
+        && byte_matches(pattern[2], channel[2])
 }
 
 fn kind_matches(pattern: Option<Kind>, kind: Kind) -> bool

@@ -1,3 +1,4 @@
+pub mod Wishes
 pub mod NamedValues
 pub mod Choices
 pub mod Changes

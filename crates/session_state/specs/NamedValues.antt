@@ -1,6 +1,7 @@
 -- The values of the stations that a client named, and of what was negotiated.
 -- SeedLink 3, STATION, SELECT, DATA, FETCH and TIME.
 use Rattle.std.specs.Prelude.{◌≡◌, ℕ, ◌<◌, ◌≤◌, Bool, true, false, List, [], ◌∷◌, length, drop, Option, None, IfSome}
+use Rattle.std.specs.Prelude.{if◌then◌else◌, nat_lt, Some}
 use Rattle.protocol.specs.Pattern.{Pattern}
 use Rattle.selector.specs.Pools.{list_at}
 use Rattle.session_state.specs.declared.choices.Action.{Action}
@@ -18,7 +19,12 @@ pub record Choice : Type 0 where
 
 -- the cursor of a transfer that has not begun
 abbrev pub start : Cursor
-start = record { place = 0; after_end = None; seen = 0; ahead = None }
+start = record { place = 0; ended = 0; seen = 0; stamp = 0 }
+
+-- the stamp of the record at a cursor, where one was there when the ring was last looked at: while the cursor was not at
+-- its end
+abbrev pub ahead_of : Cursor → Option ℕ
+ahead_of k = if nat_lt k.place k.seen then Some k.stamp else None
 
 -- a station of which this is asked, while no transfer has begun
 abbrev pub begun : ℕ → Option Action → Entry

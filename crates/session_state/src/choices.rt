@@ -1,8 +1,9 @@
 //! The stations that a client names, and what it asks of each.
 ghost use Rattle.std.specs.Prelude.{◌≡◌, ◌<◌, ◌++◌, ◌∷◌, [], Some, length, slice_get, slice_set};
 ghost use Rattle.std.specs.Vec.{vec_capacity, vec_len};
-ghost use Rattle.session_state.specs.NamedValues.{begun};
+ghost use Rattle.session_state.specs.NamedValues.{ahead_of, begun};
 
+use crate::wishes::Wish;
 use sl_packet::Seq;
 use sl_time::Tick;
 
@@ -31,12 +32,26 @@ pub enum Action {
 pub struct Cursor {
     /// The place before which the request wants nothing more.
     pub place: u64,
-    /// For TIME with an end: the last place before the cursor whose record starts after that end.
-    pub after_end: Option<u64>,
+    /// For TIME with an end: the place after the last record before the cursor that starts after that end, or 0 if there
+    /// is no such record.
+    pub ended: u64,
     /// How many records the ring had been given when it was last looked at.
     pub seen: u64,
-    /// The stamp of the record at the cursor, where one was there then.
-    pub ahead: Option<u64>,
+    /// The stamp of the record at the cursor. There is one while the cursor is before the end that was seen.
+    pub stamp: u64,
+}
+
+impl Cursor {
+    /// The stamp of the record at the cursor, if one was there when the ring was last looked at.
+    pub fn ahead(&self) -> Option<u64>
+        ensures { result ≡ ahead_of self.now }
+    {
+        if self.place < self.seen {
+            Some(self.stamp)
+        } else {
+            None
+        }
+    }
 }
 
 /// A station that a client named, but for its selectors. It is a request of a transfer where it has an action.
@@ -45,7 +60,7 @@ pub struct Entry {
     /// Its place in the configuration.
     pub place: usize,
     /// What is asked of it.
-    pub action: Option<Action>,
+    pub action: Wish,
     /// From which arrival at the server on a transfer wants its records, as a count of the arrivals before.
     pub first: u64,
     /// How far the transfer has come in the station's ring.
@@ -59,13 +74,13 @@ impl Entry {
     {
         Entry {
             place,
-            action,
+            action: Wish::of(action),
             first: 0,
             cursor: Cursor {
                 place: 0,
-                after_end: None,
+                ended: 0,
                 seen: 0,
-                ahead: None,
+                stamp: 0,
             },
         }
     }
@@ -95,7 +110,7 @@ pub(crate) fn act_at(entries: &mut [Entry], i: usize, action: Action)
     ensures { (e : Entry) → slice_get entries.old i ≡ Some e
         → entries.new ≡ slice_set entries.old i (record e { action = Some action }) }
 {
-    entries[i].action = Some(action);
+    entries[i].action = Wish::of(Some(action));
 }
 
 pub(crate) fn keep_at(entries: &mut [Entry], i: usize, first: u64)

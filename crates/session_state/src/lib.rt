@@ -12,7 +12,9 @@ mod named;
 mod refusals;
 mod replies;
 pub mod session;
+mod wishes;
 
 pub use choices::{Action, Cursor, Entry};
 pub use refusals::NoRoom;
 pub use session::{Session, Settled, State};
+pub use wishes::Wish;

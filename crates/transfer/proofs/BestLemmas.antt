@@ -6,7 +6,7 @@ use Rattle.std.proofs.lemmas.Bool.Decides.{nat_tests}
 use Rattle.protocol.proofs.FoundLemmas.{both}
 use Rattle.held_records.specs.Rings.{RingsValue}
 use Rattle.session_state.specs.declared.choices.Entry.{Entry}
-use Rattle.session_state.specs.NamedValues.{Choice, entry_of}
+use Rattle.session_state.specs.NamedValues.{Choice, ahead_of, entry_of}
 use Rattle.session_state.specs.Choices.{chosen_of}
 use Rattle.session_state.specs.Sessions.{SessionValue}
 use Rattle.transfer.specs.declared.choosing.First.{First}
@@ -18,23 +18,23 @@ use Rattle.transfer.proofs.FirstsLemmas.{leads-more, leads-none}
 use Rattle.transfer.proofs.RestLemmas.{Moves, choice-within}
 
 one-more : (cs : List Choice) (i k : ℕ) (c : Choice) (best : Option First) → i < length cs → c ≡ get_or cs i c
-    → best_after best k (take (suc i) cs) ≡ earlier (best_after best k (take i cs)) (k + i) c.cursor.ahead
+    → best_after best k (take (suc i) cs) ≡ earlier (best_after best k (take i cs)) (k + i) (ahead_of c.cursor)
 one-more [] i k c best low is = absurd (omega arith)
 one-more (x ∷ cs) zero k c best low is =
     let e : k ≡ k + 0 = omega arith in
-    ap₂ (λ n (y : Choice). earlier best n y.cursor.ahead) e (sym is)
+    ap₂ (λ n (y : Choice). earlier best n (ahead_of y.cursor)) e (sym is)
 one-more (x ∷ cs) (suc i) k c best low is =
     let e : k + 1 + i ≡ k + suc i = omega arith in
-    one-more cs i (k + 1) c (earlier best k x.cursor.ahead) (omega arith) is
-    ∙ ap (λ n. earlier (best_after (earlier best k x.cursor.ahead) (k + 1) (take i cs)) n c.cursor.ahead) e
+    one-more cs i (k + 1) c (earlier best k (ahead_of x.cursor)) (omega arith) is
+    ∙ ap (λ n. earlier (best_after (earlier best k (ahead_of x.cursor)) (k + 1) (take i cs)) n (ahead_of c.cursor)) e
 
 pub best-more : (cs : List Choice) (i : ℕ) (c : Choice) → i < length cs → c ≡ get_or cs i c
-    → best_of (take (i + 1) cs) ≡ earlier (best_of (take i cs)) i c.cursor.ahead
+    → best_of (take (i + 1) cs) ≡ earlier (best_of (take i cs)) i (ahead_of c.cursor)
 best-more cs i c low is =
     let e : 0 + i ≡ i = omega arith in
     ap (λ n. best_of (take n cs)) (add-one i)
     ∙ one-more cs i 0 c None low is
-    ∙ ap (λ n. earlier (best_of (take i cs)) n c.cursor.ahead) e
+    ∙ ap (λ n. earlier (best_of (take i cs)) n (ahead_of c.cursor)) e
 
 best-leads-to : (rings : RingsValue) (cs : List Choice) (i : ℕ) → i ≤ length cs
     → LeadsSoFar rings cs i (best_of (take i cs))
@@ -113,14 +113,14 @@ glanced-none next cs = record { rests = λ rings looked j x low high at. absurd 
 
 -- One cursor more was looked at.
 pub glanced-more : (next i : ℕ) (cs : List Choice) (c : Choice) (e : Entry) (best later : Option First)
-    → entry_of c ≡ e → slice_get cs i ≡ Some c → i < length cs → c ≡ get_or cs i c → is_unsent next e.cursor.ahead ≡ true
-    → later ≡ earlier best i e.cursor.ahead → IsGlancedUpTo next cs i best → IsGlancedUpTo next cs (i + 1) later
+    → entry_of c ≡ e → slice_get cs i ≡ Some c → i < length cs → c ≡ get_or cs i c → is_unsent next (ahead_of e.cursor) ≡ true
+    → later ≡ earlier best i (ahead_of e.cursor) → IsGlancedUpTo next cs i best → IsGlancedUpTo next cs (i + 1) later
 glanced-more next i cs c e best later same there within item unsent step so_far = record {
   rests = λ rings looked. rest-more rings next 0 i cs c there
       (looked-rests rings next c e same unsent (looked i c there)) (so_far.rests rings looked);
   first = step
-      ∙ ap (λ (y : Entry). earlier best i y.cursor.ahead) (sym same)
-      ∙ ap (λ b. earlier b i c.cursor.ahead) so_far.first
+      ∙ ap (λ (y : Entry). earlier best i (ahead_of y.cursor)) (sym same)
+      ∙ ap (λ b. earlier b i (ahead_of c.cursor)) so_far.first
       ∙ sym (best-more cs i c within item);
 }
 
@@ -138,7 +138,7 @@ late next stamp low = grind (arith, nat_tests)
 
 -- the same of one that tells of a record
 pub glanced-record : (next i : ℕ) (cs : List Choice) (c : Choice) (e : Entry) (best later : Option First) (stamp : ℕ)
-    → entry_of c ≡ e → slice_get cs i ≡ Some c → i < length cs → c ≡ get_or cs i c → e.cursor.ahead ≡ Some stamp
+    → entry_of c ≡ e → slice_get cs i ≡ Some c → i < length cs → c ≡ get_or cs i c → ahead_of e.cursor ≡ Some stamp
     → next ≤ stamp → later ≡ earlier best i (Some stamp) → IsGlancedUpTo next cs i best
     → IsGlancedUpTo next cs (i + 1) later
 glanced-record next i cs c e best later stamp same there within item is unsent step so_far =
@@ -147,7 +147,7 @@ glanced-record next i cs c e best later stamp same there within item is unsent s
 
 -- and of one that tells of none
 pub glanced-nothing : (next i : ℕ) (cs : List Choice) (c : Choice) (e : Entry) (best : Option First) → entry_of c ≡ e
-    → slice_get cs i ≡ Some c → i < length cs → c ≡ get_or cs i c → e.cursor.ahead ≡ None
+    → slice_get cs i ≡ Some c → i < length cs → c ≡ get_or cs i c → ahead_of e.cursor ≡ None
     → IsGlancedUpTo next cs i best → IsGlancedUpTo next cs (i + 1) best
 glanced-nothing next i cs c e best same there within item is so_far =
     glanced-more next i cs c e best best same there within item (ap (is_unsent next) is)

@@ -2,7 +2,7 @@
 use Rattle.std.proofs.Common.{◌≡◌, ◌≢◌, ℕ, ◌+◌, ◌-◌, ◌<◌, ◌≤◌, zero, suc, Bool, true, false, ◌&&◌, nat_le, List, []}
 use Rattle.std.proofs.Common.{◌∷◌, length, drop, max, Option, Some, None, option_map, slice_get, refl, sym, ap, subst}
 use Rattle.std.proofs.Common.{◌∙◌, arith}
-use Rattle.std.specs.Prelude.{find, if◌then◌else◌, is_some, ◌==◌}
+use Rattle.std.specs.Prelude.{find, if◌then◌else◌, nat_lt, ◌==◌}
 use Rattle.std.specs.List.{list_any}
 use Rattle.std.proofs.lemmas.Bool.Decides.{nat_tests}
 use Rattle.protocol.proofs.FoundLemmas.{both}
@@ -36,33 +36,35 @@ held_at-high r place x holds there =
 
 -- ---- what a request finds at a place
 
-finds-wanted : (c : Choice) (next : ℕ) (x : Held) → found_of c next x ≡ Wanted → wants_held c next x ≡ true
-finds-wanted c next x e =
-    both (wants_held c next x) (λ y. y)
+finds-wanted : (c : Choice) (next stamp : ℕ) (x : Held) → found_of c next x ≡ Wanted stamp
+    → (wants_held c next x ≡ true) × (x.stamp ≡ stamp)
+finds-wanted c next stamp x e =
+    both (wants_held c next x) (λ y. let t : Wanted x.stamp ≡ Wanted stamp = rw y at e in (y, cc))
     (λ n. absurd (both (is_after_end c.action x)
-    (λ a. let t : AfterEnd ≡ Wanted = rw (n, a) at e in cc)
-    (λ b. let t : Unwanted ≡ Wanted = rw (n, b) at e in cc)))
+    (λ a. let t : AfterEnd ≡ Wanted stamp = rw (n, a) at e in cc)
+    (λ b. let t : Unwanted ≡ Wanted stamp = rw (n, b) at e in cc)))
 
-finds-other : (c : Choice) (next : ℕ) (x : Held) (found : Found) → found ≢ Wanted → found ≡ found_of c next x
-    → wants_held c next x ≡ false
+finds-other : (c : Choice) (next : ℕ) (x : Held) (found : Found) → ((stamp : ℕ) → found ≢ Wanted stamp)
+    → found ≡ found_of c next x → wants_held c next x ≡ false
 finds-other c next x found other e =
     both (wants_held c next x)
     (λ y. absurd
-    (other (e ∙ ap (λ b. if b then Wanted else (if is_after_end c.action x then AfterEnd else Unwanted)) y)))
+    (other x.stamp
+    (e ∙ ap (λ b. if b then Wanted x.stamp else (if is_after_end c.action x then AfterEnd else Unwanted)) y)))
     (λ n. n)
 
 finds-after : (c : Choice) (next : ℕ) (x : Held) → found_of c next x ≡ AfterEnd → is_after_end c.action x ≡ true
 finds-after c next x e =
     both (is_after_end c.action x) (λ y. y)
     (λ n. absurd (both (wants_held c next x)
-    (λ a. let t : Wanted ≡ AfterEnd = rw a at e in cc)
+    (λ a. let t : Wanted x.stamp ≡ AfterEnd = rw a at e in cc)
     (λ b. let t : Unwanted ≡ AfterEnd = rw (b, n) at e in cc)))
 
 finds-nothing : (c : Choice) (next : ℕ) (x : Held) → found_of c next x ≡ Unwanted → is_after_end c.action x ≡ false
 finds-nothing c next x e =
     both (is_after_end c.action x)
     (λ y. absurd (both (wants_held c next x)
-    (λ a. let t : Wanted ≡ Unwanted = rw a at e in cc)
+    (λ a. let t : Wanted x.stamp ≡ Unwanted = rw a at e in cc)
     (λ b. let t : AfterEnd ≡ Unwanted = rw (b, y) at e in cc)))
     (λ n. n)
 
@@ -72,13 +74,13 @@ Finds r place c next found = (x : Held) → held_at r place ≡ Some x → found
 
 -- ---- a cursor that moves on
 
-abbrev pub at_place : ℕ → Option ℕ → Cursor
-at_place place after_end = record { place = place; after_end = after_end; seen = 0; ahead = None }
+abbrev pub at_place : ℕ → ℕ → Cursor
+at_place place ended = record { place = place; ended = ended; seen = 0; stamp = 0 }
 
 -- What lies before the oldest record is passed.
 pub passed-raised : (r : RingValue) (next : ℕ) (c : Choice) (start oldest : ℕ) → IsRing r → Some oldest ≡ oldest_place r
     → start ≡ max c.cursor.place oldest → HasPassed r next c c.cursor
-    → HasPassed r next c (at_place start c.cursor.after_end)
+    → HasPassed r next c (at_place start c.cursor.ended)
 passed-raised r next c start oldest holds is raised so_far =
     let first : oldest ≡ first_place r = oldest-first r oldest is in
     let old : (place : ℕ) (x : Held) → place < start → held_at r place ≡ Some x → place < c.cursor.place =
@@ -86,51 +88,54 @@ passed-raised r next c start oldest holds is raised so_far =
     record {
       within = omega (arith, so_far.within, raised, first);
       unwanted = λ place x low there. so_far.unwanted place x (old place x low there) there;
-      told = λ place x low there after.
-          let it = so_far.told place x (old place x low there) there after in
-          record { last = it.last; is = it.is; from = it.from };
-      before = λ place e. omega (arith, so_far.before place e, raised);
+      told = λ place x low there after. so_far.told place x (old place x low there) there after;
+      before = omega (arith, so_far.before, raised);
       after = λ place x e there. so_far.after place x e there;
     }
 
 -- One record more is passed.
-pub passed-unwanted : (r : RingValue) (next : ℕ) (c : Choice) (place : ℕ) (after_end : Option ℕ) (found : Found)
-    → place < r.pushes → Finds r place c next found → found ≡ Unwanted → HasPassed r next c (at_place place after_end)
-    → HasPassed r next c (at_place (place + 1) after_end)
-passed-unwanted r next c place after_end found high finds is so_far = record {
+pub passed-unwanted : (r : RingValue) (next : ℕ) (c : Choice) (place ended : ℕ) (found : Found) → place < r.pushes
+    → Finds r place c next found → found ≡ Unwanted → HasPassed r next c (at_place place ended)
+    → HasPassed r next c (at_place (place + 1) ended)
+passed-unwanted r next c place ended found high finds is so_far = record {
   within = omega arith;
   unwanted = λ p x low there. both (p == place)
       (λ y. let here : p ≡ place = grind (arith, nat_tests) in
-      finds-other c next x found (λ w. absurd (let t : Unwanted ≡ Wanted = sym is ∙ w in cc))
+      finds-other c next x found (λ s w. absurd (let t : Unwanted ≡ Wanted s = sym is ∙ w in cc))
       (finds x (subst (λ n. held_at r n ≡ Some x) here there)))
       (λ n. let other : p < place = grind (arith, nat_tests) in so_far.unwanted p x other there);
   told = λ p x low there after. both (p == place)
       (λ y. let here : p ≡ place = grind (arith, nat_tests) in
       absurd (let t : true ≡ false = sym after
       ∙ finds-nothing c next x (sym (finds x (subst (λ n. held_at r n ≡ Some x) here there)) ∙ is) in cc))
-      (λ n. let other : p < place = grind (arith, nat_tests) in
-      let it = so_far.told p x other there after in record { last = it.last; is = it.is; from = it.from });
-  before = λ p e. omega (arith, so_far.before p e);
+      (λ n. let other : p < place = grind (arith, nat_tests) in so_far.told p x other there after);
+  before = omega (arith, so_far.before);
   after = λ p x e there. so_far.after p x e there;
 }
 
 -- One record more is passed, which starts after the end.
-pub passed-after : (r : RingValue) (next : ℕ) (c : Choice) (place : ℕ) (after_end : Option ℕ) (found : Found)
-    → place < r.pushes → Finds r place c next found → found ≡ AfterEnd → HasPassed r next c (at_place place after_end)
-    → HasPassed r next c (at_place (place + 1) (Some place))
-passed-after r next c place after_end found high finds is so_far = record {
+pub passed-after : (r : RingValue) (next : ℕ) (c : Choice) (place ended : ℕ) (found : Found) → place < r.pushes
+    → Finds r place c next found → found ≡ AfterEnd → HasPassed r next c (at_place place ended)
+    → HasPassed r next c (at_place (place + 1) (place + 1))
+passed-after r next c place ended found high finds is so_far = record {
   within = omega arith;
   unwanted = λ p x low there. both (p == place)
       (λ y. let here : p ≡ place = grind (arith, nat_tests) in
-      finds-other c next x found (λ w. absurd (let t : AfterEnd ≡ Wanted = sym is ∙ w in cc))
+      finds-other c next x found (λ s w. absurd (let t : AfterEnd ≡ Wanted s = sym is ∙ w in cc))
       (finds x (subst (λ n. held_at r n ≡ Some x) here there)))
       (λ n. let other : p < place = grind (arith, nat_tests) in so_far.unwanted p x other there);
-  told = λ p x low there after. record { last = place; is = refl; from = omega arith };
-  before = λ p e. let same : place ≡ p = cc in omega arith;
+  told = λ p x low there after. low;
+  before = omega arith;
   after = λ p x e there.
-      let same : place ≡ p = cc in
+      let same : place ≡ p = omega (arith, e) in
       finds-after c next x (sym (finds x (subst (λ n. held_at r n ≡ Some x) (sym same) there)) ∙ is);
 }
+
+-- A ring without an oldest record holds nothing.
+holds-nothing : (r : RingValue) → None ≡ oldest_place r → length r.held ≡ 0
+holds-nothing r none = both (length r.held == 0)
+    (λ y. grind (arith, nat_tests))
+    (λ n. absurd (let some : None ≡ Some (first_place r) = rw n at none in cc))
 
 -- Nothing is held at the place of the next push.
 pub none-next : (r : RingValue) (place : ℕ) → IsRing r → r.pushes ≤ place → held_at r place ≡ None
@@ -140,84 +145,74 @@ none-next r place holds past = by (held_at r place) refl
     by None e = refl
     by (Some x) e = absurd (let high : place < r.pushes = held_at-high r place x holds e in omega arith)
 
--- a cursor at a place of its ring, that was just looked at
-abbrev pub at_record : RingValue → ℕ → Option ℕ → Cursor
-at_record r place after_end =
-    record {
-      place = place;
-      after_end = after_end;
-      seen = r.pushes;
-      ahead = option_map (λ x. x.stamp) (held_at r place);
-    }
+-- a cursor at a place of its ring, that was just looked at, by the stamp of the record there
+abbrev pub at_record : RingValue → (place ended stamp : ℕ) → Cursor
+at_record r place ended stamp = record { place = place; ended = ended; seen = r.pushes; stamp = stamp }
 
 -- one that has passed all
-abbrev pub at_end : RingValue → Option ℕ → Cursor
-at_end r after_end = record { place = r.pushes; after_end = after_end; seen = r.pushes; ahead = None }
+abbrev pub at_end : RingValue → ℕ → Cursor
+at_end r ended = record { place = r.pushes; ended = ended; seen = r.pushes; stamp = 0 }
 
--- The request wants the record at the place.
-pub rests-wanted : (r : RingValue) (next : ℕ) (c : Choice) (place : ℕ) (after_end : Option ℕ) (found : Found) → IsRing r
-    → first_place r ≤ place → Finds r place c next found → found ≡ Wanted
-    → HasPassed r next c (at_place place after_end) → RestsAt r next c (at_record r place after_end)
-rests-wanted r next c place after_end found holds low finds is so_far = record {
-  passed =
-      record {
-        within = so_far.within;
-        unwanted = so_far.unwanted;
-        told = λ p x l t a. let it =
-            so_far.told p x l t a in record { last = it.last; is = it.is; from = it.from };
-        before = so_far.before;
-        after = so_far.after;
-      };
-  low = low;
-  wanted = λ x there. finds-wanted c next x (sym (finds x there) ∙ is);
-  seen = refl;
-  ahead = refl;
-  holding = holds;
+-- What a request has passed is told by a cursor's place, and by the place before which lies what starts after the end.
+passed-looked : (r : RingValue) (next : ℕ) (c : Choice) (place ended : ℕ) (k : Cursor) → k.place ≡ place
+    → k.ended ≡ ended → HasPassed r next c (at_place place ended) → HasPassed r next c k
+passed-looked r next c place ended k there is so_far = record {
+  within = omega (arith, so_far.within, there);
+  unwanted = λ p x low held. so_far.unwanted p x (omega (arith, low, there)) held;
+  told = λ p x low held after. let t = so_far.told p x (omega (arith, low, there)) held after in omega (arith, t, is);
+  before = omega (arith, so_far.before, there, is);
+  after = λ p x e held. so_far.after p x (sym is ∙ e) held;
 }
 
--- All was passed.
-pub rests-end : (r : RingValue) (next : ℕ) (c : Choice) (place : ℕ) (after_end : Option ℕ) → IsRing r → r.pushes ≤ place
-    → HasPassed r next c (at_place place after_end) → RestsAt r next c (at_end r after_end)
-rests-end r next c place after_end holds past so_far =
-    let same : place ≡ r.pushes = omega (arith, so_far.within) in
-    let moved : HasPassed r next c
-    (at_place r.pushes after_end) = subst (λ n. HasPassed r next c (at_place n after_end)) same so_far in
+-- The request wants the record at the place.
+pub rests-wanted : (r : RingValue) (next : ℕ) (c : Choice) (place ended stamp : ℕ) (found : Found) → IsRing r
+    → first_place r ≤ place → place < r.pushes → Finds r place c next found → found ≡ Wanted stamp
+    → HasPassed r next c (at_place place ended) → RestsAt r next c (at_record r place ended stamp)
+rests-wanted r next c place ended stamp found holds low high finds is so_far =
+    let x = there-at r place low high in
+    let here = finds-wanted c next stamp x.0 (sym (finds x.0 x.1) ∙ is) in
+    let under : nat_lt place r.pushes ≡ true = grind (arith, nat_tests) in
     record {
-      passed =
-          record {
-            within = moved.within;
-            unwanted = moved.unwanted;
-            told = λ p x l t a. let it =
-                moved.told p x l t a in record { last = it.last; is = it.is; from = it.from };
-            before = moved.before;
-            after = moved.after;
-          };
+      passed = passed-looked r next c place ended (at_record r place ended stamp) refl refl so_far;
+      low = low;
+      wanted = λ y there. (finds-wanted c next stamp y (sym (finds y there) ∙ is)).0;
+      seen = refl;
+      ahead = ap (λ b. if b then Some stamp else None) under ∙ ap (λ n. Some n) (sym here.1)
+          ∙ ap (option_map (λ (y : Held). y.stamp)) (sym x.1);
+      holding = holds;
+    }
+
+-- All was passed.
+pub rests-end : (r : RingValue) (next : ℕ) (c : Choice) (place ended : ℕ) → IsRing r → r.pushes ≤ place
+    → HasPassed r next c (at_place place ended) → RestsAt r next c (at_end r ended)
+rests-end r next c place ended holds past so_far =
+    let over : nat_lt r.pushes r.pushes ≡ false = grind (arith, nat_tests) in
+    record {
+      passed = passed-looked r next c place ended (at_end r ended) (omega (arith, so_far.within)) refl so_far;
       low = omega arith;
       wanted =
           λ x there. absurd (let high : r.pushes < r.pushes = held_at-high r r.pushes x holds there in omega arith);
       seen = refl;
-      ahead = ap (option_map (λ (x : Held). x.stamp)) (sym (none-next r r.pushes holds (omega arith)));
+      ahead = ap (λ b. let o : Option ℕ = if b then Some 0 else None in o) over
+          ∙ ap (option_map (λ (x : Held). x.stamp)) (sym (none-next r r.pushes holds (omega arith)));
       holding = holds;
     }
 
 -- A ring to which nothing was pushed holds nothing.
 pub rests-empty : (r : RingValue) (next : ℕ) (c : Choice) → IsRing r → None ≡ oldest_place r
-    → HasPassed r next c c.cursor → RestsAt r next c (at_end r c.cursor.after_end)
+    → HasPassed r next c c.cursor → RestsAt r next c (at_end r c.cursor.ended)
 rests-empty r next c holds none so_far =
-    let nothing : length r.held ≡ 0 = both (length r.held == 0)
-    (λ y. grind (arith, nat_tests))
-    (λ n. absurd (let some : None ≡ Some (first_place r) = rw n at none in cc)) in
+    let nothing = holds-nothing r none in
     let pushes : r.pushes ≡ 0 = omega (arith, holds.count, holds.some_capacity) in
-    let passed : HasPassed r next c (at_place c.cursor.place c.cursor.after_end) =
+    let passed : HasPassed r next c (at_place c.cursor.place c.cursor.ended) =
     record {
       within = so_far.within;
       unwanted = so_far.unwanted;
-      told = λ p x l t a. let it =
-          so_far.told p x l t a in record { last = it.last; is = it.is; from = it.from };
+      told = so_far.told;
       before = so_far.before;
       after = so_far.after;
     } in
-    rests-end r next c c.cursor.place c.cursor.after_end holds (omega arith) passed
+    rests-end r next c c.cursor.place c.cursor.ended holds (omega arith) passed
 
 -- ---- the record at a cursor
 
@@ -290,48 +285,45 @@ held-index r i x e =
     let index : first_place r + i - first_place r ≡ i = omega arith in
     rw (test, index) e
 
--- No record that is held starts after the end.
-none-after : (r : RingValue) (next : ℕ) (c : Choice) → IsRing r → HasPassed r next c c.cursor
-    → c.cursor.place ≡ r.pushes
-    → ((place : ℕ) → first_place r ≤ place → place < r.pushes → c.cursor.after_end ≢ Some place)
-    → false ≡ list_any (is_after_end c.action) r.held
-none-after r next c holds passed all none = sym (none-says (is_after_end c.action) r.held (λ i x e.
+-- No record that is held starts after the end, where all those that do were passed before the oldest.
+pub end-none : (r : RingValue) (next : ℕ) (c : Choice) → IsRing r → c.cursor.ended ≤ first_place r
+    → HasPassed r next c c.cursor → c.cursor.place ≡ r.pushes → false ≡ list_any (is_after_end c.action) r.held
+end-none r next c holds low passed all = sym (none-says (is_after_end c.action) r.held (λ i x e.
     both (is_after_end c.action x)
     (λ y.
     let at : held_at r (first_place r + i) ≡ Some x = held-index r i x e in
     let high : first_place r + i < r.pushes = held_at-high r (first_place r + i) x holds at in
-    let it = passed.told (first_place r + i) x (omega arith) at y in
-    let before : it.last < c.cursor.place = passed.before it.last it.is in
-    absurd (none it.last (omega (arith, it.from)) (omega arith) it.is))
+    let before : first_place r + i < c.cursor.ended = passed.told (first_place r + i) x (omega arith) at y in
+    absurd (omega (arith, before, low)))
     (λ n. n)))
 
-pub end-none : (r : RingValue) (next : ℕ) (c : Choice) → IsRing r → c.cursor.after_end ≡ None
-    → HasPassed r next c c.cursor → c.cursor.place ≡ r.pushes → false ≡ list_any (is_after_end c.action) r.held
-end-none r next c holds is passed all =
-    none-after r next c holds passed all (λ place low high e. absurd (let t : None ≡ Some place = sym is ∙ e in cc))
+-- The last that does is held, where it is not before the oldest.
+pub end-held : (r : RingValue) (next : ℕ) (c : Choice) → IsRing r → first_place r < c.cursor.ended
+    → HasPassed r next c c.cursor → true ≡ list_any (is_after_end c.action) r.held
+end-held r next c holds high passed =
+    let place : ℕ = c.cursor.ended - 1 in
+    let low : first_place r ≤ place = omega (arith, high) in
+    let under : place < r.pushes = omega (arith, high, passed.before, passed.within) in
+    let next_one : c.cursor.ended ≡ place + 1 = omega (arith, high) in
+    any-here r place (is_after_end c.action) holds low under (λ y at. sym (passed.after place y next_one at))
 
-pub end-gone : (r : RingValue) (next : ℕ) (c : Choice) (place : ℕ) → IsRing r → c.cursor.after_end ≡ Some place
-    → None ≡ held_at r place → HasPassed r next c c.cursor → c.cursor.place ≡ r.pushes
+-- Whether it is held.
+pub end-past : (r : RingValue) (next : ℕ) (c : Choice) (oldest : ℕ) → IsRing r → Some oldest ≡ oldest_place r
+    → HasPassed r next c c.cursor → c.cursor.place ≡ r.pushes
+    → nat_lt oldest c.cursor.ended ≡ list_any (is_after_end c.action) r.held
+end-past r next c oldest holds is passed all =
+    let first : oldest ≡ first_place r = oldest-first r oldest is in
+    both (nat_lt oldest c.cursor.ended)
+    (λ y. let high : first_place r < c.cursor.ended = grind (arith, nat_tests) in
+    y ∙ end-held r next c holds high passed)
+    (λ n. let low : c.cursor.ended ≤ first_place r = grind (arith, nat_tests) in
+    n ∙ end-none r next c holds low passed all)
+
+-- Nothing starts after the end in a ring that holds nothing.
+pub end-nothing : (r : RingValue) (c : Choice) → None ≡ oldest_place r
     → false ≡ list_any (is_after_end c.action) r.held
-end-gone r next c place holds is gone_ passed all = none-after r next c holds passed all (λ p low high e.
-    let same : place ≡ p = (let t : Some place ≡ Some p = sym is ∙ e in cc) in
-    let x = there-at r p low high in
-    absurd (let t : None ≡ Some (x.0) = gone_ ∙ ap (held_at r) same ∙ x.1 in cc))
-
-pub end-held : (r : RingValue) (next : ℕ) (c : Choice) (place : ℕ) (x : Held) → IsRing r
-    → c.cursor.after_end ≡ Some place → Some x ≡ held_at r place → HasPassed r next c c.cursor
-    → true ≡ list_any (is_after_end c.action) r.held
-end-held r next c place x holds is there passed =
-    let low : first_place r ≤ place = (held_at-low r place x (sym there)).0 in
-    let high : place < r.pushes = held_at-high r place x holds (sym there) in
-    any-here r place (is_after_end c.action) holds low high (λ y at. sym (passed.after place y is at))
-
--- Whether the place of the last one is held.
-pub end-past : (r : RingValue) (next : ℕ) (c : Choice) (place : ℕ) (answer : Bool) → IsRing r
-    → c.cursor.after_end ≡ Some place → answer ≡ is_some (held_at r place) → HasPassed r next c c.cursor
-    → c.cursor.place ≡ r.pushes → answer ≡ list_any (is_after_end c.action) r.held
-end-past r next c place answer holds is says passed all = by (held_at r place) refl
+end-nothing r c none = by r.held (holds-nothing r none)
   where
-    by : (got : Option Held) → got ≡ held_at r place → answer ≡ list_any (is_after_end c.action) r.held
-    by None got = says ∙ ap is_some (sym got) ∙ end-gone r next c place holds is got passed all
-    by (Some x) got = says ∙ ap is_some (sym got) ∙ end-held r next c place x holds is got passed
+    by : (xs : List Held) → length xs ≡ 0 → false ≡ list_any (is_after_end c.action) xs
+    by [] e = refl
+    by (x ∷ xs) e = absurd (omega (arith, e))

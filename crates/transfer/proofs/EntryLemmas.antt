@@ -5,7 +5,7 @@ use Rattle.station_ring.specs.Rings.{RingValue}
 use Rattle.held_records.specs.Rings.{RingsValue}
 use Rattle.session_state.specs.declared.choices.Action.{Action}
 use Rattle.session_state.specs.declared.choices.Entry.{Entry}
-use Rattle.session_state.specs.NamedValues.{Choice, entry_of}
+use Rattle.session_state.specs.NamedValues.{Choice, entry_of, ahead_of}
 use Rattle.transfer.specs.Cursors.{HasLooked, PassedIn, RestsIn}
 use Rattle.transfer.specs.Firsts.{is_unsent}
 use Rattle.transfer.proofs.FirstsLemmas.{fresh-rests}
@@ -59,23 +59,23 @@ item-is (x ∷ cs) (suc i) c e = item-is cs i c e
 
 -- What a fresh entry tells of its station.
 pub fresh-entry : (rings : RingsValue) (next : ℕ) (c : Choice) (r : RingValue) (e : Entry) → entry_of c ≡ e
-    → slice_get rings.rings e.place ≡ Some r → e.cursor.seen ≡ r.pushes → is_unsent next e.cursor.ahead ≡ true
+    → slice_get rings.rings e.place ≡ Some r → e.cursor.seen ≡ r.pushes → is_unsent next (ahead_of e.cursor) ≡ true
     → PassedIn rings next c → RestsIn rings next c
 fresh-entry rings next c r e same =
     subst (λ (y : Entry). slice_get rings.rings y.place ≡ Some r → y.cursor.seen ≡ r.pushes
-    → is_unsent next y.cursor.ahead ≡ true → PassedIn rings next c → RestsIn rings next c) same
+    → is_unsent next (ahead_of y.cursor) ≡ true → PassedIn rings next c → RestsIn rings next c) same
     (fresh-rests rings next c r)
 
 -- A request that looked at its ring, and whose record ahead was not sent, rests.
 pub looked-rests : (rings : RingsValue) (next : ℕ) (c : Choice) (e : Entry) → entry_of c ≡ e
-    → is_unsent next e.cursor.ahead ≡ true → HasLooked rings c → PassedIn rings next c → RestsIn rings next c
+    → is_unsent next (ahead_of e.cursor) ≡ true → HasLooked rings c → PassedIn rings next c → RestsIn rings next c
 looked-rests rings next c e same unsent looked passed = by_action c.action refl
   where
     by_ring : (a : Action) (o : Option RingValue) → c.action ≡ Some a → slice_get rings.rings c.place ≡ o
         → RestsIn rings next c
     by_ring a None asked there = rests-nowhere rings next c there (looked.nowhere there)
     by_ring a (Some r) asked there = fresh-rests rings next c r there (looked.seen r a there asked)
-        (subst (λ (y : Entry). is_unsent next y.cursor.ahead ≡ true) (sym same) unsent) passed
+        (subst (λ (y : Entry). is_unsent next (ahead_of y.cursor) ≡ true) (sym same) unsent) passed
 
     by_action : (o : Option Action) → c.action ≡ o → RestsIn rings next c
     by_action None none = rests-nothing rings next c none (passed.quiet none)

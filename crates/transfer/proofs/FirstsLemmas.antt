@@ -11,7 +11,7 @@ use Rattle.station_ring.specs.Rings.{RingValue, held_at}
 use Rattle.held_records.specs.Rings.{RingsValue, holdings_of}
 use Rattle.held_records.proofs.HistoryLemmas.{walk_all}
 use Rattle.session_state.specs.declared.choices.Action.{Action}
-use Rattle.session_state.specs.NamedValues.{Choice}
+use Rattle.session_state.specs.NamedValues.{Choice, ahead_of}
 use Rattle.session_state.specs.Choices.{request_in}
 use Rattle.transfer.specs.declared.choosing.First.{First}
 use Rattle.transfer.specs.Choosing.{comes_before}
@@ -38,7 +38,7 @@ pub record AheadIn (rings : RingsValue) (q : ℕ) (c : Choice) (stamp : ℕ) : T
   pub is : item.stamp ≡ stamp
 
 pub where-ahead : (rings : RingsValue) (q : ℕ) (c : Choice) (stamp : ℕ) → RestsIn rings q c
-    → c.cursor.ahead ≡ Some stamp → AheadIn rings q c stamp
+    → ahead_of c.cursor ≡ Some stamp → AheadIn rings q c stamp
 where-ahead rings q c stamp rests told = by_action c.action refl
   where
     by_item : (r : RingValue) (at : slice_get rings.rings c.place ≡ Some r) (rest : RestsAt r q c c.cursor)
@@ -62,7 +62,7 @@ where-ahead rings q c stamp rests told = by_action c.action refl
 
 -- The record at the cursor is the first that the request wants.
 ahead-is : (r : RingValue) (q : ℕ) (c : Choice) → RestsAt r q c c.cursor
-    → c.cursor.ahead ≡ option_map (λ x. x.stamp) (find (wants_held c q) r.held)
+    → ahead_of c.cursor ≡ option_map (λ x. x.stamp) (find (wants_held c q) r.held)
 ahead-is r q c rest = rest.ahead ∙ by (held_at r c.cursor.place) refl
   where
     by : (o : Option Held) → held_at r c.cursor.place ≡ o
@@ -71,26 +71,26 @@ ahead-is r q c rest = rest.ahead ∙ by (held_at r c.cursor.place) refl
     by (Some x) held = cursor-some r q c c.cursor x rest (sym held)
 
 comes : (rings : RingsValue) (c : Choice) (q : ℕ) → RestsIn rings q c → (config : Config) (h : List Arrival)
-    → rings ≡ holdings_of config h → c.cursor.ahead ≡ next h (filter_map (request_in config) (c ∷ [])) q
+    → rings ≡ holdings_of config h → ahead_of c.cursor ≡ next h (filter_map (request_in config) (c ∷ [])) q
 comes rings c q rests config h holds = by (is_some c.action) refl
   where
     there : is_some c.action ≡ true → (a : Action) → c.action ≡ Some a → (o : Option RingValue)
-        → slice_get rings.rings c.place ≡ o → c.cursor.ahead ≡ next h (filter_map (request_in config) (c ∷ [])) q
+        → slice_get rings.rings c.place ≡ o → ahead_of c.cursor ≡ next h (filter_map (request_in config) (c ∷ [])) q
     there some a asked None none = rests.nowhere none ∙ nowhere-comes walk_all config c h rings q some holds none
     there some a asked (Some r) at = ahead-is r q c (rests.rests r a at asked)
         ∙ first-comes walk_all config c h rings r q some holds at
 
-    by : (b : Bool) → is_some c.action ≡ b → c.cursor.ahead ≡ next h (filter_map (request_in config) (c ∷ [])) q
+    by : (b : Bool) → is_some c.action ≡ b → ahead_of c.cursor ≡ next h (filter_map (request_in config) (c ∷ [])) q
     by false none = rests.quiet (asked-none c.action none) ∙ nothing-asked config c h q none
     by true some = let asked = asked-some c.action some in there some asked.0 asked.1
         (slice_get rings.rings c.place) refl
 
-late : (rings : RingsValue) (c : Choice) (q stamp : ℕ) → RestsIn rings q c → c.cursor.ahead ≡ Some stamp → q ≤ stamp
+late : (rings : RingsValue) (c : Choice) (q stamp : ℕ) → RestsIn rings q c → ahead_of c.cursor ≡ Some stamp → q ≤ stamp
 late rings c q stamp rests told =
     let w = where-ahead rings q c stamp rests told in
     subst (λ n. q ≤ n) w.is (cursor-late w.ring q c c.cursor w.item w.rests (sym w.held))
 
-nothing : (rings : RingsValue) (c : Choice) (q : ℕ) → RestsIn rings q c → c.cursor.ahead ≡ None → HasNothing rings q c
+nothing : (rings : RingsValue) (c : Choice) (q : ℕ) → RestsIn rings q c → ahead_of c.cursor ≡ None → HasNothing rings q c
 nothing rings c q rests none = by_action c.action refl
   where
     by_item : (r : RingValue) → slice_get rings.rings c.place ≡ Some r → RestsAt r q c c.cursor → (o : Option Held)
@@ -123,7 +123,7 @@ leads-none rings choices = record {
 
 -- One request more has nothing ahead, a record that came first, or one that came later.
 leads-same : (rings : RingsValue) (choices : List Choice) (i : ℕ) (c : Choice) (best : Option First)
-    → i < length choices → c ≡ get_or choices i c → c.cursor.ahead ≡ None → LeadsSoFar rings choices i best
+    → i < length choices → c ≡ get_or choices i c → ahead_of c.cursor ≡ None → LeadsSoFar rings choices i best
     → LeadsSoFar rings choices (i + 1) best
 leads-same rings choices i c best low is none so_far =
     let at : slice_get choices i ≡ Some c = choice-at choices i c low is in
@@ -142,7 +142,7 @@ leads-same rings choices i c best low is none so_far =
     }
 
 leads-first : (rings : RingsValue) (choices : List Choice) (i : ℕ) (c : Choice) (best : Option First) (stamp : ℕ)
-    → i < length choices → c ≡ get_or choices i c → c.cursor.ahead ≡ Some stamp
+    → i < length choices → c ≡ get_or choices i c → ahead_of c.cursor ≡ Some stamp
     → comes_before (option_map (λ x. x.stamp) best) stamp ≡ true → LeadsSoFar rings choices i best
     → LeadsSoFar rings choices (i + 1) (Some (record { index = i; stamp = stamp }))
 leads-first rings choices i c best stamp low is told first so_far =
@@ -158,7 +158,7 @@ leads-first rings choices i c best stamp low is told first so_far =
     }
 
 leads-second : (rings : RingsValue) (choices : List Choice) (i : ℕ) (c : Choice) (best : Option First) (stamp : ℕ)
-    → i < length choices → c ≡ get_or choices i c → c.cursor.ahead ≡ Some stamp
+    → i < length choices → c ≡ get_or choices i c → ahead_of c.cursor ≡ Some stamp
     → comes_before (option_map (λ x. x.stamp) best) stamp ≡ false → LeadsSoFar rings choices i best
     → LeadsSoFar rings choices (i + 1) best
 leads-second rings choices i c best stamp low is told second so_far =
@@ -178,10 +178,10 @@ leads-second rings choices i c best stamp low is told second so_far =
 -- One request more.
 pub leads-more : (rings : RingsValue) (choices : List Choice) (i : ℕ) (c : Choice) (best : Option First)
     → i < length choices → c ≡ get_or choices i c → LeadsSoFar rings choices i best
-    → LeadsSoFar rings choices (i + 1) (earlier best i c.cursor.ahead)
-leads-more rings choices i c best low is so_far = by c.cursor.ahead refl
+    → LeadsSoFar rings choices (i + 1) (earlier best i (ahead_of c.cursor))
+leads-more rings choices i c best low is so_far = by (ahead_of c.cursor) refl
   where
-    by : (o : Option ℕ) → c.cursor.ahead ≡ o → LeadsSoFar rings choices (i + 1) (earlier best i o)
+    by : (o : Option ℕ) → ahead_of c.cursor ≡ o → LeadsSoFar rings choices (i + 1) (earlier best i o)
     by None none = leads-same rings choices i c best low is none so_far
     by (Some stamp) told = both (comes_before (option_map (λ x. x.stamp) best) stamp)
         (λ y. rw y (leads-first rings choices i c best stamp low is told y so_far))
@@ -196,7 +196,7 @@ pub told-ahead : (rings : RingsValue) (choices : List Choice) (i stamp q : ℕ) 
 told-ahead rings choices i stamp q c rests ahead is =
     let here : slice_get choices i ≡ Some c = choice-at choices i c (ahead-within choices i stamp ahead) is in
     let same : ahead.choice ≡ c = (let t : Some ahead.choice ≡ Some c = sym ahead.at ∙ here in cc) in
-    where-ahead rings q c stamp (rests i c here) (subst (λ (x : Choice). x.cursor.ahead ≡ Some stamp) same ahead.ahead)
+    where-ahead rings q c stamp (rests i c here) (subst (λ (x : Choice). (ahead_of x.cursor) ≡ Some stamp) same ahead.ahead)
 
 -- What is found in the ring is the record that the cursor tells of.
 pub ahead-ring : (rings : RingsValue) (q : ℕ) (c : Choice) (stamp : ℕ) (r : RingValue) → AheadIn rings q c stamp
@@ -216,7 +216,7 @@ unsent-late next (Some a) stamp e told =
     omega arith
 
 pub fresh-rests : (rings : RingsValue) (next : ℕ) (c : Choice) (r : RingValue) → slice_get rings.rings c.place ≡ Some r
-    → c.cursor.seen ≡ r.pushes → is_unsent next c.cursor.ahead ≡ true → PassedIn rings next c → RestsIn rings next c
+    → c.cursor.seen ≡ r.pushes → is_unsent next (ahead_of c.cursor) ≡ true → PassedIn rings next c → RestsIn rings next c
 fresh-rests rings next c r there same unsent passed = record {
   rests = λ x action at asked.
       let ring : r ≡ x = same-ring r x (slice_get rings.rings c.place) there at in
@@ -228,7 +228,7 @@ fresh-rests rings next c r there same unsent passed = record {
         low = fresh.low;
         wanted =
             λ y held. fresh.wanted y held
-            (unsent-late next c.cursor.ahead y.stamp unsent
+            (unsent-late next (ahead_of c.cursor) y.stamp unsent
             (fresh.ahead ∙ ap (option_map (λ (z : Held). z.stamp)) held));
         seen = seen;
         ahead = fresh.ahead;

@@ -169,7 +169,7 @@ grown-one before after next c grow passed = record {
               (was.grows.held place x (omega (arith, old.within)) held) after_end;
           before = old.before;
           after = λ place x e held. old.after place x e
-              (was.grows.held place x (let low = old.before place e in omega (arith, old.within)) held);
+              (was.grows.held place x (omega (arith, e, old.before, old.within)) held);
         };
         seen = omega (arith, seen.seen, was.grows.pushes);
         fresh = λ e.

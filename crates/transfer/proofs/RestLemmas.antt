@@ -8,7 +8,7 @@ use Rattle.protocol.proofs.FoundLemmas.{both}
 use Rattle.station_ring.specs.Rings.{RingValue}
 use Rattle.held_records.specs.Rings.{RingsValue}
 use Rattle.session_state.specs.declared.choices.Action.{Action}
-use Rattle.session_state.specs.NamedValues.{Choice}
+use Rattle.session_state.specs.NamedValues.{Choice, ahead_of}
 use Rattle.session_state.specs.declared.choices.Cursor.{Cursor}
 use Rattle.session_state.specs.Choices.{chosen_of}
 use Rattle.session_state.specs.Sessions.{SessionValue, but_for_cursors}
@@ -46,7 +46,7 @@ rests-moved r next c k rests = record {
   holding = rests.holding;
 }
 
-pub rests-nothing : (rings : RingsValue) (next : ℕ) (c : Choice) → c.action ≡ None → c.cursor.ahead ≡ None
+pub rests-nothing : (rings : RingsValue) (next : ℕ) (c : Choice) → c.action ≡ None → ahead_of c.cursor ≡ None
     → RestsIn rings next c
 rests-nothing rings next c none quiet = record {
   rests = λ x action at asked. absurd (let t : None ≡ Some action = sym none ∙ asked in cc);
@@ -55,7 +55,7 @@ rests-nothing rings next c none quiet = record {
 }
 
 pub rests-nowhere : (rings : RingsValue) (next : ℕ) (c : Choice) → slice_get rings.rings c.place ≡ None
-    → c.cursor.ahead ≡ None → RestsIn rings next c
+    → ahead_of c.cursor ≡ None → RestsIn rings next c
 rests-nowhere rings next c none quiet = record {
   rests = λ x action at asked. absurd (let t : None ≡ Some x = sym none ∙ at in cc);
   quiet = λ e. quiet;

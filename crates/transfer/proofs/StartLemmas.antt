@@ -13,7 +13,7 @@ use Rattle.station_ring.proofs.GrowthLemmas.{held_at-low}
 use Rattle.held_records.specs.Rings.{RingsValue, IsBehind, IsBefore}
 use Rattle.session_state.specs.declared.choices.Action.{Action}
 use Rattle.session_state.specs.declared.choices.Action.TheVariants.{Data, Fetch, Time}
-use Rattle.session_state.specs.NamedValues.{Choice}
+use Rattle.session_state.specs.NamedValues.{Choice, ahead_of}
 use Rattle.session_state.specs.declared.choices.Cursor.{Cursor}
 use Rattle.session_state.specs.NamedValues.{ModeValue}
 use Rattle.session_state.specs.NamedValues.ModeValue.{Uni, Multi}
@@ -41,13 +41,13 @@ pub begins-moved : (rings : RingsValue) (c : Choice) (k : Cursor) → BeginsIn r
     → BeginsIn rings (record c { cursor = k })
 begins-moved rings c k begins = record { before = begins.before }
 
-pub starts-nothing : (rings : RingsValue) (c : Choice) → c.action ≡ None → c.cursor.ahead ≡ None → StartsIn rings c
+pub starts-nothing : (rings : RingsValue) (c : Choice) → c.action ≡ None → ahead_of c.cursor ≡ None → StartsIn rings c
 starts-nothing rings c none quiet = record {
   starts = λ x action at asked. absurd (let t : None ≡ Some action = sym none ∙ asked in cc);
   quiet = λ e. quiet;
 }
 
-pub starts-nowhere : (rings : RingsValue) (c : Choice) → slice_get rings.rings c.place ≡ None → c.cursor.ahead ≡ None
+pub starts-nowhere : (rings : RingsValue) (c : Choice) → slice_get rings.rings c.place ≡ None → ahead_of c.cursor ≡ None
     → StartsIn rings c
 starts-nowhere rings c none quiet = record {
   starts = λ x action at asked. absurd (let t : None ≡ Some x = sym none ∙ at in cc);
@@ -87,8 +87,8 @@ begin-passed r a next c asked before begins = record {
   told = λ place x low there after. absurd (
       let t : true ≡ false = sym after ∙ ap (λ o. is_after_end o x) asked
       ∙ none-after-end r a place x (omega (arith, begins.place)) there in cc);
-  before = λ place e. absurd (let t : None ≡ Some place = sym begins.after_end ∙ e in cc);
-  after = λ place x e there. absurd (let t : None ≡ Some place = sym begins.after_end ∙ e in cc);
+  before = omega (arith, begins.unended);
+  after = λ place x e there. absurd (omega (arith, begins.unended, e));
 }
 
 -- No record was looked at yet.

@@ -1,13 +1,13 @@
 -- How far the requests of a transfer have come in the rings of their stations. A cursor is a place before which a
 -- request wants nothing more. SeedLink 3, DATA, FETCH and TIME. Left out: how a cursor is moved.
-use Rattle.std.specs.Prelude.{◌≡◌, ℕ, ◌<◌, ◌≤◌, Bool, true, false, int_lt, if◌then◌else◌, is_some, List, [], ◌∷◌}
+use Rattle.std.specs.Prelude.{◌≡◌, ℕ, ◌+◌, ◌<◌, ◌≤◌, Bool, true, false, int_lt, if◌then◌else◌, is_some, List, [], ◌∷◌}
 use Rattle.std.specs.Prelude.{Option, Some, None, option_map, slice_get}
 use Rattle.station_ring.specs.declared.held.Held.{Held}
 use Rattle.station_ring.specs.Rings.{RingValue, IsRing, first_place, held_at}
 use Rattle.held_records.specs.Rings.{RingsValue, IsBefore, place_from}
 use Rattle.session_state.specs.declared.choices.Action.{Action}
 use Rattle.session_state.specs.declared.choices.Action.TheVariants.{Data, Fetch, Time}
-use Rattle.session_state.specs.NamedValues.{Choice}
+use Rattle.session_state.specs.NamedValues.{Choice, ahead_of}
 use Rattle.session_state.specs.declared.choices.Cursor.{Cursor}
 use Rattle.session_state.specs.declared.choices.Entry.{Entry}
 use Rattle.session_state.specs.NamedValues.{ModeValue}
@@ -43,34 +43,28 @@ pub record BeginsIn (rings : RingsValue) (c : Choice) : Type 0 where
 -- The cursor of a request is at the place at which it begins.
 pub record IsAtBegin (r : RingValue) (action : Action) (cursor : Cursor) : Type 0 where
   pub place : cursor.place ≡ begin_place r action
-  pub after_end : cursor.after_end ≡ None
+  pub unended : cursor.ended ≡ 0
   pub within : cursor.place ≤ r.pushes
   pub unseen : cursor.seen ≡ 0
-  pub none : cursor.ahead ≡ None
+  pub none : ahead_of cursor ≡ None
   pub holding : IsRing r
 
 pub record StartsIn (rings : RingsValue) (c : Choice) : Type 0 where
   pub starts : (r : RingValue) (action : Action) → slice_get rings.rings c.place ≡ Some r → c.action ≡ Some action
       → IsAtBegin r action c.cursor
-  pub quiet : c.action ≡ None → c.cursor.ahead ≡ None
+  pub quiet : c.action ≡ None → ahead_of c.cursor ≡ None
 
 -- ---- what a request has passed
 
--- A record that starts after the end was passed at this place or a later one, and the cursor tells the last of them.
-pub record IsTold (cursor : Cursor) (place : ℕ) : Type 0 where
-  pub last : ℕ
-  pub is : cursor.after_end ≡ Some last
-  pub from : place ≤ last
-
--- No record that the ring holds before the cursor is wanted, of those from position `next` on; and the cursor tells the
--- last place before it whose record starts after the end of TIME.
+-- No record that the ring holds before the cursor is wanted, of those from position `next` on. And all those before it
+-- that start after the end of TIME lie before the place that the cursor tells, the last of them just before it.
 pub record HasPassed (r : RingValue) (next : ℕ) (c : Choice) (cursor : Cursor) : Type 0 where
   pub within : cursor.place ≤ r.pushes
   pub unwanted : (place : ℕ) (x : Held) → place < cursor.place → held_at r place ≡ Some x → wants_held c next x ≡ false
   pub told : (place : ℕ) (x : Held) → place < cursor.place → held_at r place ≡ Some x → is_after_end c.action x ≡ true
-      → IsTold cursor place
-  pub before : (place : ℕ) → cursor.after_end ≡ Some place → place < cursor.place
-  pub after : (place : ℕ) (x : Held) → cursor.after_end ≡ Some place → held_at r place ≡ Some x
+      → place < cursor.ended
+  pub before : cursor.ended ≤ cursor.place
+  pub after : (place : ℕ) (x : Held) → cursor.ended ≡ place + 1 → held_at r place ≡ Some x
       → is_after_end c.action x ≡ true
 
 -- Besides, the cursor is not before the oldest record, and the request wants the record at the cursor, where one is
@@ -80,7 +74,7 @@ pub record RestsAt (r : RingValue) (next : ℕ) (c : Choice) (cursor : Cursor) :
   pub low : first_place r ≤ cursor.place
   pub wanted : (x : Held) → held_at r cursor.place ≡ Some x → wants_held c next x ≡ true
   pub seen : cursor.seen ≡ r.pushes
-  pub ahead : cursor.ahead ≡ option_map (λ x. x.stamp) (held_at r cursor.place)
+  pub ahead : ahead_of cursor ≡ option_map (λ x. x.stamp) (held_at r cursor.place)
   pub holding : IsRing r
 
 -- So it was when the ring was last looked at, but for records that were sent since: from position `next` on more may be
@@ -88,7 +82,7 @@ pub record RestsAt (r : RingValue) (next : ℕ) (c : Choice) (cursor : Cursor) :
 pub record RestedAt (r : RingValue) (next : ℕ) (c : Choice) (cursor : Cursor) : Type 0 where
   pub low : first_place r ≤ cursor.place
   pub wanted : (x : Held) → held_at r cursor.place ≡ Some x → next ≤ x.stamp → wants_held c next x ≡ true
-  pub ahead : cursor.ahead ≡ option_map (λ x. x.stamp) (held_at r cursor.place)
+  pub ahead : ahead_of cursor ≡ option_map (λ x. x.stamp) (held_at r cursor.place)
   pub holding : IsRing r
 
 -- What a request has passed in its ring, and what is known of the record at its cursor while nothing was pushed since.
@@ -101,13 +95,13 @@ pub record HasSeen (r : RingValue) (next : ℕ) (c : Choice) (cursor : Cursor) :
 pub record PassedIn (rings : RingsValue) (next : ℕ) (c : Choice) : Type 0 where
   pub passed : (r : RingValue) (action : Action) → slice_get rings.rings c.place ≡ Some r → c.action ≡ Some action
       → HasSeen r next c c.cursor
-  pub quiet : c.action ≡ None → c.cursor.ahead ≡ None
+  pub quiet : c.action ≡ None → ahead_of c.cursor ≡ None
 
 pub record RestsIn (rings : RingsValue) (next : ℕ) (c : Choice) : Type 0 where
   pub rests : (r : RingValue) (action : Action) → slice_get rings.rings c.place ≡ Some r → c.action ≡ Some action
       → RestsAt r next c c.cursor
-  pub quiet : c.action ≡ None → c.cursor.ahead ≡ None
-  pub nowhere : slice_get rings.rings c.place ≡ None → c.cursor.ahead ≡ None
+  pub quiet : c.action ≡ None → ahead_of c.cursor ≡ None
+  pub nowhere : slice_get rings.rings c.place ≡ None → ahead_of c.cursor ≡ None
 
 -- All records of the station were passed.
 pub record IsReached (rings : RingsValue) (c : Choice) : Type 0 where
@@ -124,7 +118,7 @@ OfAll P cs = (i : ℕ) (c : Choice) → slice_get cs i ≡ Some c → P c
 pub record HasLooked (rings : RingsValue) (c : Choice) : Type 0 where
   pub seen : (r : RingValue) (action : Action) → slice_get rings.rings c.place ≡ Some r → c.action ≡ Some action
       → c.cursor.seen ≡ r.pushes
-  pub nowhere : slice_get rings.rings c.place ≡ None → c.cursor.ahead ≡ None
+  pub nowhere : slice_get rings.rings c.place ≡ None → ahead_of c.cursor ≡ None
 
 -- What a session keeps of its last look is true: no more records had arrived then than now, and if as many had,
 -- nothing was pushed to a ring since.

@@ -5,7 +5,7 @@ use Rattle.std.specs.Prelude.{filter_map, slice_get, Option, Some, None, IfSome,
 use Rattle.protocol.specs.Catalog.{Config}
 use Rattle.protocol.specs.History.{Arrival, next}
 use Rattle.held_records.specs.Rings.{RingsValue, holdings_of}
-use Rattle.session_state.specs.NamedValues.{Choice}
+use Rattle.session_state.specs.NamedValues.{Choice, ahead_of}
 use Rattle.session_state.specs.Choices.{request_in}
 use Rattle.transfer.specs.declared.choosing.First.{First}
 use Rattle.transfer.specs.declared.choosing.Overview.{Overview}
@@ -29,7 +29,7 @@ earlier best index (Some stamp) =
 pub record IsAhead (choices : List Choice) (index stamp : ℕ) : Type 0 where
   pub choice : Choice
   pub at : slice_get choices index ≡ Some choice
-  pub ahead : choice.cursor.ahead ≡ Some stamp
+  pub ahead : ahead_of choice.cursor ≡ Some stamp
 
 -- What was found so far, where all requests rest: the position that comes next for so many, which is late enough, and
 -- is there unless all those have passed all.
@@ -45,7 +45,7 @@ pub record LeadsSoFar (rings : RingsValue) (choices : List Choice) (i : ℕ) (be
 -- the first of what these requests are to send, of which the first has that index, and of what was found before
 abbrev pub best_after : Option First → (index : ℕ) → List Choice → Option First
 best_after best index [] = best
-best_after best index (c ∷ cs) = best_after (earlier best index c.cursor.ahead) (index + 1) cs
+best_after best index (c ∷ cs) = best_after (earlier best index (ahead_of c.cursor)) (index + 1) cs
 
 -- the same of all requests
 abbrev pub best_of : List Choice → Option First

@@ -55,7 +55,7 @@ fn is_fresh(entry: &Entry, rings: &Rings, next: u64) -> bool
         → RestsIn rings.now next c }
 {
     match rings.ring(entry.place) {
-        Some(ring) if entry.cursor.seen == ring.pushes() => is_unsent(entry.cursor.ahead, next),
+        Some(ring) if entry.cursor.seen == ring.pushes() => is_unsent(entry.cursor.ahead(), next),
         Some(_ring) => entry.action.is_none(),
         None => false,
     }
@@ -126,7 +126,7 @@ fn look(entries: &[Entry], rings: &Rings, next: u64, from: usize, before: Option
         if !is_fresh(entry, rings, next) {
             return Overview::Stale(index, best);
         }
-        best = earlier(best, index, entry.cursor.ahead);
+        best = earlier(best, index, entry.cursor.ahead());
     }
     Overview::Fresh(best)
 }
@@ -141,7 +141,7 @@ fn glance_on(entries: &[Entry], next: u64, from: usize, first: First) -> Overvie
     let mut best = first;
     for index in from..entries.len() {
         let entry = &entries[index];
-        if let Some(stamp) = entry.cursor.ahead {
+        if let Some(stamp) = entry.cursor.ahead() {
             if stamp < next {
                 return Overview::Stale(index, Some(best));
             }
@@ -160,7 +160,7 @@ fn glance(entries: &[Entry], next: u64) -> Overview
 {
     for index in 0..entries.len() {
         let entry = &entries[index];
-        if let Some(stamp) = entry.cursor.ahead {
+        if let Some(stamp) = entry.cursor.ahead() {
             if stamp < next {
                 return Overview::Stale(index, None);
             }
@@ -205,7 +205,7 @@ fn rest_all(session: &mut Session, rings: &Rings, next: u64) -> Option<First>
             Overview::Stale(index, before) => {
                 let cursor = cursor_of(session, index, rings, next);
                 session.pass(index, cursor);
-                best = earlier(before, index, cursor.ahead);
+                best = earlier(before, index, cursor.ahead());
                 from = index + 1;
             }
         }
@@ -266,7 +266,7 @@ fn is_over(entry: &Entry, rings: &Rings) -> bool
         → (config : ProtocolConfig) (h : List Arrival) → rings.now ≡ holdings_of config h →
         result ≡ is_over_of h (station_at config.entries c.place) c.action }
 {
-    match entry.action {
+    match entry.action.to_option() {
         None => true,
         Some(
             Action::Data {

@@ -114,9 +114,9 @@ fn begin_in(ring: &Ring, action: Action) -> Cursor
     ring.holds_its_last();
     Cursor {
         place: begin_place(ring, action),
-        after_end: None,
+        ended: 0,
         seen: 0,
-        ahead: None,
+        stamp: 0,
     }
 }
 
@@ -124,7 +124,7 @@ fn begin_in(ring: &Ring, action: Action) -> Cursor
 fn cursor_of(entry: &Entry, rings: &Rings) -> Cursor
     ensures { (c : Choice) → entry_of c ≡ entry.now → StartsIn rings.now (record c { cursor = result }) }
 {
-    let Some(action) = entry.action else {
+    let Some(action) = entry.action.to_option() else {
         return unasked();
     };
     match rings.ring(entry.place) {
@@ -155,7 +155,7 @@ fn first_of(entry: &Entry, rings: &Rings) -> u64
         → rings.now ≡ holdings_of config h →
         HasFirst config h (record c { first = result }) }
 {
-    match entry.action {
+    match entry.action.to_option() {
         Some(action) => first_wanted(rings, entry.place, action),
         None => entry.first,
     }

@@ -3,7 +3,7 @@ ghost use Rattle.std.specs.Prelude.{◌≡◌, ◌≤◌, ◌<◌, ℕ, find, le
 ghost use Rattle.std.specs.List.{list_any};
 ghost use Rattle.protocol.specs.History.{ends_from, starts_by};
 ghost use Rattle.session_state.specs.Choices.{chosen_of};
-ghost use Rattle.session_state.specs.NamedValues.{Choice, entry_of};
+ghost use Rattle.session_state.specs.NamedValues.{Choice, ahead_of, entry_of};
 ghost use Rattle.station_ring.specs.declared.held.Held.{Held as HeldValue};
 ghost use Rattle.station_ring.specs.Rings.{held_at};
 ghost use Rattle.transfer.specs.Wanting.{facts_of, is_in_window_of, wants_held, HoldsRecord};
@@ -38,7 +38,7 @@ fn starts_by(last: Option<Tick>, summary: &Summary) -> bool
 fn is_in_window(entry: &Entry, summary: &Summary) -> bool
     ensures { result ≡ is_in_window_of entry.now.action (facts_of summary.now) }
 {
-    match entry.action {
+    match entry.action.to_option() {
         None => false,
         Some(
             Action::Data {
@@ -84,7 +84,7 @@ pub struct Candidate {
 fn is_after_end(entry: &Entry, summary: &Summary) -> bool
     ensures { (x : HeldValue) → x.summary ≡ summary.now → result ≡ is_after_end entry.now.action x }
 {
-    match entry.action {
+    match entry.action.to_option() {
         None => false,
         Some(
             Action::Data {
@@ -116,8 +116,8 @@ fn is_after_end(entry: &Entry, summary: &Summary) -> bool
 /// What a request finds at a place of its ring.
 #[derive(Clone, Copy, Debug, PartialEq, Eq)]
 enum Found {
-    /// A record that it wants.
-    Wanted,
+    /// A record that it wants, with its stamp.
+    Wanted(u64),
     /// A record that it doesn't want, and that starts after the end of TIME.
     AfterEnd,
     /// Another record that it doesn't want.
@@ -133,7 +133,7 @@ fn found_at(ring: &Ring, place: u64, session: &Session, i: usize, entry: &Entry,
         return Found::Unwanted;
     };
     if wants(session, i, entry, next, held) {
-        Found::Wanted
+        Found::Wanted(held.stamp)
     } else if is_after_end(entry, &held.summary) {
         Found::AfterEnd
     } else {
@@ -151,68 +151,53 @@ pub fn cursor_in(ring: &Ring, session: &Session, i: usize, next: u64) -> Cursor
     ring.holds_its_last();
     let entry = session.choice(i);
     let Some(oldest) = ring.oldest() else {
-        return at_end(ring, entry.cursor.after_end);
+        return at_end(ring, entry.cursor.ended);
     };
-    let mut after_end = entry.cursor.after_end;
+    let mut ended = entry.cursor.ended;
     let start = entry.cursor.place.max(oldest);
     for place in start..ring.pushes() {
         match found_at(ring, place, session, i, entry, next) {
-            Found::Wanted => return at_record(ring, place, after_end),
-            Found::AfterEnd => after_end = Some(place),
+            Found::Wanted(stamp) => return at_record(ring, place, ended, stamp),
+            Found::AfterEnd => ended = place + 1,
             Found::Unwanted => {}
         }
     }
-    at_end(ring, after_end)
+    at_end(ring, ended)
 }
 
 /// The cursor of a named station that is asked for nothing.
 pub fn unasked() -> Cursor
-    ensures { result.ahead ≡ None }
+    ensures { ahead_of result ≡ None }
 {
     Cursor {
         place: 0,
-        after_end: None,
+        ended: 0,
         seen: 0,
-        ahead: None,
+        stamp: 0,
     }
 }
 
 /// The cursor of a request that has passed all.
-fn at_end(ring: &Ring, after_end: Option<u64>) -> Cursor
-    ensures { result ≡ record { place = ring.now.pushes; after_end = after_end; seen = ring.now.pushes; ahead = None } }
+fn at_end(ring: &Ring, ended: u64) -> Cursor
+    ensures { result ≡ record { place = ring.now.pushes; ended = ended; seen = ring.now.pushes; stamp = 0 } }
 {
     Cursor {
         place: ring.pushes(),
-        after_end,
+        ended,
         seen: ring.pushes(),
-        ahead: None,
+        stamp: 0,
     }
 }
 
-/// The cursor of a request at a place of its ring.
-fn at_record(ring: &Ring, place: u64, after_end: Option<u64>) -> Cursor
-    ensures { result ≡ record {
-      place = place;
-      after_end = after_end;
-      seen = ring.now.pushes;
-      ahead = option_map (λ x. x.stamp) (held_at ring.now place);
-    } }
+/// The cursor of a request at a place of its ring, by the stamp of the record there.
+fn at_record(ring: &Ring, place: u64, ended: u64, stamp: u64) -> Cursor
+    ensures { result ≡ record { place = place; ended = ended; seen = ring.now.pushes; stamp = stamp } }
 {
     Cursor {
         place,
-        after_end,
+        ended,
         seen: ring.pushes(),
-        ahead: stamp_at(ring, place),
-    }
-}
-
-/// The stamp of the record at a place of a ring, where one is held there.
-fn stamp_at(ring: &Ring, place: u64) -> Option<u64>
-    ensures { result ≡ option_map (λ x. x.stamp) (held_at ring.now place) }
-{
-    match ring.get(place) {
-        Some(held) => Some(held.stamp),
-        None => None,
+        stamp,
     }
 }
 
@@ -223,17 +208,8 @@ pub fn has_passed_its_end(ring: &Ring, entry: &Entry) -> bool
         result ≡ list_any (is_after_end c.action) ring.now.held }
 {
     ring.holds_its_last();
-    match entry.cursor.after_end {
-        Some(place) => is_held(ring, place),
-        None => false,
-    }
-}
-
-fn is_held(ring: &Ring, place: u64) -> bool
-    ensures { result ≡ is_some (held_at ring.now place) }
-{
-    match ring.get(place) {
-        Some(_held) => true,
+    match ring.oldest() {
+        Some(oldest) => oldest < entry.cursor.ended,
         None => false,
     }
 }

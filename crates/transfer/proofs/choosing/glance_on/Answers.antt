@@ -16,16 +16,16 @@ loop-index-preserved c = λ cs same before.
     elim c.match-entry.branch [
       | in-Some+else-stamp-next+then-stamp-best w ↦
           glanced-record c.args.next i cs x.choice c.index-entries-index.result (Some best) (Some c.match-entry.best)
-          w.in-Some.stamp x.entry x.there x.within x.item w.in-Some.is w.if-stamp-next.false
+          w.in-Some.stamp x.entry x.there x.within x.item (sym c.ahead.ensures ∙ w.in-Some.is) w.if-stamp-next.false
           (ap Some w.best-is ∙ sym (comes-sooner best i w.in-Some.stamp w.if-stamp-best.true)) so_far
       | in-Some+else-stamp-next+else-stamp-best w ↦
           glanced-record c.args.next i cs x.choice c.index-entries-index.result (Some best) (Some c.match-entry.best)
-          w.in-Some.stamp x.entry x.there x.within x.item w.in-Some.is w.if-stamp-next.false
+          w.in-Some.stamp x.entry x.there x.within x.item (sym c.ahead.ensures ∙ w.in-Some.is) w.if-stamp-next.false
           (ap Some w.best-is ∙ sym (comes-later best i w.in-Some.stamp w.if-stamp-best.false)) so_far
       | in_default w ↦
           subst (λ b. IsGlancedUpTo c.args.next cs (i + 1) (Some b)) (sym w.best-is)
           (glanced-nothing c.args.next i cs x.choice c.index-entries-index.result (Some best)
-          x.entry x.there x.within x.item w.in_default.is so_far)
+          x.entry x.there x.within x.item (sym c.ahead.ensures ∙ w.in_default.is) so_far)
     ]
 
 pub returns : goal.returns

@@ -1,5 +1,6 @@
 use Rattle.std.proofs.Common.{◌≡◌, ◌≤◌, ◌∙◌, ap, length, sym, arith}
 use Rattle.session_state.specs.declared.choices.Entry.{Entry}
+use Rattle.session_state.specs.NamedValues.{ahead_of}
 use Rattle.transfer.specs.Firsts.{earlier}
 use Rattle.transfer.proofs.EntryLemmas.{entry-at, same-length}
 use Rattle.transfer.proofs.BestLemmas.{best-more, best-whole, rest-more}
@@ -16,8 +17,9 @@ loop-index-preserved c = λ cs same.
       rest-more c.args.rings.now c.args.next c.args.from c.loop-index.index cs x.choice x.there
           (c.is_fresh.ensures c.if-not-is_fresh.false x.choice x.entry) so_far.0,
       λ e. c.earlier-best.ensures
-          ∙ ap (λ (y : Entry). earlier c.loop-index.best c.loop-index.index y.cursor.ahead) (sym x.entry)
-          ∙ ap (λ b. earlier b c.loop-index.index x.choice.cursor.ahead) (so_far.1 e)
+          ∙ ap (earlier c.loop-index.best c.loop-index.index) c.ahead.ensures
+          ∙ ap (λ (y : Entry). earlier c.loop-index.best c.loop-index.index (ahead_of y.cursor)) (sym x.entry)
+          ∙ ap (λ b. earlier b c.loop-index.index (ahead_of x.choice.cursor)) (so_far.1 e)
           ∙ sym (best-more cs c.loop-index.index x.choice x.within x.item),
     )
 

@@ -1,5 +1,6 @@
 use Rattle.std.proofs.Common.{◌≡◌, ◌≤◌, ◌<◌, ◌∙◌, ap, arith, length, refl, sym, take}
 use Rattle.session_state.specs.Choices.{chosen_of}
+use Rattle.session_state.specs.NamedValues.{ahead_of}
 use Rattle.transfer.specs.Firsts.{best_of, earlier}
 use Rattle.transfer.proofs.BestLemmas.{best-leads, best-more, best-whole, moves-between, take-alike}
 use Rattle.transfer.proofs.EntryLemmas.{choice-there, item-is, same-length}
@@ -70,7 +71,8 @@ loop-i-preserved c =
           (λ all. c.cursor_of-cursor.ensures x.0 x.1 (all index x.0 (sym (moves.rest index (omega arith)) ∙ x.1)))
           moves,
       c.earlier-best.ensures
-          ∙ ap (λ b. earlier b index cursor.ahead) (over.best c.loop-i.invariant.1 ∙ ap best_of (sym alike))
+          ∙ ap (earlier c.in-Stale.before index) c.ahead.ensures
+          ∙ ap (λ b. earlier b index (ahead_of cursor)) (over.best c.loop-i.invariant.1 ∙ ap best_of (sym alike))
           ∙ sym
           (best-more new index (record (x.0) { cursor = cursor }) (omega (arith, within, longer))
           (item-is new index _ (c.pass.ensures.here x.0 x.1))),

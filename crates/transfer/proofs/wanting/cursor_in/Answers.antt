@@ -1,4 +1,4 @@
-use Rattle.std.proofs.Common.{◌≡◌, ◌≤◌, ◌+◌, ℕ, Option, arith, sym, subst}
+use Rattle.std.proofs.Common.{◌≡◌, ◌≤◌, ◌+◌, ℕ, arith, sym, subst}
 use Rattle.station_ring.specs.Rings.{first_place}
 use Rattle.session_state.specs.declared.choices.Entry.{Entry}
 use Rattle.held_records.proofs.PlaceLemmas.{oldest-first}
@@ -14,8 +14,8 @@ returns-in-Wanted c = λ x at passed.
     c.in-Some.ensures in
     let low : first_place c.args.ring.now ≤ c.loop-place.place = omega arith in
     subst (RestsAt c.args.ring.now c.args.next x) (sym c.at_record.ensures)
-    (rests-wanted c.args.ring.now c.args.next x c.loop-place.place c.loop-place.after_end c.found_at.result
-    c.holds_its_last.ensures low (λ y. c.found_at.ensures x y at (sym (c.choice-entry.ensures x at))) c.in-Wanted.is
+    (rests-wanted c.args.ring.now c.args.next x c.loop-place.place c.loop-place.ended c.in-Wanted.stamp c.found_at.result
+    c.holds_its_last.ensures low (omega arith) (λ y. c.found_at.ensures x y at (sym (c.choice-entry.ensures x at))) c.in-Wanted.is
     (c.loop-place.invariant x at passed))
 
 pub returns-in_default : goal.returns-in_default
@@ -27,7 +27,7 @@ returns-in_default c = λ x at passed.
 pub loop-place-init : goal.loop-place-init
 loop-place-init c = λ x at passed.
     let same = c.choice-entry.ensures x at in
-    subst (λ (e : Entry). HasPassed c.args.ring.now c.args.next x (at_place c.max-start.result e.cursor.after_end))
+    subst (λ (e : Entry). HasPassed c.args.ring.now c.args.next x (at_place c.max-start.result e.cursor.ended))
     (sym same)
     (passed-raised c.args.ring.now c.args.next x c.max-start.result c.in-Some.oldest c.holds_its_last.ensures
     c.in-Some.ensures (rw same at c.max-start.ensures) passed)
@@ -36,19 +36,19 @@ pub loop-place-preserved : goal.loop-place-preserved
 loop-place-preserved c = λ x at passed.
     elim c.match-found_at.branch [
       | in-AfterEnd w ↦
-          subst (λ (o : Option ℕ). HasPassed c.args.ring.now c.args.next x (at_place (c.loop-place.place + 1) o))
-          (sym w.after_end-is)
-          (passed-after c.args.ring.now c.args.next x c.loop-place.place c.loop-place.after_end c.found_at.result
+          subst (λ (o : ℕ). HasPassed c.args.ring.now c.args.next x (at_place (c.loop-place.place + 1) o))
+          (sym w.ended-is)
+          (passed-after c.args.ring.now c.args.next x c.loop-place.place c.loop-place.ended c.found_at.result
           (omega arith) (λ y. c.found_at.ensures x y at (sym (c.choice-entry.ensures x at))) w.in-AfterEnd.is (c.loop-place.invariant x at passed))
       | in-Unwanted w ↦
-          subst (λ (o : Option ℕ). HasPassed c.args.ring.now c.args.next x (at_place (c.loop-place.place + 1) o))
-          (sym w.after_end-is)
-          (passed-unwanted c.args.ring.now c.args.next x c.loop-place.place c.loop-place.after_end c.found_at.result
+          subst (λ (o : ℕ). HasPassed c.args.ring.now c.args.next x (at_place (c.loop-place.place + 1) o))
+          (sym w.ended-is)
+          (passed-unwanted c.args.ring.now c.args.next x c.loop-place.place c.loop-place.ended c.found_at.result
           (omega arith) (λ y. c.found_at.ensures x y at (sym (c.choice-entry.ensures x at))) w.in-Unwanted.is (c.loop-place.invariant x at passed))
     ]
 
 pub returns : goal.returns
 returns c = λ x at passed.
     subst (RestsAt c.args.ring.now c.args.next x) (sym c.at_end-2.ensures)
-    (rests-end c.args.ring.now c.args.next x c.loop-place.place c.loop-place.after_end c.holds_its_last.ensures
+    (rests-end c.args.ring.now c.args.next x c.loop-place.place c.loop-place.ended c.holds_its_last.ensures
     (omega arith) (c.loop-place.invariant x at passed))

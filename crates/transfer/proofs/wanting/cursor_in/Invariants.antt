@@ -8,4 +8,4 @@ use Rattle.transfer.proofs.wanting.cursor_in.Given as goal
 -- No record before this place is wanted.
 abbrev pub invariant-loop-place : goal.invariant-loop-place
 invariant-loop-place l = (c : Choice) → slice_get (chosen_of l.session.mode) l.i ≡ Some c
-    → HasPassed l.ring l.next c c.cursor → HasPassed l.ring l.next c (at_place l.place l.after_end)
+    → HasPassed l.ring l.next c c.cursor → HasPassed l.ring l.next c (at_place l.place l.ended)
