@@ -13,13 +13,13 @@ loop-index-preserved c = λ cs same before.
     let x = entry-at cs c.args.entries.now i c.index-entries-index.result same
     (omega (arith, c.loop-index-test.true)) c.index-entries-index.is in
     let so_far = c.loop-index.invariant cs same before in
-    elim c.match-entry.branch [
+    elim c.match-ahead.branch [
       | in-Some+else-stamp-next+then-stamp-best w ↦
-          glanced-record c.args.next i cs x.choice c.index-entries-index.result (Some best) (Some c.match-entry.best)
+          glanced-record c.args.next i cs x.choice c.index-entries-index.result (Some best) (Some c.match-ahead.best)
           w.in-Some.stamp x.entry x.there x.within x.item (sym c.ahead.ensures ∙ w.in-Some.is) w.if-stamp-next.false
           (ap Some w.best-is ∙ sym (comes-sooner best i w.in-Some.stamp w.if-stamp-best.true)) so_far
       | in-Some+else-stamp-next+else-stamp-best w ↦
-          glanced-record c.args.next i cs x.choice c.index-entries-index.result (Some best) (Some c.match-entry.best)
+          glanced-record c.args.next i cs x.choice c.index-entries-index.result (Some best) (Some c.match-ahead.best)
           w.in-Some.stamp x.entry x.there x.within x.item (sym c.ahead.ensures ∙ w.in-Some.is) w.if-stamp-next.false
           (ap Some w.best-is ∙ sym (comes-later best i w.in-Some.stamp w.if-stamp-best.false)) so_far
       | in_default w ↦
