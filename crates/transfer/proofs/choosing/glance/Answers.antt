@@ -17,7 +17,8 @@ loop-index-preserved c = λ cs same.
     let so_far = c.loop-index.invariant cs same in (
       λ rings looked. rest-more rings c.args.next 0 c.loop-index.index cs x.choice x.there
           (looked-rests rings c.args.next x.choice c.index-entries-index.result x.entry
-          (ap (is_unsent c.args.next) (sym c.ahead-ahead.ensures) ∙ sym c.is_unsent.ensures ∙ c.if-not-is_unsent.false) (looked c.loop-index.index x.choice x.there))
+          (ap (is_unsent c.args.next) (sym c.ahead-ahead.ensures) ∙ sym c.is_unsent.ensures
+          ∙ c.if-not-is_unsent.false) (looked c.loop-index.index x.choice x.there))
           (so_far.0 rings looked),
       c.earlier-best.ensures
           ∙ ap (earlier c.loop-index.best c.loop-index.index) c.ahead-ahead.ensures
