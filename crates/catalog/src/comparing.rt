@@ -31,7 +31,7 @@ pub(crate) fn are_seen(
     stations: &[Station],
     global: &Option<AccessList>,
     address: Ipv4Addr,
-    places: &[usize],
+    places: &[u16],
 ) -> bool
     requires { HasDistinctCodes stations.now }
     ensures { result ≡ are_same_stations
@@ -41,7 +41,7 @@ pub(crate) fn are_seen(
     let mut at = 0usize;
     for (place, station) in stations.iter().enumerate() {
         if station.is_open_to(global, address) {
-            if at == places.len() || places[at] != place {
+            if at == places.len() || usize::from(places[at]) != place {
                 return false;
             }
             at += 1;

@@ -16,7 +16,7 @@ use crate::index::Index;
 use crate::listing::stations_of;
 use crate::settings::{access_of, connections_of, title_of};
 use crate::station::{Station, copy_of};
-use crate::view::View;
+use crate::view::{View, see};
 use access_list::AccessList;
 use std::alloc::{AllocError, Global};
 use std::marker::Model;
@@ -51,7 +51,7 @@ impl Model for Config {
     ghost invariant = { λ c.
         (length c.title.items ≤ 100) × (1 ≤ c.max_connections) × (c.max_connections ≤ 10000) ×
         HasDistinctCodes c.stations.items × All HasShortCodes c.stations.items ×
-        Finds c.index.places c.stations.items };
+        Finds c.index.places c.stations.items × (length c.stations.items ≤ 1024) };
 }
 
 /// The table of a configuration's text.
@@ -193,7 +193,7 @@ impl Config {
         let mut places = Vec::new(alloc);
         for (place, station) in self.stations.iter().enumerate() {
             if station.is_open_to(&self.access, address) {
-                places.push(place)?;
+                see(&mut places, place)?;
             }
         }
         Ok(View::of(places))

@@ -1,5 +1,5 @@
 //! The stations that a configuration lists.
-ghost use Rattle.std.specs.Prelude.{◌≡◌, ◌≢◌, ◌≤◌, [], length, map, IfOk, IfErr, Ok, Err, false};
+ghost use Rattle.std.specs.Prelude.{◌≡◌, ◌≢◌, ◌≤◌, [], length, map, IfOk, IfErr, Ok, Err, false, true};
 ghost use Rattle.std.specs.List.{list_all};
 ghost use Rattle.toml.specs.View.{table_view, view};
 ghost use Rattle.catalog.specs.Places.{HasDistinctCodes};
@@ -20,6 +20,7 @@ const STATIONS: usize = 1024;
 pub fn stations_of(alloc: Global, table: &Table) -> Result<Vec<Station>, ConfigFault>
     ensures ok { IfOk result (λ stations. stations_of (table_view table.now) ≡ Ok stations.items) }
     ensures distinct { IfOk result (λ stations. HasDistinctCodes stations.items) }
+    ensures few { IfOk result (λ stations. length stations.items ≤ 1024) }
     ensures fault { IfErr result (λ e. e ≢ ConfigFault.OutOfMemory → stations_of (table_view table.now) ≡ Err e) }
 {
     let values = station_values(table)?;
@@ -30,6 +31,7 @@ pub fn stations_of(alloc: Global, table: &Table) -> Result<Vec<Station>, ConfigF
 #[tactic(auto, using(crate::proofs::ElementLemmas::values_lemmas), unfolding(crate::specs::Reading::station_values))]
 fn station_values(table: &Table) -> Result<&[Value], ConfigFault>
     ensures ok { IfOk result (λ values. station_values (table_view table.now) ≡ Ok (map view values.now)) }
+    ensures few { IfOk result (λ values. length values.now ≤ 1024) }
     ensures fault { IfErr result (λ e. station_values (table_view table.now) ≡ Err e) }
 {
     let values = elements_at(table, "station")?;
@@ -44,7 +46,8 @@ fn station_values(table: &Table) -> Result<&[Value], ConfigFault>
 
 /// Whether there may be so many stations.
 fn is_few(count: usize) -> bool
-    ensures { result ≡ is_few count }
+    ensures value { result ≡ is_few count }
+    ensures limit { result ≡ true → count ≤ 1024 }
 {
     1 <= count && count <= STATIONS
 }
@@ -61,6 +64,7 @@ fn are_tables(values: &[Value]) -> bool
 fn stations_read(alloc: Global, values: &[Value]) -> Result<Vec<Station>, ConfigFault>
     ensures ok { IfOk result (λ stations. stations_read [] (map view values.now) ≡ Ok stations.items) }
     ensures distinct { IfOk result (λ stations. HasDistinctCodes stations.items) }
+    ensures count { IfOk result (λ stations. length stations.items ≡ length values.now) }
     ensures fault { IfErr result (λ e. e ≢ ConfigFault.OutOfMemory → stations_read [] (map view values.now) ≡ Err e) }
 {
     let mut stations = Vec::new(alloc);

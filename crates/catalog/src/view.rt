@@ -1,5 +1,6 @@
 //! What one address sees of a configuration.
-ghost use Rattle.std.specs.Prelude.{◌≡◌, ◌<◌, true, false, All, IfSome, None, option_map, map, find, length};
+ghost use Rattle.std.specs.Prelude.{◌≡◌, ◌<◌, ◌++◌, ◌∷◌, [], true, false, All, IfOk, IfSome, None};
+ghost use Rattle.std.specs.Prelude.{option_map, map, find, length};
 ghost use Rattle.protocol.specs.Catalog.{find_station};
 ghost use Rattle.protocol.specs.Reading.{Not};
 ghost use Rattle.catalog.specs.Places.{station_at, view_in, IsPlace};
@@ -7,12 +8,13 @@ ghost use Rattle.catalog.specs.Finding.{IsWithin, fits};
 
 use crate::config::Config;
 use crate::station::Station;
+use std::alloc::AllocError;
 use std::marker::Model;
 
 /// The stations that an address sees, by their places in the configuration, in order.
 #[derive(Drop)]
 pub struct View {
-    places: Vec<usize>,
+    places: Vec<u16>,
 }
 
 impl Model for View {
@@ -25,14 +27,14 @@ impl Model for View {
 
 impl View {
     /// The view that has these places.
-    pub(crate) fn of(places: Vec<usize>) -> View
+    pub(crate) fn of(places: Vec<u16>) -> View
         ensures { result ≡ places.items }
     {
         View { places }
     }
 
     /// The places, rising.
-    pub fn places(&self) -> &[usize]
+    pub fn places(&self) -> &[u16]
         ensures { result.now ≡ self.now }
     {
         self.places.as_slice()
@@ -55,18 +57,27 @@ impl View {
     }
 }
 
+/// One place more. There are no more than 1,024 stations, so a place takes two bytes.
+pub(crate) fn see(places: &mut Vec<u16>, place: usize) -> Result<(), AllocError>
+    requires { place < 1024 }
+    ensures { IfOk result (λ done. places.new.items ≡ places.old.items ++ place ∷ []) }
+{
+    places.push(place as u16)?;
+    Ok(())
+}
+
 /// Whether all places are below a count.
-fn are_within(count: usize, places: &[usize]) -> bool
+fn are_within(count: usize, places: &[u16]) -> bool
     ensures yes { result ≡ true → All (λ p. p < count) places.now }
     ensures no { result ≡ false → Not (All (λ p. p < count) places.now) }
 {
-    places.iter().all(|place| *place < count)
+    places.iter().all(|place| usize::from(*place) < count)
 }
 
 /// The first of the places whose station has these codes.
 fn find_in(
     stations: &[Station],
-    places: &[usize],
+    places: &[u16],
     code: &[u8],
     network: Option<&[u8]>,
 ) -> Option<usize>
@@ -76,8 +87,9 @@ fn find_in(
     ensures place { IfSome result (λ p. IsWithin stations.now p) }
 {
     for place in places {
-        if fits(&stations[*place], code, network) {
-            return Some(*place);
+        let place = usize::from(*place);
+        if fits(&stations[place], code, network) {
+            return Some(place);
         }
     }
     None

@@ -21,8 +21,8 @@ pub record Choice : Type 0 where
 abbrev pub start : Cursor
 start = record { place = 0; ended = 0; seen = 0; stamp = 0 }
 
--- the stamp of the record at a cursor, where one was there when the ring was last looked at: while the cursor was not at
--- its end
+-- the stamp of the record at a cursor, where one was there when the ring was last looked at: while the cursor is before
+-- the end that was seen
 abbrev pub ahead_of : Cursor → Option ℕ
 ahead_of k = if nat_lt k.place k.seen then Some k.stamp else None
 

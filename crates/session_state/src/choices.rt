@@ -32,8 +32,8 @@ pub enum Action {
 pub struct Cursor {
     /// The place before which the request wants nothing more.
     pub place: u64,
-    /// For TIME with an end: the place after the last record before the cursor that starts after that end, or 0 if there
-    /// is no such record.
+    /// For TIME with an end: the place after the last record before the cursor that starts after that end, or 0 if no
+    /// such record was passed.
     pub ended: u64,
     /// How many records the ring had been given when it was last looked at.
     pub seen: u64,

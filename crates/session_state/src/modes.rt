@@ -165,7 +165,7 @@ fn act(mode: &mut Mode, view: &View, action: Action) -> Effect
     }
     match view.places().first() {
         Some(place) => {
-            mode.named.ask_alone(*place, action);
+            mode.named.ask_alone(usize::from(*place), action);
             mode.is_multi = true;
             Effect::Starts
         }

@@ -109,21 +109,6 @@ impl Wish {
     pub fn is_none(&self) -> bool
         ensures { is_some self.now ≡ not result }
     {
-        match self.case {
-            Case::Nothing => true,
-            Case::Data {
-                number: _number,
-                begin: _begin,
-            } => false,
-            Case::Fetch {
-                number: _number,
-                begin: _begin,
-            } => false,
-            Case::From { begin: _begin } => false,
-            Case::Between {
-                begin: _begin,
-                last: _last,
-            } => false,
-        }
+        matches!(self.case, Case::Nothing)
     }
 }

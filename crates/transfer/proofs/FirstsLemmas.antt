@@ -90,7 +90,8 @@ late rings c q stamp rests told =
     let w = where-ahead rings q c stamp rests told in
     subst (λ n. q ≤ n) w.is (cursor-late w.ring q c c.cursor w.item w.rests (sym w.held))
 
-nothing : (rings : RingsValue) (c : Choice) (q : ℕ) → RestsIn rings q c → ahead_of c.cursor ≡ None → HasNothing rings q c
+nothing : (rings : RingsValue) (c : Choice) (q : ℕ) → RestsIn rings q c → ahead_of c.cursor ≡ None
+    → HasNothing rings q c
 nothing rings c q rests none = by_action c.action refl
   where
     by_item : (r : RingValue) → slice_get rings.rings c.place ≡ Some r → RestsAt r q c c.cursor → (o : Option Held)
@@ -196,7 +197,8 @@ pub told-ahead : (rings : RingsValue) (choices : List Choice) (i stamp q : ℕ) 
 told-ahead rings choices i stamp q c rests ahead is =
     let here : slice_get choices i ≡ Some c = choice-at choices i c (ahead-within choices i stamp ahead) is in
     let same : ahead.choice ≡ c = (let t : Some ahead.choice ≡ Some c = sym ahead.at ∙ here in cc) in
-    where-ahead rings q c stamp (rests i c here) (subst (λ (x : Choice). (ahead_of x.cursor) ≡ Some stamp) same ahead.ahead)
+    where-ahead rings q c stamp (rests i c here)
+    (subst (λ (x : Choice). ahead_of x.cursor ≡ Some stamp) same ahead.ahead)
 
 -- What is found in the ring is the record that the cursor tells of.
 pub ahead-ring : (rings : RingsValue) (q : ℕ) (c : Choice) (stamp : ℕ) (r : RingValue) → AheadIn rings q c stamp
@@ -216,7 +218,8 @@ unsent-late next (Some a) stamp e told =
     omega arith
 
 pub fresh-rests : (rings : RingsValue) (next : ℕ) (c : Choice) (r : RingValue) → slice_get rings.rings c.place ≡ Some r
-    → c.cursor.seen ≡ r.pushes → is_unsent next (ahead_of c.cursor) ≡ true → PassedIn rings next c → RestsIn rings next c
+    → c.cursor.seen ≡ r.pushes → is_unsent next (ahead_of c.cursor) ≡ true → PassedIn rings next c
+    → RestsIn rings next c
 fresh-rests rings next c r there same unsent passed = record {
   rests = λ x action at asked.
       let ring : r ≡ x = same-ring r x (slice_get rings.rings c.place) there at in

@@ -10,4 +10,5 @@ use Rattle.transfer.specs.Cursors.{is_after_end}
 
 -- what it finds, by the record there
 abbrev pub found_of : Choice → (next : ℕ) → Held → Found
-found_of c next x = if wants_held c next x then Wanted x.stamp else (if is_after_end c.action x then AfterEnd else Unwanted)
+found_of c next x =
+    if wants_held c next x then Wanted x.stamp else (if is_after_end c.action x then AfterEnd else Unwanted)

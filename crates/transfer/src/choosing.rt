@@ -174,7 +174,8 @@ fn glance(entries: &[Entry], next: u64) -> Overview
 /// since all of them did so, the cursors tell it, and no ring is looked at.
 fn rest(session: &mut Session, rings: &Rings, next: u64) -> Option<First>
     ensures same { but_for_cursors session.new ≡ but_for_cursors session.old }
-    ensures rest { HasPassedAll rings.now next session.old → OfAll (RestsIn rings.now next) (chosen_of session.new.mode) }
+    ensures rest { HasPassedAll rings.now next session.old
+        → OfAll (RestsIn rings.now next) (chosen_of session.new.mode) }
     ensures first { LeadsSoFar rings.now (chosen_of session.new.mode) (length (chosen_of session.new.mode)) result }
     ensures looked { session.new.looked ≡ Some rings.now.arrivals }
 {

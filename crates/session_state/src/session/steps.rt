@@ -144,7 +144,8 @@ impl Session {
     {
         let places = self.view.places();
         if made < places.len() {
-            put_station_line(&mut self.waiting, &config.stations()[places[made]]);
+            let place = usize::from(places[made]);
+            put_station_line(&mut self.waiting, &config.stations()[place]);
         } else if made == places.len() {
             put_end_line(&mut self.waiting);
         } else {

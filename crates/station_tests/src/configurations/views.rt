@@ -17,7 +17,7 @@ fn outside() -> Ipv4Addr {
 }
 
 /// The places that an address sees at the configuration of a text.
-fn places(alloc: Global, text: &str, address: Ipv4Addr) -> Result<Vec<usize>, Fail> {
+fn places(alloc: Global, text: &str, address: Ipv4Addr) -> Result<Vec<u16>, Fail> {
     let config = Config::read(alloc, text.as_bytes())?;
     let seen = config.view(alloc, address)?;
     Ok(seen.places().to_vec(alloc)?)
@@ -29,7 +29,7 @@ fn places_with(
     word: &str,
     line: &str,
     address: Ipv4Addr,
-) -> Result<Vec<usize>, Fail> {
+) -> Result<Vec<u16>, Fail> {
     let text = with_line(alloc, word, line)?;
     places(alloc, text.as_str(), address)
 }

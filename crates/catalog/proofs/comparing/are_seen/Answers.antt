@@ -4,8 +4,8 @@ use Rattle.protocol.specs.Catalog.{Entry, sees}
 use Rattle.catalog.proofs.SameLemmas.{seen_more, seen_other, seen_step, unseen_step}
 use Rattle.catalog.proofs.comparing.are_seen.Goals as goal
 use Rattle.catalog.proofs.comparing.are_seen.Goals.{then-at-places-via-then-at-places}
-use Rattle.catalog.proofs.comparing.are_seen.Goals.{then-at-places-via-else-at-places+then-places-at}
-use Rattle.catalog.proofs.comparing.are_seen.Goals.{then-is_open_to+else-at-places+else-places-at, else-is_open_to}
+use Rattle.catalog.proofs.comparing.are_seen.Goals.{then-at-places-via-else-at-places+then-from-place}
+use Rattle.catalog.proofs.comparing.are_seen.Goals.{then-is_open_to+else-at-places+else-from-place, else-is_open_to}
 
 below : (a n : ℕ) → a ≤ n → (a ≡ n → ⊥) → a < n
 below a n within apart = omega (arith, apart)
@@ -22,10 +22,11 @@ returns-then-at-places c =
     sym (c.loop-place.invariant.same ∙ elim c.then-at-places.branch [
       | then-at-places-via-then-at-places w ↦
           seen_more p es ps i at e c.loop-place-test.true c.index-stations-place.is y w.if-at-places.true
-      | then-at-places-via-else-at-places+then-places-at w ↦
+      | then-at-places-via-else-at-places+then-from-place w ↦
           let there : at < length ps = below at (length ps) c.loop-place.invariant.within w.if-at-places.false in
           seen_other p es ps c.requires i at
-          (get_or ps at 0) e c.loop-place-test.true c.index-stations-place.is y there refl w.if-places-at.true
+          (get_or ps at 0) e c.loop-place-test.true c.index-stations-place.is y there refl
+          (λ same. w.if-from-place.true (w.from.ensures ∙ same))
     ])
 
 pub loop-place-preserved : goal.loop-place-preserved
@@ -37,11 +38,12 @@ loop-place-preserved c =
     let at = c.loop-place.at in
     let e = c.index-stations-place.result in
     elim c.if-is_open_to.branch [
-      | then-is_open_to+else-at-places+else-places-at w ↦
+      | then-is_open_to+else-at-places+else-from-place w ↦
           let y : p e ≡ true = sym c.is_open_to.ensures ∙ w.if-is_open_to.true in
           let there : at < length ps = below at (length ps) c.loop-place.invariant.within w.if-at-places.false in
           let step = seen_step p es ps i at
-          (get_or ps at 0) e c.loop-place-test.true c.index-stations-place.is y there refl w.if-places-at.false in
+          (get_or ps at 0) e c.loop-place-test.true c.index-stations-place.is y there refl
+          (sym w.from.ensures ∙ w.if-from-place.false) in
           rw w.at-is (record { within = omega arith; same = c.loop-place.invariant.same ∙ step })
       | else-is_open_to w ↦
           let n : p e ≡ false = sym c.is_open_to.ensures ∙ w.if-is_open_to.false in

@@ -1,4 +1,4 @@
-use Rattle.std.proofs.Common.{rules, ◌≡◌, ◌∙◌, false, [], ◌∷◌, ◌++◌, subst, sym, ap}
+use Rattle.std.proofs.Common.{rules, ◌≡◌, ◌∙◌, ◌+◌, false, length, length-append, [], ◌∷◌, ◌++◌, subst, sym, ap}
 use Rattle.toml.specs.View.{view}
 use Rattle.catalog.specs.Places.{HasDistinctCodes}
 use Rattle.catalog.specs.Reading.{is_repeated, station_of}
@@ -21,4 +21,5 @@ loop-value-preserved c =
           c.loop-value-test.true c.value-item.is more read ∙ c.loop-value.invariant.read;
       distinct = subst HasDistinctCodes (sym more)
           (distinct_more earlier station c.loop-value.invariant.distinct apart c.in_ok-station.ensures.some);
+      count = ap length more ∙ length-append earlier (station ∷ []) ∙ ap (λ n. n + 1) c.loop-value.invariant.count;
     }

@@ -1,4 +1,4 @@
-use Rattle.std.proofs.Common.{◌≡◌, [], drop, map}
+use Rattle.std.proofs.Common.{◌≡◌, [], drop, length, map}
 use Rattle.toml.specs.View.{view}
 use Rattle.catalog.specs.Places.{HasDistinctCodes}
 use Rattle.catalog.specs.Reading.{stations_read}
@@ -8,4 +8,5 @@ abbrev pub invariant-loop-value : goal.invariant-loop-value
 invariant-loop-value l = record {
   read : stations_read l.stations.items (map view (drop l.value-index l.values)) ≡ stations_read [] (map view l.values);
   distinct : HasDistinctCodes l.stations.items;
+  count : length l.stations.items ≡ l.value-index;
 }

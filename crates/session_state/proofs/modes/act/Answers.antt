@@ -1,4 +1,4 @@
-use Rattle.std.proofs.Common.{rules, ◌≡◌, ap, slice_get, ◌∙◌}
+use Rattle.std.proofs.Common.{rules, ◌≡◌, ap, slice_get, sym, ◌∙◌}
 use Rattle.std.specs.Prelude.{Some}
 use Rattle.protocol.specs.Session.{act}
 use Rattle.catalog.specs.Places.{view_in}
@@ -8,8 +8,9 @@ use Rattle.session_state.proofs.modes.act.Goals as goal
 
 pub returns-in-Some : goal.returns-in-Some
 returns-in-Some c = λ config.
-    let first : slice_get c.args.view.now 0 ≡ Some c.in-Some.place.now = search rules in
-    alone-acted config c.mode.inside.is_multi c.mode.inside.named _ c.args.view.now c.in-Some.place.now c.args.action
+    let place : slice_get c.args.view.now 0 ≡ Some c.in-Some.place.now = search rules in
+    let first : slice_get c.args.view.now 0 ≡ Some c.from.result = place ∙ ap (λ p. Some p) (sym c.from.ensures) in
+    alone-acted config c.mode.inside.is_multi c.mode.inside.named _ c.args.view.now c.from.result c.args.action
     c.if-mode.false (c.mode.invariant c.if-mode.false) first c.ask_alone.ensures
     ∙ ap (λ m. act (view_in config c.args.view.now) (negotiated_in config m) (action_value c.args.action))
     c.mode.view_is

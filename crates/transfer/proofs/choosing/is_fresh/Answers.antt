@@ -6,4 +6,5 @@ use Rattle.transfer.proofs.choosing.is_fresh.Goals as goal
 pub returns-in-Some : goal.returns-in-Some
 returns-in-Some c = λ unsent x same passed.
     fresh-entry c.args.rings.now c.args.next x c.in-Some.ring.now c.args.entry.now same (sym c.in-Some.ensures.ring)
-    (c.if-entry-pushes.true ∙ c.pushes.ensures) (ap (is_unsent c.args.next) (sym c.ahead.ensures) ∙ sym c.is_unsent.ensures ∙ unsent) passed
+    (c.if-entry-pushes.true ∙ c.pushes.ensures)
+    (ap (is_unsent c.args.next) (sym c.ahead.ensures) ∙ sym c.is_unsent.ensures ∙ unsent) passed

@@ -14,8 +14,9 @@ returns-in-Wanted c = λ x at passed.
     c.in-Some.ensures in
     let low : first_place c.args.ring.now ≤ c.loop-place.place = omega arith in
     subst (RestsAt c.args.ring.now c.args.next x) (sym c.at_record.ensures)
-    (rests-wanted c.args.ring.now c.args.next x c.loop-place.place c.loop-place.ended c.in-Wanted.stamp c.found_at.result
-    c.holds_its_last.ensures low (omega arith) (λ y. c.found_at.ensures x y at (sym (c.choice-entry.ensures x at))) c.in-Wanted.is
+    (rests-wanted c.args.ring.now c.args.next x c.loop-place.place c.loop-place.ended c.in-Wanted.stamp
+    c.found_at.result c.holds_its_last.ensures low (omega arith)
+    (λ y. c.found_at.ensures x y at (sym (c.choice-entry.ensures x at))) c.in-Wanted.is
     (c.loop-place.invariant x at passed))
 
 pub returns-in_default : goal.returns-in_default
@@ -39,12 +40,14 @@ loop-place-preserved c = λ x at passed.
           subst (λ (o : ℕ). HasPassed c.args.ring.now c.args.next x (at_place (c.loop-place.place + 1) o))
           (sym w.ended-is)
           (passed-after c.args.ring.now c.args.next x c.loop-place.place c.loop-place.ended c.found_at.result
-          (omega arith) (λ y. c.found_at.ensures x y at (sym (c.choice-entry.ensures x at))) w.in-AfterEnd.is (c.loop-place.invariant x at passed))
+          (omega arith) (λ y. c.found_at.ensures x y at (sym (c.choice-entry.ensures x at))) w.in-AfterEnd.is
+          (c.loop-place.invariant x at passed))
       | in-Unwanted w ↦
           subst (λ (o : ℕ). HasPassed c.args.ring.now c.args.next x (at_place (c.loop-place.place + 1) o))
           (sym w.ended-is)
           (passed-unwanted c.args.ring.now c.args.next x c.loop-place.place c.loop-place.ended c.found_at.result
-          (omega arith) (λ y. c.found_at.ensures x y at (sym (c.choice-entry.ensures x at))) w.in-Unwanted.is (c.loop-place.invariant x at passed))
+          (omega arith) (λ y. c.found_at.ensures x y at (sym (c.choice-entry.ensures x at))) w.in-Unwanted.is
+          (c.loop-place.invariant x at passed))
     ]
 
 pub returns : goal.returns

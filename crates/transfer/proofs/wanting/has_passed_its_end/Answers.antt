@@ -7,7 +7,8 @@ use Rattle.transfer.proofs.wanting.has_passed_its_end.Goals as goal
 
 pub returns-in-Some : goal.returns-in-Some
 returns-in-Some c = λ x same next passed all.
-    subst (λ (e : Entry). nat_lt c.in-Some.oldest e.cursor.ended ≡ list_any (is_after_end x.action) c.args.ring.now.held)
+    subst (λ (e : Entry). nat_lt c.in-Some.oldest e.cursor.ended
+    ≡ list_any (is_after_end x.action) c.args.ring.now.held)
     same (end-past c.args.ring.now next x c.in-Some.oldest c.holds_its_last.ensures c.in-Some.ensures passed all)
 
 pub returns-in-None : goal.returns-in-None
