@@ -1,5 +1,5 @@
 -- A feed that is read on by a piece that makes no record whole, and by one that ends with a record.
-use Rattle.std.proofs.Common.{◌≡◌, ℕ, ◌+◌, ◌<◌, ◌≤◌, ◌==◌, false, List, [], ◌∷◌, ◌++◌, length, take, refl, sym, ap, ◌∙◌}
+use Rattle.std.proofs.Common.{◌≡◌, ℕ, ◌+◌, ◌<◌, ◌≤◌, ◌==◌, false, List, [], ◌∷◌, ◌++◌, length, take, sym, ap, ◌∙◌}
 use Rattle.std.proofs.Common.{arith, append_assoc, append-nil, length-append, ne_eqb}
 use Rattle.std.proofs.Math.Seq.{take-length}
 use Rattle.std.proofs.lemmas.List.{length-take-le}
@@ -42,8 +42,3 @@ pub reads_record : (records : List (List ℕ)) (held piece whole : List ℕ) (n 
 reads_record records held piece whole n bound enough within is =
     let size : length (take n piece) ≡ n = length-take-le n piece within in
     rw is (feed_from-whole records held (take n piece) (omega arith) (omega arith))
-
--- no byte is held
-pub nothing_held : (held : List ℕ) → length held ≡ 0 → held ≡ []
-nothing_held [] none = refl
-nothing_held (b ∷ held) none = absurd (omega arith)

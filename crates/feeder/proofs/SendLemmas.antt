@@ -1,15 +1,15 @@
 -- What a sender has read, and what of it was written.
-use Rattle.std.proofs.Common.{◌≡◌, ◌≤◌, ℕ, suc, zero, ◌+◌, ◌-◌, ◌*◌, ◌/◌, ◌%◌, ◌^◌, ◌<◌, min, List, [], ◌∷◌, ◌++◌}
-use Rattle.std.proofs.Common.{length, take, drop, refl, sym, ap, ap₂, subst, ◌∙◌, arith, append_assoc, append-nil, Some}
-use Rattle.std.proofs.Common.{None, Option, IfSome, length-append, length-drop, take-append-drop, All, slice_index_or}
+use Rattle.std.proofs.Common.{◌≡◌, ◌≤◌, ℕ, ◌+◌, ◌-◌, ◌*◌, ◌/◌, ◌%◌, ◌^◌, ◌<◌, min, List, [], ◌∷◌, ◌++◌}
+use Rattle.std.proofs.Common.{length, take, drop, refl, sym, ap, subst, ◌∙◌, arith, append_assoc, append-nil, Some}
+use Rattle.std.proofs.Common.{None, Option, IfSome, length-append, length-drop, take-append-drop, All}
 use Rattle.std.specs.List.{concat}
 use Rattle.std.specs.Io.KnownBytes.{Appends, Consumes, IsAtEnd}
 use Rattle.std.proofs.KnownBytes.{Appends-nil, Appends-trans, Consumes-nil, Consumes-trans}
 use Rattle.std.proofs.Math.Seq.{take-append_seam, length-take-le, take-add}
-use Rattle.std.proofs.lemmas.List.{drop-take, take-append-le, take-take}
+use Rattle.std.proofs.lemmas.List.{drop-take, nil_from_length, take-append-le, take-take}
 use Rattle.std.proofs.lemmas.List.Elements.{All-head, All-tail}
 use Rattle.sl_io.specs.Known.{AppendsBeginning}
-use Rattle.protocol.specs.Streams.{FeedRead, IsFeed, feed_of}
+use Rattle.protocol.specs.Streams.{IsFeed, feed_of}
 use Rattle.protocol.proofs.Feeds.{feed_law}
 use Rattle.feeder.specs.Sending.{Passes, Breaks, capped, front, back, whole_part}
 
@@ -290,10 +290,6 @@ at_end left left' left'' written written' written'' held held' count n s p none 
     (ends left left'' written written'' held' _
     (goes_on left left' left'' written written' written'' held held' count n s p) end)
 
-no_bytes : (xs : List ℕ) → length xs ≡ 0 → xs ≡ []
-no_bytes [] e = refl
-no_bytes (x ∷ xs) e = absurd (omega (arith, e))
-
 module _ (left left' left'' written written' written'' : Option (List ℕ)) (held held' : List ℕ) (count n : ℕ)
     (s : SoFar left left' written written' held count) (p : Passes left' left'' written' written'' held held' n)
     (none : n ≡ 0)
@@ -309,7 +305,7 @@ module _ (left left' left'' written written' written'' : Option (List ℕ)) (hel
   written_at_end = if_some left _ _ (λ bytes h. h.0) whole
 
   pub nothing_left : length held ≡ 0 → IfSome left (λ bytes. (feed_of bytes).rest ≡ [])
-  nothing_left e = if_some left _ _ (λ bytes h. no_bytes (feed_of bytes).rest (h.2 ∙ e)) whole
+  nothing_left e = if_some left _ _ (λ bytes h. nil_from_length (feed_of bytes).rest (h.2 ∙ e)) whole
 
   pub partial_at_end : 0 < length held →
       IfSome left (λ bytes. Appends written written'' (whole_part bytes) × (0 < length (feed_of bytes).rest))

@@ -1,7 +1,8 @@
 //! Records out of bytes.
-ghost use Rattle.std.specs.Prelude.{◌≡◌, ◌+◌, ◌≤◌, ◌++◌, length, take, drop};
+ghost use Rattle.std.specs.Prelude.{◌≡◌, ◌++◌, length, take};
 
 use std::marker::Model;
+use unfinished::Unfinished;
 
 /// The length of a record, in bytes.
 const RECORD: usize = 512;
@@ -16,31 +17,19 @@ pub struct Feeding<'a> {
     pub whole: Option<&'a [u8; 512]>,
 }
 
-/// Writes the piece into the buffer, from `start` on.
-fn put(buffer: &mut [u8; 512], start: usize, piece: &[u8])
-    requires { start + length piece.now ≤ 512 }
-    ensures { buffer.new ≡ take start buffer.old ++ (piece.now ++ drop (start + length piece.now) buffer.old) }
-{
-    buffer[start..start + piece.len()].copy_from_slice(piece);
-}
-
 /// Cuts the bytes of a feed into records of 512 bytes, in whatever pieces they come. In a contract a cutter is the
 /// bytes of an unfinished record, fewer than 512.
 #[derive(Drop)]
 pub struct FeedCutter {
-    /// The bytes of the unfinished record are its first ones.
-    buffer: [u8; 512],
-    count: usize,
+    bytes: Unfinished<RECORD>,
 }
 
 impl Model for FeedCutter {
-    ghost use Rattle.std.specs.Prelude.{ℕ, ◌<◌, List, take};
+    ghost use Rattle.std.specs.Prelude.{ℕ, List};
 
     ghost Value = { List ℕ };
 
-    ghost view = { λ s. take s.count s.buffer };
-
-    ghost invariant = { λ s. s.count < 512 };
+    ghost view = { λ s. s.bytes.held };
 }
 
 impl FeedCutter {
@@ -54,8 +43,7 @@ impl FeedCutter {
         ensures { result ≡ [] }
     {
         FeedCutter {
-            buffer: [0; RECORD],
-            count: 0,
+            bytes: Unfinished::new(),
         }
     }
 
@@ -64,27 +52,7 @@ impl FeedCutter {
         ensures rest { result ≡ length self.now }
         ensures bound { result < 512 }
     {
-        self.count
-    }
-
-    /// Holds the piece too, which makes no record whole.
-    fn hold(&mut self, piece: &[u8])
-        requires { length self.old + length piece.now < 512 }
-        ensures { self.new ≡ self.old ++ piece.now }
-    {
-        put(&mut self.buffer, self.count, piece);
-        self.count += piece.len();
-    }
-
-    /// Lends the record that the piece makes whole, and holds nothing of it.
-    fn complete(&mut self, piece: &[u8]) -> &[u8; 512]
-        requires { length self.old + length piece.now ≡ 512 }
-        ensures whole { result.now ≡ self.old ++ piece.now }
-        ensures* rest { sem 𝓛 (Leaves self.entry []) }
-    {
-        put(&mut self.buffer, self.count, piece);
-        self.count = 0;
-        &self.buffer
+        self.bytes.count()
     }
 
     /// Reads the piece up to the end of the first record that becomes whole, and lends that record up to the next call.
@@ -99,7 +67,7 @@ impl FeedCutter {
         let held = self.rest();
         let missing = RECORD - held;
         if piece.len() < missing {
-            self.hold(piece);
+            self.bytes.hold(piece);
             return Feeding {
                 used: piece.len(),
                 whole: None,
@@ -111,9 +79,10 @@ impl FeedCutter {
                 whole: Some(piece.first_chunk().unwrap()),
             };
         }
+        self.bytes.complete(&piece[..missing]);
         Feeding {
             used: missing,
-            whole: Some(self.complete(&piece[..missing])),
+            whole: Some(self.bytes.whole()),
         }
     }
 }

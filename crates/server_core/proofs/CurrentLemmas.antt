@@ -5,6 +5,7 @@ use Rattle.std.proofs.Common.{Option, Some, None, refl, sym, ap, ap₂, subst, �
 use Rattle.std.specs.Net.Addr.{ipv4_bits}
 use Rattle.std.specs.Prelude.{IsSome}
 use Rattle.std.proofs.lemmas.Bool.{eqb-false}
+use Rattle.std.proofs.lemmas.Option.{same_Some}
 use Rattle.slab.specs.Slab.{Slab, get}
 use Rattle.protocol.specs.Catalog.{Config, View, view_of, is_same_view, is_same_but_for_access}
 use Rattle.protocol.specs.History.{Arrival}
@@ -154,9 +155,6 @@ module _ {X Y : Type 0} (x : X) (y : Y) where
   last-or-before (z ∷ zs) (w ∷ ws) zero x' y' count e f = inl (e, f)
   last-or-before (z ∷ zs) (w ∷ ws) (suc k) x' y' count e f = last-or-before zs ws k x' y' (omega (arith, count)) e f
 
-some-same : {X : Type 0} (x y : X) → Some x ≡ Some y → x ≡ y
-some-same x y e = cc
-
 -- One more opens.
 pub current-opens : (config : Config) (xs : List (Option SessionValue)) (addresses : List (Option ℕ)) (s : SessionValue)
     (a : ℕ)
@@ -168,8 +166,8 @@ current-opens config xs addresses s a count here current k b t has from =
     by : ((slice_get xs k ≡ Some (Some t)) × (slice_get addresses k ≡ Some (Some b)))
         ⊎ ((Some s ≡ Some t) × (Some a ≡ Some b)) → IsCurrent config b t
     by (inl p) = current k b t p.0 p.1
-    by (inr q) = subst (λ (n : ℕ). IsCurrent config n t) (some-same a b q.1)
-        (subst (IsCurrent config a) (some-same s t q.0) here)
+    by (inr q) = subst (λ (n : ℕ). IsCurrent config n t) (same_Some a b q.1)
+        (subst (IsCurrent config a) (same_Some s t q.0) here)
 
 -- the session of one that opens
 pub current-new : (config : Config) (a : ℕ) (s : SessionValue) → session_view config s ≡ view_of config a
@@ -252,9 +250,9 @@ current-after new c slots table kept each k a t has from = by (slot_in c.opened.
     from-slot slot there None none is = absurd (let q : false ≡ true = none in cc)
     from-slot slot there (Some s) some is =
         let came : address_in c.opened.items k ≡ Some a =
-        some-same _ _ (sym (address-there after k slot now-table there) ∙ from) in
-        let now : get slots slot ≡ Some t = some-same _ _ (sym (session-there after k slot now-table there) ∙ has) in
-        subst (IsCurrent new a) (some-same _ _ (sym (each k slot a s there came is) ∙ now)) (reviewed-current new a s)
+        same_Some _ _ (sym (address-there after k slot now-table there) ∙ from) in
+        let now : get slots slot ≡ Some t = same_Some _ _ (sym (session-there after k slot now-table there) ∙ has) in
+        subst (IsCurrent new a) (same_Some _ _ (sym (each k slot a s there came is) ∙ now)) (reviewed-current new a s)
 
     by : (o : Option ℕ) → slot_in c.opened.items k ≡ o → IsCurrent new a t
     by None none = absurd (let q : Some (open_client_of new [] t) ≡ None =

@@ -1,6 +1,6 @@
 -- Open clients by rising number: where one is found, and what one more or one less of them does to the slots of the
 -- others.
-use Rattle.std.proofs.Common.{◌≡◌, ℕ, zero, suc, ◌+◌, ◌<◌, ◌≤◌, ◌==◌, nat_lt, true, false, if◌then◌else◌, List, [], ◌∷◌}
+use Rattle.std.proofs.Common.{◌≡◌, ℕ, zero, suc, ◌+◌, ◌<◌, ◌≤◌, ◌==◌, nat_lt, false, if◌then◌else◌, List, [], ◌∷◌}
 use Rattle.std.proofs.Common.{◌++◌, length, slice_index_or, Some, None, refl, sym, ap, subst, ◌∙◌, arith, eqb-true}
 use Rattle.std.specs.List.{remove}
 use Rattle.std.specs.List.Sorted.{IsSearchInRange, IsBinarySearchResult, IsNonDecreasingBy}
@@ -10,7 +10,7 @@ use Rattle.std.specs.Ordering.{nat_cmp, ordering_index}
 use Rattle.std.specs.declared.result.Result.{Result}
 use Rattle.std.specs.declared.result.Result.TheVariants.{Ok, Err}
 use Rattle.std.proofs.lemmas.Cmp.{ranked}
-use Rattle.std.proofs.lemmas.Bool.{ltb-true, ltb-false}
+use Rattle.std.proofs.lemmas.Bool.{eq-eqb, ltb-true, ltb-false}
 use Rattle.std.specs.Net.Addr.{ipv4_bits}
 use Rattle.std.proofs.lemmas.Bool.Decides.{nat_tests}
 use Rattle.std.proofs.lemmas.List.{get_or_default}
@@ -30,9 +30,6 @@ is-not-above a b lt = grind (arith, nat_tests)
 
 differs : (a b : ℕ) → (a ≡ b → ⊥) → (a == b) ≡ false
 differs a b apart = both (a == b) (λ yes. absurd (apart (eqb-true a b yes))) (λ no. no)
-
-is-same : (a b : ℕ) → a ≡ b → (a == b) ≡ true
-is-same a b e = grind (arith, nat_tests)
 
 -- ---- rising numbers
 
@@ -79,7 +76,7 @@ lower-than-later o os n at h is = subst (λ m. o.number < m) is.has_number (abov
 pub slot-at : (os : List Opened) (n at : ℕ) → AreRising os → IsNumberAt os n at
     → slot_in os n ≡ (let o : Opened = slice_index_or os at no_one in Some o.slot)
 slot-at [] n at h is = absurd (omega (arith, is.inside))
-slot-at (o ∷ os) n zero h is = rw (is-same o.number n is.has_number) refl
+slot-at (o ∷ os) n zero h is = rw (eq-eqb o.number n is.has_number) refl
 slot-at (o ∷ os) n (suc at) h is =
     let later = tail-at o os n at is in
     rw (is-not o.number n (lower-than-later o os n at h.0 later)) (slot-at os n at h.1 later)
@@ -133,7 +130,7 @@ slot_in-more [] o k apart = rw (differs o.number k apart) refl
 slot_in-more (x ∷ os) o k apart = ap (λ r. if x.number == k then Some x.slot else r) (slot_in-more os o k apart)
 
 pub slot_in-new : (os : List Opened) (o : Opened) → AreBelow o.number os → slot_in (os ++ o ∷ []) o.number ≡ Some o.slot
-slot_in-new [] o h = rw (is-same o.number o.number refl) refl
+slot_in-new [] o h = rw (eq-eqb o.number o.number refl) refl
 slot_in-new (x ∷ os) o h = rw (is-not x.number o.number h.0) (slot_in-new os o h.1)
 
 above-more : (n : ℕ) (os : List Opened) (o : Opened) → n < o.number → AreAbove n os → AreAbove n (os ++ o ∷ [])
@@ -200,7 +197,7 @@ address_in-more (x ∷ os) o k apart =
 
 pub address_in-new : (os : List Opened) (o : Opened) → AreBelow o.number os
     → address_in (os ++ o ∷ []) o.number ≡ Some (ipv4_bits o.address)
-address_in-new [] o h = rw (is-same o.number o.number refl) refl
+address_in-new [] o h = rw (eq-eqb o.number o.number refl) refl
 address_in-new (x ∷ os) o h = rw (is-not x.number o.number h.0) (address_in-new os o h.1)
 
 pub address_in-gone : (os : List Opened) (n at : ℕ) → AreRising os → IsNumberAt os n at

@@ -6,8 +6,7 @@ use Rattle.protocol.specs.Session.{Choice, Negotiated, choices_of, choose_statio
 use Rattle.protocol.specs.Session.{select_multi}
 use Rattle.protocol.specs.Session.Negotiated.{Uni, Multi}
 use Rattle.protocol.specs.Command.Command.{Station as StationCommand}
-use Rattle.session_state.specs.declared.modes.Change.TheVariants.{Add}
-use Rattle.session_state.specs.declared.asked.Asked.TheVariants.{Changing, Refused}
+use Rattle.session_state.specs.declared.asked.Asked.TheVariants.{Add, Refused}
 use Rattle.session_state.specs.Asking.{outcome_by}
 use Rattle.session_state.specs.Changes.{selecting, selecting_in}
 
@@ -33,7 +32,7 @@ selecting-nothing config v (Multi cs current) = inside (current_choice cs curren
     inside (Some c) = refl
 
 pub adding : (config : Config) (v : View) (n : Negotiated) (text : List ℕ) (p : Pattern) → pattern_of text ≡ Some p
-    → select n (Some text) ≡ outcome_by config v n (Changing (Add p))
+    → select n (Some text) ≡ outcome_by config v n (Add p)
 adding config v n text p e = selecting-text n text ∙ ap (selecting n) e
 
 pub refusing : (config : Config) (v : View) (n : Negotiated) (text : List ℕ) → pattern_of text ≡ None

@@ -3,7 +3,7 @@ use Rattle.std.proofs.Common.{◌≡◌, ◌<◌, ◌≤◌, ℕ, ◌+◌, true,
 use Rattle.std.proofs.Common.{slice_set, Option, Some, None, unwrap_or, option_map, filter_map, cond, refl, sym, ap}
 use Rattle.std.proofs.Common.{ap₂, ◌∙◌, arith, zero, suc}
 use Rattle.std.specs.List.{list_any, position, position_or_len}
-use Rattle.std.proofs.lemmas.List.{map-set}
+use Rattle.std.proofs.lemmas.List.{length-map, map-set}
 use Rattle.std.proofs.lemmas.List.Sums.{sum_by-cons}
 use Rattle.std.proofs.lemmas.Option.{slice_get-map}
 use Rattle.protocol.specs.Catalog.{Config, Station}
@@ -21,14 +21,8 @@ use Rattle.session_state.specs.NamedValues.{Choice, NamedValue, begun, choice_of
 use Rattle.session_state.specs.Choices.{action_value, choice_in, choices_in, has_action, is_of_station}
 use Rattle.protocol.proofs.FoundLemmas.{both}
 use Rattle.session_state.specs.Changes.{all_selectors, has_room, outcome_after, selecting_in, widened, widening}
-use Rattle.session_state.proofs.NamedLemmas.{with-length, with-push}
+use Rattle.session_state.proofs.NamedLemmas.{there, with-length, with-push}
 use Rattle.session_state.specs.declared.modes.Effect.{Effect}
-
--- a choice that is there
-there : {X : Type 0} (xs : List X) (i : ℕ) → i < length xs → (x : X) × (slice_get xs i ≡ Some x)
-there [] i h = absurd (omega arith)
-there (x ∷ xs) zero h = (x, refl)
-there (x ∷ xs) (suc i) h = there xs i (omega arith)
 
 current-there : (config : Config) (cs : List Choice) (i : ℕ) (c : Choice) → slice_get cs i ≡ Some c
     → current_choice (choices_in config cs) (Some i) ≡ Some (choice_in config c)
@@ -102,10 +96,6 @@ added config a new i p effect is_i within made led =
 
 -- ---- a station that is named anew
 
-choices-length : (config : Config) (cs : List Choice) → length (choices_in config cs) ≡ length cs
-choices-length config [] = refl
-choices-length config (c ∷ cs) = ap suc (choices-length config cs)
-
 choices-more : (config : Config) (cs ds : List Choice)
     → choices_in config (cs ++ ds) ≡ choices_in config cs ++ choices_in config ds
 choices-more config [] ds = refl
@@ -116,7 +106,8 @@ pub full : (config : Config) (s : Station) (es : List Entry) (lists : List (List
     → Stays error_line (Multi (choices_in config (choices_with es lists)) None)
     ≡ choose_known s (choices_in config n.choices) None
 full config s es lists n view h =
-    let long : length (choices_in config n.choices) ≡ length es = choices-length config n.choices ∙ ap length (sym view)
+    let long : length (choices_in config n.choices) ≡ length es =
+    length-map n.choices (choice_in config) ∙ ap length (sym view)
     ∙ with-length es lists in
     let no : nat_lt (length (choices_in config n.choices)) 255 ≡ false = grind (arith, long, h) in
     rw no (ap (λ cs. Stays error_line (Multi (choices_in config cs) None)) view)
@@ -127,7 +118,8 @@ pub anew : (config : Config) (place count : ℕ) (es new : List Entry) (lists : 
     → Stays ok_line (Multi (choices_in config (choices_with new lists)) (Some count))
     ≡ choose_known (station_at config.entries place) (choices_in config n.choices) None
 anew config place count es new lists n view none is_count h made =
-    let long : length (choices_in config n.choices) ≡ count = choices-length config n.choices ∙ ap length (sym view)
+    let long : length (choices_in config n.choices) ≡ count =
+    length-map n.choices (choice_in config) ∙ ap length (sym view)
     ∙ with-length es lists ∙ sym is_count in
     let yes : nat_lt (length (choices_in config n.choices)) 255 ≡ true = grind (arith, long, h) in
     let more : choices_with new lists

@@ -7,21 +7,20 @@ use Rattle.protocol.specs.Lines.Line.{Text, TooLong}
 use Rattle.protocol.specs.Command.{Command, command_of}
 use Rattle.protocol.specs.Command.Command.{Blank, Hello, Cat, Bye, End, Station, Select, Data, Fetch, Time, Bad}
 use Rattle.protocol.specs.History.{Arrival, Request}
-use Rattle.protocol.specs.Session.{Negotiated, outcome_of}
+use Rattle.protocol.specs.Session.{Negotiated, Outcome, outcome_of}
 use Rattle.protocol.specs.Session.Outcome.{Stays, Lists, Ends}
 use Rattle.protocol.specs.Client.{Client, follow, leave, read_byte, is_nothing}
 use Rattle.protocol.specs.Client.State.{Negotiating as ClientNegotiating, Transfer as ClientTransfer}
 use Rattle.protocol.specs.Client.State.{Ending as ClientEnding}
 use Rattle.protocol.proofs.FoundLemmas.{both}
 use Rattle.session_state.specs.NamedValues.{ModeValue}
-use Rattle.session_state.specs.declared.modes.Change.{Change}
 use Rattle.session_state.specs.declared.modes.Effect.{Effect}
 use Rattle.session_state.specs.declared.modes.Effect.TheVariants.{Done, Refused, Starts}
 use Rattle.session_state.specs.declared.asked.Asked.{Asked}
 use Rattle.session_state.specs.declared.asked.Asked.TheVariants.{Nothing}
 use Rattle.session_state.specs.declared.session.State.TheVariants.{Negotiating, Listing, Transfer, Ending}
 use Rattle.session_state.specs.Choices.{negotiated_in, chosen_of, request_in}
-use Rattle.session_state.specs.Changes.{changed_by, outcome_after}
+use Rattle.session_state.specs.Changes.{outcome_after}
 use Rattle.session_state.specs.Asking.{outcome_by, outcome_of_lines, is_bye, says_bye, is_leaving}
 use Rattle.session_state.specs.Sessions.{SessionValue, client_in, session_view, effected}
 use Rattle.session_state.proofs.CursorLemmas.{effected-elsewhere}
@@ -75,20 +74,19 @@ effect-follows config h places mode new l u looked Done = refl
 effect-follows config h places mode new l u looked Refused = refl
 effect-follows config h places mode new l u looked Starts = refl
 
-pub changes : (config : Config) (h : List Arrival) (a m r : SessionValue) (effect : Effect) (change : Change)
-    → a.state ≡ Negotiating → a.waiting ≡ [] → m ≡ record a { mode = m.mode }
-    → outcome_after effect (negotiated_in config m.mode)
-    ≡ changed_by (session_view config a) config (negotiated_in config a.mode) change → r ≡ effected m effect
-    → client_in config h r ≡ follow (session_view config a) h (client_in config h a) (negotiated_in config a.mode)
-    (changed_by (session_view config a) config (negotiated_in config a.mode) change)
-changes config h a m r effect change state none made outcome e =
+pub changes : (config : Config) (h : List Arrival) (a r : SessionValue) (mode : ModeValue) (effect : Effect)
+    (outcome : Outcome) → a.state ≡ Negotiating → a.waiting ≡ [] → r ≡ effected (record a { mode = mode }) effect
+    → outcome_after effect (negotiated_in config mode) ≡ outcome
+    → client_in config h r
+    ≡ follow (session_view config a) h (client_in config h a) (negotiated_in config a.mode) outcome
+changes config h a r mode effect outcome state none e same =
     ap (client_in config h) e
-    ∙ ap (λ x. client_in config h (effected x effect))
-    (made ∙ ap (λ (x : SessionValue). record x { mode = m.mode }) (is_reading a state none))
-    ∙ effect-follows config h a.places a.mode m.mode a.open_line a.unread a.looked effect
+    ∙ ap (λ (x : SessionValue). client_in config h (effected (record x { mode = mode }) effect))
+    (is_reading a state none)
+    ∙ effect-follows config h a.places a.mode mode a.open_line a.unread a.looked effect
     ∙ ap (λ (x : SessionValue). follow (session_view config x) h (client_in config h x) (negotiated_in config a.mode)
-    (outcome_after effect (negotiated_in config m.mode))) (sym (is_reading a state none))
-    ∙ ap (follow (session_view config a) h (client_in config h a) (negotiated_in config a.mode)) outcome
+    (outcome_after effect (negotiated_in config mode))) (sym (is_reading a state none))
+    ∙ ap (follow (session_view config a) h (client_in config h a) (negotiated_in config a.mode)) same
 
 pub effected-places : (m : SessionValue) (effect : Effect) → (effected m effect).places ≡ m.places
 effected-places m Done = refl

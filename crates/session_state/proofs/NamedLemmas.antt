@@ -5,7 +5,9 @@ use Rattle.std.proofs.Common.{unwrap_or, is_some, refl, sym, ap, ap₂, subst, �
 use Rattle.std.specs.Prelude.{◌||◌, ◌↔◌, Result, Ok, Err, IsOk, OnOk, OnErr}
 use Rattle.std.specs.List.{list_any, position, position_or_len}
 use Rattle.std.proofs.lemmas.Grind.{common_steps}
+use Rattle.std.proofs.lemmas.List.{length-map}
 use Rattle.std.proofs.lemmas.List.Sums.{sum_by-cons}
+use Rattle.std.proofs.lemmas.Option.{same_Some}
 use Rattle.protocol.specs.Catalog.{Config, Station}
 use Rattle.protocol.specs.Pattern.{Pattern}
 use Rattle.protocol.proofs.FoundLemmas.{both}
@@ -115,13 +117,9 @@ position-or-len-entries config s [] = refl
 position-or-len-entries config s (c ∷ cs) =
     both (is_of_station config s c) (λ y. rw y refl) (λ n. rw n (ap (λ k. 1 + k) (position-or-len-entries config s cs)))
 
-length-entries : (cs : List Choice) → length (map entry_of cs) ≡ length cs
-length-entries [] = refl
-length-entries (c ∷ cs) = ap suc (length-entries cs)
-
 pub position-entries : (config : Config) (s : Station) (cs : List Choice)
     → position (is_entry_of_station config s) (map entry_of cs) ≡ position (is_of_station config s) cs
-position-entries config s cs = rw (position-or-len-entries config s cs, length-entries cs) refl
+position-entries config s cs = rw (position-or-len-entries config s cs, length-map cs entry_of) refl
 
 -- ---- what is kept of a list
 
@@ -190,8 +188,8 @@ selectors-at es current lists i n c e there =
     some-selectors (slice_get es i) (list_at lists i) c
     (sym (with-get es lists i) ∙ ap (λ (x : NamedValue). slice_get x.choices i) e ∙ there)
 
--- an entry that is there, and its station
-there : {X : Type 0} (xs : List X) (i : ℕ) → i < length xs → (x : X) × (slice_get xs i ≡ Some x)
+-- what stands at a place of a list, and the station of an entry
+pub there : {X : Type 0} (xs : List X) (i : ℕ) → i < length xs → (x : X) × (slice_get xs i ≡ Some x)
 there [] i h = absurd (omega arith)
 there (x ∷ xs) zero h = (x, refl)
 there (x ∷ xs) (suc i) h = there xs i (omega arith)
@@ -327,9 +325,6 @@ passed-there es new current lists i cursor n view h made =
     ∙ sym (ap (passed_at i cursor (choices_with es lists)) here))
     ∙ ap (λ (x : NamedValue). record x { choices = passed_at i cursor x.choices (slice_get x.choices i) }) view
 
-same-some : (c d : Choice) → Some c ≡ Some d → c ≡ d
-same-some c d e = ap (λ o. unwrap_or o c) e
-
 pub acted-there : (es new : List Entry) (current : Option ℕ) (lists : List (List Pattern)) (i : ℕ) (action : Action)
     (n : NamedValue) (c : Choice) → naming es current lists ≡ n → i < length n.choices → slice_get n.choices i ≡ Some c
     → ((e : Entry) → slice_get es i ≡ Some e → new ≡ slice_set es i (record e { action = Some action }))
@@ -338,7 +333,7 @@ acted-there es new current lists i action n c view h at made =
     let e = there es i (below es current lists i n view h) in
     let here : choice_of e.0 (list_at lists i)
     ≡ c =
-    same-some _ c (sym (station-there es lists i e.0 e.1) ∙ ap (λ (x : NamedValue). slice_get x.choices i) view
+    same_Some _ c (sym (station-there es lists i e.0 e.1) ∙ ap (λ (x : NamedValue). slice_get x.choices i) view
     ∙ at) in
     ap (λ xs. naming xs current lists) (made e.0 e.1)
     ∙ ap (λ cs. record { choices = cs; current = current }) (with-entry es lists i (record e.0 { action = Some action })

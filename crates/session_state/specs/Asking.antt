@@ -1,15 +1,19 @@
 -- What a line asks of a session.
 -- SeedLink 3, commands.
-use Rattle.std.specs.Prelude.{Bool, true, false, List, [], ◌∷◌}
+use Rattle.std.specs.Prelude.{Bool, true, false, List, [], ◌∷◌, Some, None, option_map}
 use Rattle.protocol.specs.Catalog.{Config, View}
 use Rattle.protocol.specs.Lines.{Line}
 use Rattle.protocol.specs.Command.{Command, command_of}
 use Rattle.protocol.specs.Command.Command.{Bye}
-use Rattle.protocol.specs.Session.{Negotiated, Outcome, outcome_of, error_line, greeting}
+use Rattle.protocol.specs.Session.{Negotiated, Outcome, outcome_of, error_line, greeting, act, choices_of}
+use Rattle.protocol.specs.Session.{choose_station, end_multi, select}
 use Rattle.protocol.specs.Session.Outcome.{Stays, Lists, Ends}
+use Rattle.catalog.specs.Places.{station_at}
 use Rattle.session_state.specs.declared.asked.Asked.{Asked}
-use Rattle.session_state.specs.declared.asked.Asked.TheVariants.{Nothing, Greeting, Listing, Leaving, Changing, Refused}
-use Rattle.session_state.specs.Changes.{changed_by}
+use Rattle.session_state.specs.declared.asked.Asked.TheVariants.{Nothing, Greeting, Listing, Leaving, Name, Clear, Add}
+use Rattle.session_state.specs.declared.asked.Asked.TheVariants.{Act, Finish, Refused}
+use Rattle.session_state.specs.Choices.{action_value}
+use Rattle.session_state.specs.Changes.{selecting}
 
 -- what comes of what is asked, by what was negotiated
 abbrev pub outcome_by : Config → View → Negotiated → Asked → Outcome
@@ -17,7 +21,11 @@ outcome_by config v n Nothing = Stays [] n
 outcome_by config v n Greeting = Stays (greeting v) n
 outcome_by config v n Listing = Lists
 outcome_by config v n Leaving = Ends
-outcome_by config v n (Changing change) = changed_by v config n change
+outcome_by config v n (Name found) = choose_station (choices_of n) (option_map (station_at config.entries) found)
+outcome_by config v n Clear = select n None
+outcome_by config v n (Add pattern) = selecting n (Some pattern)
+outcome_by config v n (Act action) = act v n (action_value action)
+outcome_by config v n Finish = end_multi n
 outcome_by config v n Refused = Stays error_line n
 
 -- what comes of the line that a byte ends, or of none

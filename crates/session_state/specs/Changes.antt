@@ -1,22 +1,16 @@
--- What a command changes of what was negotiated, and what it leads to.
+-- What a command leads to that changes what was negotiated.
 -- SeedLink 3, the dialogue in uni-station and multi-station mode.
 use Rattle.std.specs.Prelude.{ℕ, nat_lt, ◌&&◌, Bool, if◌then◌else◌, List, [], ◌∷◌, ◌++◌, length, sum_by, Option, Some}
-use Rattle.std.specs.Prelude.{None, option_map, filter_map}
-use Rattle.protocol.specs.Catalog.{Config, View}
+use Rattle.std.specs.Prelude.{None, filter_map}
 use Rattle.protocol.specs.Pattern.{Pattern}
-use Rattle.protocol.specs.Session.{Choice, Negotiated, Outcome, act, choices_of, choose_station, end_multi, error_line}
-use Rattle.protocol.specs.Session.{ok_line, select, select_in, select_uni, wish_of, with_pattern, together}
-use Rattle.protocol.specs.Session.{max_patterns, max_together}
+use Rattle.protocol.specs.Session.{Choice, Negotiated, Outcome, choices_of, error_line, ok_line, select_in, select_uni}
+use Rattle.protocol.specs.Session.{wish_of, with_pattern, together, max_patterns, max_together}
 use Rattle.protocol.specs.Session.Negotiated.{Uni, Multi}
 use Rattle.protocol.specs.Session.{current_choice}
 use Rattle.protocol.specs.Session.Outcome.{Stays, Starts as StartsOutcome}
-use Rattle.catalog.specs.Places.{station_at}
-use Rattle.session_state.specs.declared.modes.Change.{Change}
-use Rattle.session_state.specs.declared.modes.Change.TheVariants.{Name, Clear, Add, Act, Finish}
 use Rattle.session_state.specs.declared.modes.Effect.{Effect}
 use Rattle.session_state.specs.declared.modes.Effect.TheVariants.{Done, Refused, Starts}
 use Rattle.session_state.specs.NamedValues.{Choice as Named}
-use Rattle.session_state.specs.Choices.{action_value}
 
 -- SELECT with a pattern, where a station is current; without a pattern, as for a text that is none, nothing changes
 abbrev pub selecting_in : List Choice → Option ℕ → Option Pattern → Option Choice → Outcome
@@ -28,15 +22,7 @@ abbrev pub selecting : Negotiated → Option Pattern → Outcome
 selecting (Uni ps) pattern = select_uni ps (with_pattern (length ps) ps pattern)
 selecting (Multi cs current) pattern = selecting_in cs current pattern (current_choice cs current)
 
--- what a change leads to
-abbrev pub changed_by : View → Config → Negotiated → Change → Outcome
-changed_by v config n (Name found) = choose_station (choices_of n) (option_map (station_at config.entries) found)
-changed_by v config n Clear = select n None
-changed_by v config n (Add pattern) = selecting n (Some pattern)
-changed_by v config n (Act action) = act v n (action_value action)
-changed_by v config n Finish = end_multi n
-
--- the outcome of a change with that effect, after which so much is negotiated
+-- the outcome of a command with that effect, after which so much is negotiated
 abbrev pub outcome_after : Effect → Negotiated → Outcome
 outcome_after Done n = Stays ok_line n
 outcome_after Refused n = Stays error_line n

@@ -8,7 +8,6 @@ ghost use Rattle.sl_lines.specs.LineValues.{line_value};
 ghost use Rattle.session_state.specs.Asking.{is_bye, is_leaving, outcome_by};
 
 use crate::choices::Action;
-use crate::modes::Change;
 use catalog::{Config, View};
 use selector::Selector;
 use sl_lines::{Line, Order, command};
@@ -16,6 +15,7 @@ use sl_lines::{Line, Order, command};
 /// What a client asks a session to do.
 #[derive(Clone, Copy)]
 pub enum Asked {
+    /// Spaces alone, or no line yet.
     Nothing,
     /// HELLO.
     Greeting,
@@ -23,8 +23,16 @@ pub enum Asked {
     Listing,
     /// BYE.
     Leaving,
-    /// A change of what was negotiated.
-    Changing(Change),
+    /// STATION: the station that was found becomes the current one.
+    Name(Option<usize>),
+    /// SELECT without a pattern.
+    Clear,
+    /// SELECT with a pattern.
+    Add(Selector),
+    /// DATA, FETCH or TIME.
+    Act(Action),
+    /// END.
+    Finish,
     /// What is answered ERROR and changes nothing.
     Refused,
 }
@@ -36,14 +44,7 @@ impl Asked {
     pub fn is_leaving(self) -> bool
         ensures { result ≡ is_leaving self }
     {
-        match self {
-            Asked::Leaving => true,
-            Asked::Nothing => false,
-            Asked::Greeting => false,
-            Asked::Listing => false,
-            Asked::Changing(_) => false,
-            Asked::Refused => false,
-        }
+        matches!(&self, Asked::Leaving)
     }
 }
 
@@ -61,22 +62,15 @@ pub fn asked_by(view: &View, config: &Config, line: Line<'_>) -> Asked
         Order::Hello => Asked::Greeting,
         Order::Cat => Asked::Listing,
         Order::Bye => Asked::Leaving,
-        Order::Station { station, network } => {
-            Asked::Changing(Change::Name(view.find(config, station, network)))
-        }
-        Order::Select { pattern: None } => Asked::Changing(Change::Clear),
+        Order::Station { station, network } => Asked::Name(view.find(config, station, network)),
+        Order::Select { pattern: None } => Asked::Clear,
         Order::Select {
             pattern: Some(text),
         } => selecting(text),
-        Order::End => Asked::Changing(Change::Finish),
-        Order::Data { number, begin } => Asked::Changing(Change::Act(Action::Data {
-            number,
-            begin,
-        })),
-        Order::Fetch { number, begin } => {
-            Asked::Changing(Change::Act(Action::Fetch { number, begin }))
-        }
-        Order::Time { begin, last } => Asked::Changing(Change::Act(Action::Time { begin, last })),
+        Order::End => Asked::Finish,
+        Order::Data { number, begin } => Asked::Act(Action::Data { number, begin }),
+        Order::Fetch { number, begin } => Asked::Act(Action::Fetch { number, begin }),
+        Order::Time { begin, last } => Asked::Act(Action::Time { begin, last }),
         Order::Bad => Asked::Refused,
     }
 }
@@ -88,7 +82,7 @@ fn selecting(text: &[u8]) -> Asked
     ensures stays { is_leaving result ≡ false }
 {
     match Selector::parse(text) {
-        Some(selector) => Asked::Changing(Change::Add(selector)),
+        Some(selector) => Asked::Add(selector),
         None => Asked::Refused,
     }
 }

@@ -4,7 +4,7 @@ ghost use Rattle.protocol.specs.Catalog.{Config as ProtocolConfig};
 ghost use Rattle.protocol.specs.Session.{act, choices_of, choose_station, end_multi, select};
 ghost use Rattle.catalog.specs.Places.{station_at, view_in};
 ghost use Rattle.session_state.specs.Choices.{action_value, negotiated_in};
-ghost use Rattle.session_state.specs.Changes.{changed_by, outcome_after, selecting};
+ghost use Rattle.session_state.specs.Changes.{outcome_after, selecting};
 
 use crate::choices::{Action, Cursor, Entry};
 use crate::named::Named;
@@ -13,6 +13,17 @@ use protocol::record::Kind;
 use selector::Selector;
 use std::alloc::{AllocError, Global};
 use std::marker::Model;
+
+/// What a command leads to that may change what was negotiated.
+#[derive(Clone, Copy)]
+pub enum Effect {
+    /// It was done, and is answered OK.
+    Done,
+    /// It is answered ERROR.
+    Refused,
+    /// A transfer of the named stations that have an action.
+    Starts,
+}
 
 /// What was negotiated: in uni-station mode the selectors of one station, the first that the client sees; in
 /// multi-station mode the stations that the client named.
@@ -92,108 +103,75 @@ impl Mode {
     }
 }
 
-/// What a command changes.
-#[derive(Clone, Copy)]
-pub enum Change {
-    /// STATION: the station that was found becomes the current one.
-    Name(Option<usize>),
-    /// SELECT without a pattern.
-    Clear,
-    /// SELECT with a pattern.
-    Add(Selector),
-    /// DATA, FETCH or TIME.
-    Act(Action),
-    /// END.
-    Finish,
-}
-
-/// What a change leads to.
-#[derive(Clone, Copy)]
-pub enum Effect {
-    /// It was made, and is answered OK.
-    Done,
-    /// It is answered ERROR.
-    Refused,
-    /// A transfer of the named stations that have an action.
-    Starts,
-}
-
-fn name(mode: &mut Mode, config: &Config, found: Option<usize>) -> Effect
-    ensures { outcome_after result (negotiated_in config.now mode.new)
-        ≡ choose_station (choices_of (negotiated_in config.now mode.old))
-        (option_map (station_at config.now.entries) found) }
-{
-    if !mode.is_multi {
-        mode.named.forget();
-        mode.is_multi = true;
-    }
-    mode.named.name(config, found)
-}
-
-fn clear(mode: &mut Mode) -> Effect
-    ensures { (config : ProtocolConfig)
-        → outcome_after result (negotiated_in config mode.new) ≡ select (negotiated_in config mode.old) None }
-{
-    if mode.is_multi {
-        mode.named.clear()
-    } else {
-        mode.named.clear_at(0);
-        Effect::Done
-    }
-}
-
-fn add(mode: &mut Mode, selector: Selector) -> Effect
-    ensures { (config : ProtocolConfig)
-        → outcome_after result (negotiated_in config mode.new)
-        ≡ selecting (negotiated_in config mode.old) (Some selector) }
-{
-    if mode.is_multi {
-        mode.named.add_selector(selector)
-    } else {
-        mode.named.add_at(0, selector)
-    }
-}
-
-/// In uni-station mode the transfer of the first station starts at once.
-fn act(mode: &mut Mode, view: &View, action: Action) -> Effect
-    ensures { (config : ProtocolConfig)
-        → outcome_after result (negotiated_in config mode.new)
-        ≡ act (view_in config view.now) (negotiated_in config mode.old) (action_value action) }
-{
-    if mode.is_multi {
-        return mode.named.act(action);
-    }
-    match view.places().first() {
-        Some(place) => {
-            mode.named.ask_alone(usize::from(*place), action);
-            mode.is_multi = true;
-            Effect::Starts
+/// What commands change of it.
+impl Mode {
+    /// STATION: the station that was found becomes the current one; without one, none is.
+    pub fn name(&mut self, config: &Config, found: Option<usize>) -> Effect
+        ensures { outcome_after result (negotiated_in config.now self.new)
+            ≡ choose_station (choices_of (negotiated_in config.now self.old))
+            (option_map (station_at config.now.entries) found) }
+    {
+        if !self.is_multi {
+            self.named.forget();
+            self.is_multi = true;
         }
-        None => Effect::Refused,
+        self.named.name(config, found)
     }
-}
 
-fn finish(mode: &Mode) -> Effect
-    ensures { (config : ProtocolConfig)
-        → outcome_after result (negotiated_in config mode.now) ≡ end_multi (negotiated_in config mode.now) }
-{
-    if mode.is_multi {
-        mode.named.finish()
-    } else {
-        Effect::Refused
+    /// SELECT without a pattern.
+    pub fn clear(&mut self) -> Effect
+        ensures { (config : ProtocolConfig)
+            → outcome_after result (negotiated_in config self.new) ≡ select (negotiated_in config self.old) None }
+    {
+        if self.is_multi {
+            self.named.clear()
+        } else {
+            self.named.clear_at(0);
+            Effect::Done
+        }
     }
-}
 
-/// Makes a change, as far as it may be made.
-pub fn make_change(mode: &mut Mode, view: &View, config: &Config, change: Change) -> Effect
-    ensures { outcome_after result (negotiated_in config.now mode.new)
-        ≡ changed_by (view_in config.now view.now) config.now (negotiated_in config.now mode.old) change }
-{
-    match change {
-        Change::Name(found) => name(mode, config, found),
-        Change::Clear => clear(mode),
-        Change::Add(selector) => add(mode, selector),
-        Change::Act(action) => act(mode, view, action),
-        Change::Finish => finish(mode),
+    /// SELECT with a pattern.
+    pub fn add(&mut self, selector: Selector) -> Effect
+        ensures { (config : ProtocolConfig)
+            → outcome_after result (negotiated_in config self.new)
+            ≡ selecting (negotiated_in config self.old) (Some selector) }
+    {
+        if self.is_multi {
+            self.named.add_selector(selector)
+        } else {
+            self.named.add_at(0, selector)
+        }
+    }
+
+    /// DATA, FETCH or TIME. In uni-station mode the transfer of the first station starts at once.
+    pub fn act(&mut self, view: &View, action: Action) -> Effect
+        ensures { (config : ProtocolConfig)
+            → outcome_after result (negotiated_in config self.new)
+            ≡ act (view_in config view.now) (negotiated_in config self.old) (action_value action) }
+    {
+        if self.is_multi {
+            return self.named.act(action);
+        }
+        match view.places().first() {
+            Some(place) => {
+                self.named.ask_alone(usize::from(*place), action);
+                self.is_multi = true;
+                Effect::Starts
+            }
+            None => Effect::Refused,
+        }
+    }
+
+    /// END.
+    pub fn finish(&self) -> Effect
+        ensures { (config : ProtocolConfig)
+            → outcome_after result (negotiated_in config self.now) ≡ end_multi (negotiated_in config self.now) }
+    {
+        if self.is_multi {
+            self.named.finish()
+        } else {
+            Effect::Refused
+        }
     }
 }

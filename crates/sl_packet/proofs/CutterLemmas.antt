@@ -153,11 +153,6 @@ goes_on (Amid held) piece amid = refl
 goes_on Finished piece amid = absurd cc
 goes_on Faulty piece amid = absurd cc
 
--- no byte is held
-pub nothing_held : (held : List ℕ) → length held ≡ 0 → held ≡ []
-nothing_held [] none = refl
-nothing_held (b ∷ held) none = absurd (omega arith)
-
 -- ---- behind the end
 pub bad_behind_end : (before : Progress) (piece : List ℕ) → before ≡ Finished → (length piece == 0) ≡ false
     → HasBadByte before piece

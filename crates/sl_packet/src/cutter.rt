@@ -1,11 +1,12 @@
 //! Packets out of bytes (SeedLink 3, data packets and the end of a transfer).
-ghost use Rattle.std.specs.Prelude.{◌≡◌, ◌+◌, ◌<◌, ◌≤◌, ◌++◌, length, take, drop, codes};
+ghost use Rattle.std.specs.Prelude.{◌≡◌, ◌+◌, ◌<◌, ◌++◌, length, drop, codes};
 ghost use Rattle.sl_packet.specs.States.{end_piece};
 
 use crate::packets::{PACKET, may_continue};
 use protocol::report::Report;
 use std::marker::Model;
 use thiserror::Error;
+use unfinished::Unfinished;
 
 /// A byte fits no stream of packets: it stands neither in a packet nor in the end, or behind the end.
 #[derive(Clone, Copy, Debug, PartialEq, Eq, Drop, Error)]
@@ -93,34 +94,25 @@ fn end_piece(missing: &[u8], piece: &[u8]) -> EndPiece
     EndPiece::Whole
 }
 
-/// Writes the piece into the buffer, from `start` on.
-fn put(buffer: &mut [u8; 520], start: usize, piece: &[u8])
-    requires { start + length piece.now ≤ 520 }
-    ensures { buffer.new ≡ take start buffer.old ++ (piece.now ++ drop (start + length piece.now) buffer.old) }
-{
-    buffer[start..start + piece.len()].copy_from_slice(piece);
-}
-
 /// Cuts the bytes of a stream into its packets, in whatever pieces they come: packets, then possibly `END` and nothing
 /// more (SeedLink 3, data packets and the end of a transfer). In a contract a cutter is how far it has read.
 #[derive(Drop)]
 pub struct PacketCutter {
-    /// The bytes of the unfinished packet, or of the unfinished end, are its first ones.
-    buffer: [u8; 520],
-    count: usize,
+    /// The bytes of the unfinished packet, or of the unfinished end.
+    bytes: Unfinished<PACKET>,
     state: State,
 }
 
 impl Model for PacketCutter {
-    ghost use Rattle.std.specs.Prelude.{◌≡◌, ◌<◌, true, take};
+    ghost use Rattle.std.specs.Prelude.{◌≡◌, true};
     ghost use Rattle.sl_packet.specs.Progress.{Progress};
     ghost use Rattle.sl_packet.specs.States.{progress, is_begun};
 
     ghost Value = { Progress };
 
-    ghost view = { λ s. progress s.state (take s.count s.buffer) };
+    ghost view = { λ s. progress s.state s.bytes.held };
 
-    ghost invariant = { λ s. (s.count < 520) × (is_begun (take s.count s.buffer) ≡ true) };
+    ghost invariant = { λ s. is_begun s.bytes.held ≡ true };
 }
 
 /// What a reading is made of.
@@ -139,18 +131,18 @@ impl PacketCutter {
         ensures bound { result < 520 }
         ensures begun { is_begun (rest_in self.now) ≡ true }
     {
-        self.count
+        self.bytes.count()
     }
 
     /// Whether the bytes that it holds, with the piece behind them, begin with `E`.
+    #[tactic(auto, using(crate::proofs::ByteLemmas::nothing_before))]
     fn is_first_e(&self, piece: &[u8]) -> bool
         requires { self.now ≡ Amid (rest_in self.now) }
         ensures { result ≡ first_is_e (rest_in self.now ++ piece.now) }
     {
-        if self.count > 0 {
-            self.buffer[0] == b'E'
-        } else {
-            piece.first() == Some(&b'E')
+        match self.bytes.first() {
+            Some(first) => first == b'E',
+            None => piece.first() == Some(&b'E'),
         }
     }
 
@@ -161,8 +153,7 @@ impl PacketCutter {
         requires begun { is_begun (rest_in self.old ++ piece.now) ≡ true }
         ensures { self.new ≡ Amid (rest_in self.old ++ piece.now) }
     {
-        put(&mut self.buffer, self.count, piece);
-        self.count += piece.len();
+        self.bytes.hold(piece);
     }
 
     /// Lends the packet that the piece makes whole, and holds nothing of it.
@@ -172,9 +163,8 @@ impl PacketCutter {
         ensures whole { result.now ≡ rest_in self.old ++ piece.now }
         ensures* left { sem 𝓛 (Leaves self.entry (Amid [])) }
     {
-        put(&mut self.buffer, self.count, piece);
-        self.count = 0;
-        &self.buffer
+        self.bytes.complete(piece);
+        self.bytes.whole()
     }
 
     /// Takes what came for no stream.
@@ -208,8 +198,7 @@ impl PacketCutter {
         ensures { result ≡ Amid [] }
     {
         PacketCutter {
-            buffer: [0; PACKET],
-            count: 0,
+            bytes: Unfinished::new(),
             state: State::Within,
         }
     }
@@ -220,7 +209,7 @@ impl PacketCutter {
         ensures bound { result < 520 }
     {
         match self.state {
-            State::Within => self.count,
+            State::Within => self.bytes.count(),
             State::AtEnd => 0,
             State::Refused => 0,
         }

@@ -1,11 +1,13 @@
 -- The named stations behind the entries that a session lends.
 use Rattle.std.proofs.Common.{◌≡◌, ℕ, ◌<◌, zero, suc, true, List, [], ◌∷◌, length, map, get_or, slice_get}
 use Rattle.std.proofs.Common.{slice_index_or, Option, Some, None, unwrap_or, refl, sym, ap, subst, ◌∙◌, arith}
+use Rattle.std.proofs.lemmas.List.{length-map}
 use Rattle.station_ring.specs.Rings.{RingValue}
 use Rattle.held_records.specs.Rings.{RingsValue}
 use Rattle.session_state.specs.declared.choices.Action.{Action}
 use Rattle.session_state.specs.declared.choices.Entry.{Entry}
 use Rattle.session_state.specs.NamedValues.{Choice, entry_of, ahead_of}
+pub use Rattle.session_state.proofs.NamedLemmas.{there as choice-there}
 use Rattle.transfer.specs.Cursors.{HasLooked, PassedIn, RestsIn}
 use Rattle.transfer.specs.Firsts.{is_unsent}
 use Rattle.transfer.proofs.FirstsLemmas.{fresh-rests}
@@ -39,18 +41,8 @@ pub entry-at : (cs : List Choice) (es : List Entry) (i : ℕ) (e : Entry) → ma
 entry-at cs es i e same low is =
     entry-in cs i e (subst (λ xs. i < length xs) (sym same) low) (subst (λ xs. e ≡ slice_index_or xs i e) (sym same) is)
 
-length-entries : (cs : List Choice) → length (map entry_of cs) ≡ length cs
-length-entries [] = refl
-length-entries (c ∷ cs) = ap suc (length-entries cs)
-
 pub same-length : (cs : List Choice) (es : List Entry) → map entry_of cs ≡ es → length cs ≡ length es
-same-length cs es same = sym (length-entries cs) ∙ ap length same
-
--- a named station that is there
-pub choice-there : (cs : List Choice) (i : ℕ) → i < length cs → (c : Choice) × (slice_get cs i ≡ Some c)
-choice-there [] i h = absurd (omega arith)
-choice-there (c ∷ cs) zero h = (c, refl)
-choice-there (c ∷ cs) (suc i) h = choice-there cs i (omega arith)
+same-length cs es same = sym (length-map cs entry_of) ∙ ap length same
 
 pub item-is : (cs : List Choice) (i : ℕ) (c : Choice) → slice_get cs i ≡ Some c → c ≡ get_or cs i c
 item-is [] i c e = absurd cc

@@ -52,8 +52,24 @@ impl Session {
             Asked::Greeting => self.greet(config),
             Asked::Listing => self.turn_to(State::Listing(0)),
             Asked::Leaving => self.turn_to(State::Ending),
-            Asked::Changing(change) => {
-                let effect = self.make(config, change);
+            Asked::Name(found) => {
+                let effect = self.mode.name(config, found);
+                self.take_effect(effect);
+            }
+            Asked::Clear => {
+                let effect = self.mode.clear();
+                self.take_effect(effect);
+            }
+            Asked::Add(selector) => {
+                let effect = self.mode.add(selector);
+                self.take_effect(effect);
+            }
+            Asked::Act(action) => {
+                let effect = self.mode.act(&self.view, action);
+                self.take_effect(effect);
+            }
+            Asked::Finish => {
+                let effect = self.mode.finish();
                 self.take_effect(effect);
             }
             Asked::Refused => self.say_error(),

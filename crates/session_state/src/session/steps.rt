@@ -4,14 +4,13 @@ ghost use Rattle.protocol.specs.Session.{greeting, ok_line, error_line};
 
 use super::{Session, State};
 use crate::choices::Cursor;
-use crate::modes::{Change, Effect, make_change};
+use crate::modes::Effect;
 use crate::replies::{put_end_line, put_error, put_greeting, put_ok, put_station_line};
 use arrayvec::ArrayVec;
 use catalog::Config;
 
 impl Session {
-    ghost use Rattle.session_state.specs.Choices.{chosen_of, negotiated_in, passed_in};
-    ghost use Rattle.session_state.specs.Changes.{changed_by, outcome_after};
+    ghost use Rattle.session_state.specs.Choices.{chosen_of, passed_in};
     ghost use Rattle.session_state.specs.Sessions.{session_view, effected, kept_unread, listed_in, line_made};
     ghost use Rattle.session_state.specs.Sessions.{HasPlaces};
 
@@ -58,15 +57,6 @@ impl Session {
             Effect::Refused => self.say_error(),
             Effect::Starts => self.turn_to(State::Starting),
         }
-    }
-
-    pub(super) fn make(&mut self, config: &Config, change: Change) -> Effect
-        ensures mode { self.new ≡ record self.old { mode = self.new.mode } }
-        ensures effect { outcome_after result (negotiated_in config.now self.new.mode)
-            ≡ changed_by (session_view config.now self.old) config.now (negotiated_in config.now self.old.mode) change }
-    {
-        let _ = &self.state;
-        make_change(&mut self.mode, &self.view, config, change)
     }
 
     pub(super) fn next_byte(&mut self) -> u8

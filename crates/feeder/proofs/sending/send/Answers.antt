@@ -1,8 +1,7 @@
 -- Each way out says what was sent of the whole.
-use Rattle.std.proofs.Common.{◌≡◌, ◌∙◌, ◌<◌, ◌+◌, ◌/◌, ℕ, List, take, length, length-take-le, rules, arith, subst, sym}
+use Rattle.std.proofs.Common.{◌∙◌, ◌<◌, ◌+◌, ◌/◌, ℕ, length-take-le, rules, arith, subst, sym}
 use Rattle.std.proofs.Common.{ap}
 use Rattle.sl_io.proofs.TotalLemmas.{Made-more}
-use Rattle.feeder.specs.Sending.{capped}
 use Rattle.feeder.proofs.SendLemmas.{SoFar, goes_on, begins, breaks, count_at_end, written_at_end, nothing_left}
 use Rattle.feeder.proofs.SendLemmas.{partial_at_end, begins_at_end, more_sent}
 use Rattle.feeder.proofs.sending.send.Goals as goal

@@ -1,4 +1,4 @@
-use Rattle.std.proofs.Common.{◌≡◌, ℕ, rules, arith, length, take, drop, length-take-le}
+use Rattle.std.proofs.Common.{◌≡◌, rules, length, take}
 use Rattle.feeder.proofs.SendLemmas.{passes, breaks_off}
 use Rattle.feeder.proofs.sending.send_once.Goals as goal
 

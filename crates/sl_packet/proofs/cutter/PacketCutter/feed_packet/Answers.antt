@@ -1,7 +1,8 @@
 -- Each way out reads the used bytes as the stream does.
 use Rattle.std.proofs.Common.{◌≡◌, ◌-◌, true, false, length, refl, ap, ◌∙◌, arith}
+use Rattle.std.proofs.lemmas.List.{nil_from_length}
 use Rattle.protocol.specs.Streams.{may_continue}
-use Rattle.sl_packet.proofs.CutterLemmas.{begun_in_packet, feeds_part, feeds_packet, bad_packet, goes_on, nothing_held}
+use Rattle.sl_packet.proofs.CutterLemmas.{begun_in_packet, feeds_part, feeds_packet, bad_packet, goes_on}
 use Rattle.sl_packet.specs.Progress.{rest_in}
 use Rattle.sl_packet.specs.Progress.Progress.{Amid}
 use Rattle.sl_packet.proofs.cutter.PacketCutter.feed_packet.Goals as goal
@@ -43,7 +44,7 @@ returns-then-held-eq0 c =
     let more : may_continue (length (rest_in c.args.self.now)) c.args.piece.now ≡ true = cc in
     let held = c.held-held.ensures.same in
     let bound = c.held-held.ensures.bound in
-    let nothing = nothing_held (rest_in c.args.self.now) (omega arith) in
+    let nothing = nil_from_length (rest_in c.args.self.now) (omega arith) in
     let chunk = rw c.unwrap.ensures at c.first_chunk.ensures.cases in (
       (refl, λ _. tt, c.requires.amid ∙ ap Amid nothing),
       record {

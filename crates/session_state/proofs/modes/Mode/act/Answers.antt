@@ -4,13 +4,13 @@ use Rattle.protocol.specs.Session.{act}
 use Rattle.catalog.specs.Places.{view_in}
 use Rattle.session_state.specs.Choices.{action_value, negotiated_in}
 use Rattle.session_state.proofs.ModeLemmas.{alone-acted}
-use Rattle.session_state.proofs.modes.act.Goals as goal
+use Rattle.session_state.proofs.modes.Mode.act.Goals as goal
 
 pub returns-in-Some : goal.returns-in-Some
 returns-in-Some c = λ config.
     let place : slice_get c.args.view.now 0 ≡ Some c.in-Some.place.now = search rules in
     let first : slice_get c.args.view.now 0 ≡ Some c.from.result = place ∙ ap (λ p. Some p) (sym c.from.ensures) in
-    alone-acted config c.mode.inside.is_multi c.mode.inside.named _ c.args.view.now c.from.result c.args.action
-    c.if-mode.false (c.mode.invariant c.if-mode.false) first c.ask_alone.ensures
+    alone-acted config c.self.inside.is_multi c.self.inside.named _ c.args.view.now c.from.result c.args.action
+    c.if-self.false (c.self.invariant c.if-self.false) first c.ask_alone.ensures
     ∙ ap (λ m. act (view_in config c.args.view.now) (negotiated_in config m) (action_value c.args.action))
-    c.mode.view_is
+    c.self.view_is

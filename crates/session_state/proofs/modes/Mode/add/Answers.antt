@@ -1,0 +1,13 @@
+use Rattle.session_state.specs.NamedValues.{Choice}
+use Rattle.session_state.specs.Changes.{all_selectors, widened}
+use Rattle.session_state.proofs.ModeLemmas.{alone-changed}
+use Rattle.session_state.proofs.modes.Mode.add.Goals as goal
+
+pub invariant_of-self-else-self : goal.invariant_of-self-else-self
+invariant_of-self-else-self c = λ e.
+    alone-changed c.self.inside.named _
+    (λ (x : Choice). record x {
+      selectors =
+          widened (all_selectors c.self.inside.named.choices) x.selectors c.args.selector;
+    })
+    (c.self.invariant e) c.add_at.ensures.new
