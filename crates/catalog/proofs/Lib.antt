@@ -1,5 +1,6 @@
 mod DistinctLemmas
 mod ElementLemmas
+mod FailingLemmas
 mod FindLemmas
 mod IndexLemmas
 mod ReadLemmas

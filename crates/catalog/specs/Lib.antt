@@ -1,4 +1,5 @@
 pub mod Changes
+pub mod Failing
 pub mod Faults
 pub mod Finding
 pub mod Indexing

@@ -7,10 +7,13 @@ ghost use Rattle.std.specs.Net.Addr.{ipv4_bits};
 ghost use Rattle.toml.specs.Parse.{parse_document};
 ghost use Rattle.toml.specs.View.{table_view};
 ghost use Rattle.protocol.specs.Catalog.{has_codes, sees, view_of, is_same_view, is_same_but_for_access};
+ghost use Rattle.catalog.specs.Failing.{FailsAt};
 ghost use Rattle.catalog.specs.Places.{view_in, HasDistinctCodes, IsPlace};
 ghost use Rattle.catalog.specs.Reading.{config_of, config_read};
+ghost use Rattle.catalog.specs.declared.error.Step.TheVariants.{Text};
 
 use crate::comparing::{are_same, are_seen, copies};
+use crate::error::{ConfigError, Step};
 use crate::fault::ConfigFault;
 use crate::index::Index;
 use crate::listing::stations_of;
@@ -99,21 +102,61 @@ impl Config {
             → config_read (parse_document bytes.now) ≡ Err e) }
         ensures no_text { IfErr result (λ e. e ≢ ConfigFault.OutOfMemory → ¬ IsUtf8 bytes.now → e ≡ ConfigFault.Toml) }
     {
-        let table = table_of(alloc, bytes)?;
-        Config::of_table(alloc, &table)
+        match Config::read_by_steps(alloc, bytes) {
+            Ok(config) => Ok(config),
+            Err(error) => Err(error.fault),
+        }
+    }
+
+    /// Reads the text of a configuration as `read` does, and says at a fault which step failed: it is the first that
+    /// fails, and all steps before it succeed. At a step of a station the stations before it are read, and its codes
+    /// are given where they were read before.
+    pub fn read_by_steps(alloc: Global, bytes: &[u8]) -> Result<Config, ConfigError>
+        ensures ok { IfOk result (λ config. config_read (parse_document bytes.now) ≡ Ok config) }
+        ensures text { OnOk result (IsUtf8 bytes.now) }
+        ensures fault { IfErr result (λ e. e.fault ≢ ConfigFault.OutOfMemory → IsUtf8 bytes.now
+            → config_read (parse_document bytes.now) ≡ Err e.fault) }
+        ensures no_text { IfErr result (λ e. e.fault ≢ ConfigFault.OutOfMemory → ¬ IsUtf8 bytes.now
+            → e.fault ≡ ConfigFault.Toml) }
+        ensures step { IfErr result (λ e. e.fault ≢ ConfigFault.OutOfMemory → IsUtf8 bytes.now
+            → FailsAt (parse_document bytes.now) e) }
+        ensures no_step { IfErr result (λ e. e.fault ≢ ConfigFault.OutOfMemory → ¬ IsUtf8 bytes.now → e.step ≡ Text) }
+    {
+        match table_of(alloc, bytes) {
+            Ok(table) => Config::of_table(alloc, &table),
+            Err(fault) => Err(ConfigError::at(fault, Step::Text)),
+        }
     }
 
     /// The settings that a table has.
     #[tactic(auto, unfolding(crate::specs::Reading::config_of))]
-    fn of_table(alloc: Global, table: &Table) -> Result<Config, ConfigFault>
+    fn of_table(alloc: Global, table: &Table) -> Result<Config, ConfigError>
         ensures ok { IfOk result (λ config. config_of (table_view table.now) ≡ Ok config) }
-        ensures fault { IfErr result (λ e. e ≢ ConfigFault.OutOfMemory → config_of (table_view table.now) ≡ Err e) }
+        ensures fault { IfErr result (λ e. e.fault ≢ ConfigFault.OutOfMemory
+            → config_of (table_view table.now) ≡ Err e.fault) }
+        ensures step { IfErr result (λ e. e.fault ≢ ConfigFault.OutOfMemory
+            → FailsAt (Some (table_view table.now)) e) }
     {
-        let title = title_of(alloc, table)?;
-        let access = access_of(alloc, table)?;
-        let max_connections = connections_of(table)?;
-        let stations = stations_of(alloc, table)?;
-        let index = Index::of(alloc, stations.as_slice()).map_err(|_| ConfigFault::OutOfMemory)?;
+        let title = match title_of(alloc, table) {
+            Ok(title) => title,
+            Err(fault) => return Err(ConfigError::at(fault, Step::Title)),
+        };
+        let access = match access_of(alloc, table) {
+            Ok(access) => access,
+            Err(fault) => return Err(ConfigError::at(fault, Step::Access)),
+        };
+        let max_connections = match connections_of(table) {
+            Ok(max_connections) => max_connections,
+            Err(fault) => return Err(ConfigError::at(fault, Step::MaxConnections)),
+        };
+        let stations = match stations_of(alloc, table) {
+            Ok(stations) => stations,
+            Err(error) => return Err(error),
+        };
+        let index = Index::of(alloc, stations.as_slice()).map_err(|_| ConfigError::at(
+            ConfigFault::OutOfMemory,
+            Step::Stations,
+        ))?;
         Ok(Config {
             title,
             max_connections,

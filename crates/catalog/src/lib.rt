@@ -4,6 +4,7 @@
 pub mod changes;
 mod comparing;
 pub mod config;
+pub mod error;
 pub mod fault;
 mod index;
 mod keys;
@@ -15,6 +16,7 @@ pub mod view;
 
 pub use changes::Changes;
 pub use config::Config;
+pub use error::{ConfigError, StationStep, Step};
 pub use fault::ConfigFault;
 pub use station::Station;
 pub use view::View;

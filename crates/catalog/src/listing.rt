@@ -2,10 +2,13 @@
 ghost use Rattle.std.specs.Prelude.{◌≡◌, ◌≢◌, ◌≤◌, [], length, map, IfOk, IfErr, Ok, Err, false, true};
 ghost use Rattle.std.specs.List.{list_all};
 ghost use Rattle.toml.specs.View.{table_view, view};
+ghost use Rattle.catalog.specs.Failing.{FailsAmong, FailsInStations, FailsWithin};
+ghost use Rattle.catalog.specs.Keys.{table_in};
 ghost use Rattle.catalog.specs.Places.{HasDistinctCodes};
 ghost use Rattle.catalog.specs.Reading.{is_few, is_repeated, is_table, station_of, station_values, stations_of};
 ghost use Rattle.catalog.specs.Reading.{stations_read};
 
+use crate::error::{ConfigError, StationStep, Step};
 use crate::fault::ConfigFault;
 use crate::keys::{elements_at, table_in};
 use crate::station::Station;
@@ -17,14 +20,19 @@ const STATIONS: usize = 1024;
 
 /// The stations of `station`, an array of 1 to 1,024 tables, in order.
 #[tactic(auto, unfolding(crate::specs::Reading::stations_of))]
-pub fn stations_of(alloc: Global, table: &Table) -> Result<Vec<Station>, ConfigFault>
+pub fn stations_of(alloc: Global, table: &Table) -> Result<Vec<Station>, ConfigError>
     ensures ok { IfOk result (λ stations. stations_of (table_view table.now) ≡ Ok stations.items) }
     ensures distinct { IfOk result (λ stations. HasDistinctCodes stations.items) }
     ensures few { IfOk result (λ stations. length stations.items ≤ 1024) }
-    ensures fault { IfErr result (λ e. e ≢ ConfigFault.OutOfMemory → stations_of (table_view table.now) ≡ Err e) }
+    ensures fault { IfErr result (λ e. e.fault ≢ ConfigFault.OutOfMemory
+        → stations_of (table_view table.now) ≡ Err e.fault) }
+    ensures step { IfErr result (λ e. e.fault ≢ ConfigFault.OutOfMemory
+        → FailsInStations (table_view table.now) e e.step) }
 {
-    let values = station_values(table)?;
-    stations_read(alloc, values)
+    match station_values(table) {
+        Ok(values) => stations_read(alloc, values),
+        Err(fault) => Err(ConfigError::at(fault, Step::Stations)),
+    }
 }
 
 /// The values that describe the stations.
@@ -61,34 +69,50 @@ fn are_tables(values: &[Value]) -> bool
 
 /// The stations that values describe.
 #[tactic(auto, using(crate::proofs::DistinctLemmas::distinct_lemmas))]
-fn stations_read(alloc: Global, values: &[Value]) -> Result<Vec<Station>, ConfigFault>
+fn stations_read(alloc: Global, values: &[Value]) -> Result<Vec<Station>, ConfigError>
     ensures ok { IfOk result (λ stations. stations_read [] (map view values.now) ≡ Ok stations.items) }
     ensures distinct { IfOk result (λ stations. HasDistinctCodes stations.items) }
     ensures count { IfOk result (λ stations. length stations.items ≡ length values.now) }
-    ensures fault { IfErr result (λ e. e ≢ ConfigFault.OutOfMemory → stations_read [] (map view values.now) ≡ Err e) }
+    ensures fault { IfErr result (λ e. e.fault ≢ ConfigFault.OutOfMemory
+        → stations_read [] (map view values.now) ≡ Err e.fault) }
+    ensures step { IfErr result (λ e. e.fault ≢ ConfigFault.OutOfMemory → FailsAmong (map view values.now) e e.step) }
 {
     let mut stations = Vec::new(alloc);
     for value in values {
-        let station = station_of(alloc, stations.as_slice(), value)?;
-        stations
-            .push(station)
-            .map_err(|_| ConfigFault::OutOfMemory)?;
+        let station = match station_of(alloc, stations.as_slice(), value) {
+            Ok(station) => station,
+            Err(error) => return Err(error),
+        };
+        stations.push(station).map_err(|_| ConfigError::at(
+            ConfigFault::OutOfMemory,
+            Step::Stations,
+        ))?;
     }
     Ok(stations)
 }
 
 /// The station that a value describes, behind earlier ones.
 #[tactic(auto, unfolding(crate::specs::Reading::station_of))]
-fn station_of(alloc: Global, earlier: &[Station], value: &Value) -> Result<Station, ConfigFault>
+fn station_of(alloc: Global, earlier: &[Station], value: &Value) -> Result<Station, ConfigError>
     ensures ok { IfOk result (λ s. station_of earlier.now (view value.now) ≡ Ok s) }
     ensures apart { IfOk result (λ s. is_repeated earlier.now s.station ≡ false) }
     ensures some { IfOk result (λ s. 1 ≤ length s.station.network) }
-    ensures fault { IfErr result (λ e. e ≢ ConfigFault.OutOfMemory → station_of earlier.now (view value.now) ≡ Err e) }
+    ensures fault { IfErr result (λ e. e.fault ≢ ConfigFault.OutOfMemory
+        → station_of earlier.now (view value.now) ≡ Err e.fault) }
+    ensures step { IfErr result (λ e. e.fault ≢ ConfigFault.OutOfMemory
+        → FailsWithin (length earlier.now) earlier.now (table_in (view value.now)) e) }
 {
-    let table = table_in(value)?;
-    let station = Station::read(alloc, table)?;
+    let place = earlier.len();
+    let table = match table_in(value) {
+        Ok(table) => table,
+        Err(fault) => return Err(ConfigError::at(fault, Step::Station(place, StationStep::Table))),
+    };
+    let station = match Station::read(alloc, table, place) {
+        Ok(station) => station,
+        Err(error) => return Err(error),
+    };
     if is_repeated(earlier, &station) {
-        return Err(ConfigFault::Duplicate);
+        return Err(station.repeated(place));
     }
     Ok(station)
 }

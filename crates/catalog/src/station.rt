@@ -1,11 +1,16 @@
 //! Stations of a configuration.
-ghost use Rattle.std.specs.Prelude.{◌≡◌, ◌≢◌, ◌≤◌, length, IfOk, IfErr, Ok, Err};
+ghost use Rattle.std.specs.Prelude.{◌≡◌, ◌≢◌, ◌≤◌, length, List, Some, IfOk, OnOk, IfErr, Ok, Err, option_map};
 ghost use Rattle.std.specs.Net.Addr.{ipv4_bits};
 ghost use Rattle.toml.specs.View.{table_view};
-ghost use Rattle.protocol.specs.Catalog.{has_codes, is_same_station, sees};
+ghost use Rattle.protocol.specs.Catalog.{Entry, has_codes, is_same_station, sees};
 ghost use Rattle.catalog.specs.Changes.{is_same_list};
+ghost use Rattle.catalog.specs.Failing.{AreReadBefore, FailsAtSetting, FailsWithin};
 ghost use Rattle.catalog.specs.Reading.{entry_of};
+ghost use Rattle.catalog.specs.Settings.{access_of, capacity_of, code_of, description_of, first_of, network_of};
+ghost use Rattle.catalog.specs.declared.error.StationStep.TheVariants.{Codes};
+ghost use Rattle.catalog.specs.declared.error.Step.TheVariants.{Station as StationAt};
 
+use crate::error::{ConfigError, StationStep, Step};
 use crate::fault::ConfigFault;
 use crate::settings::{access_of, capacity_of, code_of, description_of, first_of, network_of};
 use access_list::AccessList;
@@ -52,26 +57,62 @@ impl Model for Station {
 }
 
 impl Station {
-    /// Reads the settings of a station's table, key after key; other keys are ignored.
+    /// Reads the settings of a station's table, key after key; other keys are ignored. The station is the one at that
+    /// place.
     #[tactic(auto, unfolding(crate::specs::Reading::entry_of))]
-    pub(crate) fn read(alloc: Global, table: &Table) -> Result<Station, ConfigFault>
+    pub(crate) fn read(alloc: Global, table: &Table, place: usize) -> Result<Station, ConfigError>
         ensures ok { IfOk result (λ station. entry_of (table_view table.now) ≡ Ok station) }
-        ensures fault { IfErr result (λ e. e ≢ ConfigFault.OutOfMemory → entry_of (table_view table.now) ≡ Err e) }
+        ensures keys { OnOk result (AreReadBefore (Ok (table_view table.now)) Codes) }
+        ensures network { IfOk result (λ station. network_of (table_view table.now) ≡ Ok station.station.network) }
+        ensures code { IfOk result (λ station. code_of (table_view table.now) ≡ Ok station.station.code) }
+        ensures fault { IfErr result (λ e. e.fault ≢ ConfigFault.OutOfMemory
+            → entry_of (table_view table.now) ≡ Err e.fault) }
+        ensures step { IfErr result (λ e. e.fault ≢ ConfigFault.OutOfMemory → (earlier : List Entry)
+            → FailsWithin place earlier (Ok (table_view table.now)) e) }
     {
-        let network = network_of(alloc, table)?;
-        let code = code_of(alloc, table)?;
-        let description = description_of(alloc, table)?;
-        let capacity = capacity_of(table)?;
-        let first = first_of(table)?;
-        let access = access_of(alloc, table)?;
-        Ok(Station {
-            network,
-            code,
-            description,
-            capacity,
-            first,
-            access,
-        })
+        let network = match network_of(alloc, table) {
+            Ok(network) => network,
+            Err(fault) => return Err(ConfigError::at(
+                fault,
+                Step::Station(place, StationStep::Network),
+            )),
+        };
+        let code = match code_of(alloc, table) {
+            Ok(code) => code,
+            Err(fault) => return Err(ConfigError::with_network(fault, place, network)),
+        };
+        match Settings::read(alloc, table) {
+            Ok(settings) => Ok(Station {
+                network,
+                code,
+                description: settings.description,
+                capacity: settings.capacity,
+                first: settings.first,
+                access: settings.access,
+            }),
+            Err(error) => Err(ConfigError {
+                fault: error.fault,
+                step: Step::Station(place, error.step),
+                network: Some(network),
+                code: Some(code),
+            }),
+        }
+    }
+
+    /// Why it is refused: an earlier station has the same codes. It is the one at that place.
+    pub(crate) fn repeated(self, place: usize) -> ConfigError
+        ensures fault { result.fault ≡ ConfigFault.Duplicate }
+        ensures step { result.step ≡ StationAt place Codes }
+        ensures network { option_map (λ text. text.items) result.network ≡ Some self.station.network }
+        ensures code { option_map (λ text. text.items) result.code ≡ Some self.station.code }
+    {
+        let Station { network, code, .. } = self;
+        ConfigError {
+            fault: ConfigFault::Duplicate,
+            step: Step::Station(place, StationStep::Codes),
+            network: Some(network),
+            code: Some(code),
+        }
     }
 
     /// The network code, of 1 to 2 bytes (SEED Reference Manual 2.4, chapter 8, fixed header, field 7).
@@ -168,6 +209,71 @@ impl Station {
             (Some(own), _) => own.allows(address),
             (None, Some(global)) => global.allows(address),
             (None, None) => true,
+        }
+    }
+}
+
+/// The settings of a station beside its codes.
+#[derive(Drop)]
+struct Settings {
+    description: Vec<u8>,
+    capacity: usize,
+    first: Seq,
+    access: Option<AccessList>,
+}
+
+/// Why they are refused, and at which step.
+#[derive(Clone, Copy, Drop)]
+struct SettingsError {
+    fault: ConfigFault,
+    step: StationStep,
+}
+
+impl Settings {
+    /// Reads the settings of a station's table beside its codes, key after key.
+    fn read(alloc: Global, table: &Table) -> Result<Settings, SettingsError>
+        ensures description { IfOk result (λ s. description_of (table_view table.now) ≡ Ok s.description.items) }
+        ensures short { IfOk result (λ s. length s.description.items ≤ 60) }
+        ensures capacity { IfOk result (λ s. capacity_of (table_view table.now) ≡ Ok s.capacity) }
+        ensures some { IfOk result (λ s. 1 ≤ s.capacity) }
+        ensures limit { IfOk result (λ s. s.capacity ≤ 65536) }
+        ensures first { IfOk result (λ s. first_of (table_view table.now) ≡ Ok s.first) }
+        ensures access { IfOk result (λ s. access_of (table_view table.now) ≡ Ok s.access) }
+        ensures step { IfErr result (λ e. e.fault ≢ ConfigFault.OutOfMemory
+            → FailsAtSetting (table_view table.now) e.fault e.step) }
+    {
+        let description = match description_of(alloc, table) {
+            Ok(description) => description,
+            Err(fault) => return Err(SettingsError {
+                fault,
+                step: StationStep::Description,
+            }),
+        };
+        let capacity = match capacity_of(table) {
+            Ok(capacity) => capacity,
+            Err(fault) => return Err(SettingsError {
+                fault,
+                step: StationStep::Capacity,
+            }),
+        };
+        let first = match first_of(table) {
+            Ok(first) => first,
+            Err(fault) => return Err(SettingsError {
+                fault,
+                step: StationStep::First,
+            }),
+        };
+        match access_of(alloc, table) {
+            Ok(access) => Ok(Settings {
+                description,
+                capacity,
+                first,
+                access,
+            }),
+            Err(fault) => Err(SettingsError {
+                fault,
+                step: StationStep::Access,
+            }),
         }
     }
 }

@@ -4,7 +4,7 @@ use Rattle.clap.specs.Words.{Text, fault_of}
 use Rattle.clap.specs.declared.error.ErrorKind.TheVariants.{DisplayVersion, MissingRequiredArgument, UnknownArgument}
 use Rattle.clap.specs.declared.error.ErrorKind.TheVariants.{ValueValidation}
 use Rattle.clap.proofs.OnLiterals.{clap_on_literals}
-use Rattle.command_line.specs.Jobs.{job_of, program_app}
+use Rattle.command_line.specs.Jobs.{job_of, program_app, verbose_of}
 use Rattle.command_line.specs.Jobs.Asked.{Check, Replay, Serve, Feed, Read}
 
 abbrev replay_words : List Text
@@ -103,3 +103,45 @@ pub no_turns :
     ≡ ValueValidation ∷ []
 unfolding clap_on_literals
 no_turns = refl
+
+abbrev words_of : List Text → List Text
+words_of words = codes "seedlinkd" ∷ words
+
+pub verbose_before : verbose_of (words_of (codes "-v" ∷ codes "check" ∷ codes "f" ∷ [])) ≡ true
+unfolding clap_on_literals
+verbose_before = refl
+
+pub verbose_after : verbose_of (words_of (codes "check" ∷ codes "f" ∷ codes "--verbose" ∷ [])) ≡ true
+unfolding clap_on_literals
+verbose_after = refl
+
+pub verbose_between : verbose_of (words_of (codes "replay" ∷ codes "c" ∷ codes "-v" ∷ codes "s" ∷ [])) ≡ true
+unfolding clap_on_literals
+verbose_between = refl
+
+pub verbose_spelled : verbose_of (words_of (codes "--verbose" ∷ codes "feed" ∷ codes "a" ∷ codes "f" ∷ [])) ≡ true
+unfolding clap_on_literals
+verbose_spelled = refl
+
+pub verbose_with_wants :
+    verbose_of (words_of (codes "read" ∷ codes "a" ∷ codes "GE_WLF" ∷ codes "XX_APE" ∷ codes "-v" ∷ [])) ≡ true
+unfolding clap_on_literals
+verbose_with_wants = refl
+
+pub not_verbose : verbose_of check_words ≡ false
+unfolding clap_on_literals
+not_verbose = refl
+
+-- a word after `--` is a text
+pub a_file_of_that_name : verbose_of (words_of (codes "check" ∷ codes "--" ∷ codes "-v" ∷ [])) ≡ false
+unfolding clap_on_literals
+a_file_of_that_name = refl
+
+pub verbose_is_taken : fault_of program_app (words_of (codes "-v" ∷ codes "check" ∷ codes "f" ∷ codes "-v" ∷ [])) ≡ []
+unfolding clap_on_literals
+verbose_is_taken = refl
+
+pub the_job_is_the_same : job_of (words_of (codes "-v" ∷ codes "check" ∷ codes "records.mseed" ∷ []))
+    ≡ Some (Check (codes "records.mseed"))
+unfolding clap_on_literals
+the_job_is_the_same = refl

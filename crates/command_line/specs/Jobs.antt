@@ -6,7 +6,7 @@ use Rattle.std.specs.Option.{option_map_or}
 use Rattle.std.specs.Str.{bytes_eq}
 use Rattle.clap.specs.Lexer.{usize_max}
 use Rattle.clap.specs.Words.{App, Kinds, IsAmong, Row, Rule, Text, all_of, fault_of, first_of, new_app, new_rule}
-use Rattle.clap.specs.Words.{subcommand_of, with_rule, with_subcommand}
+use Rattle.clap.specs.Words.{matches_of, subcommand_of, with_rule, with_subcommand}
 use Rattle.clap.specs.declared.builder.ArgAction.TheVariants.{SetTrue}
 use Rattle.clap.specs.declared.builder.value_parser.ValueParser.TheVariants.{Unsigned}
 use Rattle.clap.specs.declared.error.ErrorKind.{ErrorKind}
@@ -28,13 +28,23 @@ wanted name = record (new_rule name) { required = true }
 abbrev pub option : Bool → Text → Rule
 option required name = record (new_rule name) { long = Some name; value_names = 1; required = required }
 
+-- `-v` or `--verbose`
+abbrev pub verbose_rule : Rule
+verbose_rule =
+    record (new_rule (codes "verbose")) { long = Some (codes "verbose"); short = Some 118; action = Some SetTrue }
+
+-- a command with that flag
+abbrev pub with_verbose : App → App
+with_verbose app = with_rule app verbose_rule
+
 -- `check FILE`
 abbrev pub check_app : App
-check_app = with_rule (new_app (codes "check")) (wanted (codes "FILE"))
+check_app = with_verbose (with_rule (new_app (codes "check")) (wanted (codes "FILE")))
 
 -- `replay CONFIG SCRIPT`
 abbrev pub replay_app : App
-replay_app = with_rule (with_rule (new_app (codes "replay")) (wanted (codes "CONFIG"))) (wanted (codes "SCRIPT"))
+replay_app =
+    with_verbose (with_rule (with_rule (new_app (codes "replay")) (wanted (codes "CONFIG"))) (wanted (codes "SCRIPT")))
 
 -- an option `--name N` that counts turns, with N from 1 to 1,000,000,000
 abbrev pub turns_rule : Text → Rule
@@ -49,12 +59,14 @@ addressed_app =
 -- `serve CONFIG --listen A:P --feed A:P [--turns N] [--reread N] [--report N]`
 abbrev pub serve_app : App
 serve_app =
-    with_rule (with_rule (with_rule addressed_app (turns_rule (codes "turns"))) (turns_rule (codes "reread")))
-    (turns_rule (codes "report"))
+    with_verbose
+    (with_rule (with_rule (with_rule addressed_app (turns_rule (codes "turns"))) (turns_rule (codes "reread")))
+    (turns_rule (codes "report")))
 
 -- `feed A:P FILE`
 abbrev pub feed_app : App
-feed_app = with_rule (with_rule (new_app (codes "feed")) (wanted (codes "SERVER"))) (wanted (codes "FILE"))
+feed_app =
+    with_verbose (with_rule (with_rule (new_app (codes "feed")) (wanted (codes "SERVER"))) (wanted (codes "FILE")))
 
 -- `WANT..`, one or more
 abbrev pub wants_rule : Rule
@@ -65,18 +77,19 @@ wants_rule =
 abbrev pub fetch_rule : Rule
 fetch_rule = record (new_rule (codes "fetch")) { long = Some (codes "fetch"); action = Some SetTrue }
 
+-- `read A:P WANT..`
+abbrev pub wants_app : App
+wants_app = with_rule (with_rule (new_app (codes "read")) (wanted (codes "SERVER"))) wants_rule
+
 -- `read A:P WANT.. [--fetch] [--output FILE]`
 abbrev pub read_app : App
-read_app =
-    with_rule
-    (with_rule (with_rule (with_rule (new_app (codes "read")) (wanted (codes "SERVER"))) wants_rule) fetch_rule)
-    (option false (codes "output"))
+read_app = with_verbose (with_rule (with_rule wants_app fetch_rule) (option false (codes "output")))
 
 -- the program, which wants a subcommand
 abbrev pub named_app : App
 named_app =
     let a = new_app (codes "seedlinkd") in
-    record a { top = record a.top { subcommand_required = true; has_version = true } }
+    with_verbose (record a { top = record a.top { subcommand_required = true; has_version = true } })
 
 -- the program and its subcommands
 abbrev pub program_app : App
@@ -173,6 +186,19 @@ asked_by (Some p) =
 -- the job that words ask
 abbrev pub job_of : List Text → Option Asked
 job_of words = asked_by (subcommand_of program_app words)
+
+-- the flag `--verbose` was given, by what was found of one command's arguments
+abbrev pub verbose_in : List Row → Bool
+verbose_in rows = option_map_or (λ text. bytes_eq text (codes "true")) (first_of (codes "verbose") rows) false
+
+-- it was given after the subcommand
+abbrev pub verbose_by : Option (Text × List Row) → Bool
+verbose_by None = false
+verbose_by (Some p) = verbose_in p.1
+
+-- words ask that faults are explained: the flag stands before the subcommand, or after it
+abbrev pub verbose_of : List Text → Bool
+verbose_of words = verbose_in (matches_of program_app words) || verbose_by (subcommand_of program_app words)
 
 -- The words are a job: `clap` finds no fault with them, and all of the job's texts and numbers are there.
 abbrev pub IsJob : List Text → Type 0

@@ -3,7 +3,8 @@ ghost use Rattle.std.specs.Prelude.{◌≡◌, Some, false, IfOk};
 ghost use Rattle.clap.specs.Words.{app_of, rule_of, with_rule, with_subcommand};
 ghost use Rattle.clap.specs.declared.Command.TheViews.{out-Command as fields_of};
 ghost use Rattle.command_line.specs.Jobs.{addressed_app, check_app, feed_app, fetch_rule, named_app, option};
-ghost use Rattle.command_line.specs.Jobs.{program_app, read_app, replay_app, serve_app, turns_rule, wanted, wants_rule};
+ghost use Rattle.command_line.specs.Jobs.{program_app, read_app, replay_app, serve_app, turns_rule, verbose_rule};
+ghost use Rattle.command_line.specs.Jobs.{wanted, wants_app, wants_rule, with_verbose};
 
 use clap::builder::ValueParser;
 use clap::{Arg, ArgAction, Command};
@@ -47,6 +48,26 @@ fn with_argument<'a>(command: Command<'a>, argument: Arg<'a>) -> Result<Command<
     command.arg(argument)
 }
 
+/// The flag `-v` or `--verbose`.
+fn verbose<'a>(alloc: Global) -> Arg<'a>
+    ensures rule { rule_of result ≡ verbose_rule }
+    ensures own { result.global ≡ false }
+{
+    Arg::new(alloc, "verbose")
+        .long("verbose")
+        .short('v')
+        .action(ArgAction::SetTrue)
+        .help("Says on standard error what is wrong and where")
+}
+
+/// A command with that flag.
+fn with_verbose<'a>(alloc: Global, command: Command<'a>) -> Result<Command<'a>, AllocError>
+    ensures app { IfOk result (λ c. app_of c ≡ with_verbose (app_of command.entry)) }
+    ensures own { IfOk result (λ c. (fields_of c).has_globals ≡ (fields_of command.entry).has_globals) }
+{
+    with_argument(command, verbose(alloc))
+}
+
 /// `check FILE`.
 fn check_command<'a>(alloc: Global) -> Result<Command<'a>, AllocError>
     ensures app { IfOk result (λ c. app_of c ≡ check_app) }
@@ -54,7 +75,8 @@ fn check_command<'a>(alloc: Global) -> Result<Command<'a>, AllocError>
 {
     let command = Command::new(alloc, "check").about("Lists the records of a file, a line each");
     let file = wanted(alloc, "FILE", "The file, of records of 512 bytes");
-    with_argument(command, file)
+    let with_file = with_argument(command, file)?;
+    with_verbose(alloc, with_file)
 }
 
 /// `replay CONFIG SCRIPT`.
@@ -68,7 +90,8 @@ fn replay_command<'a>(alloc: Global) -> Result<Command<'a>, AllocError>
     let config = wanted(alloc, "CONFIG", "The configuration, in TOML");
     let script = wanted(alloc, "SCRIPT", "The script, an event a line");
     let with_config = with_argument(command, config)?;
-    with_argument(with_config, script)
+    let with_script = with_argument(with_config, script)?;
+    with_verbose(alloc, with_script)
 }
 
 /// An option `--name N` that counts turns.
@@ -118,7 +141,8 @@ fn serve_command<'a>(alloc: Global) -> Result<Command<'a>, AllocError>
     );
     let with_end = with_argument(command, end)?;
     let with_reread = with_argument(with_end, reread)?;
-    with_argument(with_reread, report)
+    let with_report = with_argument(with_reread, report)?;
+    with_verbose(alloc, with_report)
 }
 
 /// `feed A:P FILE`.
@@ -134,7 +158,8 @@ fn feed_command<'a>(alloc: Global) -> Result<Command<'a>, AllocError>
     );
     let file = wanted(alloc, "FILE", "The file, of records of 512 bytes");
     let with_server = with_argument(command, server)?;
-    with_argument(with_server, file)
+    let with_file = with_argument(with_server, file)?;
+    with_verbose(alloc, with_file)
 }
 
 /// The arguments `WANT..`.
@@ -161,9 +186,9 @@ fn fetch<'a>(alloc: Global) -> Arg<'a>
         .help("Ends once the records that the server holds are read")
 }
 
-/// `read A:P WANT.. [--fetch] [--output FILE]`.
-fn read_command<'a>(alloc: Global) -> Result<Command<'a>, AllocError>
-    ensures app { IfOk result (λ c. app_of c ≡ read_app) }
+/// `read A:P WANT..`.
+fn wants_command<'a>(alloc: Global) -> Result<Command<'a>, AllocError>
+    ensures app { IfOk result (λ c. app_of c ≡ wants_app) }
     ensures own { IfOk result (λ c. (fields_of c).has_globals ≡ false) }
 {
     let command = Command::new(alloc, "read").about("Reads records from a server, a line each");
@@ -172,8 +197,16 @@ fn read_command<'a>(alloc: Global) -> Result<Command<'a>, AllocError>
         "SERVER",
         "Address and port for clients, as 127.0.0.1:18000",
     );
-    let wants = wants(alloc);
-    let fetch = fetch(alloc);
+    let with_server = with_argument(command, server)?;
+    with_argument(with_server, wants(alloc))
+}
+
+/// `read A:P WANT.. [--fetch] [--output FILE]`.
+fn read_command<'a>(alloc: Global) -> Result<Command<'a>, AllocError>
+    ensures app { IfOk result (λ c. app_of c ≡ read_app) }
+    ensures own { IfOk result (λ c. (fields_of c).has_globals ≡ false) }
+{
+    let command = wants_command(alloc)?;
     let output = option(
         alloc,
         "output",
@@ -181,10 +214,9 @@ fn read_command<'a>(alloc: Global) -> Result<Command<'a>, AllocError>
         false,
         "Adds each record to FILE; - is standard output",
     );
-    let with_server = with_argument(command, server)?;
-    let with_wants = with_argument(with_server, wants)?;
-    let with_fetch = with_argument(with_wants, fetch)?;
-    with_argument(with_fetch, output)
+    let with_fetch = with_argument(command, fetch(alloc))?;
+    let with_output = with_argument(with_fetch, output)?;
+    with_verbose(alloc, with_output)
 }
 
 /// The program with the subcommands that need no socket.
@@ -197,7 +229,9 @@ fn program_over_files<'a>(alloc: Global) -> Result<Command<'a>, AllocError>
         .about("A SeedLink 3 server whose stations are open to stated addresses only")
         .version(VERSION)
         .subcommand_required(true);
-    named.subcommand(check)?.subcommand(replay)
+    with_verbose(alloc, named)?
+        .subcommand(check)?
+        .subcommand(replay)
 }
 
 /// The program and its subcommands.

@@ -38,6 +38,14 @@ pub enum Job<'a> {
     },
 }
 
+/// A job, and how much is said of what goes wrong with it.
+#[derive(Debug, PartialEq, Drop)]
+pub struct Request<'a> {
+    pub job: Job<'a>,
+    /// `-v` or `--verbose`, before or after the subcommand: faults are explained.
+    pub is_verbose: bool,
+}
+
 /// Why a command line asks for no job.
 #[derive(Debug, Drop, Error)]
 pub enum WordsFault {

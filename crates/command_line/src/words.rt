@@ -1,12 +1,13 @@
 //! The words of the command line.
-ghost use Rattle.std.specs.Prelude.{◌≡◌, [], Some, false, IfOk, IfErr, map, option_map, string_bytes};
+ghost use Rattle.std.specs.Prelude.{◌≡◌, ◌||◌, [], Some, false, IfOk, IfErr, map, option_map, string_bytes};
 ghost use Rattle.clap.specs.Words.{all_of, fault_of, first_of, found_of, kind_of, rows_of, subcommand_rows_of};
 ghost use Rattle.command_line.specs.Jobs.{HelpIs, IsJob, IsTold, asked, asked_by, check_asked, feed_asked, is_shown};
 ghost use Rattle.command_line.specs.Jobs.{job_of, program_app, read_asked, replay_asked, serve_asked, turns_in};
+ghost use Rattle.command_line.specs.Jobs.{verbose_by, verbose_in, verbose_of};
 ghost use Rattle.command_line.specs.declared.job.WordsFault.TheVariants.{OutOfMemory};
 
 use crate::commands::program;
-use crate::job::{Job, WordsFault};
+use crate::job::{Job, Request, WordsFault};
 use clap::ArgMatches;
 use clap::error::ErrorKind;
 use std::alloc::{AllocError, Global};
@@ -124,6 +125,30 @@ fn job_in<'a>(alloc: Global, matches: &ArgMatches<'a>) -> Result<Option<Job<'a>>
     }
 }
 
+/// Whether the flag `--verbose` stands among the arguments of one command.
+fn is_verbose(arguments: &ArgMatches<'_>) -> bool
+    ensures { result ≡ verbose_in (rows_of (found_of arguments.now)) }
+{
+    text_at(arguments, "verbose") == Some("true")
+}
+
+/// Whether it stands before the subcommand or after it.
+fn is_verbose_anywhere(matches: &ArgMatches<'_>) -> bool
+    ensures { result ≡ (verbose_in (rows_of (found_of matches.now)) || verbose_by (subcommand_rows_of matches.now)) }
+{
+    is_verbose(matches) || is_verbose_below(matches)
+}
+
+/// Whether it stands after the subcommand.
+fn is_verbose_below(matches: &ArgMatches<'_>) -> bool
+    ensures { result ≡ verbose_by (subcommand_rows_of matches.now) }
+{
+    match matches.subcommand() {
+        Some((_, arguments)) => is_verbose(arguments),
+        None => false,
+    }
+}
+
 /// Whether the user asked to be shown help or the version, and made no mistake.
 fn is_shown(kind: ErrorKind) -> bool
     ensures { result ≡ is_shown kind }
@@ -163,16 +188,17 @@ fn no_number(alloc: Global) -> WordsFault
     }
 }
 
-/// The job that a command line asks for. Its first word is the program's name.
+/// The job that a command line asks for, and whether faults are to be explained. Its first word is the program's name.
 ///
 /// Which words name which job is said by the definitions of `clap`: at Ok `clap` finds no fault with the words, so that
 /// no word is left over, and each text and number of the job is the one that stands at its place.
 ///
 /// It fails with Refused if the words are no job, with the text that `clap` has for the user and whether that is help
 /// or the version, and with OutOfMemory only if there is no memory.
-pub fn read_words<'a>(alloc: Global, words: &'a [String]) -> Result<Job<'a>, WordsFault>
-    ensures ok { IfOk result (λ job. job_of (map string_bytes words.entry.now) ≡ Some (asked job)) }
-    ensures taken { IfOk result (λ job. fault_of program_app (map string_bytes words.entry.now) ≡ []) }
+pub fn read_words<'a>(alloc: Global, words: &'a [String]) -> Result<Request<'a>, WordsFault>
+    ensures ok { IfOk result (λ request. job_of (map string_bytes words.entry.now) ≡ Some (asked request.job)) }
+    ensures verbose { IfOk result (λ request. request.is_verbose ≡ verbose_of (map string_bytes words.entry.now)) }
+    ensures taken { IfOk result (λ request. fault_of program_app (map string_bytes words.entry.now) ≡ []) }
     ensures err { IfErr result (λ fault. IsJob (map string_bytes words.entry.now) → fault ≡ OutOfMemory) }
     ensures told { IfErr result (IsTold (fault_of program_app (map string_bytes words.entry.now))) }
 {
@@ -181,7 +207,10 @@ pub fn read_words<'a>(alloc: Global, words: &'a [String]) -> Result<Job<'a>, Wor
     };
     match command.try_get_matches_from(words) {
         Ok(matches) => match job_in(alloc, &matches) {
-            Ok(Some(job)) => Ok(job),
+            Ok(Some(job)) => {
+                let is_verbose = is_verbose_anywhere(&matches);
+                Ok(Request { job, is_verbose })
+            }
             Ok(None) => Err(no_number(alloc)),
             Err(_) => Err(WordsFault::OutOfMemory),
         },

@@ -1,3 +1,4 @@
+pub mod Failing
 pub mod Faults
 pub mod Fitting
 pub mod Output

@@ -1,12 +1,14 @@
 //! The events of a whole text.
 ghost use Rattle.std.specs.Prelude.{◌≡◌, List, ℕ, ◌∷◌, Some, None, map, IfOk, OnOk, IfErr};
+ghost use Rattle.std.specs.List.{slice_split};
 ghost use Rattle.server_core.specs.Runs.{event_value};
+ghost use Rattle.event_script.specs.Failing.{FailsAtLine};
 ghost use Rattle.event_script.specs.Rows.{ReadsByTheTable};
 ghost use Rattle.event_script.specs.Script.{events_of, events_of_lines, is_line_feed, is_skipped};
 ghost use Rattle.event_script.specs.ScriptValues.{with_events};
 ghost use Rattle.event_script.specs.declared.fault.ScriptFault.TheVariants.{Script};
 
-use crate::fault::ScriptFault;
+use crate::fault::{ScriptError, ScriptFault};
 use crate::line::event_of;
 use server_core::Event;
 use std::alloc::Global;
@@ -59,19 +61,29 @@ fn read_line(alloc: Global, line: &[u8], events: &mut Vec<Event>) -> Result<(), 
 /// By `reload` a configuration is read again: its text is what HEX spells, as a file of one has it (`Config::read`). A
 /// text that is no configuration is a bad line. Whether the server takes the configuration is not asked here.
 ///
-/// It fails with Script exactly where some line is none of these, memory aside.
-pub fn events_of(alloc: Global, text: &[u8]) -> Result<Vec<Event>, ScriptFault>
+/// It fails with Script exactly where some line is none of these, memory aside, and says which line is the first: those
+/// before it are a script.
+pub fn events_of(alloc: Global, text: &[u8]) -> Result<Vec<Event>, ScriptError>
     ensures ok { IfOk result (λ events. events_of text.now ≡ Some (map event_value events.items)) }
-    ensures script { IfErr result (λ fault. fault ≡ Script → events_of text.now ≡ None) }
+    ensures script { IfErr result (λ e. e.fault ≡ Script → events_of text.now ≡ None) }
+    ensures line { IfErr result (λ e. e.fault ≡ Script → FailsAtLine (slice_split is_line_feed text.now) e.line) }
 {
     let mut events = Vec::new(alloc);
+    let mut number = 0usize;
     let lines = text.split(
         |byte|
             ensures { result ≡ is_line_feed byte.now }
         { is_line_feed(*byte) },
     );
     for line in lines {
-        read_line(alloc, line, &mut events)?;
+        number += 1;
+        match read_line(alloc, line, &mut events) {
+            Ok(()) => {}
+            Err(fault) => return Err(ScriptError {
+                fault,
+                line: number,
+            }),
+        }
     }
     Ok(events)
 }

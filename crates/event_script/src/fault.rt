@@ -31,6 +31,22 @@ impl ScriptFault {
     }
 }
 
+/// Why a text is no script, and at which line, counted from 1.
+#[derive(Clone, Copy, Debug, PartialEq, Eq, Drop, Error)]
+#[error("{fault}")]
+pub struct ScriptError {
+    pub fault: ScriptFault,
+    pub line: usize,
+}
+
+impl From<ScriptError> for ScriptFault {
+    ghost from_gives = { λ e fault. fault ≡ e.fault };
+
+    fn from(error: ScriptError) -> ScriptFault {
+        error.fault
+    }
+}
+
 impl From<AllocError> for ScriptFault {
     ghost from_gives = { λ _ e. e ≡ ScriptOutOfMemory };
 

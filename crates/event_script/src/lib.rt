@@ -11,5 +11,5 @@ mod output;
 mod reload;
 
 pub use events::{events_of, lines_by_the_table};
-pub use fault::ScriptFault;
+pub use fault::{ScriptError, ScriptFault};
 pub use output::output_of;

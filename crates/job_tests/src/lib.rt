@@ -4,6 +4,8 @@
 #[cfg(test)]
 mod endpoints;
 #[cfg(test)]
+mod explained;
+#[cfg(test)]
 mod replays;
 #[cfg(test)]
 mod scripts;

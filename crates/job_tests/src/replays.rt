@@ -227,7 +227,7 @@ fn numbers_and_names(rt: HostRuntime) {
         (ReplayFault::OutOfMemory, 25, "OutOfMemory"),
         (ReplayFault::Read, 42, "Read"),
         (ReplayFault::Write, 43, "Write"),
-        (ReplayFault::Script, 45, "Script"),
+        (ReplayFault::Script(1), 45, "Script"),
     ] {
         assert!(rt;
             fault.report().number == number && fault.report().name == name,

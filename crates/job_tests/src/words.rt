@@ -29,7 +29,7 @@ fn replay_has_two_texts(rt: HostRuntime) -> Result<(), Fail> {
         rt.alloc(),
         &["seedlinkd", "replay", "island.toml", "hello.script"],
     )?;
-    let job = read_words(rt.alloc(), words.as_slice())?;
+    let job = read_words(rt.alloc(), words.as_slice())?.job;
     let wanted = Job::Replay {
         config: "island.toml",
         script: "hello.script",
@@ -41,7 +41,7 @@ fn replay_has_two_texts(rt: HostRuntime) -> Result<(), Fail> {
 #[test]
 fn check_has_one_text(rt: HostRuntime) -> Result<(), Fail> {
     let words = strings(rt.alloc(), &["seedlinkd", "check", "records.mseed"])?;
-    let job = read_words(rt.alloc(), words.as_slice())?;
+    let job = read_words(rt.alloc(), words.as_slice())?.job;
     assert!(rt;
         job == Job::Check {
             file: "records.mseed"
@@ -65,7 +65,7 @@ fn serve_has_two_addresses_and_may_have_turns(rt: HostRuntime) -> Result<(), Fai
             "20",
         ],
     )?;
-    let job = read_words(rt.alloc(), words.as_slice())?;
+    let job = read_words(rt.alloc(), words.as_slice())?.job;
     let wanted = Job::Serve {
         config: "c.toml",
         listen: "a:1",
@@ -97,15 +97,16 @@ fn counts(
             text,
         ],
     )?;
-    match read_words(alloc, words.as_slice()) {
-        Ok(
-            Job::Serve {
-                turns,
-                reread,
-                report,
-                ..
-            },
-        ) => Ok(Some([turns, reread, report])),
+    let Ok(request) = read_words(alloc, words.as_slice()) else {
+        return Ok(None);
+    };
+    match request.job {
+        Job::Serve {
+            turns,
+            reread,
+            report,
+            ..
+        } => Ok(Some([turns, reread, report])),
         _ => Ok(None),
     }
 }
@@ -146,7 +147,7 @@ fn counts_of_turns_are_1_to_1000000000(rt: HostRuntime) -> Result<(), Fail> {
 #[test]
 fn feed_has_a_server_and_a_file(rt: HostRuntime) -> Result<(), Fail> {
     let words = strings(rt.alloc(), &["seedlinkd", "feed", "a:1", "records.mseed"])?;
-    let job = read_words(rt.alloc(), words.as_slice())?;
+    let job = read_words(rt.alloc(), words.as_slice())?.job;
     let wanted = Job::Feed {
         server: "a:1",
         file: "records.mseed",
@@ -195,7 +196,7 @@ fn read_has_wants_and_options(rt: HostRuntime) -> Result<(), Fail> {
             "-",
         ],
     )?;
-    let job = read_words(rt.alloc(), words.as_slice())?;
+    let job = read_words(rt.alloc(), words.as_slice())?.job;
     assert!(rt; is_read(&job));
     Ok(())
 }
@@ -203,7 +204,7 @@ fn read_has_wants_and_options(rt: HostRuntime) -> Result<(), Fail> {
 #[test]
 fn a_double_dash_ends_the_flags(rt: HostRuntime) -> Result<(), Fail> {
     let words = strings(rt.alloc(), &["seedlinkd", "replay", "--", "-a", "--help"])?;
-    let job = read_words(rt.alloc(), words.as_slice())?;
+    let job = read_words(rt.alloc(), words.as_slice())?.job;
     let wanted = Job::Replay {
         config: "-a",
         script: "--help",
@@ -260,5 +261,27 @@ fn other_words_are_refused(rt: HostRuntime) -> Result<(), Fail> {
     for words in all {
         assert_eq!(rt; refused(rt.alloc(), words)?, Some(false), "{words:?}");
     }
+    Ok(())
+}
+
+/// Whether words ask that faults are explained.
+fn is_verbose(alloc: Global, words: &[&str]) -> Result<bool, Fail> {
+    let words = strings(alloc, words)?;
+    Ok(read_words(alloc, words.as_slice())?.is_verbose)
+}
+
+#[test]
+fn the_flag_stands_before_the_subcommand_or_after_it(rt: HostRuntime) -> Result<(), Fail> {
+    let alloc = rt.alloc();
+    assert!(rt; is_verbose(alloc, &["seedlinkd", "-v", "check", "f"])?);
+    assert!(rt; is_verbose(alloc, &["seedlinkd", "--verbose", "check", "f"])?);
+    assert!(rt; is_verbose(alloc, &["seedlinkd", "check", "-v", "f"])?);
+    assert!(rt; is_verbose(alloc, &["seedlinkd", "check", "f", "--verbose"])?);
+    assert!(rt; is_verbose(alloc, &["seedlinkd", "-v", "check", "f", "-v"])?);
+    assert!(rt; !is_verbose(alloc, &["seedlinkd", "check", "f"])?);
+    assert!(rt; !is_verbose(alloc, &["seedlinkd", "check", "--", "-v"])?);
+    assert!(rt; refused(alloc, &["seedlinkd", "-v", "-v", "check", "f"])? == Some(false));
+    assert!(rt; refused(alloc, &["seedlinkd", "-v"])? == Some(false));
+    assert!(rt; refused(alloc, &["seedlinkd", "-V"])? == Some(true));
     Ok(())
 }

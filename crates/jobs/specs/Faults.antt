@@ -19,14 +19,14 @@ abbrev pub replay_fault_number : ReplayFault → ℕ
 replay_fault_number replay.OutOfMemory = 25
 replay_fault_number replay.Read = 42
 replay_fault_number replay.Write = 43
-replay_fault_number replay.Script = 45
+replay_fault_number (replay.Script line) = 45
 
 -- its name
 abbrev pub replay_fault_name : ReplayFault → List ℕ
 replay_fault_name replay.OutOfMemory = codes "OutOfMemory"
 replay_fault_name replay.Read = codes "Read"
 replay_fault_name replay.Write = codes "Write"
-replay_fault_name replay.Script = codes "Script"
+replay_fault_name (replay.Script line) = codes "Script"
 
 -- the number of a server that ended before its turns were done
 abbrev pub serve_fault_number : ServeFault → ℕ

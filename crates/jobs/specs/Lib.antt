@@ -4,4 +4,6 @@ pub mod Feeding
 pub mod Output
 pub mod Replaying
 pub mod Serves
+pub mod SettingTexts
+pub mod Sites
 pub mod Timetables

@@ -22,7 +22,7 @@ abbrev pub LeavesReader : ReplayFault → ℕ → ℕ → ℕ → ℕ → Type 0
 LeavesReader Read failures failures' calls calls' = StopsReading read.Read failures failures' calls calls'
 LeavesReader OutOfMemory failures failures' calls calls' = failures' ≡ failures
 LeavesReader Write failures failures' calls calls' = failures' ≡ failures
-LeavesReader Script failures failures' calls calls' = failures' ≡ failures
+LeavesReader (Script line) failures failures' calls calls' = failures' ≡ failures
 
 -- the writer's failures and empty writes, before and after, by the fault: one more of either at Write alone
 abbrev pub LeavesWriter : ReplayFault → ℕ → ℕ → ℕ → ℕ → Type 0
@@ -32,5 +32,12 @@ LeavesWriter OutOfMemory failures failures' empty_writes empty_writes' =
     (failures' ≡ failures) × (empty_writes' ≡ empty_writes)
 LeavesWriter Read failures failures' empty_writes empty_writes' =
     (failures' ≡ failures) × (empty_writes' ≡ empty_writes)
-LeavesWriter Script failures failures' empty_writes empty_writes' =
+LeavesWriter (Script line) failures failures' empty_writes empty_writes' =
     (failures' ≡ failures) × (empty_writes' ≡ empty_writes)
+
+-- what holds of the line that a fault names, where it names one
+abbrev pub IfScript : ReplayFault → (ℕ → Type 0) → Type 0
+IfScript (Script line) holds = holds line
+IfScript OutOfMemory holds = Unit {0}
+IfScript Read holds = Unit {0}
+IfScript Write holds = Unit {0}

@@ -17,9 +17,9 @@ pub enum ReplayFault {
     /// A write failed, or took no byte. A beginning of the output was written.
     #[error("the output could not be written")]
     Write,
-    /// A line of the script is no event. Nothing was written.
+    /// A line of the script is no event: the first that is none, counted from 1. Nothing was written.
     #[error("a line of the script is no event")]
-    Script,
+    Script(usize),
 }
 
 impl ReplayFault {
@@ -32,7 +32,7 @@ impl ReplayFault {
             ReplayFault::OutOfMemory => Report::new(25, "OutOfMemory"),
             ReplayFault::Read => Report::new(42, "Read"),
             ReplayFault::Write => Report::new(43, "Write"),
-            ReplayFault::Script => Report::new(45, "Script"),
+            ReplayFault::Script(_) => Report::new(45, "Script"),
         }
     }
 }

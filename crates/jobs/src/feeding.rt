@@ -12,6 +12,7 @@ use crate::failure::Failure;
 use crate::network::connect;
 use feeder::send;
 use sl_io::{Outer, Sink, Source};
+use std::io::Write;
 use std::net::{Net, OpenStream, Shutdown};
 
 /// Sends the whole records that are left of a reader, and answers how many they are (2^64 - 1 if there are more).
@@ -45,7 +46,18 @@ pub fn feed_records<R: Source, W: Sink>(records: &mut R, server: &mut W) -> Resu
 /// Connects to a server's feed port, and sends the whole records that are left of a reader. Answers how many they
 /// are.
 pub fn feed<R: Net, S: Source>(rt: &R, server: Endpoint, records: &mut S) -> Result<u64, Failure> {
-    let mut stream = Outer::new(connect(rt, server)?);
+    match connect(rt, server) {
+        Ok(stream) => feed_over(stream, records),
+        Err(_) => Err(Failure::Connect),
+    }
+}
+
+/// Sends the whole records that are left of a reader over a connection. Answers how many they are.
+pub fn feed_over<T: OpenStream + Write + Drop, S: Source>(
+    stream: T,
+    records: &mut S,
+) -> Result<u64, Failure> {
+    let mut stream = Outer::new(stream);
     let count = feed_records(records, &mut stream)?;
     // The peer sees the end all the same once the connection is dropped.
     let _ = stream.into_inner().shutdown(Shutdown::Write);

@@ -1,11 +1,11 @@
 //! Jobs over sockets.
 use crate::endpoint::Endpoint;
 use crate::failure::Failure;
-use crate::feeding::feed;
-use crate::files::{config_at, open};
-use crate::running::serve_by;
+use crate::feeding::feed_over;
+use crate::files::{config_at, open, unopened};
+use crate::incident::{Incident, Site};
+use crate::running::{ServeOptions, serve_by};
 use crate::standard_error::StandardError;
-use crate::timetable::Timetable;
 use packet_listing::{Nowhere, read_over};
 use sl_io::{Outer, Sink};
 use slreader::{Plan, Want};
@@ -16,92 +16,150 @@ use std::io;
 use std::net::{Net, OpenStream, SocketAddr, TcpStream};
 use std::rt::Files;
 
-/// The endpoint that a word spells.
-fn endpoint(text: &str) -> Result<Endpoint, Failure> {
-    Endpoint::parse(text.as_bytes()).ok_or(Failure::Address)
+/// A server that a word names.
+#[derive(Clone, Copy)]
+struct Server<'a> {
+    word: &'a str,
+    endpoint: Endpoint,
+}
+
+/// The server that a word names.
+fn server_of<'a>(word: &'a str) -> Result<Server<'a>, Incident<'a>> {
+    match Endpoint::parse(word.as_bytes()) {
+        Some(endpoint) => Ok(Server { word, endpoint }),
+        None => Err(Failure::Address.in_word(word)),
+    }
 }
 
 /// A connection to a server.
-pub fn connect<R: Net>(rt: &R, server: Endpoint) -> Result<R::Stream, Failure> {
-    TcpStream::connect(rt, SocketAddr::V4(server.socket_address())).map_err(|_| Failure::Connect)
+pub fn connect<R: Net>(rt: &R, server: Endpoint) -> io::Result<R::Stream> {
+    TcpStream::connect(rt, SocketAddr::V4(server.socket_address()))
 }
 
-/// Serves clients and feeds as the timetable says, and then sends what was not sent yet.
-pub fn serve_sockets<R: Files + Eprint + Net + AllocGlobal>(
+/// A connection to a server that a word names.
+fn connection<'a, R: Net>(rt: &R, server: Server<'a>) -> Result<R::Stream, Incident<'a>> {
+    match connect(rt, server.endpoint) {
+        Ok(stream) => Ok(stream),
+        Err(reason) => Err(unconnected(server, reason)),
+    }
+}
+
+/// Why no connection could be made.
+fn unconnected<'a>(server: Server<'a>, reason: io::Error) -> Incident<'a> {
+    Incident {
+        failure: Failure::Connect,
+        site: Site::Unconnected(server.word, reason),
+    }
+}
+
+/// Serves clients and feeds as the options say, and then sends what was not sent yet.
+pub fn serve_sockets<'a, R: Files + Eprint + Net + AllocGlobal>(
     rt: &R,
-    path: &str,
-    listen: &str,
-    feed: &str,
-    timetable: &Timetable,
-) -> Result<(), Failure> {
-    let listen = endpoint(listen)?;
-    let feed = endpoint(feed)?;
-    let config = config_at(rt, path)?;
-    let ports = MioPorts::listen(
-        rt,
-        rt.alloc(),
-        listen.socket_address(),
-        feed.socket_address(),
-    )?;
-    let mut ports = serve_by(rt, config, ports, path, timetable)?;
-    ports.finish();
-    Ok(())
+    listen: &'a str,
+    feed: &'a str,
+    options: ServeOptions<'a>,
+) -> Result<(), Incident<'a>> {
+    let clients = server_of(listen)?.endpoint.socket_address();
+    let feeds = server_of(feed)?.endpoint.socket_address();
+    let config = config_at(rt, options.path)?;
+    let ports = match MioPorts::listen(rt, rt.alloc(), clients, feeds) {
+        Ok(ports) => ports,
+        Err(fault) => return Err(Failure::Listen(fault).at_listening(listen, feed)),
+    };
+    match serve_by(rt, config, ports, &options) {
+        Ok(ports) => {
+            let mut ports = ports;
+            ports.finish();
+            Ok(())
+        }
+        Err(fault) => Err(Incident::from(Failure::Serve(fault))),
+    }
 }
 
 /// Sends the records of a file to a server.
-pub fn feed_file<R: Files + Net>(rt: &R, server: &str, path: &str) -> Result<(), Failure> {
-    let server = endpoint(server)?;
+pub fn feed_file<'a, R: Files + Net>(
+    rt: &R,
+    server: &'a str,
+    path: &'a str,
+) -> Result<(), Incident<'a>> {
+    let server = server_of(server)?;
     let mut file = Outer::new(open(rt, path)?);
-    feed(rt, server, &mut file)?;
-    Ok(())
+    let stream = connection(rt, server)?;
+    match feed_over(stream, &mut file) {
+        Ok(_) => Ok(()),
+        Err(failure) => Err(failure.in_feed(path, server.word)),
+    }
 }
 
 /// What the words of wants ask for.
-fn wants_of<'a>(alloc: Global, words: &[&'a str], fetch: bool) -> Result<Vec<Want<'a>>, Failure> {
+fn wants_of<'a>(
+    alloc: Global,
+    words: &[&'a str],
+    fetch: bool,
+) -> Result<Vec<Want<'a>>, Incident<'a>> {
     let mut wants = Vec::new(alloc);
     for word in words {
-        let want = Want::parse(alloc, word.as_bytes(), fetch)?;
-        wants.push(want).map_err(|_| Failure::OutOfMemory)?;
+        let want = want_of(alloc, word, fetch)?;
+        wants
+            .push(want)
+            .map_err(|_| Incident::from(Failure::OutOfMemory))?;
     }
     Ok(wants)
 }
 
+/// What the word of a want asks for.
+fn want_of<'a>(alloc: Global, word: &'a str, fetch: bool) -> Result<Want<'a>, Incident<'a>> {
+    match Want::parse(alloc, word.as_bytes(), fetch) {
+        Ok(want) => Ok(want),
+        Err(fault) => Err(Failure::Want(fault).in_word(word)),
+    }
+}
+
 /// A file to which records are added.
-fn opened_to_add<R: Files>(rt: &R, path: &str) -> Result<R::File, Failure> {
+fn opened_to_add<'a, R: Files>(rt: &R, path: &'a str) -> Result<R::File, Incident<'a>> {
     let mut options = OpenOptions::new();
     options.append(true);
     options.create(true);
-    options.open(rt, path).map_err(|_| Failure::File)
+    match options.open(rt, path) {
+        Ok(file) => Ok(file),
+        Err(reason) => Err(Incident {
+            failure: Failure::File,
+            site: Site::Unopened(path, reason),
+        }),
+    }
 }
 
 /// Lists the packets that a server sends for a plan, and writes their records.
-fn list<R: Net + AllocGlobal, O: Sink, P: Sink>(
+fn list<'a, R: Net + AllocGlobal, O: Sink, P: Sink>(
     rt: &R,
-    server: Endpoint,
+    server: Server<'a>,
     plan: Plan<'_>,
     out: &mut O,
     records: &mut P,
-) -> Result<(), Failure> {
-    let stream = connect(rt, server)?;
-    let Ok(other) = stream.try_clone() else {
-        return Err(Failure::Connect);
+) -> Result<(), Incident<'a>> {
+    let stream = connection(rt, server)?;
+    let other = match stream.try_clone() {
+        Ok(other) => other,
+        Err(reason) => return Err(unconnected(server, reason)),
     };
     let mut reader = Outer::new(stream);
     let mut writer = Outer::new(other);
-    read_over(rt.alloc(), plan, &mut reader, &mut writer, out, records)?;
-    Ok(())
+    match read_over(rt.alloc(), plan, &mut reader, &mut writer, out, records) {
+        Ok(_) => Ok(()),
+        Err(fault) => Err(Failure::Packets(fault).at_server(server.word)),
+    }
 }
 
 /// Asks a server for records, and writes a line for each packet to the standard output. With an output each record is
 /// added to that file. If the output is `-`, records go to the standard output, and lines to the standard error.
-pub fn read_server<R: Files + Print + Eprint + Net + AllocGlobal>(
+pub fn read_server<'a, R: Files + Print + Eprint + Net + AllocGlobal>(
     rt: &R,
-    server: &str,
-    wants: &[&str],
+    server: &'a str,
+    wants: &[&'a str],
     fetch: bool,
-    output: Option<&str>,
-) -> Result<(), Failure> {
-    let server = endpoint(server)?;
+    output: Option<&'a str>,
+) -> Result<(), Incident<'a>> {
+    let server = server_of(server)?;
     let plan = Plan::Multi(wants_of(rt.alloc(), wants, fetch)?);
     let mut standard = Outer::new(io::writer(rt));
     match output {

@@ -1,35 +1,59 @@
 //! A script's events at a server, from a reader to a writer.
-ghost use Rattle.std.specs.Prelude.{◌≡◌, ◌≢◌, Some, None, IfOk, OnOk, IfErr, IfSome, MatchResult};
-ghost use Rattle.jobs.specs.Output.{replayed};
-ghost use Rattle.jobs.specs.Replaying.{LeavesReader, LeavesWriter, WritesAll, WritesBeginning};
+ghost use Rattle.std.specs.Prelude.{◌≡◌, ◌≢◌, Some, None, map, IfOk, OnOk, IfErr, IfSome, MatchResult};
+ghost use Rattle.std.specs.List.{slice_split};
+ghost use Rattle.server_core.specs.Runs.{event_value};
+ghost use Rattle.event_script.specs.Failing.{FailsAtLine};
+ghost use Rattle.event_script.specs.Script.{is_line_feed};
+ghost use Rattle.jobs.specs.Output.{output_after, replayed};
+ghost use Rattle.jobs.specs.Replaying.{IfScript, LeavesReader, LeavesWriter, WritesAll, WritesBeginning};
 ghost use Rattle.event_script.specs.declared.fault.ScriptFault.TheVariants.{Script as ScriptIsNone};
-ghost use Rattle.jobs.specs.declared.faults.ReplayFault.TheVariants.{Script, Write};
+ghost use Rattle.jobs.specs.declared.faults.ReplayFault.TheVariants.{Write};
 
 use crate::faults::ReplayFault;
 use catalog::Config;
-use event_script::{ScriptFault, events_of, output_of};
-use server_core::run;
+use event_script::{ScriptError, ScriptFault, events_of, output_of};
+use server_core::{Event, run};
 use sl_io::{ReadFault, Sink, Source, read_all, write_all};
-use std::alloc::Global;
+use std::alloc::{AllocError, Global};
 
-/// What a server with that configuration writes of a script.
-fn output_for(alloc: Global, config: Config, text: &[u8]) -> Result<Vec<u8>, ScriptFault>
-    ensures ok { IfOk result (λ output. replayed config text.now ≡ Some output.items) }
-    ensures script { IfErr result (λ fault. fault ≡ ScriptIsNone → replayed config text.now ≡ None) }
+/// What a server with that configuration writes of events.
+fn output_after(alloc: Global, config: Config, events: &[Event]) -> Result<Vec<u8>, AllocError>
+    ensures ok { IfOk result (λ output. output.items ≡ output_after config (map event_value events.now)) }
 {
-    let events = events_of(alloc, text)?;
-    let takes = run(alloc, config, events.as_slice())?;
+    let takes = run(alloc, config, events)?;
     let output = output_of(alloc, takes.as_slice())?;
     Ok(output)
+}
+
+/// What a server with that configuration writes of a script. A text that is none is refused at its first line that is
+/// no event.
+fn output_for(alloc: Global, config: Config, text: &[u8]) -> Result<Vec<u8>, ScriptError>
+    ensures ok { IfOk result (λ output. replayed config text.now ≡ Some output.items) }
+    ensures script { IfErr result (λ e. e.fault ≡ ScriptIsNone → replayed config text.now ≡ None) }
+    ensures line { IfErr result (λ e. e.fault ≡ ScriptIsNone
+        → FailsAtLine (slice_split is_line_feed text.now) e.line) }
+{
+    let events = match events_of(alloc, text) {
+        Ok(events) => events,
+        Err(error) => return Err(error),
+    };
+    match output_after(alloc, config, events.as_slice()) {
+        Ok(output) => Ok(output),
+        Err(_) => Err(ScriptError {
+            fault: ScriptFault::OutOfMemory,
+            line: 0,
+        }),
+    }
 }
 
 /// Reads a script to its end, does its events at a new server with that configuration, and writes a line for each
 /// take. The output is made whole before its first byte is written, and written in as few calls as the writer
 /// takes.
 ///
-/// It fails with Read where a read failed or 2^64 - 1 reads were made, with Script where the text is no script,
-/// with Write where a write failed or took no byte, and with OutOfMemory only where there is no memory. The writer
-/// is unchanged at all of them but Write, at which it was given a beginning of the output.
+/// It fails with Read where a read failed or 2^64 - 1 reads were made, with Script where the text is no script, and the
+/// line that it names is the first that is no event, with Write where a write failed or took no byte, and with
+/// OutOfMemory only where there is no memory. The writer is unchanged at all of them but Write, at which it was given a
+/// beginning of the output.
 pub fn replay<R: Source, W: Sink>(
     alloc: Global,
     config: Config,
@@ -42,8 +66,10 @@ pub fn replay<R: Source, W: Sink>(
     ensures write { IfErr result (λ fault. fault ≡ Write →
         IfSome (R.left script.old)
         (λ text. WritesBeginning (replayed config text) (W.written out.old) (W.written out.new))) }
-    ensures script { IfErr result (λ fault. fault ≡ Script
-        → IfSome (R.left script.old) (λ text. replayed config text ≡ None)) }
+    ensures script { IfErr result (λ fault. IfScript fault (λ line.
+        IfSome (R.left script.old) (λ text. replayed config text ≡ None))) }
+    ensures line { IfErr result (λ fault. IfScript fault (λ line.
+        IfSome (R.left script.old) (λ text. FailsAtLine (slice_split is_line_feed text) line))) }
     ensures unchanged { IfErr result (λ fault. fault ≢ Write → out.new ≡ out.old) }
     ensures reader { MatchResult result (λ _. R.failures script.new ≡ R.failures script.old)
         (λ fault. LeavesReader fault (R.failures script.old) (R.failures script.new) (R.calls script.old)
@@ -60,8 +86,18 @@ pub fn replay<R: Source, W: Sink>(
     };
     let output = match output_for(alloc, config, text.as_slice()) {
         Ok(output) => output,
-        Err(ScriptFault::OutOfMemory) => return Err(ReplayFault::OutOfMemory),
-        Err(ScriptFault::Script) => return Err(ReplayFault::Script),
+        Err(
+            ScriptError {
+                fault: ScriptFault::OutOfMemory,
+                ..
+            },
+        ) => return Err(ReplayFault::OutOfMemory),
+        Err(
+            ScriptError {
+                fault: ScriptFault::Script,
+                line,
+            },
+        ) => return Err(ReplayFault::Script(line)),
     };
     match write_all(out, output.as_slice()) {
         Ok(()) => Ok(()),

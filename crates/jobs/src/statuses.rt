@@ -5,9 +5,10 @@ ghost use Rattle.std.specs.Process.{exit_status};
 ghost use Rattle.command_line.specs.Jobs.{IsJob, IsMistake};
 
 use crate::failure::Failure;
-use crate::telling::tell_failure;
+use crate::incident::Incident;
+use crate::telling::tell_incident;
 use crate::work::run_job;
-use command_line::{WordsFault, read_words};
+use command_line::{Request, WordsFault, read_words};
 use std::net::Net;
 use std::process::ExitCode;
 use std::rt::Files;
@@ -19,7 +20,14 @@ const REFUSED: u8 = 2;
 pub fn failed<R: Eprint>(rt: &R, failure: Failure) -> ExitCode
     ensures { exit_status result ≡ 1 }
 {
-    tell_failure(rt, failure);
+    failed_at(rt, Incident::from(failure), false)
+}
+
+/// Tells a failure as `failed` does, and on request explains it. The status is 1.
+fn failed_at<R: Eprint>(rt: &R, incident: Incident<'_>, is_verbose: bool) -> ExitCode
+    ensures { exit_status result ≡ 1 }
+{
+    tell_incident(rt, incident, is_verbose);
     ExitCode::FAILURE
 }
 
@@ -46,9 +54,9 @@ pub fn obey<R: Files + Print + Eprint + Net + AllocGlobal>(rt: &R, words: &[Stri
     ensures mistake { IsMistake (map string_bytes words.now) → exit_status result ≢ 0 }
 {
     match read_words(rt.alloc(), words) {
-        Ok(job) => match run_job(rt, job) {
+        Ok(Request { job, is_verbose }) => match run_job(rt, job, is_verbose) {
             Ok(()) => ExitCode::SUCCESS,
-            Err(failure) => failed(rt, failure),
+            Err(incident) => failed_at(rt, incident, is_verbose),
         },
         Err(WordsFault::Refused { text, is_help }) => told(rt, text.as_str(), is_help),
         Err(WordsFault::OutOfMemory) => failed(rt, Failure::OutOfMemory),

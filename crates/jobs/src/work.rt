@@ -1,17 +1,19 @@
 //! What is done for each job.
-use crate::failure::Failure;
 use crate::files::{check_file, replay_files};
+use crate::incident::Incident;
 use crate::network::{feed_file, read_server, serve_sockets};
+use crate::running::ServeOptions;
 use crate::timetable::Timetable;
 use command_line::Job;
 use std::net::Net;
 use std::rt::Files;
 
-/// Does what a job asks.
-pub fn run_job<R: Files + Print + Eprint + Net + AllocGlobal>(
+/// Does what a job asks. With `is_verbose` faults that don't end it are explained.
+pub fn run_job<'a, R: Files + Print + Eprint + Net + AllocGlobal>(
     rt: &R,
-    job: Job<'_>,
-) -> Result<(), Failure> {
+    job: Job<'a>,
+    is_verbose: bool,
+) -> Result<(), Incident<'a>> {
     match job {
         Job::Check { file } => check_file(rt, file),
         Job::Replay { config, script } => replay_files(rt, config, script),
@@ -28,7 +30,12 @@ pub fn run_job<R: Files + Print + Eprint + Net + AllocGlobal>(
                 reread,
                 report,
             };
-            serve_sockets(rt, config, listen, feed, &timetable)
+            let options = ServeOptions {
+                path: config,
+                timetable,
+                is_verbose,
+            };
+            serve_sockets(rt, listen, feed, options)
         }
         Job::Feed { server, file } => feed_file(rt, server, file),
         Job::Read {

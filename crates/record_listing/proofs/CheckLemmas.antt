@@ -1,7 +1,7 @@
 -- A check under way: what was read, what was written and what is listed, and what they say of the whole.
 use Rattle.std.proofs.Common.{◌≡◌, ℕ, ◌+◌, List, [], ◌∷◌, ◌++◌, length, Some, None, IfSome, Result, Ok, Err, refl, sym}
-use Rattle.std.proofs.Common.{ap, ◌∙◌, append_assoc, append-nil}
-use Rattle.std.specs.Prelude.{Option, IfOk, OnOk, OnErr}
+use Rattle.std.proofs.Common.{ap, ◌∙◌, append_assoc, append-nil, arith}
+use Rattle.std.specs.Prelude.{Option, IfOk, OnOk, OnErr, if◌then◌else◌, is_some, option_map}
 use Rattle.std.specs.Io.KnownBytes.{Appends, Consumes, IsAtEnd}
 use Rattle.std.proofs.KnownBytes.{Appends-nil, Appends-trans, Consumes-nil, Consumes-trans}
 use Rattle.sl_io.specs.Known.{AppendsBeginning}
@@ -10,9 +10,12 @@ use Rattle.protocol.specs.Streams.{FeedRead, feed_of}
 use Rattle.protocol.proofs.Feeds.{feed_from-append}
 use Rattle.feeder.specs.Feedings.{feed_read}
 use Rattle.record_listing.specs.declared.fault.FileFault.{FileFault}
+use Rattle.record_listing.specs.declared.finding.Finding.{Finding}
+use Rattle.record_listing.specs.Findings.{FindsFirst, IsFirst, count_read, finding_after, finding_of}
 use Rattle.record_listing.specs.Listing.{reading_of, record_line, lines_from, partial_text, listing_of, first_of}
-use Rattle.record_listing.specs.Listing.{first_fault, verdict_by, verdict_of}
-use Rattle.record_listing.specs.Checks.{Progress, nothing_listed, with_record, with_records, piece_read}
+use Rattle.record_listing.specs.Listing.{first_fault, refusal, verdict_by, verdict_of}
+use Rattle.record_listing.specs.Checks.{Progress, nothing_listed, good_with, with_record, with_records}
+use Rattle.record_listing.specs.Checks.{piece_read}
 use Rattle.record_listing.proofs.PieceLemmas.{records_behind, with_records-append}
 
 -- ---- what is listed of records
@@ -30,6 +33,31 @@ fault-with_records : (p : Progress) (records : List (List ℕ))
 fault-with_records p [] = sym (first_of-none p.fault)
 fault-with_records p (r ∷ records) = fault-with_records (with_record p r) records
     ∙ first_of-assoc p.fault _ (first_fault records)
+
+-- how many are read before one is refused, behind others
+abbrev good_after : ℕ → Option RecordFault → ℕ → ℕ
+good_after good None more = good + more
+good_after good (Some fault) more = good
+
+good-with_record : (good : ℕ) (a b : Option RecordFault) (more : ℕ)
+    → good_after (good_with good (first_of a b)) (first_of a b) more
+    ≡ good_after good a (if is_some b then 0 else more + 1)
+good-with_record good None None more = omega arith
+good-with_record good None (Some fault) more = omega arith
+good-with_record good (Some fault) b more = refl
+
+good-alone : (good : ℕ) (a : Option RecordFault) → good ≡ good_after good a 0
+good-alone good None = omega arith
+good-alone good (Some fault) = refl
+
+good-of-nothing : (more : ℕ) → good_after 0 None more ≡ more
+good-of-nothing more = omega arith
+
+good-with_records : (p : Progress) (records : List (List ℕ))
+    → (with_records p records).good ≡ good_after p.good p.fault (count_read records)
+good-with_records p [] = good-alone p.good p.fault
+good-with_records p (r ∷ records) = good-with_records (with_record p r) records
+    ∙ good-with_record p.good p.fault (refusal (reading_of r)) (count_read records)
 
 lines-with_records : (p : Progress) (records : List (List ℕ))
     → (with_records p records).lines ≡ p.lines ++ lines_from (p.count + 1) records
@@ -214,15 +242,31 @@ stands_verdict (Some bytes) (Some more) written written' held p n s end size =
     ∙ fault-with_records nothing_listed (feed_of s.consumed).records)
     ∙ sym (ap verdict_of whole)
 
+-- What is wrong with the records so far, or with what is left over, is the finding.
+pub stands_finding : (left left' written written' : Option (List ℕ)) (held : List ℕ) (p : Progress) (n : ℕ)
+    → Stands left left' written written' held p → IsAtEnd left' → n ≡ length held
+    → IfSome left (λ bytes. option_map (finding_after p.good) (verdict_by p.fault n) ≡ finding_of bytes)
+stands_finding None left' written written' held p n s end size = tt
+stands_finding (Some bytes) None written written' held p n s end size = absurd s.consumes
+stands_finding (Some bytes) (Some more) written written' held p n s end size =
+    let whole : bytes ≡ s.consumed = s.consumes ∙ ap (λ l. s.consumed ++ l) end ∙ append-nil s.consumed in
+    let good = ap (λ (q : Progress). q.good) s.is_listed
+    ∙ good-with_records nothing_listed (feed_of s.consumed).records
+    ∙ good-of-nothing (count_read (feed_of s.consumed).records)
+    ∙ ap (λ (l : List ℕ). count_read (feed_of l).records) (sym whole) in
+    ap (λ g. option_map (finding_after g) (verdict_by p.fault n)) good
+    ∙ ap (option_map (finding_after (count_read (feed_of bytes).records)))
+    (stands_verdict (Some bytes) (Some more) written written' held p n s end size)
+
 -- ---- what a call answered
 
--- the answer is the verdict
-pub answers_verdict : {E : Type 0} (r : Result (Option FileFault) E) (left : Option (List ℕ)) (v : Option FileFault)
-    → IfOk r (λ a. a ≡ v) → IfSome left (λ bytes. v ≡ verdict_of bytes)
-    → IfOk r (λ a. IfSome left (λ bytes. a ≡ verdict_of bytes))
-answers_verdict (Err e) left v a is = tt
-answers_verdict (Ok o) None v a is = tt
-answers_verdict (Ok o) (Some bytes) v a is = a ∙ is
+-- the answer is the finding
+pub answers_finding : {E : Type 0} (r : Result (Option Finding) E) (left : Option (List ℕ)) (v : Option Finding)
+    → IfOk r (λ a. a ≡ v) → IfSome left (λ bytes. v ≡ finding_of bytes)
+    → IfOk r (λ a. IfSome left (λ bytes. a ≡ finding_of bytes))
+answers_finding (Err e) left v a is = tt
+answers_finding (Ok o) None v a is = tt
+answers_finding (Ok o) (Some bytes) v a is = a ∙ is
 
 pub on_ok : {T E : Type 0} (r : Result T E) (P Q : Type 0) → OnOk r P → (P → Q) → OnOk r Q
 on_ok (Ok x) P Q p f = f p

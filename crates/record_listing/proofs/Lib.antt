@@ -1,4 +1,5 @@
 mod CheckLemmas
+mod FindingLemmas
 mod TextLemmas
 mod PieceLemmas
 mod ReadingLemmas

@@ -1,5 +1,5 @@
 -- A check under way: what is listed so far, and why it stopped.
-use Rattle.std.specs.Prelude.{◌≡◌, ℕ, ◌+◌, List, [], ◌∷◌, ◌++◌, Option, None, codes}
+use Rattle.std.specs.Prelude.{◌≡◌, ℕ, ◌+◌, if◌then◌else◌, List, [], ◌∷◌, ◌++◌, Option, None, is_some, codes}
 use Rattle.sl_io.specs.Counts.{StopsReading, StopsWriting}
 use Rattle.sl_io.specs.declared.faults.ReadFault.TheVariants.{Read as ReadingFailed}
 use Rattle.protocol.specs.Streams.{FeedRead, feed_from}
@@ -33,21 +33,28 @@ StopsChecking Read failures failures' calls calls' write_failures write_failures
 StopsChecking Write failures failures' calls calls' write_failures write_failures' empty empty' =
     (failures' ≡ failures) × StopsWriting write_failures write_failures' empty empty'
 
--- how many records are listed, why the first refused one of them is none, and the lines that are not written yet
+-- how many records are listed, how many of them were read before one was refused, why the first refused one of them is
+-- none, and the lines that are not written yet
 pub record Progress : Type 0 where
   pub count : ℕ
+  pub good : ℕ
   pub fault : Option RecordFault
   pub lines : List ℕ
 
 -- no record is listed
 abbrev pub nothing_listed : Progress
-nothing_listed = record { count = 0; fault = None; lines = [] }
+nothing_listed = record { count = 0; good = 0; fault = None; lines = [] }
+
+-- how many were read before one was refused, with one more where none was refused until then
+abbrev pub good_with : ℕ → Option RecordFault → ℕ
+good_with good fault = if is_some fault then good else good + 1
 
 -- one record more
 abbrev pub with_record : Progress → List ℕ → Progress
 with_record p r =
     record {
       count = p.count + 1;
+      good = good_with p.good (first_of p.fault (refusal (reading_of r)));
       fault = first_of p.fault (refusal (reading_of r));
       lines = p.lines ++ record_line (p.count + 1) (reading_of r);
     }

@@ -1,15 +1,16 @@
 //! The check of a file of records: a line a record, and the first fault.
 ghost use Rattle.std.specs.Prelude.{◌≡◌, ◌≤◌, ◌<◌, ◌+◌, ◌^◌, ◌++◌, [], List, ℕ, length, take, IfOk, OnOk, IfErr};
 ghost use Rattle.std.specs.Prelude.{OnErr};
-ghost use Rattle.std.specs.Prelude.{IfSome, MatchResult};
+ghost use Rattle.std.specs.Prelude.{IfSome, MatchResult, option_map};
 ghost use Rattle.std.specs.Io.KnownBytes.{Appends, Consumes, IsAtEnd};
 ghost use Rattle.sl_io.specs.Counts.{IsMore, StopsReading, StopsWriting};
 ghost use Rattle.sl_io.specs.Known.{AppendsBeginning, ConsumesSome};
+ghost use Rattle.record_listing.specs.Findings.{FindsFirst, finding_after, finding_of};
 ghost use Rattle.record_listing.specs.Listing.{listing_of, partial_text, verdict_by, verdict_of};
 ghost use Rattle.record_listing.specs.Checks.{check_fault_number, check_fault_name, nothing_listed, piece_read};
 ghost use Rattle.record_listing.specs.Checks.{with_records, StopsChecking};
 
-use crate::fault::FileFault;
+use crate::finding::Finding;
 use crate::listing::Listing;
 use feeder::{FeedCutter, Feeding};
 use protocol::report::Report;
@@ -146,8 +147,9 @@ fn finish<W: Sink>(
     writer: &mut W,
     rest: usize,
     listing: &mut Listing,
-) -> Result<Option<FileFault>, CheckFault>
-    ensures answer { IfOk result (λ answer. answer ≡ verdict_by listing.old.fault rest) }
+) -> Result<Option<Finding>, CheckFault>
+    ensures answer { IfOk result (λ answer. answer
+        ≡ option_map (finding_after listing.old.good) (verdict_by listing.old.fault rest)) }
     ensures ok { OnOk result
         (Appends (W.written writer.old) (W.written writer.new) (listing.old.lines ++ partial_text rest)) }
     ensures err { OnErr result
@@ -173,10 +175,10 @@ fn check_blocks<R: Source, W: Sink>(
     writer: &mut W,
     block: &mut [u8],
     listing: &mut Listing,
-) -> Result<Option<FileFault>, CheckFault>
+) -> Result<Option<Finding>, CheckFault>
     requires room { length block.old ≡ 65536 }
     requires nothing { listing.old ≡ nothing_listed }
-    ensures verdict { IfOk result (λ answer. IfSome (R.left reader.old) (λ bytes. answer ≡ verdict_of bytes)) }
+    ensures finding { IfOk result (λ answer. IfSome (R.left reader.old) (λ bytes. answer ≡ finding_of bytes)) }
     ensures written { OnOk result (IfSome (R.left reader.old)
         (λ bytes. Appends (W.written writer.old) (W.written writer.new) (listing_of bytes))) }
     ensures end { OnOk result (IsAtEnd (R.left reader.new)) }
@@ -207,7 +209,8 @@ fn check_blocks<R: Source, W: Sink>(
 /// Lists each record of 512 bytes that is left of the reader in a line, and the bytes that are left over in one
 /// more, and answers what is wrong: that a record is refused, with the fault of the first (SEED Reference Manual
 /// 2.4, chapter 8), else that bytes are left over, and nothing where all is well. A record that is refused is a
-/// line of the listing, and the check goes on.
+/// line of the listing, and the check goes on. The answer names the first record at which something is wrong: all
+/// records before it are read.
 ///
 /// A line is `K NET STA LOC CHA TYPE START END SAMPLES`, with the record's number from 1 on, times in units of
 /// 0.0001 s since 1970, each space of the location or channel as `-`, and each other byte of a code that is not 33
@@ -217,8 +220,10 @@ pub fn check_records<R: Source, W: Sink>(
     alloc: Global,
     reader: &mut R,
     writer: &mut W,
-) -> Result<Option<FileFault>, CheckFault>
-    ensures verdict { IfOk result (λ answer. IfSome (R.left reader.old) (λ bytes. answer ≡ verdict_of bytes)) }
+) -> Result<Option<Finding>, CheckFault>
+    ensures verdict { IfOk result (λ answer. IfSome (R.left reader.old)
+        (λ bytes. option_map (λ f. f.fault) answer ≡ verdict_of bytes)) }
+    ensures first { IfOk result (λ answer. IfSome (R.left reader.old) (λ bytes. FindsFirst bytes answer)) }
     ensures written { OnOk result (IfSome (R.left reader.old)
         (λ bytes. Appends (W.written writer.old) (W.written writer.new) (listing_of bytes))) }
     ensures end { OnOk result (IsAtEnd (R.left reader.new)) }

@@ -4,9 +4,11 @@
 
 mod check;
 mod fault;
+mod finding;
 mod listing;
 mod texts;
 
 pub use check::{CheckFault, check_records};
 pub use fault::FileFault;
+pub use finding::Finding;
 pub use texts::put_header;

@@ -1,5 +1,6 @@
 //! What a check has listed so far.
 use crate::fault::FileFault;
+use crate::finding::Finding;
 use crate::texts::{put_number_word, put_partial, put_record};
 use mseed_header::RecordFault;
 use std::alloc::{AllocError, Global};
@@ -12,27 +13,33 @@ const ROOM: usize = 65_536;
 /// fits.
 const ENOUGH: usize = 32_768;
 
-/// The records that are listed so far: their number, why the first refused one of them is none, and the lines that are
-/// not written yet.
+/// The records that are listed so far: their number, how many were read before one was refused, why the first refused
+/// one of them is none, and the lines that are not written yet.
 #[derive(Drop)]
 pub(crate) struct Listing {
     count: u128,
+    good: u128,
     fault: Option<RecordFault>,
     lines: Vec<u8>,
 }
 
 impl Model for Listing {
+    ghost use Rattle.std.specs.Prelude.{◌≤◌, ◌^◌};
     ghost use Rattle.record_listing.specs.Checks.{Progress};
 
     ghost Value = { Progress };
 
-    ghost view = { λ s. record { count = s.count; fault = s.fault; lines = s.lines.items } };
+    ghost view = { λ s. record { count = s.count; good = s.good; fault = s.fault; lines = s.lines.items } };
+
+    ghost invariant = { λ s. (s.good ≤ s.count) × (s.count ≤ 2 ^ 100) };
 }
 
 impl Listing {
     ghost use Rattle.std.specs.Prelude.{◌≡◌, ◌<◌, ◌^◌, ◌++◌, [], length, nat_le, IfOk, OnOk};
+    ghost use Rattle.std.specs.Prelude.{option_map};
     ghost use Rattle.record_listing.specs.Listing.{partial_text, verdict_by};
     ghost use Rattle.record_listing.specs.Checks.{nothing_listed, with_record};
+    ghost use Rattle.record_listing.specs.Findings.{finding_after};
 
     /// Nothing is listed.
     pub(crate) fn new(alloc: Global) -> Result<Listing, AllocError>
@@ -40,6 +47,7 @@ impl Listing {
     {
         Ok(Listing {
             count: 0,
+            good: 0,
             fault: None,
             lines: Vec::with_capacity(alloc, ROOM)?,
         })
@@ -55,6 +63,9 @@ impl Listing {
         let fault = put_record(&mut self.lines, bytes)?;
         self.lines.push(b'\n')?;
         self.fault = self.fault.or(fault);
+        if self.fault.is_none() {
+            self.good += 1;
+        }
         Ok(())
     }
 
@@ -65,14 +76,25 @@ impl Listing {
         put_partial(&mut self.lines, count)
     }
 
-    /// What is wrong with a file of the records and of so many bytes that are left over.
-    pub(crate) fn verdict(&self, rest: usize) -> Option<FileFault>
-        ensures { result ≡ verdict_by self.now.fault rest }
+    /// What is wrong with a file of the records and of so many bytes that are left over, and where.
+    pub(crate) fn verdict(&self, rest: usize) -> Option<Finding>
+        ensures { result ≡ option_map (finding_after self.now.good) (verdict_by self.now.fault rest) }
     {
         match self.fault {
-            Some(fault) => Some(FileFault::Record(fault)),
+            Some(fault) => Some(self.finding(FileFault::Record(fault))),
             None if rest == 0 => None,
-            None => Some(FileFault::Partial),
+            None => Some(self.finding(FileFault::Partial)),
+        }
+    }
+
+    /// A fault that comes after the records that were read before one was refused.
+    fn finding(&self, fault: FileFault) -> Finding
+        ensures { result ≡ finding_after self.now.good fault }
+    {
+        Finding {
+            fault,
+            number: self.good + 1,
+            offset: self.good * 512,
         }
     }
 

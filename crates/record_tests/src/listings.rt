@@ -24,8 +24,35 @@ fn listed(alloc: Global, bytes: &[u8], most: usize) -> Result<(Vec<u8>, Option<F
         _ => MemorySource::in_pieces(bytes, most),
     };
     let mut sink = MemorySink::new(alloc);
-    let verdict = check_records(alloc, &mut source, &mut sink)?;
-    Ok((sink.into_bytes(), verdict))
+    let finding = check_records(alloc, &mut source, &mut sink)?;
+    Ok((sink.into_bytes(), finding.map(|finding| finding.fault)))
+}
+
+/// The number and the offset of the first record at which something is wrong.
+fn first_bad(alloc: Global, bytes: &[u8]) -> Result<Option<(u128, u128)>, Fail> {
+    let mut source = MemorySource::in_pieces(bytes, 700);
+    let mut sink = MemorySink::new(alloc);
+    let finding = check_records(alloc, &mut source, &mut sink)?;
+    Ok(finding.map(|finding| (finding.number, finding.offset)))
+}
+
+#[test]
+fn the_first_bad_record_is_named(rt: HostRuntime) -> Result<(), Fail> {
+    let mut bytes = Vec::new(rt.alloc());
+    assert_eq!(rt; first_bad(rt.alloc(), &bytes)?, None);
+    put(&mut bytes, &[])?;
+    put(&mut bytes, &[])?;
+    assert_eq!(rt; first_bad(rt.alloc(), &bytes)?, None);
+    bytes.push(b'A')?;
+    assert_eq!(rt; first_bad(rt.alloc(), &bytes)?, Some((3, 1_024)));
+    bytes.extend_from_slice(&[b'A'; 511])?;
+    put(&mut bytes, &[])?;
+    put(&mut bytes, &[(50, 0), (51, 0x30)])?;
+    bytes.push(b'A')?;
+    assert_eq!(rt; first_bad(rt.alloc(), &bytes)?, Some((3, 1_024)));
+    assert_eq!(rt; first_bad(rt.alloc(), &[b'A'; 512])?, Some((1, 0)));
+    assert_eq!(rt; first_bad(rt.alloc(), b"A")?, Some((1, 0)));
+    Ok(())
 }
 
 #[test]

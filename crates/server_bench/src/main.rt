@@ -52,7 +52,7 @@ fn main(rt: HostRuntime) -> anyhow::Result<()> {
         )?,
         _ => {
             println!(rt;
-                "server_bench arrive|packets|idle|passed|visits|crowd|largest|ready|apart|sleepers|reload NUMBER.. ROUNDS"
+                "server_bench arrive|packets|idle|passed|visits|crowd|largest|ready|..  NUMBER.. ROUNDS"
             )?;
             return Ok(());
         }

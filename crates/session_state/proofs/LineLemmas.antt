@@ -68,7 +68,8 @@ leaves config h a r state none e = ap (client_in config h) e
 effect-follows : (config : Config) (h : List Arrival) (places : List ℕ) (mode new : ModeValue) (l : Line) (u : List ℕ)
     (looked : Option ℕ) (effect : Effect)
     → client_in config h (effected (record (reading places mode l u looked) { mode = new }) effect)
-    ≡ follow (session_view config (reading places mode l u looked)) h (client_in config h (reading places mode l u looked))
+    ≡ follow (session_view config (reading places mode l u looked)) h
+    (client_in config h (reading places mode l u looked))
     (negotiated_in config mode) (outcome_after effect (negotiated_in config new))
 effect-follows config h places mode new l u looked Done = refl
 effect-follows config h places mode new l u looked Refused = refl

@@ -109,11 +109,15 @@ rest-more rings next from i cs c at fresh so_far = λ j x low high there. both (
 -- ---- glances
 
 pub glanced-none : (next : ℕ) (cs : List Choice) → IsGlancedUpTo next cs 0 None
-glanced-none next cs = record { rests = λ rings looked j x low high at. absurd (omega (arith, low, high)); first = refl }
+glanced-none next cs = record {
+  rests = λ rings looked j x low high at. absurd (omega (arith, low, high));
+  first = refl;
+}
 
 -- One cursor more was looked at.
 pub glanced-more : (next i : ℕ) (cs : List Choice) (c : Choice) (e : Entry) (best later : Option First)
-    → entry_of c ≡ e → slice_get cs i ≡ Some c → i < length cs → c ≡ get_or cs i c → is_unsent next (ahead_of e.cursor) ≡ true
+    → entry_of c ≡ e → slice_get cs i ≡ Some c → i < length cs → c ≡ get_or cs i c
+    → is_unsent next (ahead_of e.cursor) ≡ true
     → later ≡ earlier best i (ahead_of e.cursor) → IsGlancedUpTo next cs i best → IsGlancedUpTo next cs (i + 1) later
 glanced-more next i cs c e best later same there within item unsent step so_far = record {
   rests = λ rings looked. rest-more rings next 0 i cs c there

@@ -80,7 +80,7 @@ fn a_line_that_is_no_event(rt: HostRuntime) -> Result<(), Fail> {
     for &line in &LINES {
         for behind in ["", "\ntake 0 1\n"] {
             let fault = fault_of(rt.alloc(), line, behind)?;
-            assert!(rt; fault == Some(ReplayFault::Script), "at {line}");
+            assert!(rt; fault == Some(ReplayFault::Script(2)), "at {line}");
         }
     }
     Ok(())

@@ -24,12 +24,7 @@ fn places(alloc: Global, text: &str, address: Ipv4Addr) -> Result<Vec<u16>, Fail
 }
 
 /// The same where the line under a word is another one.
-fn places_with(
-    alloc: Global,
-    word: &str,
-    line: &str,
-    address: Ipv4Addr,
-) -> Result<Vec<u16>, Fail> {
+fn places_with(alloc: Global, word: &str, line: &str, address: Ipv4Addr) -> Result<Vec<u16>, Fail> {
     let text = with_line(alloc, word, line)?;
     places(alloc, text.as_str(), address)
 }

@@ -1,4 +1,4 @@
-use Rattle.std.proofs.Common.{◌≡◌, [], drop, length, map}
+use Rattle.std.proofs.Common.{◌≡◌, [], drop, length, map, take, Ok}
 use Rattle.toml.specs.View.{view}
 use Rattle.catalog.specs.Places.{HasDistinctCodes}
 use Rattle.catalog.specs.Reading.{stations_read}
@@ -7,6 +7,7 @@ use Rattle.catalog.proofs.listing.stations_read.Given as goal
 abbrev pub invariant-loop-value : goal.invariant-loop-value
 invariant-loop-value l = record {
   read : stations_read l.stations.items (map view (drop l.value-index l.values)) ≡ stations_read [] (map view l.values);
+  before : stations_read [] (take l.value-index (map view l.values)) ≡ Ok l.stations.items;
+  size : length l.stations.items ≡ l.value-index;
   distinct : HasDistinctCodes l.stations.items;
-  count : length l.stations.items ≡ l.value-index;
 }

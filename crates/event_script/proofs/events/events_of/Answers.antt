@@ -1,16 +1,16 @@
 use Rattle.std.proofs.Common.{Option, Some, None, map, rules, tests, ◌≡◌, ◌∙◌, ◌<◌, ◌+◌, List, length, drop, get_or}
-use Rattle.std.proofs.Common.{sym, arith}
+use Rattle.std.proofs.Common.{ap, arith, take, []}
 use Rattle.std.proofs.lemmas.Iterator.{YieldsList}
 use Rattle.std.specs.Iterator.{Yields}
 use Rattle.std.specs.List.{slice_split}
 use Rattle.std.proofs.lemmas.Iterator.Consumers.{YieldsList-turn, YieldsList-end, YieldsList-at}
 use Rattle.std.proofs.lemmas.Iterator.Splits.{YieldsList-from_slice_split}
 use Rattle.std.proofs.lemmas.List.{length_push, drop_all}
+use Rattle.std.proofs.lemmas.List.Splits.{length-slice_split}
+use Rattle.std.proofs.lemmas.List.Sums.{count_by-le-length}
 use Rattle.server_core.specs.Runs.{event_value}
-use Rattle.std.proofs.lemmas.Result.{err_from_is_err_and}
-use Rattle.event_script.specs.Script.{events_of, is_line_feed}
-use Rattle.event_script.specs.declared.fault.ScriptFault.TheVariants.{Script}
-use Rattle.event_script.proofs.Lines.{left-more, left-fault, left-end}
+use Rattle.event_script.specs.Script.{events_of_lines, is_line_feed}
+use Rattle.event_script.proofs.Lines.{left-more, left-fault, left-end, read-before, read-fails, read-more}
 use Rattle.event_script.proofs.events.events_of.Goals as goal
 
 -- where the line at hand stands, and at the end how many there were, by the steps first
@@ -31,26 +31,51 @@ loop-line-preserved c =
     (YieldsList-from_slice_split _ is_line_feed c.args.text.now c.split-lines.ensures.rest
     c.split-lines.ensures.done c.split-lines.ensures.closure (λ x b q k. search (rules, tests)))) in
     let ls = slice_split is_line_feed c.args.text.now in
+    let was = c.loop-line.invariant in
     rw (length_push c.loop-line.yielded c.in-Some.line)
-    (c.loop-line.invariant
-    ∙ left-more (map event_value c.loop-line.events.items) (map event_value c.read_line.new.events.items) ls
-    (length c.loop-line.yielded) c.in-Some.line.now turn.0 turn.1
-    (c.in_ok-read_line.ensures.ok (drop (length c.loop-line.yielded + 1) ls)))
+    (record {
+      left =
+          was.left
+          ∙ left-more (map event_value c.loop-line.events.items) (map event_value c.read_line.new.events.items) ls
+          (length c.loop-line.yielded) c.in-Some.line.now turn.0 turn.1
+          (c.in-Ok.ensures.ok (drop (length c.loop-line.yielded + 1) ls));
+      read =
+          read-more (map event_value c.loop-line.events.items) (map event_value c.read_line.new.events.items) ls
+          (length c.loop-line.yielded) c.in-Some.line.now turn.0 turn.1 c.in-Ok.ensures.ok was.read;
+      number = ap (λ n. n + 1) was.number;
+    })
 
-pub returns-in_err-read_line-clause-script : goal.returns-in_err-read_line-clause-script
-returns-in_err-read_line-clause-script c =
+pub returns-in-Err-clause-script : goal.returns-in-Err-clause-script
+returns-in-Err-clause-script c =
     let turn = turn_of c.loop-line.yielded _ c.loop-line.yielded_by _ _ c.in-Some.line c.in-Some.is c.next.ensures.steps
     (YieldsList-at c.into_iter-line-iterator.ensures.into_iter_gives
     (YieldsList-from_slice_split _ is_line_feed c.args.text.now c.split-lines.ensures.rest
     c.split-lines.ensures.done c.split-lines.ensures.closure (λ x b q k. search (rules, tests)))) in
     let ls = slice_split is_line_feed c.args.text.now in
-    let told : c.in_err-read_line.field-0.0 ≡ Script → events_of c.args.text.now ≡ None =
-    λ script. c.loop-line.invariant
+    λ script. c.loop-line.invariant.left
     ∙ left-fault (map event_value c.loop-line.events.items) ls
     (length c.loop-line.yielded) c.in-Some.line.now turn.0 turn.1
-    (c.in_err-read_line.ensures.script script (drop (length c.loop-line.yielded + 1) ls)) in
-    let p = err_from_is_err_and c.from_residual.result c.from_residual.ensures.1 in
-    rw p.1 (λ e. told (sym p.2 ∙ e))
+    (c.in-Err.ensures.script script (drop (length c.loop-line.yielded + 1) ls))
+
+pub returns-in-Err-clause-line : goal.returns-in-Err-clause-line
+returns-in-Err-clause-line c =
+    let turn = turn_of c.loop-line.yielded _ c.loop-line.yielded_by _ _ c.in-Some.line c.in-Some.is c.next.ensures.steps
+    (YieldsList-at c.into_iter-line-iterator.ensures.into_iter_gives
+    (YieldsList-from_slice_split _ is_line_feed c.args.text.now c.split-lines.ensures.rest
+    c.split-lines.ensures.done c.split-lines.ensures.closure (λ x b q k. search (rules, tests)))) in
+    let ls = slice_split is_line_feed c.args.text.now in
+    let es = map event_value c.loop-line.events.items in
+    let k = length c.loop-line.yielded in
+    let was = c.loop-line.invariant in
+    λ script. record {
+      earlier = k;
+      number = ap (λ n. n + 1) was.number;
+      within = turn.0;
+      before = read-before es ls k was.read;
+      fails =
+          ap (λ n. events_of_lines (take (n + 1) ls)) was.number
+          ∙ read-fails es ls k c.in-Some.line.now turn.0 turn.1 was.read (c.in-Err.ensures.script script []);
+    }
 
 pub returns-clause-ok : goal.returns-clause-ok
 returns-clause-ok c =
@@ -59,5 +84,5 @@ returns-clause-ok c =
     (YieldsList-from_slice_split _ is_line_feed c.args.text.now c.split-lines.ensures.rest
     c.split-lines.ensures.done c.split-lines.ensures.closure (λ x b q k. search (rules, tests)))) in
     let ls = slice_split is_line_feed c.args.text.now in
-    c.loop-line.invariant ∙ left-end (map event_value c.loop-line.events.items) ls (length c.loop-line.yielded)
+    c.loop-line.invariant.left ∙ left-end (map event_value c.loop-line.events.items) ls (length c.loop-line.yielded)
     (drop_all (length c.loop-line.yielded) ls (omega (arith, end.1)))

@@ -3,15 +3,15 @@ use Rattle.std.proofs.Common.{ap, ◌∙◌, arith}
 use Rattle.sl_io.proofs.TotalLemmas.{Made-more}
 use Rattle.record_listing.specs.Checks.{Progress}
 use Rattle.record_listing.proofs.CheckLemmas.{stands_read, stands_written, stands_begun, stands_failed, stands_whole}
-use Rattle.record_listing.proofs.CheckLemmas.{stands_ended, stands_verdict, answers_verdict, on_ok, on_err}
+use Rattle.record_listing.proofs.CheckLemmas.{stands_ended, stands_finding, answers_finding, on_ok, on_err}
 use Rattle.record_listing.proofs.check.check_blocks.Goals as goal
 
-pub returns-in-Ok-eq0-clause-verdict : goal.returns-in-Ok-eq0-clause-verdict
-returns-in-Ok-eq0-clause-verdict g c =
+pub returns-in-Ok-eq0-clause-finding : goal.returns-in-Ok-eq0-clause-finding
+returns-in-Ok-eq0-clause-finding g c =
     let stands = stands_read _ _ _ _ _ _ _ _ _ _ c.reads.invariant.stands c.in-Ok-eq0.ensures.consumed
     c.in-Ok-eq0.ensures.listed c.in-Ok-eq0.ensures.rest in
-    answers_verdict _ _ _ c.finish.ensures.answer
-    (stands_verdict _ _ _ _ _ _ _ stands (c.in-Ok-eq0.ensures.end c.in-Ok-eq0.field-0-test) c.rest.ensures.rest)
+    answers_finding _ _ _ c.finish.ensures.answer
+    (stands_finding _ _ _ _ _ _ _ stands (c.in-Ok-eq0.ensures.end c.in-Ok-eq0.field-0-test) c.rest.ensures.rest)
 
 pub returns-in-Ok-eq0-clause-written : goal.returns-in-Ok-eq0-clause-written
 returns-in-Ok-eq0-clause-written g c =

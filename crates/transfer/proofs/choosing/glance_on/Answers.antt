@@ -31,5 +31,6 @@ loop-index-preserved c = λ cs same before.
 pub returns : goal.returns
 returns c = λ cs same before.
     let long = same-length cs c.args.entries.now same in
-    glanced-all c.args.next c.loop-index.index cs (Some c.loop-index.best) (omega (arith, long, c.loop-index-test.false))
+    glanced-all c.args.next c.loop-index.index cs (Some c.loop-index.best)
+    (omega (arith, long, c.loop-index-test.false))
     (c.loop-index.invariant cs same before)

@@ -1,0 +1,260 @@
+//! The lines that explain a fault.
+use super::replays::config;
+use catalog::Config;
+use command_line::Job;
+use jobs::{Failure, Incident, replay, run_job};
+use record_listing::check_records;
+use sl_io::{MemorySink, MemorySource};
+use std::alloc::Global;
+use std::test::Fail;
+
+/// A title and a station.
+const ISLAND: &str = "title = \"T\"\n[[station]]\nnetwork = \"GE\"\ncode = \"APE\"\n\
+    description = \"\"\ncapacity = 3\n";
+
+/// What stands behind that in a configuration, and the lines that explain why it is refused, after the file's.
+static STATIONS: [(&str, &str); 12] = [
+    (
+        "[[station]]\nnetwork = \"XX\"\ncode = \"APE\"\ndescription = \"\"\ncapacity = 0\n",
+        "  station: 2 XX APE\n  key: capacity\n  allowed: a whole number from 1 to 65536\n",
+    ),
+    (
+        "[[station]]\nnetwork = \"XX\"\ncode = \"APE\"\ndescription = \"\"\ncapacity = \"4\"\n",
+        "  station: 2 XX APE\n  key: capacity\n  allowed: a whole number from 1 to 65536\n",
+    ),
+    (
+        "[[station]]\nnetwork = \"ge\"\n",
+        "  station: 2\n  key: network\n  allowed: 1 to 2 of A to Z and 0 to 9\n",
+    ),
+    (
+        "[[station]]\ncode = \"APE\"\n",
+        "  station: 2\n  key: network\n  allowed: 1 to 2 of A to Z and 0 to 9\n",
+    ),
+    (
+        "[[station]]\nnetwork = \"XX\"\ncode = \"SIXSIX\"\n",
+        "  station: 2 XX\n  key: code\n  allowed: 1 to 5 of A to Z and 0 to 9\n",
+    ),
+    (
+        "[[station]]\nnetwork = \"XX\"\ncode = \"APE\"\n",
+        "  station: 2 XX APE\n  key: description\n  allowed: at most 60 bytes of printable ASCII\n",
+    ),
+    (
+        "first = \"0000000\"\n",
+        "  station: 1 GE APE\n  key: first\n  allowed: 1 to 6 hexadecimal digits\n",
+    ),
+    (
+        "access = \"10.0.0/8\"\n",
+        "  station: 1 GE APE\n  key: access\n  \
+            allowed: addresses and masks, separated by spaces and commas\n",
+    ),
+    (
+        "[[station]]\nnetwork = \"GE\"\ncode = \"APE\"\ndescription = \"\"\ncapacity = 3\n",
+        "  station: 2 GE APE\n  key: network and code\n  allowed: not those of an earlier station\n",
+    ),
+    // The second station is the first at fault; the third is not looked at.
+    (
+        "[[station]]\nnetwork = \"XX\"\ncode = \"B\"\ndescription = \"\"\ncapacity = 65537\n\
+            [[station]]\nnetwork = 4\n",
+        "  station: 2 XX B\n  key: capacity\n  allowed: a whole number from 1 to 65536\n",
+    ),
+    (
+        "[[station]]\nnetwork = \"XX\"\ncode = \"B\"\ndescription = \"\"\ncapacity = 1\n\
+            [[station]]\nnetwork = 4\n",
+        "  station: 3\n  key: network\n  allowed: 1 to 2 of A to Z and 0 to 9\n",
+    ),
+    ("title = \n", "  allowed: TOML in UTF-8\n"),
+];
+
+/// Configurations whose own keys are refused, and the lines after the file's.
+static SERVERS: [(&str, &str); 6] = [
+    (
+        "",
+        "  key: title\n  allowed: 1 to 100 bytes of printable ASCII\n",
+    ),
+    (
+        "title = \"\"",
+        "  key: title\n  allowed: 1 to 100 bytes of printable ASCII\n",
+    ),
+    (
+        "title = \"T\"\naccess = \"10.0.0.0/33\"",
+        "  key: access\n  allowed: addresses and masks, separated by spaces and commas\n",
+    ),
+    (
+        "title = \"T\"\nmax_connections = 10001",
+        "  key: max_connections\n  allowed: a whole number from 1 to 10000\n",
+    ),
+    (
+        "title = \"T\"",
+        "  key: station\n  allowed: 1 to 1024 tables\n",
+    ),
+    (
+        "title = \"T\"\nstation = [4]",
+        "  key: station\n  allowed: 1 to 1024 tables\n",
+    ),
+];
+
+/// The lines that explain why a configuration is refused, after the first.
+fn refusal(alloc: Global, text: &str) -> Result<String, Fail> {
+    match Config::read_by_steps(alloc, text.as_bytes()) {
+        Ok(_) => Ok(String::new(alloc)),
+        Err(error) => {
+            let incident = Incident::of_config("island.toml", error);
+            Ok(format!(in alloc; "{}", incident.site)?)
+        }
+    }
+}
+
+#[test]
+fn a_station_that_is_refused(rt: HostRuntime) -> Result<(), Fail> {
+    for (behind, lines) in &STATIONS {
+        let text = format!(in rt.alloc(); "{ISLAND}{behind}")?;
+        let wanted = format!(in rt.alloc(); "  file: island.toml\n{lines}")?;
+        let told = refusal(rt.alloc(), text.as_str())?;
+        assert!(rt; told == wanted, "at {behind}: {told}");
+    }
+    Ok(())
+}
+
+#[test]
+fn a_key_of_the_server_that_is_refused(rt: HostRuntime) -> Result<(), Fail> {
+    for (text, lines) in &SERVERS {
+        let wanted = format!(in rt.alloc(); "  file: island.toml\n{lines}")?;
+        let told = refusal(rt.alloc(), text)?;
+        assert!(rt; told == wanted, "at {text}: {told}");
+    }
+    Ok(())
+}
+
+/// The lines that explain why a script is not replayed.
+fn unplayed(alloc: Global, script: &[u8]) -> Result<String, Fail> {
+    let mut source = MemorySource::new(script);
+    let mut sink = MemorySink::new(alloc);
+    match replay(alloc, config(alloc)?, &mut source, &mut sink) {
+        Ok(()) => Ok(String::new(alloc)),
+        Err(fault) => {
+            let incident = Failure::Replay(fault).in_file("views.script");
+            Ok(format!(in alloc; "{incident}")?)
+        }
+    }
+}
+
+#[test]
+fn a_line_of_a_script(rt: HostRuntime) -> Result<(), Fail> {
+    let wanted = "  cause: a line of the script is no event\n  file: views.script\n  line: ";
+    let rows: [(&[u8], &str); 4] = [
+        (b"open\n", "1\n"),
+        (b"# first\n\nopen 10.0.0.7\nopen\nopen\n", "4\n"),
+        (b"open 10.0.0.7\ntake 0 1\nclose", "3\n"),
+        (b"\n\n\n\n\n\n\n\n\n \n", "10\n"),
+    ];
+    for (script, number) in rows {
+        let told = unplayed(rt.alloc(), script)?;
+        let wanted = format!(in rt.alloc(); "{wanted}{number}")?;
+        assert!(rt; told == wanted, "{told}");
+    }
+    Ok(())
+}
+
+/// The lines that explain what is wrong with a file of bytes of one kind.
+fn unchecked(alloc: Global, bytes: &[u8]) -> Result<String, Fail> {
+    let mut source = MemorySource::new(bytes);
+    let mut sink = MemorySink::new(alloc);
+    match check_records(alloc, &mut source, &mut sink)? {
+        None => Ok(String::new(alloc)),
+        Some(finding) => {
+            let incident = Incident::of_records("day.mseed", finding);
+            Ok(format!(in alloc; "{incident}")?)
+        }
+    }
+}
+
+#[test]
+fn a_record_of_a_file(rt: HostRuntime) -> Result<(), Fail> {
+    let good = super::scripts::record_with(&[]);
+    let mut bytes = Vec::new(rt.alloc());
+    bytes.extend_from_slice(&good)?;
+    bytes.extend_from_slice(&good)?;
+    assert!(rt; unchecked(rt.alloc(), bytes.as_slice())?.is_empty());
+    bytes.extend_from_slice(b"GE")?;
+    let told = unchecked(rt.alloc(), bytes.as_slice())?;
+    assert!(rt;
+        told.as_str()
+            == "  cause: the file ends inside a record\n  file: day.mseed\n  record: 3\n  \
+            offset: 1024\n",
+        "{told}"
+    );
+    bytes.extend_from_slice(&[b' '; 1_021])?;
+    let told = unchecked(rt.alloc(), bytes.as_slice())?;
+    let wanted = "  cause: the sequence number has a byte that is no digit, no space and not 0\n  \
+        file: day.mseed\n  record: 3\n  offset: 1024\n";
+    assert!(rt; told.as_str() == wanted, "{told}");
+    Ok(())
+}
+
+/// The lines that explain why a job failed.
+fn unfinished(rt: &HostRuntime, job: Job<'_>) -> Result<String, Fail> {
+    match run_job(rt, job, false) {
+        Ok(()) => Ok(String::new(rt.alloc())),
+        Err(incident) => Ok(format!(in rt.alloc(); "{incident}")?),
+    }
+}
+
+#[test]
+fn a_file_that_is_not_there(rt: HostRuntime) -> Result<(), Fail> {
+    let wanted = "  cause: a file could not be opened\n  file: none/at.all\n  \
+        reason: No such file or directory (os error 2)\n";
+    let check = Job::Check {
+        file: "none/at.all",
+    };
+    assert!(rt; unfinished(&rt, check)?.as_str() == wanted);
+    let replay = Job::Replay {
+        config: "none/at.all",
+        script: "nor.this",
+    };
+    assert!(rt; unfinished(&rt, replay)?.as_str() == wanted);
+    Ok(())
+}
+
+#[test]
+fn a_word_that_is_refused(rt: HostRuntime) -> Result<(), Fail> {
+    let feed = Job::Feed {
+        server: "localhost:18001",
+        file: "none/at.all",
+    };
+    assert!(rt;
+        unfinished(&rt, feed)?.as_str()
+            == "  cause: a word is no address with a port\n  word: localhost:18001\n"
+    );
+    let mut wants = Vec::new(rt.alloc());
+    wants.push("GE_WLF")?;
+    wants.push("GE_WLF:B?")?;
+    let read = Job::Read {
+        server: "127.0.0.1:1",
+        wants,
+        fetch: true,
+        output: None,
+    };
+    assert!(rt;
+        unfinished(&rt, read)?.as_str()
+            == "  cause: this can't be asked for in SeedLink\n  word: GE_WLF:B?\n"
+    );
+    Ok(())
+}
+
+#[test]
+fn a_server_that_is_not_there(rt: HostRuntime) -> Result<(), Fail> {
+    let mut wants = Vec::new(rt.alloc());
+    wants.push("GE_WLF")?;
+    let read = Job::Read {
+        server: "127.0.0.1:1",
+        wants,
+        fetch: true,
+        output: None,
+    };
+    assert!(rt;
+        unfinished(&rt, read)?.as_str()
+            == "  cause: no connection to the server could be made\n  address: 127.0.0.1:1\n  \
+                reason: Connection refused (os error 111)\n"
+    );
+    Ok(())
+}

@@ -1,0 +1,48 @@
+-- Where a failure happened, by its number: it is not the place's if memory was refused, or an output took no more.
+use Rattle.std.specs.Prelude.{ℕ, ◌==◌, ◌||◌, Bool, if◌then◌else◌, List}
+use Rattle.std.specs.Borrow.{Bor}
+use Rattle.jobs.specs.Faults.{failure_number}
+use Rattle.jobs.specs.declared.failure.Failure.{Failure}
+use Rattle.jobs.specs.declared.incident.Site.{Site}
+use Rattle.jobs.specs.declared.incident.Site.TheVariants.{Unnamed, File, Setting, Word, Server, Listening}
+use Rattle.catalog.specs.declared.error.ConfigError.{ConfigError}
+use Rattle.catalog.specs.declared.fault.ConfigFault.{ConfigFault}
+use Rattle.catalog.specs.declared.fault.ConfigFault.TheVariants as config
+
+-- memory was refused
+abbrev pub is_memory : Failure → Bool
+is_memory failure = failure_number failure == 25
+
+-- an output took no more
+abbrev pub is_output : Failure → Bool
+is_output failure = failure_number failure == 43
+
+-- of a job that reads a file
+abbrev pub file_site : Failure → Bor (List ℕ) → Site
+file_site failure path = if is_memory failure || is_output failure then Unnamed else File path
+
+-- of a word that is read
+abbrev pub word_site : Failure → Bor (List ℕ) → Site
+word_site failure word = if is_memory failure then Unnamed else Word word
+
+-- of a job that reads from a server
+abbrev pub server_site : Failure → Bor (List ℕ) → Site
+server_site failure address = if is_memory failure || is_output failure then Unnamed else Server address
+
+-- of a job that reads a file and writes to a server
+abbrev pub feed_site : Failure → (path address : Bor (List ℕ)) → Site
+feed_site failure path address =
+    if is_memory failure then Unnamed else if is_output failure then Server address else File path
+
+-- of a job that listens at two addresses
+abbrev pub listening_site : Failure → (clients feeds : Bor (List ℕ)) → Site
+listening_site failure clients feeds = if is_memory failure then Unnamed else Listening clients feeds
+
+-- of a configuration that is refused with that fault
+abbrev pub setting_site : Bor (List ℕ) → ConfigError → ConfigFault → Site
+setting_site path error config.OutOfMemory = Unnamed
+setting_site path error _ = Setting path error
+
+-- of a configuration that is refused
+abbrev pub config_site : Bor (List ℕ) → ConfigError → Site
+config_site path error = setting_site path error error.fault

@@ -1,0 +1,245 @@
+//! A failure, and where it happened.
+ghost use Rattle.std.specs.Prelude.{◌≡◌};
+ghost use Rattle.jobs.specs.Sites.{config_site, feed_site, file_site, is_memory, is_output, listening_site};
+ghost use Rattle.jobs.specs.Sites.{server_site, word_site};
+ghost use Rattle.jobs.specs.declared.failure.Failure.TheVariants.{Config, Records};
+ghost use Rattle.jobs.specs.declared.incident.Site.TheVariants.{Record};
+
+use crate::failure::Failure;
+use crate::faults::ReplayFault;
+use crate::setting_texts::{key_of, limit_of};
+use catalog::{ConfigError, ConfigFault, Step};
+use record_listing::Finding;
+use std::fmt::{self, Display, Formatter, Write};
+use std::io;
+
+/// Where a failure happened, as far as the program knows.
+#[derive(Drop)]
+pub enum Site<'a> {
+    /// Nowhere that has a name: memory, or the standard output.
+    Unnamed,
+    /// A file that was read.
+    File(&'a str),
+    /// A step of the reading of a configuration's file.
+    Setting(&'a str, ConfigError),
+    /// A record of a file, or what is left over after its last one.
+    Record(&'a str, Finding),
+    /// A file that could not be opened, for the system's reason.
+    Unopened(&'a str, io::Error),
+    /// A word of the command line: an address or a want.
+    Word(&'a str),
+    /// The server with that address.
+    Server(&'a str),
+    /// The server with that address, to which no connection could be made, for the system's reason.
+    Unconnected(&'a str, io::Error),
+    /// The addresses for clients and for feeds, of which one can't be listened on.
+    Listening(&'a str, &'a str),
+}
+
+/// Why the program ends with status 1, and where that happened.
+#[derive(Drop)]
+pub struct Incident<'a> {
+    pub failure: Failure,
+    pub site: Site<'a>,
+}
+
+impl Failure {
+    /// Whether memory was refused.
+    fn is_memory(self) -> bool
+        ensures { result ≡ is_memory self }
+    {
+        self.report().number == 25
+    }
+
+    /// Whether an output took no more.
+    fn is_output(self) -> bool
+        ensures { result ≡ is_output self }
+    {
+        self.report().number == 43
+    }
+
+    /// It, in a job that reads a file.
+    pub fn in_file<'a>(self, path: &'a str) -> Incident<'a>
+        ensures failure { result.failure ≡ self }
+        ensures site { result.site ≡ file_site self path.entry }
+    {
+        let site = if self.is_memory() || self.is_output() {
+            Site::Unnamed
+        } else {
+            Site::File(path)
+        };
+        Incident {
+            failure: self,
+            site,
+        }
+    }
+
+    /// It, of a word of the command line.
+    pub fn in_word<'a>(self, word: &'a str) -> Incident<'a>
+        ensures failure { result.failure ≡ self }
+        ensures site { result.site ≡ word_site self word.entry }
+    {
+        let site = if self.is_memory() {
+            Site::Unnamed
+        } else {
+            Site::Word(word)
+        };
+        Incident {
+            failure: self,
+            site,
+        }
+    }
+
+    /// It, in a job that reads from a server.
+    pub fn at_server<'a>(self, address: &'a str) -> Incident<'a>
+        ensures failure { result.failure ≡ self }
+        ensures site { result.site ≡ server_site self address.entry }
+    {
+        let site = if self.is_memory() || self.is_output() {
+            Site::Unnamed
+        } else {
+            Site::Server(address)
+        };
+        Incident {
+            failure: self,
+            site,
+        }
+    }
+
+    /// It, in a job that reads a file and writes to a server.
+    pub fn in_feed<'a>(self, path: &'a str, address: &'a str) -> Incident<'a>
+        ensures failure { result.failure ≡ self }
+        ensures site { result.site ≡ feed_site self path.entry address.entry }
+    {
+        let site = if self.is_memory() {
+            Site::Unnamed
+        } else if self.is_output() {
+            Site::Server(address)
+        } else {
+            Site::File(path)
+        };
+        Incident {
+            failure: self,
+            site,
+        }
+    }
+
+    /// It, in a job that listens at two addresses.
+    pub fn at_listening<'a>(self, clients: &'a str, feeds: &'a str) -> Incident<'a>
+        ensures failure { result.failure ≡ self }
+        ensures site { result.site ≡ listening_site self clients.entry feeds.entry }
+    {
+        let site = if self.is_memory() {
+            Site::Unnamed
+        } else {
+            Site::Listening(clients, feeds)
+        };
+        Incident {
+            failure: self,
+            site,
+        }
+    }
+}
+
+impl<'a> Incident<'a> {
+    /// A configuration in a file that is refused.
+    pub fn of_config(path: &'a str, error: ConfigError) -> Incident<'a>
+        ensures failure { result.failure ≡ Config error.fault }
+        ensures site { result.site ≡ config_site path.entry error }
+    {
+        let failure = Failure::Config(error.fault);
+        let site = match error.fault {
+            ConfigFault::OutOfMemory => Site::Unnamed,
+            _ => Site::Setting(path, error),
+        };
+        Incident { failure, site }
+    }
+
+    /// A file of records in which something is wrong.
+    pub fn of_records(path: &'a str, finding: Finding) -> Incident<'a>
+        ensures failure { result.failure ≡ Records finding.fault }
+        ensures site { result.site ≡ Record path.entry finding }
+    {
+        Incident {
+            failure: Failure::Records(finding.fault),
+            site: Site::Record(path, finding),
+        }
+    }
+}
+
+impl<'a> From<Failure> for Incident<'a> {
+    fn from(failure: Failure) -> Incident<'a> {
+        Incident {
+            failure,
+            site: Site::Unnamed,
+        }
+    }
+}
+
+impl Display for Incident<'_> {
+    /// The lines that explain it, each with two spaces before it.
+    fn fmt<W: Write>(&self, f: &mut Formatter<W>) -> fmt::Result {
+        writeln!(f, "  cause: {}", self.failure)?;
+        write!(f, "{}", self.site)?;
+        match self.failure {
+            Failure::Replay(ReplayFault::Script(line)) => writeln!(f, "  line: {line}"),
+            _ => Ok(()),
+        }
+    }
+}
+
+impl Display for Site<'_> {
+    /// The lines that say where it is.
+    fn fmt<W: Write>(&self, f: &mut Formatter<W>) -> fmt::Result {
+        match self {
+            Site::Unnamed => Ok(()),
+            Site::File(path) => writeln!(f, "  file: {path}"),
+            Site::Setting(path, error) => {
+                writeln!(f, "  file: {path}")?;
+                put_setting(f, error)
+            }
+            Site::Record(path, finding) => {
+                writeln!(f, "  file: {path}")?;
+                writeln!(f, "  record: {}", finding.number)?;
+                writeln!(f, "  offset: {}", finding.offset)
+            }
+            Site::Unopened(path, reason) => writeln!(f, "  file: {path}\n  reason: {reason}"),
+            Site::Word(word) => writeln!(f, "  word: {word}"),
+            Site::Server(address) => writeln!(f, "  address: {address}"),
+            Site::Unconnected(address, reason) => writeln!(
+                f,
+                "  address: {address}\n  reason: {reason}"
+            ),
+            Site::Listening(clients, feeds) => writeln!(f, "  address: {clients} or {feeds}"),
+        }
+    }
+}
+
+/// The lines that say at which station and key a configuration is refused, and what is allowed there.
+fn put_setting<W: Write>(f: &mut Formatter<W>, error: &ConfigError) -> fmt::Result {
+    match error.step {
+        Step::Station(place, _) => {
+            write!(f, "  station: {}", place as u128 + 1)?;
+            put_code(f, &error.network)?;
+            put_code(f, &error.code)?;
+            writeln!(f, "")?;
+        }
+        _ => {}
+    }
+    match key_of(error.step) {
+        Some(key) => writeln!(f, "  key: {key}")?,
+        None => {}
+    }
+    writeln!(f, "  allowed: {}", limit_of(error.step))
+}
+
+/// A space and a code, where there is one.
+fn put_code<W: Write>(f: &mut Formatter<W>, code: &Option<Vec<u8>>) -> fmt::Result {
+    match code {
+        Some(bytes) => match str::from_utf8(bytes.as_slice()) {
+            Ok(text) => write!(f, " {text}"),
+            Err(_) => Ok(()),
+        },
+        None => Ok(()),
+    }
+}
