@@ -4,7 +4,7 @@ use server_core::{Event, Handed, Offer, Refusal, Server, run};
 use std::alloc::Global;
 use std::net::Ipv4Addr;
 use std::test::Fail;
-use test_centre::CENTRE;
+use test_centre::{CENTRE, GREETING};
 
 mod arrivals;
 mod commands;
@@ -14,8 +14,6 @@ mod reloads;
 mod stations;
 mod steps;
 mod transfers;
-
-const GREETING: &[u8] = b"SeedLink v3.0 (station access)\r\nTest Centre\r\n";
 
 /// An address that sees all three stations.
 fn inside() -> Ipv4Addr {

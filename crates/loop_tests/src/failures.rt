@@ -1,11 +1,12 @@
 //! A loop of whose ports one call fails, each call in turn: what it costs is that port alone.
-use super::runs::{CENTRE, Row, happenings, looped_over, pieces};
+use super::runs::{Row, happenings, looped_over, pieces};
 use catalog::Config;
 use event_loop::Loop;
 use ports::{FailingPorts, MemoryPorts, PortScript, ReadAnswer, Script};
 use scenes::{SCENES, Scene};
 use std::alloc::Global;
 use std::test::Fail;
+use test_centre::CENTRE;
 
 mod scenes;
 

@@ -6,35 +6,7 @@ use ports::{Happening, MemoryPorts, PortScript, ReadAnswer, Script, WriteAnswer}
 use std::alloc::Global;
 use std::net::Ipv4Addr;
 use std::test::Fail;
-
-/// The answer to HELLO.
-pub const GREETING: &[u8] = b"SeedLink v3.0 (station access)\r\nTest Centre\r\n";
-
-/// A station for addresses that begin with 10, and two for everybody.
-pub const CENTRE: &[u8] = br#"title = "Test Centre"
-max_connections = 8
-
-[[station]]
-network = "GE"
-code = "APE"
-description = "Island"
-capacity = 4
-first = "000000"
-access = "10.0.0.0/8"
-
-[[station]]
-network = "GE"
-code = "WLF"
-description = "Forest"
-capacity = 2
-first = "FFFFFE"
-
-[[station]]
-network = "XX"
-code = "APE"
-description = "Vault"
-capacity = 1
-"#;
+use test_centre::CENTRE;
 
 /// A station for nobody.
 const SHUT: &[u8] = br#"

@@ -1,13 +1,12 @@
 //! Commands and records that come in pieces, and packets that are taken in parts.
 use super::runs::Row::{Feed, Inside, Outside, Quiet, Reads};
-use super::runs::{
-    CENTRE, GREETING, Row, both, feed, looped, looped_over, pieces, port, record, taken, turns,
-};
+use super::runs::{Row, both, feed, looped, looped_over, pieces, port, record, taken, turns};
 use event_loop::Loop;
 use ports::memory_ports::Made;
 use ports::{MemoryPorts, PortScript, ReadAnswer, WriteAnswer};
 use std::alloc::Global;
 use std::test::Fail;
+use test_centre::{CENTRE, GREETING};
 
 /// A transfer of two stations from now on.
 const BOTH: &[u8] = b"STATION APE GE\rDATA\rSTATION WLF GE\rDATA\rEND\r";

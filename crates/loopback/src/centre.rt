@@ -33,9 +33,6 @@ capacity = 4
 access = ""
 "#;
 
-/// The answer to HELLO.
-pub const GREETING: &[u8] = b"SeedLink v3.0 (station access)\r\nTest Centre\r\n";
-
 /// How many turns a client waits at most for its next bytes.
 const PATIENCE: u8 = 20;
 

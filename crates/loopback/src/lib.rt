@@ -6,5 +6,6 @@
 mod centre;
 mod records;
 
-pub use centre::{CENTRE, Centre, GREETING, any_port, connect};
+pub use centre::{CENTRE, Centre, any_port, connect};
 pub use records::{packet, record};
+pub use test_centre::GREETING;

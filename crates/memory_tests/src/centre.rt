@@ -3,9 +3,6 @@ use crate::trial::Fault;
 use mseed_header::{ByteOrder, Fields, make};
 use std::net::Ipv4Addr;
 
-/// The answer to HELLO.
-pub const GREETING: &[u8] = b"SeedLink v3.0 (station access)\r\nTest Centre\r\n";
-
 /// A transfer of GE APE and GE WLF from now on, and how each line but the last is answered.
 pub const BOTH: [&[u8]; 5] = [
     b"STATION APE GE\r",

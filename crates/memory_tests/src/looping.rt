@@ -1,12 +1,12 @@
 //! A loop over ports.
-use crate::centre::{ARRIVALS, GREETING, inside, is_packet, outside, record};
+use crate::centre::{ARRIVALS, inside, is_packet, outside, record};
 use crate::trial::{Fault, Trial};
 use crate::wires::{Wire, Wires};
 use catalog::Config;
 use event_loop::Loop;
 use ports::{Happening, MemoryPorts, PortScript, ReadAnswer, Script};
 use std::alloc::Global;
-use test_centre::CENTRE;
+use test_centre::{CENTRE, GREETING};
 
 /// How the lines of a client that asks for two stations are answered.
 const REPLIES: &[u8] = b"OK\r\nOK\r\nOK\r\nOK\r\n";

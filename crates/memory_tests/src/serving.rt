@@ -1,10 +1,10 @@
 //! Calls of a server.
-use crate::centre::{ARRIVALS, BOTH, GREETING, inside, is_packet, outside, record};
+use crate::centre::{ARRIVALS, BOTH, inside, is_packet, outside, record};
 use crate::trial::{Fault, Trial};
 use catalog::Config;
 use server_core::{Client, Event, Handed, Offer, Server, run};
 use std::alloc::Global;
-use test_centre::CENTRE;
+use test_centre::{CENTRE, GREETING};
 
 /// Takes all that waits for a client.
 fn take(server: &mut Server, client: Client) -> Result<(), Fault> {

@@ -1,4 +1,4 @@
-//! The configuration that the tests of several crates begin with. Nothing but that.
+//! The configurations that the tests of several crates share, and what HELLO is answered there. Nothing but that.
 #![tactic(auto)]
 
 /// Three stations: GE APE, which is open to addresses that begin with 10, and GE WLF and XX APE, which are open to
@@ -27,3 +27,58 @@ code = "APE"
 description = "Vault"
 capacity = 1
 "#;
+
+/// The same, but GE WLF is open to addresses that begin with 10 alone.
+pub const FOREST_CLOSED: &[u8] = br#"title = "Test Centre"
+max_connections = 8
+
+[[station]]
+network = "GE"
+code = "APE"
+description = "Island"
+capacity = 4
+access = "10.0.0.0/8"
+
+[[station]]
+network = "GE"
+code = "WLF"
+description = "Forest"
+capacity = 2
+first = "FFFFFE"
+access = "10.0.0.0/8"
+
+[[station]]
+network = "XX"
+code = "APE"
+description = "Vault"
+capacity = 1
+"#;
+
+/// The same as `FOREST_CLOSED`, but GE APE holds one record more.
+pub const ISLAND_LARGER: &[u8] = br#"title = "Test Centre"
+max_connections = 8
+
+[[station]]
+network = "GE"
+code = "APE"
+description = "Island"
+capacity = 5
+access = "10.0.0.0/8"
+
+[[station]]
+network = "GE"
+code = "WLF"
+description = "Forest"
+capacity = 2
+first = "FFFFFE"
+access = "10.0.0.0/8"
+
+[[station]]
+network = "XX"
+code = "APE"
+description = "Vault"
+capacity = 1
+"#;
+
+/// What HELLO is answered under each of them.
+pub const GREETING: &[u8] = b"SeedLink v3.0 (station access)\r\nTest Centre\r\n";

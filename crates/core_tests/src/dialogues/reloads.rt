@@ -7,33 +7,7 @@ use catalog::Config;
 use server_core::Server;
 use std::alloc::Global;
 use std::test::Fail;
-use test_centre::CENTRE;
-
-/// The same three stations, but GE WLF is open to addresses that begin with 10 alone.
-const FOREST_CLOSED: &[u8] = br#"title = "Test Centre"
-max_connections = 8
-
-[[station]]
-network = "GE"
-code = "APE"
-description = "Island"
-capacity = 4
-access = "10.0.0.0/8"
-
-[[station]]
-network = "GE"
-code = "WLF"
-description = "Forest"
-capacity = 2
-first = "FFFFFE"
-access = "10.0.0.0/8"
-
-[[station]]
-network = "XX"
-code = "APE"
-description = "Vault"
-capacity = 1
-"#;
+use test_centre::{CENTRE, FOREST_CLOSED, ISLAND_LARGER};
 
 /// The same, but GE APE is open to fewer addresses, of which none comes here.
 const ISLAND_NARROWED: &[u8] = br#"title = "Test Centre"
@@ -52,32 +26,6 @@ code = "WLF"
 description = "Forest"
 capacity = 2
 first = "FFFFFE"
-
-[[station]]
-network = "XX"
-code = "APE"
-description = "Vault"
-capacity = 1
-"#;
-
-/// GE WLF is closed to many, and GE APE holds one record more.
-const ISLAND_LARGER: &[u8] = br#"title = "Test Centre"
-max_connections = 8
-
-[[station]]
-network = "GE"
-code = "APE"
-description = "Island"
-capacity = 5
-access = "10.0.0.0/8"
-
-[[station]]
-network = "GE"
-code = "WLF"
-description = "Forest"
-capacity = 2
-first = "FFFFFE"
-access = "10.0.0.0/8"
 
 [[station]]
 network = "XX"

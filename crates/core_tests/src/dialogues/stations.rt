@@ -1,8 +1,8 @@
 //! Which stations a client is told of.
-use super::{GREETING, answers, bytes_at, handed_at, inside, joined, outside};
+use super::{answers, bytes_at, handed_at, inside, joined, outside};
 use std::alloc::Global;
 use std::test::Fail;
-use test_centre::CENTRE;
+use test_centre::{CENTRE, GREETING};
 
 /// The same configuration without GE APE.
 const WITHOUT: &[u8] = br#"title = "Test Centre"

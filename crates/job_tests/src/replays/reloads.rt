@@ -3,58 +3,7 @@ use super::{push_digits, written};
 use crate::scripts::record_with;
 use std::alloc::Global;
 use std::test::Fail;
-
-/// The same three stations, but GE WLF is open to addresses that begin with 10 alone.
-const FOREST_CLOSED: &[u8] = br#"title = "Test Centre"
-max_connections = 8
-
-[[station]]
-network = "GE"
-code = "APE"
-description = "Island"
-capacity = 4
-access = "10.0.0.0/8"
-
-[[station]]
-network = "GE"
-code = "WLF"
-description = "Forest"
-capacity = 2
-first = "FFFFFE"
-access = "10.0.0.0/8"
-
-[[station]]
-network = "XX"
-code = "APE"
-description = "Vault"
-capacity = 1
-"#;
-
-/// GE WLF is closed as well, and GE APE holds one record more.
-const ISLAND_LARGER: &[u8] = br#"title = "Test Centre"
-max_connections = 8
-
-[[station]]
-network = "GE"
-code = "APE"
-description = "Island"
-capacity = 5
-access = "10.0.0.0/8"
-
-[[station]]
-network = "GE"
-code = "WLF"
-description = "Forest"
-capacity = 2
-first = "FFFFFE"
-access = "10.0.0.0/8"
-
-[[station]]
-network = "XX"
-code = "APE"
-description = "Vault"
-capacity = 1
-"#;
+use test_centre::{FOREST_CLOSED, ISLAND_LARGER};
 
 /// A piece of a script, or of what it writes.
 #[derive(Clone, Copy)]
