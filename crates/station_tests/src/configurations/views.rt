@@ -134,7 +134,7 @@ fn codes_have_a_place(rt: HostRuntime) -> Result<(), Fail> {
 fn an_own_list_stands_in_place_of_the_global_one(rt: HostRuntime) -> Result<(), Fail> {
     // The global list lets everybody in, the station's own only addresses that begin with 10; an own list that is empty
     // admits nobody; without one the global list decides.
-    let rows: [(&str, Ipv4Addr, &[usize]); 3] = [
+    let rows: [(&str, Ipv4Addr, &[u16]); 3] = [
         ("access = \"10.0.0.0/8\"", outside(), &[]),
         ("access = \"\"", inside(), &[]),
         ("", outside(), &[0]),
@@ -150,7 +150,7 @@ fn an_own_list_stands_in_place_of_the_global_one(rt: HostRuntime) -> Result<(), 
 fn an_empty_global_list_admits_nobody_without_a_list_of_its_own(
     rt: HostRuntime,
 ) -> Result<(), Fail> {
-    let rows: [(&str, Ipv4Addr, &[usize]); 2] = [
+    let rows: [(&str, Ipv4Addr, &[u16]); 2] = [
         ("access = \" , \"", inside(), &[0]),
         ("access = \"\"", outside(), &[]),
     ];
