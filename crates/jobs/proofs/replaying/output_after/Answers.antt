@@ -8,5 +8,8 @@ use Rattle.jobs.proofs.replaying.output_after.Goals as goal
 pub returns : goal.returns
 unfolding output_after
 returns c =
-    c.in_ok-output.ensures ∙ ap (λ (hs : List Handed). output_of (map handed_value hs)) c.as_slice.ensures.value
-    ∙ ap output_of c.in_ok-takes.ensures.handed
+    record {
+      ok =
+          c.in_ok-output.ensures ∙ ap (λ (hs : List Handed). output_of (map handed_value hs)) c.as_slice.ensures.value
+          ∙ ap output_of c.in_ok-takes.ensures.handed;
+    }
