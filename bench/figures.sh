@@ -52,12 +52,12 @@ calls() {
     row "$(round 1000 arrive 65536)" "$((small_ring * 105 / 100))" 'the same, a full ring of 65,536' 'at most 1.05 times that'
     row "$(round 1000 packets 1 65536)" 1200 'an offer and the taking of it, FETCH of a full ring of 65,536' ''
     row "$(round 1000 packets 32 65536)" 2200 'the same with 32 requests, records coming round' ''
-    row "$(round 1000 packets 255 256)" 9500 'the same with 255 requests, full rings of 256' ''
+    row "$(round 1000 packets 255 256)" 6000 'the same with 255 requests, full rings of 256' ''
     row "$(round 1000 idle 32 65536)" 900 'an offer that is Idle, 32 requests, full rings of 65,536' ''
     none=$(server passed 0 10)
     one=$(server passed 1 10)
     two=$(server passed 2 10)
-    row "$(((one - none) / 10))" 130000 'an offer after 1,000 records that its selector does not let pass' ''
+    row "$(((one - none) / 10))" 120000 'an offer after 1,000 records that its selector does not let pass' ''
     row "$(((two - one) / 10))" 300 'the offer after that' ''
 }
 
@@ -98,6 +98,7 @@ print(resource.getrusage(resource.RUSAGE_CHILDREN).ru_maxrss)' "$top/crates/serv
 # What clients keep. A client that is kept by mistake would show in the second figure as 10 KiB.
 memory() {
     row "$((($(peak crowd 10001) - $(peak crowd 1)) * 1024 / 10000))" 12288 'bytes of a client that is open, by the peak of 10,000' ''
+    row "$((($(peak largest 2001) - $(peak largest 1001)) * 1024 / 1000))" 36864 'the same, each with 255 requests and 1,024 selectors' ''
     row "$(($(peak visits 1000000) - $(peak visits 1000)))" 256 'KiB more after a million clients, one after the other' 'after a thousand of them'
 }
 
