@@ -10,7 +10,7 @@ mod pools;
 mod reading;
 
 use mseed_header::{Header, RecordFault};
-use sl_lines::{Line, LineCutter, Order, command};
+use sl_lines::{Action, Line, LineCutter, Order, command};
 use sl_packet::Seq;
 use std::env;
 
@@ -27,15 +27,19 @@ fn weight(line: Line<'_>) -> u64 {
             network: _,
         } => 6,
         Order::Select { pattern: _ } => 7,
-        Order::Data {
-            number: _,
-            begin: _,
-        } => 8,
-        Order::Fetch {
-            number: _,
-            begin: _,
-        } => 9,
-        Order::Time { begin: _, last: _ } => 10,
+        Order::Act(
+            Action::Data {
+                number: _,
+                begin: _,
+            },
+        ) => 8,
+        Order::Act(
+            Action::Fetch {
+                number: _,
+                begin: _,
+            },
+        ) => 9,
+        Order::Act(Action::Time { begin: _, last: _ }) => 10,
         Order::Bad => 11,
     }
 }

@@ -14,7 +14,7 @@ use Rattle.protocol.specs.Session.{wish_of}
 use Rattle.protocol.specs.Session.Negotiated.{Multi}
 use Rattle.protocol.specs.Session.Outcome.{Stays, Starts}
 use Rattle.catalog.specs.Places.{station_at}
-use Rattle.session_state.specs.declared.choices.Action.{Action}
+use Rattle.sl_lines.specs.declared.actions.Action.{Action}
 use Rattle.session_state.specs.declared.choices.Entry.{Entry}
 use Rattle.selector.specs.Pools.{list_at}
 use Rattle.session_state.specs.NamedValues.{Choice, NamedValue, begun, choice_of, choices_with}

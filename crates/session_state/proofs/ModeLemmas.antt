@@ -5,7 +5,7 @@ use Rattle.protocol.specs.Catalog.{Config}
 use Rattle.protocol.specs.Session.{act, ok_line, select, wish_of}
 use Rattle.protocol.specs.Session.Outcome.{Stays, Starts}
 use Rattle.catalog.specs.Places.{view_in}
-use Rattle.session_state.specs.declared.choices.Action.{Action}
+use Rattle.sl_lines.specs.declared.actions.Action.{Action}
 use Rattle.session_state.specs.NamedValues.{Choice, NamedValue, IsAlone, begun, choice_of, mode_of}
 use Rattle.session_state.specs.Choices.{action_value, choices_in, negotiated_in}
 

@@ -12,7 +12,7 @@ use Rattle.protocol.specs.Catalog.{Config, Station}
 use Rattle.protocol.specs.Pattern.{Pattern}
 use Rattle.protocol.proofs.FoundLemmas.{both}
 use Rattle.selector.specs.Pools.{list_at, together, HasRoom}
-use Rattle.session_state.specs.declared.choices.Action.{Action}
+use Rattle.sl_lines.specs.declared.actions.Action.{Action}
 use Rattle.session_state.specs.declared.choices.Cursor.{Cursor}
 use Rattle.session_state.specs.declared.modes.Effect.{Effect}
 use Rattle.session_state.specs.declared.modes.Effect.TheVariants.{Done, Refused}

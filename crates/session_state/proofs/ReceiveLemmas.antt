@@ -9,7 +9,7 @@ use Rattle.protocol.specs.Session.{wish_of}
 use Rattle.protocol.specs.Client.{Client, received, read_on, is_ending, request_of}
 use Rattle.protocol.specs.Client.State.{Transfer as ClientTransfer}
 use Rattle.protocol.proofs.UnreadLemmas.{read_on-unread}
-use Rattle.session_state.specs.declared.choices.Action.{Action}
+use Rattle.sl_lines.specs.declared.actions.Action.{Action}
 use Rattle.session_state.specs.NamedValues.{Choice}
 use Rattle.session_state.specs.NamedValues.{ModeValue}
 use Rattle.session_state.specs.NamedValues.ModeValue.{Uni, Multi}

@@ -7,8 +7,8 @@ use Rattle.protocol.specs.History.Action.{Data as DataAction, Fetch as FetchActi
 use Rattle.protocol.specs.Session.{Choice as ProtocolChoice, Negotiated}
 use Rattle.protocol.specs.Session.Negotiated.{Uni as UniNegotiated, Multi as MultiNegotiated}
 use Rattle.catalog.specs.Places.{station_at}
-use Rattle.session_state.specs.declared.choices.Action.{Action}
-use Rattle.session_state.specs.declared.choices.Action.TheVariants.{Data, Fetch, Time}
+use Rattle.sl_lines.specs.declared.actions.Action.{Action}
+use Rattle.sl_lines.specs.declared.actions.Action.TheVariants.{Data, Fetch, Time}
 use Rattle.session_state.specs.declared.choices.Entry.{Entry}
 use Rattle.session_state.specs.declared.choices.Cursor.{Cursor}
 use Rattle.session_state.specs.NamedValues.{Choice, ModeValue, start}

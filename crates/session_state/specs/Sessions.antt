@@ -9,7 +9,7 @@ use Rattle.protocol.specs.Client.{Client, State as ClientState, read_on, request
 use Rattle.protocol.specs.Client.State.{Negotiating as ClientNegotiating, Listing as ClientListing}
 use Rattle.protocol.specs.Client.State.{Transfer as ClientTransfer, Ending as ClientEnding}
 use Rattle.catalog.specs.Places.{station_at, view_in, IsPlace}
-use Rattle.session_state.specs.declared.choices.Action.{Action}
+use Rattle.sl_lines.specs.declared.actions.Action.{Action}
 use Rattle.session_state.specs.NamedValues.{Choice, ModeValue}
 use Rattle.session_state.specs.declared.modes.Effect.{Effect}
 use Rattle.session_state.specs.declared.modes.Effect.TheVariants.{Done, Refused, Starts}

@@ -1,8 +1,8 @@
 -- What is asked of a station, as it is kept: an action or none, by one enum.
 use Rattle.std.specs.Prelude.{◌≡◌, refl, Option, Some, None}
-use Rattle.session_state.specs.declared.choices.Action.{Action}
-use Rattle.session_state.specs.declared.choices.Action.TheVariants.{Data as DataAction, Fetch as FetchAction}
-use Rattle.session_state.specs.declared.choices.Action.TheVariants.{Time as TimeAction}
+use Rattle.sl_lines.specs.declared.actions.Action.{Action}
+use Rattle.sl_lines.specs.declared.actions.Action.TheVariants.{Data as DataAction, Fetch as FetchAction}
+use Rattle.sl_lines.specs.declared.actions.Action.TheVariants.{Time as TimeAction}
 use Rattle.session_state.specs.declared.wishes.Case.{Case}
 use Rattle.session_state.specs.declared.wishes.Case.TheVariants.{Nothing, Data, Fetch, From, Between}
 

@@ -7,10 +7,9 @@ ghost use Rattle.catalog.specs.Places.{IsPlace, view_in};
 ghost use Rattle.sl_lines.specs.LineValues.{line_value};
 ghost use Rattle.session_state.specs.Asking.{is_bye, is_leaving, outcome_by};
 
-use crate::choices::Action;
 use catalog::{Config, View};
 use selector::Selector;
-use sl_lines::{Line, Order, command};
+use sl_lines::{Action, Line, Order, command};
 
 /// What a client asks a session to do.
 #[derive(Clone, Copy)]
@@ -68,9 +67,7 @@ pub fn asked_by(view: &View, config: &Config, line: Line<'_>) -> Asked
             pattern: Some(text),
         } => selecting(text),
         Order::End => Asked::Finish,
-        Order::Data { number, begin } => Asked::Act(Action::Data { number, begin }),
-        Order::Fetch { number, begin } => Asked::Act(Action::Fetch { number, begin }),
-        Order::Time { begin, last } => Asked::Act(Action::Time { begin, last }),
+        Order::Act(action) => Asked::Act(action),
         Order::Bad => Asked::Refused,
     }
 }

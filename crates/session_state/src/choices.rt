@@ -4,28 +4,9 @@ ghost use Rattle.std.specs.Vec.{vec_capacity, vec_len};
 ghost use Rattle.session_state.specs.NamedValues.{ahead_of, begun};
 
 use crate::wishes::Wish;
+use sl_lines::Action;
 use sl_packet::Seq;
 use sl_time::Tick;
-
-/// What a client asks of a station (SeedLink 3, DATA, FETCH and TIME).
-#[derive(Clone, Copy, Debug, PartialEq, Eq)]
-pub enum Action {
-    /// Records as they come, from that sequence number on, and none that ended before that moment.
-    Data {
-        number: Option<Seq>,
-        begin: Option<Tick>,
-    },
-    /// The same of the records that are held, and then the end.
-    Fetch {
-        number: Option<Seq>,
-        begin: Option<Tick>,
-    },
-    /// The records between two moments.
-    Time {
-        begin: Option<Tick>,
-        last: Option<Tick>,
-    },
-}
 
 /// How far a request of a transfer has come in its station's ring.
 #[derive(Clone, Copy, Debug, PartialEq, Eq, Default)]

@@ -14,7 +14,8 @@ mod replies;
 pub mod session;
 mod wishes;
 
-pub use choices::{Action, Cursor, Entry};
+pub use choices::{Cursor, Entry};
 pub use refusals::NoRoom;
 pub use session::{Session, Settled, State};
+pub use sl_lines::Action;
 pub use wishes::Wish;

@@ -6,11 +6,12 @@ ghost use Rattle.catalog.specs.Places.{station_at, view_in};
 ghost use Rattle.session_state.specs.Choices.{action_value, negotiated_in};
 ghost use Rattle.session_state.specs.Changes.{outcome_after, selecting};
 
-use crate::choices::{Action, Cursor, Entry};
+use crate::choices::{Cursor, Entry};
 use crate::named::Named;
 use catalog::{Config, View};
 use protocol::record::Kind;
 use selector::Selector;
+use sl_lines::Action;
 use std::alloc::{AllocError, Global};
 use std::marker::Model;
 

@@ -14,11 +14,12 @@ ghost use Rattle.session_state.specs.Choices.{action_value, choices_in, has_acti
 ghost use Rattle.session_state.specs.Choices.{kept_at, passed_at};
 ghost use Rattle.session_state.specs.Changes.{all_selectors, outcome_after, selecting_in, widened, widening};
 
-use crate::choices::{Action, Cursor, Entry, act_at, keep_at, pass_at, put, replace};
+use crate::choices::{Cursor, Entry, act_at, keep_at, pass_at, put, replace};
 use crate::modes::Effect;
 use catalog::Config;
 use protocol::record::Kind;
 use selector::{Pool, Selector};
+use sl_lines::Action;
 use std::alloc::{AllocError, Global};
 use std::marker::Model;
 

@@ -1,7 +1,7 @@
 //! What is asked of a station, if anything, as it is kept.
 ghost use Rattle.std.specs.Prelude.{◌≡◌, is_some, not};
 
-use crate::choices::Action;
+use sl_lines::Action;
 use sl_packet::Seq;
 use sl_time::Tick;
 use std::marker::Model;
@@ -41,7 +41,7 @@ pub struct Wish {
 
 impl Model for Wish {
     ghost use Rattle.std.specs.Prelude.{Option, refl};
-    ghost use Rattle.session_state.specs.declared.choices.Action.{Action};
+    ghost use Rattle.sl_lines.specs.declared.actions.Action.{Action};
     ghost use Rattle.session_state.specs.Wishes.{action_of, case_of, case-again};
 
     ghost Value = { Option Action };

@@ -8,6 +8,7 @@ ghost use Rattle.sl_lines.specs.LineValues.{line_value};
 ghost use Rattle.sl_lines.specs.OrderValues.{order_value};
 ghost use Rattle.sl_lines.specs.WordValues.{AreWords, command_by, resuming, between};
 
+use crate::actions::Action;
 use crate::lines::Line;
 use crate::words::{Arguments, arguments_of, first_word, is_named};
 use sl_packet::Seq;
@@ -39,22 +40,8 @@ pub enum Order<'a> {
     Select {
         pattern: Option<&'a [u8]>,
     },
-    /// `DATA [number [begin]]`: records as they come, from that sequence number on, and none that ended before that
-    /// moment.
-    Data {
-        number: Option<Seq>,
-        begin: Option<Tick>,
-    },
-    /// `FETCH [number [begin]]`: the same of the records that are held, and then the end.
-    Fetch {
-        number: Option<Seq>,
-        begin: Option<Tick>,
-    },
-    /// `TIME [begin [last]]`: the records between two moments.
-    Time {
-        begin: Option<Tick>,
-        last: Option<Tick>,
-    },
+    /// `DATA`, `FETCH` or `TIME`: what is asked of the station.
+    Act(Action),
     /// Anything else: an unknown name, too few words or too many, a word that is no number or no time, or a line of
     /// more than 256 bytes.
     Bad,
@@ -177,7 +164,7 @@ fn data_order(arguments: Arguments<'_>) -> Order<'_>
     ensures { (ws : List (List ℕ)) → AreWords arguments.entry ws → order_value result ≡ numbered Data ws }
 {
     match resumption_of(arguments) {
-        Some(Resumption { number, begin }) => Order::Data { number, begin },
+        Some(Resumption { number, begin }) => Order::Act(Action::Data { number, begin }),
         None => Order::Bad,
     }
 }
@@ -186,7 +173,7 @@ fn fetch_order(arguments: Arguments<'_>) -> Order<'_>
     ensures { (ws : List (List ℕ)) → AreWords arguments.entry ws → order_value result ≡ numbered Fetch ws }
 {
     match resumption_of(arguments) {
-        Some(Resumption { number, begin }) => Order::Fetch { number, begin },
+        Some(Resumption { number, begin }) => Order::Act(Action::Fetch { number, begin }),
         None => Order::Bad,
     }
 }
@@ -195,7 +182,7 @@ fn time_order(arguments: Arguments<'_>) -> Order<'_>
     ensures { (ws : List (List ℕ)) → AreWords arguments.entry ws → order_value result ≡ timed ws }
 {
     match interval_of(arguments) {
-        Some(Interval { begin, last }) => Order::Time { begin, last },
+        Some(Interval { begin, last }) => Order::Act(Action::Time { begin, last }),
         None => Order::Bad,
     }
 }

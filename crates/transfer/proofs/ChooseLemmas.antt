@@ -11,8 +11,8 @@ use Rattle.protocol.specs.Client.State.{Transfer as ClientTransfer, Ending as Cl
 use Rattle.protocol.proofs.FoundLemmas.{both}
 use Rattle.catalog.specs.Places.{station_at, HasDistinctCodes}
 use Rattle.station_ring.specs.declared.held.Held.{Held}
-use Rattle.session_state.specs.declared.choices.Action.{Action}
-use Rattle.session_state.specs.declared.choices.Action.TheVariants.{Data, Fetch, Time}
+use Rattle.sl_lines.specs.declared.actions.Action.{Action}
+use Rattle.sl_lines.specs.declared.actions.Action.TheVariants.{Data, Fetch, Time}
 use Rattle.session_state.specs.NamedValues.{Choice}
 use Rattle.session_state.specs.declared.session.State.TheVariants.{Transfer, Ending}
 use Rattle.session_state.specs.Choices.{chosen_of, request_in}

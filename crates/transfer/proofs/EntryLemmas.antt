@@ -4,7 +4,7 @@ use Rattle.std.proofs.Common.{slice_index_or, Option, Some, None, unwrap_or, ref
 use Rattle.std.proofs.lemmas.List.{length-map}
 use Rattle.station_ring.specs.Rings.{RingValue}
 use Rattle.held_records.specs.Rings.{RingsValue}
-use Rattle.session_state.specs.declared.choices.Action.{Action}
+use Rattle.sl_lines.specs.declared.actions.Action.{Action}
 use Rattle.session_state.specs.declared.choices.Entry.{Entry}
 use Rattle.session_state.specs.NamedValues.{Choice, entry_of, ahead_of}
 pub use Rattle.session_state.proofs.NamedLemmas.{there as choice-there}

@@ -16,7 +16,7 @@ use Rattle.station_ring.specs.declared.held.Held.{Held}
 use Rattle.held_records.specs.Rings.{RingsValue, holdings_of, ring_of, IsArrival}
 use Rattle.transfer.proofs.NextLemmas.{ring-within}
 use Rattle.held_records.proofs.RingsLemmas.{ring_is, same_codes}
-use Rattle.session_state.specs.declared.choices.Action.{Action}
+use Rattle.sl_lines.specs.declared.actions.Action.{Action}
 use Rattle.session_state.specs.NamedValues.{Choice}
 use Rattle.session_state.specs.Choices.{request_in}
 use Rattle.transfer.specs.Choosing.{IsArrived}

@@ -17,8 +17,8 @@ use Rattle.station_ring.specs.Rings.{RingValue}
 use Rattle.held_records.specs.Rings.{RingsValue, holdings_of}
 use Rattle.held_records.proofs.RingsLemmas.{ring_is, station_is_nowhere}
 use Rattle.held_records.proofs.HistoryLemmas.{holds_after-nowhere, holds_after-ring, walk_all}
-use Rattle.session_state.specs.declared.choices.Action.{Action}
-use Rattle.session_state.specs.declared.choices.Action.TheVariants.{Data, Fetch, Time}
+use Rattle.sl_lines.specs.declared.actions.Action.{Action}
+use Rattle.sl_lines.specs.declared.actions.Action.TheVariants.{Data, Fetch, Time}
 use Rattle.session_state.specs.NamedValues.{Choice}
 use Rattle.session_state.specs.declared.session.State.TheVariants.{Transfer}
 use Rattle.session_state.specs.Choices.{chosen_of, request_in}

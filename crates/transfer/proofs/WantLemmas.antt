@@ -12,7 +12,7 @@ use Rattle.protocol.specs.Pattern.{passes}
 use Rattle.catalog.specs.Places.{station_at}
 use Rattle.station_ring.specs.declared.held.Held.{Held}
 use Rattle.held_records.specs.Rings.{held_of, ring_of, summary_of}
-use Rattle.session_state.specs.declared.choices.Action.{Action}
+use Rattle.sl_lines.specs.declared.actions.Action.{Action}
 use Rattle.session_state.specs.NamedValues.{Choice}
 use Rattle.session_state.specs.Choices.{action_value}
 use Rattle.transfer.specs.Wanting.{facts_of, is_in_window_of, wants_held}

@@ -7,7 +7,7 @@ use Rattle.held_records.specs.Rings.{RingsValue, IsArrival}
 use Rattle.station_ring.specs.Rings.{RingValue}
 use Rattle.transfer.specs.Wanting.{HoldsRecord}
 use Rattle.catalog.specs.Places.{station_at}
-use Rattle.session_state.specs.declared.choices.Action.{Action}
+use Rattle.sl_lines.specs.declared.actions.Action.{Action}
 use Rattle.session_state.specs.Choices.{action_value}
 use Rattle.session_state.specs.declared.session.State.{State}
 use Rattle.session_state.specs.declared.session.State.TheVariants.{Transfer}

@@ -7,7 +7,7 @@ use Rattle.protocol.specs.Pattern.{passes}
 use Rattle.station_ring.specs.declared.held.Held.{Held}
 use Rattle.station_ring.specs.declared.held.Summary.{Summary}
 use Rattle.station_ring.specs.Rings.{RingValue, held_at}
-use Rattle.session_state.specs.declared.choices.Action.{Action}
+use Rattle.sl_lines.specs.declared.actions.Action.{Action}
 use Rattle.session_state.specs.NamedValues.{Choice}
 use Rattle.session_state.specs.Choices.{action_value}
 

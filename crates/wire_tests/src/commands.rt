@@ -1,5 +1,5 @@
 //! The table of commands.
-use sl_lines::{Line, Order, command};
+use sl_lines::{Action, Line, Order, command};
 use sl_packet::Seq;
 use sl_time::Tick;
 
@@ -16,15 +16,19 @@ fn name_asked(line: Line<'_>) -> &'static str {
             network: _,
         } => "station",
         Order::Select { pattern: _ } => "select",
-        Order::Data {
-            number: _,
-            begin: _,
-        } => "data",
-        Order::Fetch {
-            number: _,
-            begin: _,
-        } => "fetch",
-        Order::Time { begin: _, last: _ } => "time",
+        Order::Act(
+            Action::Data {
+                number: _,
+                begin: _,
+            },
+        ) => "data",
+        Order::Act(
+            Action::Fetch {
+                number: _,
+                begin: _,
+            },
+        ) => "fetch",
+        Order::Act(Action::Time { begin: _, last: _ }) => "time",
         Order::Bad => "bad",
     }
 }
@@ -38,15 +42,15 @@ fn is_select(text: &str, pattern: Option<&[u8]>) -> bool {
 }
 
 fn is_data(text: &str, number: Option<Seq>, begin: Option<Tick>) -> bool {
-    command(Line::Text(text.as_bytes())) == Order::Data { number, begin }
+    command(Line::Text(text.as_bytes())) == Order::Act(Action::Data { number, begin })
 }
 
 fn is_fetch(text: &str, number: Option<Seq>, begin: Option<Tick>) -> bool {
-    command(Line::Text(text.as_bytes())) == Order::Fetch { number, begin }
+    command(Line::Text(text.as_bytes())) == Order::Act(Action::Fetch { number, begin })
 }
 
 fn is_time(text: &str, begin: Option<Tick>, last: Option<Tick>) -> bool {
-    command(Line::Text(text.as_bytes())) == Order::Time { begin, last }
+    command(Line::Text(text.as_bytes())) == Order::Act(Action::Time { begin, last })
 }
 
 /// Lines, and the names of the commands that they are.

@@ -1,6 +1,6 @@
 use Rattle.std.proofs.Common.{◌∙◌, Some, Option, ap, sym, slice_get}
+use Rattle.sl_lines.specs.declared.actions.Action.TheVariants.{Time}
 use Rattle.session_state.specs.declared.choices.Entry.{Entry}
-use Rattle.session_state.specs.declared.choices.Action.TheVariants.{Time}
 use Rattle.std.specs.List.{list_any}
 use Rattle.protocol.specs.History.{holds_after}
 use Rattle.station_ring.specs.Rings.{RingValue}
