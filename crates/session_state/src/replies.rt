@@ -1,12 +1,14 @@
 //! What a session says to its client.
 ghost use Rattle.std.specs.Prelude.{◌≡◌, ◌≤◌, ◌+◌, ◌++◌, length};
 ghost use Rattle.protocol.specs.Catalog.{end_line, station_line};
+ghost use Rattle.protocol.specs.Packet.{packet};
 ghost use Rattle.protocol.specs.Record.{padded};
 ghost use Rattle.protocol.specs.Session.{error_line, greeting, ok_line};
 ghost use Rattle.catalog.specs.Places.{view_in};
 
 use arrayvec::ArrayVec;
 use catalog::{Config, Station, View};
+use sl_packet::{Seq, header};
 
 /// The bytes that wait to be handed to a client: at most a packet.
 pub type Waiting = ArrayVec<u8, 520>;
@@ -36,6 +38,15 @@ pub fn put_bytes(out: &mut Waiting, bytes: &[u8])
 {
     out.clear();
     extend(out, bytes);
+}
+
+/// The packet of a record, in place of what waited.
+pub fn put_packet(out: &mut Waiting, number: Seq, record: &[u8; 512])
+    ensures { out.new.items ≡ packet number «record».now }
+{
+    out.clear();
+    extend(out, &header(number));
+    extend(out, record);
 }
 
 /// The answer to HELLO: who the server is, and its title.

@@ -7,11 +7,12 @@ ghost use Rattle.protocol.specs.Client.{read_on, received, offered, after_take, 
 use crate::choices::{Cursor, Entry};
 use crate::modes::Mode;
 use crate::refusals::NoRoom;
-use crate::replies::{Waiting, put_bytes};
+use crate::replies::{Waiting, put_bytes, put_packet};
 use arrayvec::ArrayVec;
 use catalog::{Config, View};
 use protocol::record::Kind;
 use sl_lines::LineCutter;
+use sl_packet::Seq;
 use std::alloc::{AllocError, Global};
 use std::marker::Model;
 
@@ -206,6 +207,7 @@ impl Session {
 /// What others do with a session.
 impl Session {
     ghost use Rattle.protocol.specs.Catalog.{Config as ProtocolConfig, listing};
+    ghost use Rattle.protocol.specs.Packet.{packet};
     ghost use Rattle.session_state.specs.NamedValues.{Choice as ChoiceValue};
     ghost use Rattle.session_state.specs.Choices.{chosen_of, kept_in};
     ghost use Rattle.session_state.specs.Sessions.{client_in, session_view, line_made, is_listing, HasPlaces};
@@ -341,13 +343,11 @@ impl Session {
         }
     }
 
-    /// A packet, or other bytes up to 520, is made to wait, after which a transfer may choose arrivals from that one
-    /// on.
-    pub fn put(&mut self, bytes: &[u8], next: u64)
-        requires { length bytes.now ≤ 520 }
-        ensures { self.new ≡ record self.old { state = Transfer next; waiting = bytes.now } }
+    /// The packet of a record is made to wait, after which a transfer may choose arrivals from that one on.
+    pub fn put_packet(&mut self, number: Seq, bytes: &[u8; 512], next: u64)
+        ensures { self.new ≡ record self.old { state = Transfer next; waiting = packet number bytes.now } }
     {
-        put_bytes(&mut self.waiting, bytes);
+        put_packet(&mut self.waiting, number, bytes);
         self.sent = 0;
         self.state = State::Transfer(next);
     }

@@ -7,5 +7,5 @@ mod packets;
 pub mod sequence;
 
 pub use cutter::{Cut, Fed, NotAPacket, PacketCutter};
-pub use packets::frame;
+pub use packets::{frame, header};
 pub use sequence::Seq;

@@ -1,6 +1,6 @@
 //! Packets: `SL`, six hexadecimal digits and a record of 512 bytes (SeedLink 3, data packets).
-ghost use Rattle.std.specs.Prelude.{◌≡◌, ◌<◌};
-ghost use Rattle.protocol.specs.Packet.{packet};
+ghost use Rattle.std.specs.Prelude.{◌≡◌, ◌<◌, ◌++◌, codes};
+ghost use Rattle.protocol.specs.Packet.{digits, packet};
 ghost use Rattle.protocol.specs.Streams.{may_stand, may_continue};
 
 use crate::sequence::Seq;
@@ -11,14 +11,23 @@ pub const PACKET: usize = 520;
 /// The length of what stands before the record, in bytes.
 const HEADER: usize = 8;
 
-/// The packet of a record: `SL`, the six digits of its number in upper case, and the record as it is (SeedLink 3, data
-/// packets).
+/// What stands before the record in the packet with that number: `SL` and the six digits of the number in upper case
+/// (SeedLink 3, data packets).
+pub fn header(number: Seq) -> [u8; 8]
+    ensures { result ≡ codes "SL" ++ digits number }
+{
+    let mut header = [0; HEADER];
+    header[..2].copy_from_slice(b"SL");
+    header[2..].copy_from_slice(&number.digits());
+    header
+}
+
+/// The packet of a record: its header, and the record as it is (SeedLink 3, data packets).
 pub fn frame(number: Seq, record: &[u8; 512]) -> [u8; 520]
     ensures { result ≡ packet number «record».now }
 {
     let mut packet = [0; PACKET];
-    packet[..2].copy_from_slice(b"SL");
-    packet[2..HEADER].copy_from_slice(&number.digits());
+    packet[..HEADER].copy_from_slice(&header(number));
     packet[HEADER..].copy_from_slice(record);
     packet
 }

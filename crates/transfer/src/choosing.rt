@@ -25,7 +25,6 @@ use crate::wanting::{Candidate, cursor_in, has_passed_its_end, unasked};
 use catalog::Config;
 use held_records::{Rings, arrivals_by_place};
 use session_state::{Action, Cursor, Entry, Session, State};
-use sl_packet::frame;
 
 /// What an offer in a transfer leads to.
 #[derive(Clone, Copy, Debug, PartialEq, Eq)]
@@ -349,8 +348,7 @@ fn put_packet(session: &mut Session, rings: &Rings, found: Candidate)
     let Some(held) = ring.get(found.place) else {
         return;
     };
-    let packet = frame(ring.number_at(found.place), &held.bytes);
-    session.put(&packet, found.position + 1);
+    session.put_packet(ring.number_at(found.place), &held.bytes, found.position + 1);
 }
 
 /// A request passes what it doesn't want.
