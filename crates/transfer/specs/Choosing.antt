@@ -4,8 +4,7 @@ use Rattle.std.specs.Prelude.{None, slice_get}
 use Rattle.protocol.specs.Catalog.{Config, Station}
 use Rattle.protocol.specs.History.{Arrival, is_over_by}
 use Rattle.held_records.specs.Rings.{RingsValue, IsArrival}
-use Rattle.station_ring.specs.Rings.{RingValue}
-use Rattle.transfer.specs.Wanting.{HoldsRecord}
+use Rattle.station_ring.specs.Rings.{RingValue, held_at}
 use Rattle.catalog.specs.Places.{station_at}
 use Rattle.sl_lines.specs.declared.actions.Action.{Action}
 use Rattle.session_state.specs.Choices.{action_value}
@@ -37,11 +36,12 @@ pub record IsArrived (config : Config) (h : List Arrival) (number : ℕ) (x : He
   pub is_there : place < length config.entries
   pub arrives : IsArrival (station_at config.entries place) h number x
 
--- The ring of a station holds a record at a place, which arrived at that position.
-pub record HoldsThere (rings : RingsValue) (station place position : ℕ) : Type 0 where
-  pub ring : RingValue
+-- The ring of a station holds a record at a place, and the record's position is that of an arrival.
+pub record HoldsThere (rings : RingsValue) (ring : RingValue) (place : ℕ) (item : Held) : Type 0 where
+  pub station : ℕ
   pub ring_there : slice_get rings.rings station ≡ Some ring
-  pub holds : HoldsRecord ring place position
+  pub there : held_at ring place ≡ Some item
+  pub before : item.stamp < rings.arrivals
 
 -- the lesser of two positions, where both are there
 abbrev pub least_of : Option ℕ → Option ℕ → Option ℕ

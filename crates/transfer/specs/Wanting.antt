@@ -1,12 +1,11 @@
 -- Which held records a request wants, by what is kept of them.
 -- SeedLink 3, SELECT, DATA, FETCH and TIME.
-use Rattle.std.specs.Prelude.{◌≡◌, ℕ, Bool, ◌&&◌, false, nat_le, [], Option, Some, None}
+use Rattle.std.specs.Prelude.{ℕ, Bool, ◌&&◌, false, nat_le, [], Option, Some, None}
 use Rattle.protocol.specs.Record.{Facts}
 use Rattle.protocol.specs.History.{is_in_window}
 use Rattle.protocol.specs.Pattern.{passes}
 use Rattle.station_ring.specs.declared.held.Held.{Held}
 use Rattle.station_ring.specs.declared.held.Summary.{Summary}
-use Rattle.station_ring.specs.Rings.{RingValue, held_at}
 use Rattle.sl_lines.specs.declared.actions.Action.{Action}
 use Rattle.session_state.specs.NamedValues.{Choice}
 use Rattle.session_state.specs.Choices.{action_value}
@@ -37,9 +36,3 @@ wants_held c next x =
     nat_le next x.stamp
     && (nat_le c.first x.stamp
     && (passes c.selectors (facts_of x.summary) && is_in_window_of c.action (facts_of x.summary)))
-
--- A ring holds a record at a place, which arrived at that position.
-pub record HoldsRecord (r : RingValue) (place position : ℕ) : Type 0 where
-  pub item : Held
-  pub there : held_at r place ≡ Some item
-  pub stamp : item.stamp ≡ position

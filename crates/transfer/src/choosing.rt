@@ -7,8 +7,7 @@ ghost use Rattle.protocol.specs.History.{Arrival, next as next_position, is_over
 ghost use Rattle.protocol.specs.Client.{is_nothing, offered};
 ghost use Rattle.catalog.specs.Places.{station_at};
 ghost use Rattle.protocol.specs.Packet.{packet};
-ghost use Rattle.station_ring.specs.declared.held.Held.{Held};
-ghost use Rattle.station_ring.specs.Rings.{RingValue, held_at, number_at};
+ghost use Rattle.station_ring.specs.Rings.{number_at};
 ghost use Rattle.held_records.specs.Rings.{holdings_of};
 ghost use Rattle.sl_lines.specs.declared.actions.Action.TheVariants.{Time};
 ghost use Rattle.session_state.specs.NamedValues.{Choice, entry_of};
@@ -214,37 +213,37 @@ fn rest_all(session: &mut Session, rings: &Rings, next: u64) -> Option<First>
 }
 
 /// The record ahead of a request, as it is held.
-fn candidate(session: &Session, first: First, rings: &Rings) -> Option<Candidate>
+fn candidate<'a>(session: &Session, first: First, rings: &'a Rings) -> Option<Candidate<'a>>
     requires { IsAhead (chosen_of session.now.mode) first.index first.stamp }
     ensures index { IfSome result (λ c. c.index < length (chosen_of session.now.mode)) }
-    ensures held { IfSome result (λ c. HoldsThere rings.now c.station c.place c.position) }
+    ensures held { IfSome result (λ c. HoldsThere rings.now c.ring.now c.place c.held.now) }
     ensures position { (next : ℕ) → OfAll (RestsIn rings.now next) (chosen_of session.now.mode)
-        → option_map (λ c. c.position) result ≡ Some first.stamp }
+        → option_map (λ c. c.held.now.stamp) result ≡ Some first.stamp }
 {
     let entry = session.choice(first.index);
     let ring = rings.ring(entry.place)?;
     let held = ring.get(entry.cursor.place)?;
     Some(Candidate {
         index: first.index,
-        station: entry.place,
+        ring,
         place: entry.cursor.place,
-        position: held.stamp,
+        held,
     })
 }
 
 /// Of all held records that some request wants, from the arrival `next` on, the one that came first.
-fn found_next(session: &mut Session, rings: &Rings, next: u64) -> Option<Candidate>
+fn found_next<'a>(session: &mut Session, rings: &'a Rings, next: u64) -> Option<Candidate<'a>>
     ensures same { but_for_cursors session.new ≡ but_for_cursors session.old }
     ensures rest { HasPassedAll rings.now next session.old
         → OfAll (RestsIn rings.now next) (chosen_of session.new.mode) }
     ensures index { IfSome result (λ c. c.index < length (chosen_of session.new.mode)) }
-    ensures held { IfSome result (λ c. HoldsThere rings.now c.station c.place c.position) }
+    ensures held { IfSome result (λ c. HoldsThere rings.now c.ring.now c.place c.held.now) }
     ensures position { HasPassedAll rings.now next session.old
         → (config : ProtocolConfig) (h : List Arrival) → rings.now ≡ holdings_of config h →
-        option_map (λ c. c.position) result
+        option_map (λ c. c.held.now.stamp) result
         ≡ next_position h (filter_map (request_in config) (chosen_of session.new.mode)) next }
     ensures late { HasPassedAll rings.now next session.old
-        → IfSome result (λ c. next ≤ c.position) }
+        → IfSome result (λ c. next ≤ c.held.now.stamp) }
     ensures none { HasPassedAll rings.now next session.old → result ≡ None
         → OfAll (HasNothing rings.now next) (chosen_of session.new.mode) }
     ensures looked { session.new.looked ≡ Some rings.now.arrivals }
@@ -329,28 +328,6 @@ fn is_complete(entries: &[Entry], rings: &Rings) -> bool
     true
 }
 
-/// The packet of a held record is made to wait.
-fn put_packet(session: &mut Session, rings: &Rings, found: Candidate)
-    requires { HoldsThere rings.now found.station found.place found.position }
-    ensures session { (r : RingValue) (x : Held) → slice_get rings.now.rings found.station ≡ Some r
-        → held_at r found.place ≡ Some x →
-        session.new ≡ record session.old {
-          state = Transfer (found.position + 1);
-          waiting = packet (number_at r found.place) x.bytes;
-        } }
-    ensures capacity { (r : RingValue) → slice_get rings.now.rings found.station ≡ Some r → 1 ≤ r.capacity }
-{
-    let _arrivals = rings.arrivals();
-    let Some(ring) = rings.ring(found.station) else {
-        return;
-    };
-    ring.holds_its_last();
-    let Some(held) = ring.get(found.place) else {
-        return;
-    };
-    session.put_packet(ring.number_at(found.place), &held.bytes, found.position + 1);
-}
-
 /// A request passes what it doesn't want.
 fn pass_one(session: &mut Session, rings: &Rings, index: usize, next: u64)
     requires { index < length (chosen_of session.old.mode) }
@@ -362,24 +339,24 @@ fn pass_one(session: &mut Session, rings: &Rings, index: usize, next: u64)
 }
 
 /// The packet of a held record is made to wait, and its request passes it.
-fn send(session: &mut Session, rings: &Rings, found: Candidate)
-    requires there { HoldsThere rings.now found.station found.place found.position }
+fn send(session: &mut Session, rings: &Rings, found: Candidate<'_>)
+    requires there { HoldsThere rings.now found.ring.now found.place found.held.now }
     requires index { found.index < length (chosen_of session.old.mode) }
-    ensures session { (r : RingValue) (x : Held) → slice_get rings.now.rings found.station ≡ Some r
-        → held_at r found.place ≡ Some x →
-        but_for_cursors session.new ≡ but_for_cursors
+    ensures session { but_for_cursors session.new ≡ but_for_cursors
         (record session.old {
-          state = Transfer (found.position + 1);
-          waiting = packet (number_at r found.place) x.bytes;
+          state = Transfer (found.entry.held.now.stamp + 1);
+          waiting = packet (number_at found.entry.ring.now found.entry.place) found.entry.held.now.bytes;
         }) }
-    ensures capacity { (r : RingValue) → slice_get rings.now.rings found.station ≡ Some r → 1 ≤ r.capacity }
-    ensures passed { (next : ℕ) → next ≤ found.position → session.old.looked ≡ Some rings.now.arrivals
+    ensures capacity { 1 ≤ found.entry.ring.now.capacity }
+    ensures passed { (next : ℕ) → next ≤ found.entry.held.now.stamp → session.old.looked ≡ Some rings.now.arrivals
         → OfAll (RestsIn rings.now next) (chosen_of session.old.mode) → ArePassed rings.now session.new }
 {
-    put_packet(session, rings, found);
-    if let State::Transfer(next) = session.state() {
-        pass_one(session, rings, found.index, next);
-    }
+    let _arrivals = rings.arrivals();
+    found.ring.holds_its_last();
+    let number = found.ring.number_at(found.place);
+    let next = found.held.stamp + 1;
+    session.put_packet(number, &found.held.bytes, next);
+    pass_one(session, rings, found.index, next);
 }
 
 /// In a transfer, while nothing waits: of all held records that some request wants, and that arrived after the last

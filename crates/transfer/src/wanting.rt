@@ -6,7 +6,7 @@ ghost use Rattle.session_state.specs.Choices.{chosen_of};
 ghost use Rattle.session_state.specs.NamedValues.{Choice, ahead_of, entry_of};
 ghost use Rattle.station_ring.specs.declared.held.Held.{Held as HeldValue};
 ghost use Rattle.station_ring.specs.Rings.{held_at};
-ghost use Rattle.transfer.specs.Wanting.{facts_of, is_in_window_of, wants_held, HoldsRecord};
+ghost use Rattle.transfer.specs.Wanting.{facts_of, is_in_window_of, wants_held};
 ghost use Rattle.transfer.specs.Cursors.{is_after_end, HasPassed, RestsAt};
 ghost use Rattle.transfer.specs.Founds.{found_of};
 
@@ -70,14 +70,14 @@ fn wants(session: &Session, i: usize, entry: &Entry, next: u64, held: &Held) -> 
         && is_in_window(entry, summary)
 }
 
-/// A held record that a request wants: the request's index among the named stations, the place of its station in the
-/// configuration, its own place in that station's ring, and its position in the history.
-#[derive(Clone, Copy, Debug, PartialEq, Eq)]
-pub struct Candidate {
+/// A held record that a request wants: the request's index among the named stations, the ring of its station, the
+/// record's place there, and the record.
+#[derive(Clone, Copy)]
+pub struct Candidate<'a> {
     pub index: usize,
-    pub station: usize,
+    pub ring: &'a Ring,
     pub place: u64,
-    pub position: u64,
+    pub held: &'a Held,
 }
 
 /// Whether a record starts after the end of TIME, where one is asked.

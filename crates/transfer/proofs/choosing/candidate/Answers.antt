@@ -1,10 +1,11 @@
-use Rattle.std.proofs.Common.{◌≡◌, ◌∙◌, Some, None, ap, slice_get}
+use Rattle.std.proofs.Common.{◌≡◌, ◌∙◌, Some, None, ap, sym, slice_get}
 use Rattle.station_ring.specs.declared.held.Held.{Held}
 use Rattle.station_ring.specs.Rings.{held_at}
 use Rattle.session_state.specs.declared.choices.Entry.{Entry}
 use Rattle.session_state.specs.Choices.{chosen_of}
 use Rattle.transfer.proofs.EntryLemmas.{item-is}
 use Rattle.transfer.proofs.FirstsLemmas.{ahead-ring, ahead-within, told-ahead}
+use Rattle.transfer.proofs.ScanLemmas.{held-below}
 use Rattle.transfer.proofs.choosing.candidate.Goals as goal
 
 pub returns-in_err-ring-clause-position : goal.returns-in_err-ring-clause-position
@@ -31,6 +32,16 @@ returns-in_err-held-clause-position c = λ next rests.
 
 pub returns-clause-index : goal.returns-clause-index
 returns-clause-index c = ahead-within _ c.args.first.index c.args.first.stamp c.requires
+
+pub returns-clause-held : goal.returns-clause-held
+returns-clause-held c =
+    record {
+      station = _;
+      ring_there = sym c.in_ok-ring.ensures.ring;
+      there = sym c.in_ok-held.ensures;
+      before = held-below c.in_ok-ring.ring.now _ c.in_ok-held.held.now c.args.rings.now.arrivals
+          (sym c.in_ok-held.ensures) c.in_ok-ring.ensures.behind.stamps;
+    }
 
 pub returns-clause-position : goal.returns-clause-position
 returns-clause-position c = λ next rests.

@@ -6,7 +6,7 @@ use Rattle.protocol.specs.Packet.{packet}
 use Rattle.station_ring.specs.Rings.{number_at}
 use Rattle.session_state.specs.declared.session.State.TheVariants.{Transfer}
 use Rattle.session_state.specs.Choices.{chosen_of, request_in}
-use Rattle.session_state.specs.Sessions.{SessionValue, but_for_cursors}
+use Rattle.session_state.specs.Sessions.{SessionValue}
 use Rattle.transfer.specs.Choosing.{answer_of}
 use Rattle.transfer.proofs.StartLemmas.{client-same, requests-same}
 use Rattle.transfer.proofs.PassedLemmas.{ended-passes, ended-reached, passed-all, same-next}
@@ -18,24 +18,24 @@ use Rattle.transfer.proofs.choosing.choose.Goals as goal
 
 pub returns-in-Some-clause-client : goal.returns-in-Some-clause-client
 returns-in-Some-clause-client c = λ transfers passed h holds.
+    let found = c.in-Some.found in
     let there = c.in-Some.ensures.held in
-    let item = there.holds.item in
+    let number = number_at found.ring.now found.place in
     let config = c.args.config.now in
     let mid = c.found_next.new.session in
     let before = passed-all c.args.rings.now c.args.session.now passed c.in-Transfer.next (sym c.in-Transfer.ensures) in
     let made : SessionValue = record mid {
-      state = Transfer (c.in-Some.found.position + 1);
-      waiting = packet (number_at there.ring c.in-Some.found.place) item.bytes;
+      state = Transfer (found.held.now.stamp + 1);
+      waiting = packet number found.held.now.bytes;
     } in
-    client-same config h c.send.new.session made
-    (c.send.ensures.session there.ring item there.ring_there there.holds.there)
-    ∙ leads-to-packet config h mid made c.in-Transfer.next
-    (number_at there.ring c.in-Some.found.place) c.in-Some.found.position item c.codes_are_distinct.ensures
+    client-same config h c.send.new.session made c.send.ensures.session
+    ∙ leads-to-packet config h mid made c.in-Transfer.next number found.held.now.stamp found.held.now
+    c.codes_are_distinct.ensures
     (ap (λ (s : SessionValue). s.state) c.found_next.ensures.same ∙ sym c.in-Transfer.ensures)
-    (ap (λ (s : SessionValue). s.waiting) c.found_next.ensures.same ∙ c.requires) there.holds.stamp
+    (ap (λ (s : SessionValue). s.waiting) c.found_next.ensures.same ∙ c.requires) refl
     (c.in-Some.ensures.position before config h holds)
-    (arrived-there c.arrivals_by_place.ensures config h c.args.rings.now c.in-Some.found.station c.in-Some.found.place
-    there.ring item holds there.ring_there (c.send.ensures.capacity there.ring there.ring_there) there.holds.there)
+    (arrived-there c.arrivals_by_place.ensures config h c.args.rings.now there.station found.place
+    found.ring.now found.held.now holds there.ring_there c.send.ensures.capacity there.there)
     refl
     ∙ ap (offered h) (client-same config h mid c.args.session.now c.found_next.ensures.same)
 
@@ -56,17 +56,6 @@ returns-in-Some-clause-passed c = λ passed.
     let before = passed-all c.args.rings.now c.args.session.now passed c.in-Transfer.next (sym c.in-Transfer.ensures) in
     c.send.ensures.passed c.in-Transfer.next (c.in-Some.ensures.late before) c.found_next.ensures.looked
     (c.found_next.ensures.rest before)
-
-sent : (c : goal.After-send) → but_for_cursors c.send.new.session
-    ≡ but_for_cursors
-    (record (c.found_next.new.session) {
-      state = Transfer (c.in-Some.found.position + 1);
-      waiting = packet (number_at (c.in-Some.ensures.held).ring c.in-Some.found.place)
-          ((c.in-Some.ensures.held).holds.item).bytes;
-    })
-sent c =
-    let there = c.in-Some.ensures.held in
-    c.send.ensures.session there.ring there.holds.item there.ring_there there.holds.there
 
 pub returns-in-None-clause-client : goal.returns-in-None-clause-client
 returns-in-None-clause-client c = λ transfers passed h holds.

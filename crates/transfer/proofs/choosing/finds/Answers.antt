@@ -16,7 +16,7 @@ returns-in-Some-clause-answer c = λ transfers passed config h holds.
     let is_next = c.in-Some.ensures.position
     (passed-all c.args.rings.now c.args.session.now passed c.in-Transfer.next (sym c.in-Transfer.ensures)) config h
     holds in
-    ap not (sym (offers-packet config h c.found_next.new.session c.in-Transfer.next c.in-Some._found.position
+    ap not (sym (offers-packet config h c.found_next.new.session c.in-Transfer.next c.in-Some._found.held.now.stamp
     (ap (λ (s : SessionValue). s.state) c.found_next.ensures.same ∙ sym c.in-Transfer.ensures)
     (ap (λ (s : SessionValue). s.waiting) c.found_next.ensures.same ∙ c.requires) (sym is_next)))
     ∙ ap (λ (x : Client). not (is_nothing (offered h x).waiting))
