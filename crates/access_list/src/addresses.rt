@@ -1,11 +1,11 @@
 //! Addresses.
-ghost use Rattle.std.specs.Prelude.{◌≡◌, [], ◌∷◌, position, MatchOption};
+ghost use Rattle.std.specs.Prelude.{◌≡◌};
 ghost use Rattle.std.specs.Option.{option_map};
 ghost use Rattle.std.specs.Net.Addr.{ipv4_bits};
-ghost use Rattle.protocol.specs.Pieces.{split};
-ghost use Rattle.access_list.specs.Addresses.{address_of, is_dot, octet_of, octets_of};
+ghost use Rattle.access_list.specs.Addresses.{address_of, octet_of, octets_of};
 
 use decimal::number;
+use separators::cut_at;
 use std::net::Ipv4Addr;
 
 /// The address that a text spells: four decimal numbers 0 to 255 of one to three digits each, joined by dots. Leading
@@ -22,26 +22,10 @@ pub fn address(text: &[u8]) -> Option<Ipv4Addr>
 fn octets(text: &[u8]) -> Option<[u8; 4]>
     ensures { result ≡ octets_of text.now }
 {
-    let (first, rest) = cut_at_dot(text)?;
-    let (second, rest) = cut_at_dot(rest)?;
-    let (third, fourth) = cut_at_dot(rest)?;
+    let (first, rest) = cut_at(text, b'.')?;
+    let (second, rest) = cut_at(rest, b'.')?;
+    let (third, fourth) = cut_at(rest, b'.')?;
     Some([octet(first)?, octet(second)?, octet(third)?, octet(fourth)?])
-}
-
-/// What stands before the first dot of a text and what stands behind it; None where it has none.
-fn cut_at_dot(text: &[u8]) -> Option<(&[u8], &[u8])>
-    ensures { MatchOption result (split is_dot text.now ≡ text.now ∷ [])
-        (λ cut. split is_dot text.now ≡ cut.0.now ∷ split is_dot cut.1.now) }
-{
-    let dot = dot_in(text)?;
-    Some((&text[..dot], &text[dot + 1..]))
-}
-
-/// Where the first dot stands.
-fn dot_in(text: &[u8]) -> Option<usize>
-    ensures { result ≡ position is_dot text.now }
-{
-    text.iter().position(|byte| *byte == b'.')
 }
 
 /// One of the four numbers of an address.

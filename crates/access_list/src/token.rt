@@ -1,10 +1,10 @@
 //! Tokens: addresses with masks.
-ghost use Rattle.std.specs.Prelude.{◌≡◌, position};
-ghost use Rattle.access_list.specs.Tokens.{is_slash};
+ghost use Rattle.std.specs.Prelude.{◌≡◌};
 
 use crate::addresses::address;
 use crate::fault::AccessFault;
 use crate::masks::mask;
+use separators::cut_at;
 use std::marker::Model;
 
 /// An address and a mask, each with the first of its four numbers as its high byte.
@@ -34,9 +34,9 @@ impl Token {
     pub fn parse(text: &[u8]) -> Result<Token, AccessFault>
         ensures { result ≡ token_of text.now }
     {
-        match slash_in(text) {
+        match cut_at(text, b'/') {
             None => Token::alone(text),
-            Some(slash) => Token::masked(&text[..slash], &text[slash + 1..]),
+            Some((address_text, mask_text)) => Token::masked(address_text, mask_text),
         }
     }
 
@@ -76,11 +76,4 @@ impl Token {
     {
         self.address == other.address && self.mask == other.mask
     }
-}
-
-/// Where the first slash stands.
-fn slash_in(text: &[u8]) -> Option<usize>
-    ensures { result ≡ position is_slash text.now }
-{
-    text.iter().position(|byte| *byte == b'/')
 }

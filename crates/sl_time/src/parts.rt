@@ -1,5 +1,5 @@
 //! The parts of a text between commas, one after the other.
-ghost use Rattle.std.specs.Prelude.{◌≡◌, position};
+ghost use Rattle.std.specs.Prelude.{◌≡◌};
 ghost use Rattle.std.specs.Option.{option_copied};
 ghost use Rattle.protocol.specs.Pieces.{split};
 ghost use Rattle.protocol.specs.Time.{digits_between};
@@ -7,6 +7,7 @@ ghost use Rattle.sl_time.specs.Parts.{is_comma, first_part, first_number, first_
 ghost use Rattle.sl_time.specs.Parts.{other_parts};
 
 use decimal::number;
+use separators::cut_at;
 use std::marker::Model;
 
 /// The parts that are left of a text.
@@ -42,10 +43,9 @@ impl<'a> Parts<'a> {
         if self.over {
             return None;
         }
-        match comma(self.text) {
-            Some(at) => {
-                let part = &self.text[..at];
-                self.text = &self.text[at + 1..];
+        match cut_at(self.text, b',') {
+            Some((part, rest)) => {
+                self.text = rest;
                 Some(part)
             }
             None => {
@@ -90,13 +90,6 @@ impl<'a> Parts<'a> {
             None => Some(0),
         }
     }
-}
-
-/// Where the first comma stands.
-fn comma(text: &[u8]) -> Option<usize>
-    ensures { result ≡ position is_comma text.now }
-{
-    text.iter().position(|byte| *byte == b',')
 }
 
 /// The number that four decimal digits spell.
