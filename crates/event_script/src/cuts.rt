@@ -1,5 +1,5 @@
 //! Texts in parts between separators.
-ghost use Rattle.std.specs.Prelude.{◌≡◌, ◌==◌, option_map, position};
+ghost use Rattle.std.specs.Prelude.{◌≡◌, option_map};
 ghost use Rattle.event_script.specs.Script.{addressed_of, cut_by, six_of};
 ghost use Rattle.event_script.specs.ScriptValues.{addressed_value, cut_value, six_value};
 
@@ -30,22 +30,12 @@ pub(crate) struct Six<'a> {
     pub sixth: &'a [u8],
 }
 
-/// Where the first separator stands.
-fn place_of(separator: u8, text: &[u8]) -> Option<usize>
-    ensures { result ≡ position (λ b. b == separator) text.now }
-{
-    text.iter().position(|byte| *byte == separator)
-}
-
 /// A text cut at its first separator; None where it has none.
 pub(crate) fn cut_at(separator: u8, text: &[u8]) -> Option<Cut<'_>>
     ensures { option_map cut_value result ≡ cut_by separator text.now }
 {
-    let place = place_of(separator, text)?;
-    Some(Cut {
-        front: &text[..place],
-        rest: &text[place + 1..],
-    })
+    let (front, rest) = separators::cut_at(text, separator)?;
+    Some(Cut { front, rest })
 }
 
 /// A text that begins with a client's number and a space.

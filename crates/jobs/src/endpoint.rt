@@ -1,10 +1,11 @@
 //! Addresses with a port, as `127.0.0.1:18000`.
-ghost use Rattle.std.specs.Prelude.{◌≡◌, option_map, position};
+ghost use Rattle.std.specs.Prelude.{◌≡◌, option_map};
 ghost use Rattle.access_list.specs.Addresses.{address_of};
-ghost use Rattle.jobs.specs.Endpoints.{both_of, endpoint_of, endpoint_value, is_colon, port_of};
+ghost use Rattle.jobs.specs.Endpoints.{both_of, endpoint_of, endpoint_value, port_of};
 
 use access_list::address;
 use decimal::number;
+use separators::cut_at;
 use std::net::{Ipv4Addr, SocketAddrV4};
 
 /// An address with a port.
@@ -20,10 +21,8 @@ impl Endpoint {
     pub fn parse(text: &[u8]) -> Option<Endpoint>
         ensures { option_map endpoint_value result ≡ endpoint_of text.now }
     {
-        match colon_in(text) {
-            None => None,
-            Some(colon) => Endpoint::joined(&text[..colon], &text[colon + 1..]),
-        }
+        let (address_text, port_text) = cut_at(text, b':')?;
+        Endpoint::joined(address_text, port_text)
     }
 
     /// The endpoint of an address and a port.
@@ -40,13 +39,6 @@ impl Endpoint {
     pub fn socket_address(self) -> SocketAddrV4 {
         SocketAddrV4::new(self.address, self.port)
     }
-}
-
-/// Where the first colon stands.
-fn colon_in(text: &[u8]) -> Option<usize>
-    ensures { result ≡ position is_colon text.now }
-{
-    text.iter().position(|byte| *byte == b':')
 }
 
 /// A port: 0 to 65535, of one to five digits.

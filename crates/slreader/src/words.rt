@@ -1,13 +1,14 @@
 //! Words that spell wants.
-ghost use Rattle.std.specs.Prelude.{◌≡◌, ◌==◌, ◌∷◌, ◌<◌, [], length, Some, IfSome, IfOk, IfErr, MatchOption};
+ghost use Rattle.std.specs.Prelude.{◌≡◌, ◌==◌, Some, IfOk, IfErr};
 ghost use Rattle.std.specs.Option.{option_copied};
 ghost use Rattle.protocol.specs.Pieces.{split};
 ghost use Rattle.slreader.specs.WantTexts.{action_value, texts};
-ghost use Rattle.slreader.specs.Words.{action_of, front_of, number_behind, patterns_of, place_of, rest_of, want_of};
+ghost use Rattle.slreader.specs.Words.{action_of, front_of, number_behind, patterns_of, rest_of, want_of};
 ghost use Rattle.slreader.specs.Words.{IsNoWant};
 
 use crate::fault::ReaderFault;
 use crate::want::{Action, Want};
+use separators::cut_at;
 use sl_packet::Seq;
 use std::alloc::{AllocError, Global};
 
@@ -18,23 +19,15 @@ struct Cut<'a> {
     rest: Option<&'a [u8]>,
 }
 
-/// Where the first separator stands.
-fn place_of(separator: u8, text: &[u8]) -> Option<usize>
-    ensures place { result ≡ place_of separator text.now }
-    ensures bound { IfSome result (λ place. place < length text.now) }
-{
-    text.iter().position(|byte| *byte == separator)
-}
-
 /// A text cut at its first separator; all of it where it has none.
-fn cut_at(separator: u8, text: &[u8]) -> Cut<'_>
+fn front_and_rest(separator: u8, text: &[u8]) -> Cut<'_>
     ensures front { result.front.now ≡ front_of separator text.now }
     ensures rest { option_copied result.rest ≡ rest_of separator text.now }
 {
-    match place_of(separator, text) {
-        Some(place) => Cut {
-            front: &text[..place],
-            rest: Some(&text[place + 1..]),
+    match cut_at(text, separator) {
+        Some((front, rest)) => Cut {
+            front,
+            rest: Some(rest),
         },
         None => Cut {
             front: text,
@@ -43,23 +36,13 @@ fn cut_at(separator: u8, text: &[u8]) -> Cut<'_>
     }
 }
 
-/// What stands before the first comma of a text and what stands behind it; None where it has none.
-fn cut_at_comma(text: &[u8]) -> Option<(&[u8], &[u8])>
-    ensures { MatchOption result (split (λ b. b == 44) text.now ≡ text.now ∷ [])
-        (λ cut. (split (λ b. b == 44) text.now ≡ cut.0.now ∷ split (λ b. b == 44) cut.1.now)
-        × (length cut.1.now < length text.now)) }
-{
-    let comma = place_of(b',', text)?;
-    Some((&text[..comma], &text[comma + 1..]))
-}
-
 /// The texts that commas separate.
 fn pieces_of<'a>(alloc: Global, text: &'a [u8]) -> Result<Vec<&'a [u8]>, AllocError>
     ensures { IfOk result (λ pieces. texts pieces.items ≡ split (λ b. b == 44) text.now) }
 {
     let mut pieces = Vec::new(alloc);
     let mut left = text;
-    'commas: while let Some((piece, rest)) = cut_at_comma(left) {
+    'commas: while let Some((piece, rest)) = cut_at(left, b',') {
         pieces.push(piece)?;
         left = rest;
     }
@@ -116,9 +99,9 @@ impl<'a> Want<'a> {
         ensures want { IfOk result (λ want. want_of is_fetch word.now ≡ Some want) }
         ensures fault { IfErr result (λ fault. IsNoWant fault (want_of is_fetch word.now)) }
     {
-        let numbered = cut_at(b'@', word);
-        let selected = cut_at(b':', numbered.front);
-        let codes = cut_at(b'_', selected.front);
+        let numbered = front_and_rest(b'@', word);
+        let selected = front_and_rest(b':', numbered.front);
+        let codes = front_and_rest(b'_', selected.front);
         let Some(number) = number_behind(numbered.rest) else {
             return Err(ReaderFault::Limit);
         };
