@@ -38,13 +38,19 @@ fn is_gone(server: &mut Server, client: Client) -> bool {
         && server.close(client) == Err(Gone)
 }
 
+/// A client that said HELLO and left, and one that came after it.
+fn left_and_came(server: &mut Server, alloc: Global) -> Result<(Client, Client), Fail> {
+    let first = server.open(alloc, address(0))?;
+    server.receive(first, b"HELLO\r")?;
+    server.close(first)?;
+    let second = server.open(alloc, address(1))?;
+    Ok((first, second))
+}
+
 #[test]
 fn who_left_is_gone_where_another_came(rt: HostRuntime) -> Result<(), Fail> {
     let mut server = new_server(rt.alloc())?;
-    let first = server.open(rt.alloc(), address(0))?;
-    assert!(rt; server.receive(first, b"HELLO\r").is_ok());
-    assert!(rt; server.close(first).is_ok());
-    let second = server.open(rt.alloc(), address(1))?;
+    let (first, second) = left_and_came(&mut server, rt.alloc())?;
     assert_eq!(rt; second.number(), 1);
     assert!(rt; is_gone(&mut server, first));
     assert_eq!(rt; server.room(second), Ok(1024));

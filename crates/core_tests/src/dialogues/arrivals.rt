@@ -21,21 +21,37 @@ static NUMBERED: [(Record, u32); 7] = [
     (Record::Forest(4), 1),
 ];
 
+/// A record whose quality is no letter of any.
+fn of_no_quality() -> Result<[u8; 512], Fail> {
+    let mut record = made(Record::Island(1))?;
+    record[6] = b'X';
+    Ok(record)
+}
+
+/// Whether a record of no station, and one that is none, are refused.
+fn are_refused(server: &mut Server) -> Result<bool, Fail> {
+    let poor = ArriveFault::Record(RecordFault::Quality);
+    Ok(
+        answered(server, &made(Record::Stray(1))?) == Err(ArriveFault::UnknownStation)
+            && answered(server, &of_no_quality()?) == Err(poor),
+    )
+}
+
+/// The first number that a record does not get.
+fn first_missed(server: &mut Server) -> Result<Option<u32>, Fail> {
+    for &(record, number) in &NUMBERED {
+        if answered(server, &made(record)?) != Ok(number) {
+            return Ok(Some(number));
+        }
+    }
+    Ok(None)
+}
+
 #[test]
 fn records_are_numbered_by_their_station_or_refused(rt: HostRuntime) -> Result<(), Fail> {
     let mut server = server(rt.alloc())?;
-    let stray = made(Record::Stray(1))?;
-    assert!(rt; answered(&mut server, &stray) == Err(ArriveFault::UnknownStation));
-    let mut poor = made(Record::Island(1))?;
-    poor[6] = b'X';
-    let fault = ArriveFault::Record(RecordFault::Quality);
-    assert!(rt; answered(&mut server, &poor) == Err(fault));
-    for &(record, number) in &NUMBERED {
-        assert!(rt;
-            answered(&mut server, &made(record)?) == Ok(number),
-            "{number}"
-        );
-    }
+    assert!(rt; are_refused(&mut server)?);
+    assert_eq!(rt; first_missed(&mut server)?, None);
     Ok(())
 }
 

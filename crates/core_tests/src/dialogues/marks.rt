@@ -58,54 +58,88 @@ fn states_after(
     states(server, client)
 }
 
+/// A client in a transfer of one station: at first, after a record of another station, and after one that it wants.
+fn states_beside_another_station(
+    server: &mut Server,
+    alloc: Global,
+) -> Result<[(bool, bool); 3], Fail> {
+    let client = settled(server, alloc, outside(), FOREST)?;
+    let first = states(server, client)?;
+    let beside = states_after(server, client, &made(Record::Island(1))?)?;
+    let wanted = states_after(server, client, &made(Record::Forest(1))?)?;
+    Ok([first, beside, wanted])
+}
+
 #[test]
 fn a_record_marks_who_asks_for_its_station(rt: HostRuntime) -> Result<(), Fail> {
     let mut server = server(rt.alloc())?;
-    let client = settled(&mut server, rt.alloc(), outside(), FOREST)?;
-    assert_eq!(rt; states(&mut server, client)?, (false, false));
-    let island = made(Record::Island(1))?;
-    assert_eq!(rt; states_after(&mut server, client, &island)?, (false, false));
-    let forest = made(Record::Forest(1))?;
-    assert_eq!(rt; states_after(&mut server, client, &forest)?, (true, true));
+    let states = states_beside_another_station(&mut server, rt.alloc())?;
+    assert!(rt; states == [(false, false), (false, false), (true, true)]);
     Ok(())
+}
+
+/// A record of another channel.
+fn of_another_channel() -> Result<[u8; 512], Fail> {
+    let mut record = made(Record::Vault(2))?;
+    record[15..18].copy_from_slice(b"BHN");
+    Ok(record)
+}
+
+/// A client in a transfer of one channel: after a record of it, and after one of another channel.
+fn states_by_channel(server: &mut Server, client: Client) -> Result<[(bool, bool); 2], Fail> {
+    let wanted = states_after(server, client, &made(Record::Vault(1))?)?;
+    let other = states_after(server, client, &of_another_channel()?)?;
+    Ok([wanted, other])
 }
 
 #[test]
 fn a_record_that_is_not_wanted_marks_until_an_offer(rt: HostRuntime) -> Result<(), Fail> {
     let mut server = server(rt.alloc())?;
     let client = settled(&mut server, rt.alloc(), outside(), VAULT)?;
-    let wanted = made(Record::Vault(1))?;
-    assert_eq!(rt; states_after(&mut server, client, &wanted)?, (true, true));
-    let mut other = made(Record::Vault(2))?;
-    other[15..18].copy_from_slice(b"BHN");
-    assert_eq!(rt; states_after(&mut server, client, &other)?, (true, false));
+    assert!(rt; states_by_channel(&mut server, client)? == [(true, true), (true, false)]);
     assert_eq!(rt; server.offer(client), Ok(Offer::Idle));
     assert_eq!(rt; states(&mut server, client)?, (false, false));
     Ok(())
+}
+
+/// A client that waits for the end of a window of time: at first, and after a record that begins later.
+fn states_about_the_end(server: &mut Server, client: Client) -> Result<[(bool, bool); 2], Fail> {
+    let first = states(server, client)?;
+    let late = states_after(server, client, &made(Record::IslandLate)?)?;
+    Ok([first, late])
+}
+
+/// Whether the end of a transfer is what waits once it is asked for.
+fn is_ended(server: &mut Server, client: Client) -> Result<bool, Fail> {
+    let offer = server.offer(client)?;
+    Ok(offer == Offer::Bytes && server.waiting(client)? == b"END".as_slice())
 }
 
 #[test]
 fn a_record_after_the_end_of_time_marks(rt: HostRuntime) -> Result<(), Fail> {
     let mut server = server(rt.alloc())?;
     let client = settled(&mut server, rt.alloc(), inside(), WINDOW)?;
-    assert_eq!(rt; states(&mut server, client)?, (false, false));
-    let late = made(Record::IslandLate)?;
-    assert_eq!(rt; states_after(&mut server, client, &late)?, (true, true));
-    assert_eq!(rt; server.offer(client), Ok(Offer::Bytes));
-    assert_eq!(rt; server.waiting(client)?, b"END".as_slice());
+    assert!(rt; states_about_the_end(&mut server, client)? == [(false, false), (true, true)]);
+    assert!(rt; is_ended(&mut server, client)?);
     Ok(())
+}
+
+/// A new client: at first, after a command, and after BYE and all that waited before it.
+fn states_of_a_visit(server: &mut Server, alloc: Global) -> Result<[(bool, bool); 3], Fail> {
+    let client = server.open(alloc, inside())?;
+    let first = states(server, client)?;
+    server.receive(client, b"CAT\r")?;
+    let asked = states(server, client)?;
+    server.receive(client, b"BYE\r")?;
+    take_waiting(server, client);
+    Ok([first, asked, states(server, client)?])
 }
 
 #[test]
 fn a_new_client_is_marked_by_what_it_sends(rt: HostRuntime) -> Result<(), Fail> {
     let mut server = server(rt.alloc())?;
-    let client = server.open(rt.alloc(), inside())?;
-    assert_eq!(rt; states(&mut server, client)?, (false, false));
-    server.receive(client, b"CAT\r")?;
-    assert_eq!(rt; states(&mut server, client)?, (true, true));
-    server.receive(client, b"BYE\r")?;
-    take_waiting(&mut server, client);
-    assert_eq!(rt; states(&mut server, client)?, (true, true));
+    let states = states_of_a_visit(&mut server, rt.alloc())?;
+    assert!(rt; states == [(false, false), (true, true), (true, true)]);
     Ok(())
 }
 

@@ -129,11 +129,17 @@ fn reloaded(alloc: Global, server: &mut Server, text: &[u8]) -> Result<u8, Fail>
     }
 }
 
+/// What three reloads are answered: a larger ring, and two other access lists.
+fn all_reloaded(alloc: Global, server: &mut Server) -> Result<[u8; 3], Fail> {
+    let larger = reloaded(alloc, server, ISLAND_LARGER)?;
+    let narrowed = reloaded(alloc, server, ISLAND_NARROWED)?;
+    let closed = reloaded(alloc, server, FOREST_CLOSED)?;
+    Ok([larger, narrowed, closed])
+}
+
 #[test]
 fn reloads_are_answered(rt: HostRuntime) -> Result<(), Fail> {
     let mut server = served(rt.alloc())?;
-    assert_eq!(rt; reloaded(rt.alloc(), &mut server, ISLAND_LARGER)?, 34);
-    assert_eq!(rt; reloaded(rt.alloc(), &mut server, ISLAND_NARROWED)?, 0);
-    assert_eq!(rt; reloaded(rt.alloc(), &mut server, FOREST_CLOSED)?, 0);
+    assert_eq!(rt; all_reloaded(rt.alloc(), &mut server)?, [34, 0, 0]);
     Ok(())
 }
