@@ -190,7 +190,8 @@ module _ (keep : Entry → Bool) where
       → reloads_accepted (restricted keep config) (all_restricted keep es) ≡ reloads_accepted config es
       → own_view (restricted keep config) (all_restricted keep es) k ≡ own_view config es k
 
-  own_reload : (es : List Event) → SameOwn es → (config new : Config) (k : ℕ) → KeepsVisible keep config (Reload new ∷ es) k
+  own_reload : (es : List Event) → SameOwn es → (config new : Config) (k : ℕ)
+      → KeepsVisible keep config (Reload new ∷ es) k
       → reloads_accepted (restricted keep config) (Reload (restricted keep new) ∷ all_restricted keep es)
       ≡ reloads_accepted config (Reload new ∷ es)
       → own_view (restricted keep config) (Reload (restricted keep new) ∷ all_restricted keep es) k
