@@ -1,7 +1,8 @@
 //! Texts that are cut where a separator stands. No call takes memory.
 #![tactic(auto)]
 
-ghost use Rattle.std.specs.Prelude.{◌≡◌, ◌==◌, ◌+◌, ◌∷◌, [], length, take, drop, position, None, Some, IfSome, MatchOption};
+ghost use Rattle.std.specs.Prelude.{◌≡◌, ◌==◌, ◌+◌, ◌∷◌, [], length, take, drop, position, None, Some};
+ghost use Rattle.std.specs.Prelude.{IfSome, MatchOption};
 ghost use Rattle.protocol.specs.Pieces.{split};
 
 /// What stands before the first separator of a text, and what stands behind it. None where it has none.
