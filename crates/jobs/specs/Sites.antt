@@ -4,7 +4,9 @@ use Rattle.std.specs.Borrow.{Bor}
 use Rattle.jobs.specs.Faults.{failure_number}
 use Rattle.jobs.specs.declared.failure.Failure.{Failure}
 use Rattle.jobs.specs.declared.incident.Site.{Site}
-use Rattle.jobs.specs.declared.incident.Site.TheVariants.{Unnamed, File, Setting, Word, Server, Listening}
+use Rattle.jobs.specs.declared.incident.Site.TheVariants.{Unnamed, File, Setting, Word, Server, Socket}
+use Rattle.socket_ports.specs.declared.fault.ListenError.{ListenError}
+use Rattle.socket_ports.specs.declared.fault.ListenError.TheVariants as error
 use Rattle.catalog.specs.declared.error.ConfigError.{ConfigError}
 use Rattle.catalog.specs.declared.fault.ConfigFault.{ConfigFault}
 use Rattle.catalog.specs.declared.fault.ConfigFault.TheVariants as config
@@ -34,9 +36,11 @@ abbrev pub feed_site : Failure → (path address : Bor (List ℕ)) → Site
 feed_site failure path address =
     if is_memory failure then Unnamed else if is_output failure then Server address else File path
 
--- of a job that listens at two addresses
-abbrev pub listening_site : Failure → (clients feeds : Bor (List ℕ)) → Site
-listening_site failure clients feeds = if is_memory failure then Unnamed else Listening clients feeds
+-- of a job that listens at two addresses, of which one can't be listened on
+abbrev pub listening_site : (clients feeds : Bor (List ℕ)) → ListenError → Site
+listening_site clients feeds error.OutOfMemory = Unnamed
+listening_site clients feeds (error.Clients reason) = Socket clients reason
+listening_site clients feeds (error.Feeds reason) = Socket feeds reason
 
 -- of a configuration that is refused with that fault
 abbrev pub setting_site : Bor (List ℕ) → ConfigError → ConfigFault → Site

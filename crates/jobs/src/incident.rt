@@ -2,7 +2,8 @@
 ghost use Rattle.std.specs.Prelude.{◌≡◌};
 ghost use Rattle.jobs.specs.Sites.{config_site, feed_site, file_site, is_memory, is_output, listening_site};
 ghost use Rattle.jobs.specs.Sites.{server_site, word_site};
-ghost use Rattle.jobs.specs.declared.failure.Failure.TheVariants.{Config, Records};
+ghost use Rattle.socket_ports.specs.Faults.{fault_of};
+ghost use Rattle.jobs.specs.declared.failure.Failure.TheVariants.{Config, Listen, Records};
 ghost use Rattle.jobs.specs.declared.incident.Site.TheVariants.{Record};
 
 use crate::failure::Failure;
@@ -10,6 +11,7 @@ use crate::faults::ReplayFault;
 use crate::setting_texts::{key_of, limit_of};
 use catalog::{ConfigError, ConfigFault, Step};
 use record_listing::Finding;
+use socket_ports::ListenError;
 use std::fmt::{self, Display, Formatter, Write};
 use std::io;
 
@@ -30,10 +32,8 @@ pub enum Site<'a> {
     Word(&'a str),
     /// The server with that address.
     Server(&'a str),
-    /// The server with that address, to which no connection could be made, for the system's reason.
-    Unconnected(&'a str, io::Error),
-    /// The addresses for clients and for feeds, of which one can't be listened on.
-    Listening(&'a str, &'a str),
+    /// An address to which no connection could be made, or that can't be listened on, for the system's reason.
+    Socket(&'a str, io::Error),
 }
 
 /// Why the program ends with status 1, and where that happened.
@@ -123,22 +123,6 @@ impl Failure {
             site,
         }
     }
-
-    /// It, in a job that listens at two addresses.
-    pub fn at_listening<'a>(self, clients: &'a str, feeds: &'a str) -> Incident<'a>
-        ensures failure { result.failure ≡ self }
-        ensures site { result.site ≡ listening_site self clients.entry feeds.entry }
-    {
-        let site = if self.is_memory() {
-            Site::Unnamed
-        } else {
-            Site::Listening(clients, feeds)
-        };
-        Incident {
-            failure: self,
-            site,
-        }
-    }
 }
 
 impl<'a> Incident<'a> {
@@ -151,6 +135,20 @@ impl<'a> Incident<'a> {
         let site = match error.fault {
             ConfigFault::OutOfMemory => Site::Unnamed,
             _ => Site::Setting(path, error),
+        };
+        Incident { failure, site }
+    }
+
+    /// Two addresses, for clients and for feeds, of which one can't be listened on.
+    pub fn of_listening(clients: &'a str, feeds: &'a str, error: ListenError) -> Incident<'a>
+        ensures failure { result.failure ≡ Listen (fault_of error) }
+        ensures site { result.site ≡ listening_site clients.entry feeds.entry error }
+    {
+        let failure = Failure::Listen(error.fault());
+        let site = match error {
+            ListenError::OutOfMemory => Site::Unnamed,
+            ListenError::Clients(reason) => Site::Socket(clients, reason),
+            ListenError::Feeds(reason) => Site::Socket(feeds, reason),
         };
         Incident { failure, site }
     }
@@ -206,11 +204,10 @@ impl Display for Site<'_> {
             Site::Unopened(path, reason) => writeln!(f, "  file: {path}\n  reason: {reason}"),
             Site::Word(word) => writeln!(f, "  word: {word}"),
             Site::Server(address) => writeln!(f, "  address: {address}"),
-            Site::Unconnected(address, reason) => writeln!(
+            Site::Socket(address, reason) => writeln!(
                 f,
                 "  address: {address}\n  reason: {reason}"
             ),
-            Site::Listening(clients, feeds) => writeln!(f, "  address: {clients} or {feeds}"),
         }
     }
 }

@@ -48,7 +48,7 @@ fn connection<'a, R: Net>(rt: &R, server: Server<'a>) -> Result<R::Stream, Incid
 fn unconnected<'a>(server: Server<'a>, reason: io::Error) -> Incident<'a> {
     Incident {
         failure: Failure::Connect,
-        site: Site::Unconnected(server.word, reason),
+        site: Site::Socket(server.word, reason),
     }
 }
 
@@ -64,7 +64,7 @@ pub fn serve_sockets<'a, R: Files + Eprint + Net + AllocGlobal>(
     let config = config_at(rt, options.path)?;
     let ports = match MioPorts::listen(rt, rt.alloc(), clients, feeds) {
         Ok(ports) => ports,
-        Err(fault) => return Err(Failure::Listen(fault).at_listening(listen, feed)),
+        Err(error) => return Err(Incident::of_listening(listen, feed, error)),
     };
     match serve_by(rt, config, ports, &options) {
         Ok(ports) => {

@@ -1,8 +1,9 @@
 //! Why no sockets can be listened on.
 ghost use Rattle.std.specs.Prelude.{◌≡◌};
-ghost use Rattle.socket_ports.specs.Faults.{listen_fault_number, listen_fault_name};
+ghost use Rattle.socket_ports.specs.Faults.{fault_of, listen_fault_number, listen_fault_name};
 
 use protocol::report::Report;
+use std::io;
 use thiserror::Error;
 
 /// Why no sockets can be listened on.
@@ -26,6 +27,33 @@ impl ListenFault {
         match self {
             ListenFault::OutOfMemory => Report::new(25, "OutOfMemory"),
             ListenFault::Listen => Report::new(46, "Listen"),
+        }
+    }
+}
+
+/// Why no sockets can be listened on, and what the system says of it.
+#[derive(Debug, Drop, Error)]
+pub enum ListenError {
+    /// Out of memory.
+    #[error("out of memory")]
+    OutOfMemory,
+    /// The address for clients can't be listened on, or the system has nothing by which sockets are waited for.
+    #[error("the address for clients can't be listened on: {0}")]
+    Clients(io::Error),
+    /// The address for feeds can't be listened on.
+    #[error("the address for feeds can't be listened on: {0}")]
+    Feeds(io::Error),
+}
+
+impl ListenError {
+    /// The fault as the program reports it.
+    pub fn fault(&self) -> ListenFault
+        ensures { result ≡ fault_of self.now }
+    {
+        match self {
+            ListenError::OutOfMemory => ListenFault::OutOfMemory,
+            ListenError::Clients(_) => ListenFault::Listen,
+            ListenError::Feeds(_) => ListenFault::Listen,
         }
     }
 }

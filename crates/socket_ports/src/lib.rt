@@ -13,5 +13,5 @@ mod mio_ports;
 mod pool;
 mod sockets;
 
-pub use fault::ListenFault;
+pub use fault::{ListenError, ListenFault};
 pub use mio_ports::MioPorts;

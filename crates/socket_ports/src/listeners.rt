@@ -1,5 +1,5 @@
 //! The two sockets that are listened on: one for clients and one for feeds.
-use crate::fault::ListenFault;
+use crate::fault::ListenError;
 use mio::net::{TcpListener, TcpStream};
 use mio::{Interest, Poll, Token};
 use std::io;
@@ -95,16 +95,16 @@ impl Listeners {
         poll: &Poll,
         clients: SocketAddrV4,
         feeds: SocketAddrV4,
-    ) -> Result<Listeners, ListenFault> {
-        let clients = listen_on(rt, poll, clients, Kind::Client).map_err(|_| ListenFault::Listen)?;
-        let feeds = listen_on(rt, poll, feeds, Kind::Feed).map_err(|_| ListenFault::Listen)?;
+    ) -> Result<Listeners, ListenError> {
+        let clients = listen_on(rt, poll, clients, Kind::Client).map_err(ListenError::Clients)?;
+        let feeds = listen_on(rt, poll, feeds, Kind::Feed).map_err(ListenError::Feeds)?;
         Ok(Listeners { clients, feeds })
     }
 
     /// The ports that are listened on, for clients and for feeds.
-    pub fn bound(&self) -> Result<(u16, u16), ListenFault> {
-        let clients = port_of(&self.clients).map_err(|_| ListenFault::Listen)?;
-        let feeds = port_of(&self.feeds).map_err(|_| ListenFault::Listen)?;
+    pub fn bound(&self) -> Result<(u16, u16), ListenError> {
+        let clients = port_of(&self.clients).map_err(ListenError::Clients)?;
+        let feeds = port_of(&self.feeds).map_err(ListenError::Feeds)?;
         Ok((clients, feeds))
     }
 

@@ -5,7 +5,7 @@ ghost use Rattle.ports.specs.Calls.{Tells, given, IsGiven, IsTaken};
 ghost use Rattle.ports.specs.Calls.Call.{Next, Read, Write, Shut};
 ghost use Rattle.socket_ports.specs.Numbers.{TellsOpenPorts, numbers};
 
-use crate::fault::ListenFault;
+use crate::fault::ListenError;
 use crate::sockets::Sockets;
 use ports::{Got, Happening, PortFault, Ports, Put};
 use std::alloc::Global;
@@ -22,13 +22,14 @@ pub struct MioPorts {
 impl MioPorts {
     /// Listens at two addresses, for clients and for feeds. For port 0 the system chooses one.
     ///
-    /// It fails with OutOfMemory only if there is no memory, and with Listen if an address can't be listened on.
+    /// It fails with OutOfMemory only if there is no memory, and else with the address that can't be listened on and
+    /// what the system says of it.
     pub fn listen(
         rt: &impl Net,
         alloc: Global,
         clients: SocketAddrV4,
         feeds: SocketAddrV4,
-    ) -> Result<MioPorts, ListenFault> {
+    ) -> Result<MioPorts, ListenError> {
         let sockets = Sockets::listen(rt, alloc, clients, feeds)?;
         let bound = sockets.bound()?;
         Ok(MioPorts {

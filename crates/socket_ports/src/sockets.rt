@@ -6,7 +6,7 @@ ghost use Rattle.socket_ports.specs.Numbers.{TellsOpenPorts, numbers};
 
 use crate::ahead::Ahead;
 use crate::connection::{Connection, Marks};
-use crate::fault::ListenFault;
+use crate::fault::ListenError;
 use crate::lingering::Lingering;
 use crate::listeners::{Accepted, Kind, Listeners, token_of};
 use crate::pool::Pool;
@@ -86,10 +86,10 @@ impl Sockets {
         alloc: Global,
         clients: SocketAddrV4,
         feeds: SocketAddrV4,
-    ) -> Result<Sockets, ListenFault> {
-        let events = Events::with_capacity(alloc, EVENTS).map_err(|_| ListenFault::OutOfMemory)?;
-        let happened = Vec::with_capacity(alloc, EVENTS).map_err(|_| ListenFault::OutOfMemory)?;
-        let poll = Poll::new(rt).map_err(|_| ListenFault::Listen)?;
+    ) -> Result<Sockets, ListenError> {
+        let events = Events::with_capacity(alloc, EVENTS).map_err(|_| ListenError::OutOfMemory)?;
+        let happened = Vec::with_capacity(alloc, EVENTS).map_err(|_| ListenError::OutOfMemory)?;
+        let poll = Poll::new(rt).map_err(ListenError::Clients)?;
         let listeners = Listeners::listen(rt, &poll, clients, feeds)?;
         Ok(Sockets {
             alloc,
@@ -109,7 +109,7 @@ impl Sockets {
         })
     }
 
-    pub fn bound(&self) -> Result<(u16, u16), ListenFault> {
+    pub fn bound(&self) -> Result<(u16, u16), ListenError> {
         self.listeners.bound()
     }
 
