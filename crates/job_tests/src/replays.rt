@@ -1,7 +1,7 @@
 //! Scripts and what they write, at a server that has three stations.
 use catalog::Config;
 use jobs::{ReplayFault, replay};
-use sl_io::{MemorySink, MemorySource};
+use sl_io::{MemorySink, MemorySource, StreamFault};
 use std::alloc::{AllocError, Global};
 use std::test::Fail;
 use test_centre::CENTRE;
@@ -224,9 +224,13 @@ fn two_hundred_clients_take_turns(rt: HostRuntime) -> Result<(), Fail> {
 #[test]
 fn numbers_and_names(rt: HostRuntime) {
     for (fault, number, name) in [
-        (ReplayFault::OutOfMemory, 25, "OutOfMemory"),
-        (ReplayFault::Read, 42, "Read"),
-        (ReplayFault::Write, 43, "Write"),
+        (
+            ReplayFault::Stream(StreamFault::OutOfMemory),
+            25,
+            "OutOfMemory",
+        ),
+        (ReplayFault::Stream(StreamFault::Read), 42, "Read"),
+        (ReplayFault::Stream(StreamFault::Write), 43, "Write"),
         (ReplayFault::Script(1), 45, "Script"),
     ] {
         assert!(rt;

@@ -5,7 +5,7 @@ use Rattle.feeder.specs.Sending.{send_fault_number, send_fault_name}
 use Rattle.slreader.specs.Faults.{reader_fault_number, reader_fault_name}
 use Rattle.packet_listing.specs.Faults.{listing_fault_number, listing_fault_name}
 use Rattle.socket_ports.specs.Faults.{listen_fault_number, listen_fault_name}
-use Rattle.record_listing.specs.Checks.{check_fault_number, check_fault_name}
+use Rattle.sl_io.specs.Faults.{stream_fault_number, stream_fault_name}
 use Rattle.record_listing.specs.Listing.{file_fault_number, file_fault_name}
 use Rattle.jobs.specs.declared.failure.Failure.{Failure}
 use Rattle.jobs.specs.declared.failure.Failure.TheVariants as failure
@@ -16,16 +16,12 @@ use Rattle.jobs.specs.declared.serving.ServeFault.TheVariants as serve
 
 -- the number of a replay that failed
 abbrev pub replay_fault_number : ReplayFault → ℕ
-replay_fault_number replay.OutOfMemory = 25
-replay_fault_number replay.Read = 42
-replay_fault_number replay.Write = 43
+replay_fault_number (replay.Stream fault) = stream_fault_number fault
 replay_fault_number (replay.Script line) = 45
 
 -- its name
 abbrev pub replay_fault_name : ReplayFault → List ℕ
-replay_fault_name replay.OutOfMemory = codes "OutOfMemory"
-replay_fault_name replay.Read = codes "Read"
-replay_fault_name replay.Write = codes "Write"
+replay_fault_name (replay.Stream fault) = stream_fault_name fault
 replay_fault_name (replay.Script line) = codes "Script"
 
 -- the number of a server that ended before its turns were done
@@ -45,7 +41,7 @@ failure_number failure.Write = 43
 failure_number failure.File = 44
 failure_number (failure.Config fault) = fault_number fault
 failure_number (failure.Replay fault) = replay_fault_number fault
-failure_number (failure.Check fault) = check_fault_number fault
+failure_number (failure.Check fault) = stream_fault_number fault
 failure_number (failure.Records fault) = file_fault_number fault
 failure_number failure.Address = 11
 failure_number (failure.Listen fault) = listen_fault_number fault
@@ -63,7 +59,7 @@ failure_name failure.Write = codes "Write"
 failure_name failure.File = codes "File"
 failure_name (failure.Config fault) = fault_name fault
 failure_name (failure.Replay fault) = replay_fault_name fault
-failure_name (failure.Check fault) = check_fault_name fault
+failure_name (failure.Check fault) = stream_fault_name fault
 failure_name (failure.Records fault) = file_fault_name fault
 failure_name failure.Address = codes "Address"
 failure_name (failure.Listen fault) = listen_fault_name fault

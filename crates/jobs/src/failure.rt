@@ -13,8 +13,9 @@ use catalog::ConfigFault;
 use feeder::SendFault;
 use packet_listing::ListingFault;
 use protocol::report::Report;
-use record_listing::{CheckFault, FileFault};
+use record_listing::FileFault;
 use server_core::ReloadFault;
+use sl_io::StreamFault;
 use slreader::ReaderFault;
 use socket_ports::ListenFault;
 use thiserror::Error;
@@ -39,7 +40,7 @@ pub enum Failure {
     Replay(ReplayFault),
     /// The records of a file were not checked to their end.
     #[error("{0}")]
-    Check(CheckFault),
+    Check(StreamFault),
     /// A file of records has a record that is none, or ends inside one.
     #[error("{0}")]
     Records(FileFault),
@@ -111,10 +112,10 @@ impl From<ReplayFault> for Failure {
     }
 }
 
-impl From<CheckFault> for Failure {
+impl From<StreamFault> for Failure {
     ghost from_gives = { λ fault failure. failure ≡ CheckFailure fault };
 
-    fn from(fault: CheckFault) -> Failure {
+    fn from(fault: StreamFault) -> Failure {
         Failure::Check(fault)
     }
 }

@@ -1,22 +1,19 @@
 //! Why a script was not replayed.
 ghost use Rattle.std.specs.Prelude.{◌≡◌};
 ghost use Rattle.jobs.specs.Faults.{replay_fault_number, replay_fault_name};
+ghost use Rattle.jobs.specs.declared.faults.ReplayFault.TheVariants.{Stream};
 
 use protocol::report::Report;
+use sl_io::StreamFault;
 use thiserror::Error;
 
 /// Why a script was not replayed.
 #[derive(Clone, Copy, Debug, PartialEq, Eq, Drop, Error)]
 pub enum ReplayFault {
-    /// There is no memory for the script, its run or its output. Nothing was written.
-    #[error("out of memory")]
-    OutOfMemory,
-    /// A read failed, or 2^64 - 1 reads were made. Nothing was written.
-    #[error("the script could not be read")]
-    Read,
-    /// A write failed, or took no byte. A beginning of the output was written.
-    #[error("the output could not be written")]
-    Write,
+    /// There is no memory, or the script was not read to its end: nothing was written. Or a beginning of the output was
+    /// written and not all of it.
+    #[error("{0}")]
+    Stream(StreamFault),
     /// A line of the script is no event: the first that is none, counted from 1. Nothing was written.
     #[error("a line of the script is no event")]
     Script(usize),
@@ -29,10 +26,16 @@ impl ReplayFault {
         ensures name { result.name.now ≡ replay_fault_name self }
     {
         match self {
-            ReplayFault::OutOfMemory => Report::new(25, "OutOfMemory"),
-            ReplayFault::Read => Report::new(42, "Read"),
-            ReplayFault::Write => Report::new(43, "Write"),
+            ReplayFault::Stream(fault) => fault.report(),
             ReplayFault::Script(_) => Report::new(45, "Script"),
         }
+    }
+}
+
+impl From<StreamFault> for ReplayFault {
+    ghost from_gives = { λ fault replay. replay ≡ Stream fault };
+
+    fn from(fault: StreamFault) -> ReplayFault {
+        ReplayFault::Stream(fault)
     }
 }

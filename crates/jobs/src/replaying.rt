@@ -7,13 +7,14 @@ ghost use Rattle.event_script.specs.Script.{is_line_feed};
 ghost use Rattle.jobs.specs.Output.{output_after, replayed};
 ghost use Rattle.jobs.specs.Replaying.{IfScript, LeavesReader, LeavesWriter, WritesAll, WritesBeginning};
 ghost use Rattle.event_script.specs.declared.fault.ScriptFault.TheVariants.{Script as ScriptIsNone};
-ghost use Rattle.jobs.specs.declared.faults.ReplayFault.TheVariants.{Write};
+ghost use Rattle.jobs.specs.declared.faults.ReplayFault.TheVariants.{Stream};
+ghost use Rattle.sl_io.specs.declared.faults.StreamFault.TheVariants.{Write};
 
 use crate::faults::ReplayFault;
 use catalog::Config;
 use event_script::{ScriptError, ScriptFault, events_of, output_of};
 use server_core::{Event, run};
-use sl_io::{ReadFault, Sink, Source, read_all, write_all};
+use sl_io::{Sink, Source, StreamFault, read_all, write_all};
 use std::alloc::{AllocError, Global};
 
 /// What a server with that configuration writes of events.
@@ -63,14 +64,14 @@ pub fn replay<R: Source, W: Sink>(
     ensures ok { OnOk result
         (IfSome (R.left script.old)
         (λ text. WritesAll (replayed config text) (W.written out.old) (W.written out.new))) }
-    ensures write { IfErr result (λ fault. fault ≡ Write →
+    ensures write { IfErr result (λ fault. fault ≡ Stream Write →
         IfSome (R.left script.old)
         (λ text. WritesBeginning (replayed config text) (W.written out.old) (W.written out.new))) }
     ensures script { IfErr result (λ fault. IfScript fault (λ line.
         IfSome (R.left script.old) (λ text. replayed config text ≡ None))) }
     ensures line { IfErr result (λ fault. IfScript fault (λ line.
         IfSome (R.left script.old) (λ text. FailsAtLine (slice_split is_line_feed text) line))) }
-    ensures unchanged { IfErr result (λ fault. fault ≢ Write → out.new ≡ out.old) }
+    ensures unchanged { IfErr result (λ fault. fault ≢ Stream Write → out.new ≡ out.old) }
     ensures reader { MatchResult result (λ _. R.failures script.new ≡ R.failures script.old)
         (λ fault. LeavesReader fault (R.failures script.old) (R.failures script.new) (R.calls script.old)
         (R.calls script.new)) }
@@ -81,8 +82,7 @@ pub fn replay<R: Source, W: Sink>(
 {
     let text = match read_all(alloc, script) {
         Ok(text) => text,
-        Err(ReadFault::OutOfMemory) => return Err(ReplayFault::OutOfMemory),
-        Err(ReadFault::Read) => return Err(ReplayFault::Read),
+        Err(fault) => return Err(ReplayFault::Stream(StreamFault::from(fault))),
     };
     let output = match output_for(alloc, config, text.as_slice()) {
         Ok(output) => output,
@@ -91,7 +91,7 @@ pub fn replay<R: Source, W: Sink>(
                 fault: ScriptFault::OutOfMemory,
                 ..
             },
-        ) => return Err(ReplayFault::OutOfMemory),
+        ) => return Err(ReplayFault::Stream(StreamFault::OutOfMemory)),
         Err(
             ScriptError {
                 fault: ScriptFault::Script,
@@ -101,6 +101,6 @@ pub fn replay<R: Source, W: Sink>(
     };
     match write_all(out, output.as_slice()) {
         Ok(()) => Ok(()),
-        Err(_) => Err(ReplayFault::Write),
+        Err(fault) => Err(ReplayFault::Stream(StreamFault::from(fault))),
     }
 }

@@ -4,7 +4,7 @@ ghost use Rattle.std.specs.Prelude.{None};
 use crate::trial::{Fault, Trial};
 use catalog::Config;
 use jobs::{ReplayFault, replay};
-use sl_io::{DeviceFault, MemorySink, MemorySource, Sink};
+use sl_io::{DeviceFault, MemorySink, MemorySource, Sink, StreamFault};
 use std::alloc::Global;
 use test_centre::CENTRE;
 
@@ -68,7 +68,10 @@ pub fn replay_of_script(alloc: Global) -> Result<Trial, Fault> {
             out.is_same && out.left.is_empty() && wanted.starts_with(b"0 - end\n"),
             "another output",
         )),
-        Err(ReplayFault::OutOfMemory) => Ok(Trial::by(out.calls == 0, "something was written")),
+        Err(ReplayFault::Stream(StreamFault::OutOfMemory)) => Ok(Trial::by(
+            out.calls == 0,
+            "something was written",
+        )),
         Err(_) => Ok(Trial::Wrong("another fault in place of out of memory")),
     }
 }

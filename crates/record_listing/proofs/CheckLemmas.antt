@@ -3,15 +3,14 @@ use Rattle.std.proofs.Common.{◌≡◌, ℕ, ◌+◌, List, [], ◌∷◌, ◌+
 use Rattle.std.proofs.Common.{ap, ◌∙◌, append_assoc, append-nil, arith}
 use Rattle.std.specs.Prelude.{Option, IfOk, OnOk, OnErr, if◌then◌else◌, is_some, option_map}
 use Rattle.std.specs.Io.KnownBytes.{Appends, Consumes, IsAtEnd}
-use Rattle.std.proofs.KnownBytes.{Appends-nil, Appends-trans, Consumes-nil, Consumes-trans}
+use Rattle.std.proofs.KnownBytes.{Appends-nil, Appends-trans, Consumes-trans}
 use Rattle.sl_io.specs.Known.{AppendsBeginning}
 use Rattle.protocol.specs.declared.record.RecordFault.{RecordFault}
 use Rattle.protocol.specs.Streams.{FeedRead, feed_of}
 use Rattle.protocol.proofs.Feeds.{feed_from-append}
 use Rattle.feeder.specs.Feedings.{feed_read}
-use Rattle.record_listing.specs.declared.fault.FileFault.{FileFault}
 use Rattle.record_listing.specs.declared.finding.Finding.{Finding}
-use Rattle.record_listing.specs.Findings.{FindsFirst, IsFirst, count_read, finding_after, finding_of}
+use Rattle.record_listing.specs.Findings.{count_read, finding_after, finding_of}
 use Rattle.record_listing.specs.Listing.{reading_of, record_line, lines_from, partial_text, listing_of, first_of}
 use Rattle.record_listing.specs.Listing.{first_fault, refusal, verdict_by, verdict_of}
 use Rattle.record_listing.specs.Checks.{Progress, nothing_listed, good_with, with_record, with_records}
@@ -275,6 +274,10 @@ on_ok (Err e) P Q p f = tt
 pub on_err : {T E : Type 0} (r : Result T E) (P Q : Type 0) → OnErr r P → (P → Q) → OnErr r Q
 on_err (Ok x) P Q p f = tt
 on_err (Err e) P Q p f = f p
+
+pub always : {T E : Type 0} (r : Result T E) (Q : Type 0) → Q → OnErr r Q
+always (Ok x) Q q = tt
+always (Err e) Q q = q
 
 -- nothing is written of an unknown text
 pub begun_nothing : (left written : Option (List ℕ))

@@ -1,30 +1,18 @@
 -- A check under way: what is listed so far, and why it stopped.
-use Rattle.std.specs.Prelude.{◌≡◌, ℕ, ◌+◌, if◌then◌else◌, List, [], ◌∷◌, ◌++◌, Option, None, is_some, codes}
+use Rattle.std.specs.Prelude.{◌≡◌, ℕ, ◌+◌, if◌then◌else◌, List, [], ◌∷◌, ◌++◌, Option, None, is_some}
 use Rattle.sl_io.specs.Counts.{StopsReading, StopsWriting}
 use Rattle.sl_io.specs.declared.faults.ReadFault.TheVariants.{Read as ReadingFailed}
 use Rattle.protocol.specs.Streams.{FeedRead, feed_from}
 use Rattle.feeder.specs.Feedings.{feed_read}
 use Rattle.protocol.specs.declared.record.RecordFault.{RecordFault}
-use Rattle.record_listing.specs.declared.check.CheckFault.{CheckFault}
-use Rattle.record_listing.specs.declared.check.CheckFault.TheVariants.{OutOfMemory, Read, Write}
+use Rattle.sl_io.specs.declared.faults.StreamFault.{StreamFault}
+use Rattle.sl_io.specs.declared.faults.StreamFault.TheVariants.{OutOfMemory, Read, Write}
 use Rattle.record_listing.specs.Listing.{reading_of, record_line, refusal, first_of}
-
--- the number by which a check that stopped is reported
-abbrev pub check_fault_number : CheckFault → ℕ
-check_fault_number OutOfMemory = 25
-check_fault_number Read = 42
-check_fault_number Write = 43
-
--- the name
-abbrev pub check_fault_name : CheckFault → List ℕ
-check_fault_name OutOfMemory = codes "OutOfMemory"
-check_fault_name Read = codes "Read"
-check_fault_name Write = codes "Write"
 
 -- why a check stopped, by the counts of the reader's failures and calls and of the writer's failures and empty writes,
 -- before and after it: no memory, and nothing had failed; a read, by which the reading stopped; or a write, by which
 -- the writing did
-abbrev pub StopsChecking : CheckFault → (failures failures' calls calls' : ℕ)
+abbrev pub StopsChecking : StreamFault → (failures failures' calls calls' : ℕ)
     → (write_failures write_failures' empty empty' : ℕ) → Type 0
 StopsChecking OutOfMemory failures failures' calls calls' write_failures write_failures' empty empty' =
     (failures' ≡ failures) × (write_failures' ≡ write_failures) × (empty' ≡ empty)

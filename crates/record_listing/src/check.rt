@@ -7,47 +7,16 @@ ghost use Rattle.sl_io.specs.Counts.{IsMore, StopsReading, StopsWriting};
 ghost use Rattle.sl_io.specs.Known.{AppendsBeginning, ConsumesSome};
 ghost use Rattle.record_listing.specs.Findings.{FindsFirst, finding_after, finding_of};
 ghost use Rattle.record_listing.specs.Listing.{listing_of, partial_text, verdict_by, verdict_of};
-ghost use Rattle.record_listing.specs.Checks.{check_fault_number, check_fault_name, nothing_listed, piece_read};
-ghost use Rattle.record_listing.specs.Checks.{with_records, StopsChecking};
+ghost use Rattle.record_listing.specs.Checks.{nothing_listed, piece_read, with_records, StopsChecking};
 
 use crate::finding::Finding;
 use crate::listing::Listing;
 use feeder::{FeedCutter, Feeding};
-use protocol::report::Report;
-use sl_io::{ReadFault, Sink, Source, WriteFault, write_all};
+use sl_io::{ReadFault, Sink, Source, StreamFault, WriteFault, write_all};
 use std::alloc::{AllocError, Global};
-use thiserror::Error;
 
 /// How many bytes are read at most by one call.
 const BLOCK: usize = 65_536;
-
-/// Why a check stopped early.
-#[derive(Clone, Copy, Debug, PartialEq, Eq, Drop, Error)]
-pub enum CheckFault {
-    /// There was no memory for a block of records or of lines.
-    #[error("there is no memory for a block of records or of lines")]
-    OutOfMemory,
-    /// A read failed, or 2^64 - 1 reads were made.
-    #[error("the records could not be read to their end")]
-    Read,
-    /// A write failed, or took none of the bytes that were left.
-    #[error("the lines could not be written")]
-    Write,
-}
-
-impl CheckFault {
-    /// The number and the name by which the program reports it: 25, 42 or 43.
-    pub fn report(self) -> Report
-        ensures number { result.number ≡ check_fault_number self }
-        ensures name { result.name.now ≡ check_fault_name self }
-    {
-        match self {
-            CheckFault::OutOfMemory => Report::new(25, "OutOfMemory"),
-            CheckFault::Read => Report::new(42, "Read"),
-            CheckFault::Write => Report::new(43, "Write"),
-        }
-    }
-}
 
 /// Lists the records that become whole in a piece.
 fn list_piece(
@@ -147,7 +116,7 @@ fn finish<W: Sink>(
     writer: &mut W,
     rest: usize,
     listing: &mut Listing,
-) -> Result<Option<Finding>, CheckFault>
+) -> Result<Option<Finding>, StreamFault>
     ensures answer { IfOk result (λ answer. answer
         ≡ option_map (finding_after listing.old.good) (verdict_by listing.old.fault rest)) }
     ensures ok { OnOk result
@@ -160,13 +129,9 @@ fn finish<W: Sink>(
         → StopsChecking fault failures failures' calls calls' (W.failures writer.old) (W.failures writer.new)
         (W.empty_writes writer.old) (W.empty_writes writer.new)) }
 {
-    match listing.list_rest(rest) {
-        Ok(()) => match write_lines(writer, listing) {
-            Ok(()) => Ok(listing.verdict(rest)),
-            Err(_) => Err(CheckFault::Write),
-        },
-        Err(_) => Err(CheckFault::OutOfMemory),
-    }
+    listing.list_rest(rest)?;
+    write_lines(writer, listing)?;
+    Ok(listing.verdict(rest))
 }
 
 /// Checks what is left of the reader, a block at a time.
@@ -175,7 +140,7 @@ fn check_blocks<R: Source, W: Sink>(
     writer: &mut W,
     block: &mut [u8],
     listing: &mut Listing,
-) -> Result<Option<Finding>, CheckFault>
+) -> Result<Option<Finding>, StreamFault>
     requires room { length block.old ≡ 65536 }
     requires nothing { listing.old ≡ nothing_listed }
     ensures finding { IfOk result (λ answer. IfSome (R.left reader.old) (λ bytes. answer ≡ finding_of bytes)) }
@@ -192,18 +157,12 @@ fn check_blocks<R: Source, W: Sink>(
 {
     let mut cutter = FeedCutter::new();
     'reads: for _ in 0..u64::MAX {
-        match list_block(reader, block, &mut cutter, listing) {
-            Ok(0) => return finish(writer, cutter.rest(), listing),
-            Ok(_) => {}
-            Err(ReadFault::OutOfMemory) => return Err(CheckFault::OutOfMemory),
-            Err(ReadFault::Read) => return Err(CheckFault::Read),
+        if list_block(reader, block, &mut cutter, listing)? == 0 {
+            return finish(writer, cutter.rest(), listing);
         }
-        match write_many(writer, listing) {
-            Ok(()) => {}
-            Err(_) => return Err(CheckFault::Write),
-        }
+        write_many(writer, listing)?;
     }
-    Err(CheckFault::Read)
+    Err(StreamFault::Read)
 }
 
 /// Lists each record of 512 bytes that is left of the reader in a line, and the bytes that are left over in one
@@ -220,7 +179,7 @@ pub fn check_records<R: Source, W: Sink>(
     alloc: Global,
     reader: &mut R,
     writer: &mut W,
-) -> Result<Option<Finding>, CheckFault>
+) -> Result<Option<Finding>, StreamFault>
     ensures verdict { IfOk result (λ answer. IfSome (R.left reader.old)
         (λ bytes. option_map (λ f. f.fault) answer ≡ verdict_of bytes)) }
     ensures first { IfOk result (λ answer. IfSome (R.left reader.old) (λ bytes. FindsFirst bytes answer)) }
@@ -236,10 +195,10 @@ pub fn check_records<R: Source, W: Sink>(
         (W.failures writer.old) (W.failures writer.new) (W.empty_writes writer.old) (W.empty_writes writer.new)) }
 {
     let Ok(mut block) = vec![in alloc; 0; BLOCK] else {
-        return Err(CheckFault::OutOfMemory);
+        return Err(StreamFault::OutOfMemory);
     };
     let Ok(mut listing) = Listing::new(alloc) else {
-        return Err(CheckFault::OutOfMemory);
+        return Err(StreamFault::OutOfMemory);
     };
     check_blocks(reader, writer, &mut block, &mut listing)
 }

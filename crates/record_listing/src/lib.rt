@@ -8,7 +8,7 @@ mod finding;
 mod listing;
 mod texts;
 
-pub use check::{CheckFault, check_records};
+pub use check::check_records;
 pub use fault::FileFault;
 pub use finding::Finding;
 pub use texts::put_header;

@@ -2,8 +2,8 @@
 use crate::worked::{Changes, HEAD, record_of};
 use mseed_header::RecordFault;
 use protocol::report::Report;
-use record_listing::{CheckFault, FileFault, check_records};
-use sl_io::{MemorySink, MemorySource};
+use record_listing::{FileFault, check_records};
+use sl_io::{MemorySink, MemorySource, StreamFault};
 use std::alloc::{AllocError, Global};
 use std::test::Fail;
 
@@ -220,9 +220,9 @@ fn the_first_fault_is_told(rt: HostRuntime) -> Result<(), Fail> {
 #[test]
 fn numbers_of_faults(rt: HostRuntime) -> Result<(), Fail> {
     for (fault, number, name) in [
-        (CheckFault::OutOfMemory, 25, "OutOfMemory"),
-        (CheckFault::Read, 42, "Read"),
-        (CheckFault::Write, 43, "Write"),
+        (StreamFault::OutOfMemory, 25, "OutOfMemory"),
+        (StreamFault::Read, 42, "Read"),
+        (StreamFault::Write, 43, "Write"),
     ] {
         assert!(rt; fault.report() == Report::new(number, name), "{name}");
     }

@@ -1,8 +1,11 @@
-//! Why a read or a write was refused.
+//! Why a read or a write was refused, and why bytes didn't get from an input to an output.
 ghost use Rattle.std.specs.Prelude.{◌≡◌, codes};
-ghost use Rattle.sl_io.specs.Faults.{read_fault_number, read_fault_name};
+ghost use Rattle.sl_io.specs.Faults.{read_fault_number, read_fault_name, stream_fault_number, stream_fault_name};
+ghost use Rattle.sl_io.specs.Faults.{stream_of};
+ghost use Rattle.sl_io.specs.declared.faults.StreamFault.TheVariants.{OutOfMemory, Write};
 
 use protocol::report::Report;
+use std::alloc::AllocError;
 use thiserror::Error;
 
 /// One read or write failed.
@@ -56,5 +59,60 @@ impl WriteFault {
         ensures name { result.name.now ≡ codes "Write" }
     {
         Report::new(43, "Write")
+    }
+}
+
+/// Why an input was not read to its end, or why not all that it gives was written.
+#[derive(Clone, Copy, Debug, PartialEq, Eq, Drop, Error)]
+pub enum StreamFault {
+    /// There was no memory for what was read, or for what it gives.
+    #[error("out of memory")]
+    OutOfMemory,
+    /// A read failed, or 2^64 - 1 reads were made.
+    #[error("the input could not be read to its end")]
+    Read,
+    /// A write failed, or took none of the bytes that were left.
+    #[error("not all bytes could be written")]
+    Write,
+}
+
+impl StreamFault {
+    /// The number and the name by which the program reports it: 25, 42 or 43.
+    pub fn report(self) -> Report
+        ensures number { result.number ≡ stream_fault_number self }
+        ensures name { result.name.now ≡ stream_fault_name self }
+    {
+        match self {
+            StreamFault::OutOfMemory => Report::new(25, "OutOfMemory"),
+            StreamFault::Read => Report::new(42, "Read"),
+            StreamFault::Write => Report::new(43, "Write"),
+        }
+    }
+}
+
+impl From<ReadFault> for StreamFault {
+    ghost from_gives = { λ fault stream. stream ≡ stream_of fault };
+
+    fn from(fault: ReadFault) -> StreamFault {
+        match fault {
+            ReadFault::OutOfMemory => StreamFault::OutOfMemory,
+            ReadFault::Read => StreamFault::Read,
+        }
+    }
+}
+
+impl From<WriteFault> for StreamFault {
+    ghost from_gives = { λ _ stream. stream ≡ Write };
+
+    fn from(_fault: WriteFault) -> StreamFault {
+        StreamFault::Write
+    }
+}
+
+impl From<AllocError> for StreamFault {
+    ghost from_gives = { λ _ stream. stream ≡ OutOfMemory };
+
+    fn from(_error: AllocError) -> StreamFault {
+        StreamFault::OutOfMemory
     }
 }

@@ -19,7 +19,7 @@ mod whole;
 
 pub use counts::Counts;
 pub use failing::Failing;
-pub use faults::{DeviceFault, ReadFault, WriteFault};
+pub use faults::{DeviceFault, ReadFault, StreamFault, WriteFault};
 pub use memory_sink::MemorySink;
 pub use memory_source::MemorySource;
 pub use outer::Outer;

@@ -1,7 +1,7 @@
 //! Readers and writers that give and take little, or fail.
 use super::{config, greeted};
 use jobs::{ReplayFault, replay};
-use sl_io::{MemorySink, MemorySource, Outer};
+use sl_io::{MemorySink, MemorySource, Outer, StreamFault};
 use std::io;
 use std::io::{Read, Write};
 use std::test::Fail;
@@ -99,7 +99,7 @@ fn a_reader_that_fails(rt: HostRuntime) -> Result<(), Fail> {
     let mut source = Outer::new(Breaking::new());
     let mut sink = MemorySink::new(rt.alloc());
     let outcome = replay(rt.alloc(), config(rt.alloc())?, &mut source, &mut sink);
-    assert!(rt; outcome == Err(ReplayFault::Read));
+    assert!(rt; outcome == Err(ReplayFault::Stream(StreamFault::Read)));
     assert_eq!(rt; source.counts().failures, 1);
     assert_eq!(rt; sink.counts().calls, 0);
     Ok(())
@@ -110,13 +110,13 @@ fn a_writer_that_fails(rt: HostRuntime) -> Result<(), Fail> {
     let mut source = MemorySource::new(SCRIPT);
     let mut sink = Outer::new(Breaking::new());
     let outcome = replay(rt.alloc(), config(rt.alloc())?, &mut source, &mut sink);
-    assert!(rt; outcome == Err(ReplayFault::Write));
+    assert!(rt; outcome == Err(ReplayFault::Stream(StreamFault::Write)));
     assert_eq!(rt; sink.counts().failures, 1);
     assert_eq!(rt; sink.into_inner().taken, 10);
     let mut source = MemorySource::new(SCRIPT);
     let mut sink = Outer::new(Full);
     let outcome = replay(rt.alloc(), config(rt.alloc())?, &mut source, &mut sink);
-    assert!(rt; outcome == Err(ReplayFault::Write));
+    assert!(rt; outcome == Err(ReplayFault::Stream(StreamFault::Write)));
     assert_eq!(rt; sink.counts().empty_writes, 1);
     Ok(())
 }

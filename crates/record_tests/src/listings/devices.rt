@@ -1,8 +1,8 @@
 //! Files that are longer than a block, and readers and writers that fail.
 use super::{FACTS, put};
 use crate::devices::Breaking;
-use record_listing::{CheckFault, check_records};
-use sl_io::{MemorySink, MemorySource, Outer};
+use record_listing::check_records;
+use sl_io::{MemorySink, MemorySource, Outer, StreamFault};
 use std::alloc::{AllocError, Global};
 use std::test::Fail;
 
@@ -41,7 +41,7 @@ fn a_reader_that_fails(rt: HostRuntime) -> Result<(), Fail> {
         let mut source = Outer::new(Breaking { left });
         let mut sink = MemorySink::new(rt.alloc());
         let outcome = check_records(rt.alloc(), &mut source, &mut sink);
-        assert!(rt; outcome == Err(CheckFault::Read), "after {left} bytes");
+        assert!(rt; outcome == Err(StreamFault::Read), "after {left} bytes");
         assert_eq!(rt; source.counts().failures, 1);
     }
     Ok(())
@@ -54,7 +54,7 @@ fn a_writer_that_fails(rt: HostRuntime) -> Result<(), Fail> {
         let mut source = MemorySource::new(&bytes);
         let mut sink = Outer::new(Breaking { left });
         let outcome = check_records(rt.alloc(), &mut source, &mut sink);
-        assert!(rt; outcome == Err(CheckFault::Write), "after {left} bytes");
+        assert!(rt; outcome == Err(StreamFault::Write), "after {left} bytes");
         assert_eq!(rt; sink.counts().failures, 1);
         assert_eq!(rt; sink.into_inner().left, 0);
     }
