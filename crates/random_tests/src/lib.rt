@@ -1,0 +1,10 @@
+//! Tests of the whole core: random lists of events, records and clients, at the server and at small plain programs that
+//! share no code with it. Nothing but tests.
+#![tactic(auto)]
+
+#[cfg(test)]
+mod random;
+#[cfg(test)]
+mod random_records;
+#[cfg(test)]
+mod slots;
