@@ -39,8 +39,8 @@ returns-in_err-write_many-clause-begun g c =
 pub reads-preserved : goal.reads-preserved
 reads-preserved g c =
     let h = c.reads.invariant in
-    let stands = stands_read _ _ _ _ _ _ _ _ _ _ h.stands c.in_ok-list_block.ensures.consumed c.in_ok-list_block.ensures.listed
-    c.in_ok-list_block.ensures.rest in
+    let stands = stands_read _ _ _ _ _ _ _ _ _ _ h.stands c.in_ok-list_block.ensures.consumed
+    c.in_ok-list_block.ensures.listed c.in_ok-list_block.ensures.rest in
     let w = c.in_ok-write_many.ensures in
     let kept = ap (λ (p : Progress). p.count) w.kept in
     let listed = c.in_ok-list_block.ensures.count in
