@@ -1,5 +1,5 @@
 //! Many clients at once.
-use loopback::{CENTRE, Centre, record};
+use loopback::{Centre, at_centre, record};
 use sl_packet::{Seq, frame};
 use std::alloc::Global;
 use std::io;
@@ -131,7 +131,6 @@ fn crowd_is_served<R: Net + AllocGlobal>(rt: &R, centre: &mut Centre) -> Result<
 
 #[test]
 fn each_of_200_clients_gets_each_of_2000_records(rt: HostRuntime) -> Result<(), Fail> {
-    let mut centre = Centre::open(&rt, CENTRE)?;
-    assert!(rt; crowd_is_served(&rt, &mut centre)?);
+    assert!(rt; at_centre(&rt, crowd_is_served)?);
     Ok(())
 }

@@ -1,5 +1,5 @@
 //! Clients and feeds that misbehave: the server loses nothing but their own connections.
-use loopback::{CENTRE, Centre, GREETING, packet, record};
+use loopback::{Centre, GREETING, at_centre, packet, record};
 use std::alloc::{AllocError, Global};
 use std::io;
 use std::io::{ErrorKind, Read, Write};
@@ -50,8 +50,7 @@ fn closes_the_reset_alone<R: Net>(rt: &R, centre: &mut Centre) -> Result<bool, F
 
 #[test]
 fn a_client_that_resets_is_closed_alone(rt: HostRuntime) -> Result<(), Fail> {
-    let mut centre = Centre::open(&rt, CENTRE)?;
-    assert!(rt; closes_the_reset_alone(&rt, &mut centre)?);
+    assert!(rt; at_centre(&rt, closes_the_reset_alone)?);
     Ok(())
 }
 
@@ -120,8 +119,8 @@ fn is_well_beside_a_babbler<R: Net>(
 #[test]
 fn a_client_that_sends_and_never_reads_harms_nobody(rt: HostRuntime) -> Result<(), Fail> {
     let said = hellos(rt.alloc())?;
-    let mut centre = Centre::open(&rt, CENTRE)?;
-    assert!(rt; is_well_beside_a_babbler(&rt, &mut centre, said.as_slice())?);
+    let said = said.as_slice();
+    assert!(rt; at_centre(&rt, |rt, centre| is_well_beside_a_babbler(rt, centre, said))?);
     Ok(())
 }
 
@@ -148,8 +147,7 @@ fn is_left_by_all<R: Net>(rt: &R, centre: &mut Centre) -> Result<bool, Fail> {
 
 #[test]
 fn clients_that_leave_at_once_leave_nothing(rt: HostRuntime) -> Result<(), Fail> {
-    let mut centre = Centre::open(&rt, CENTRE)?;
-    assert!(rt; is_left_by_all(&rt, &mut centre)?);
+    assert!(rt; at_centre(&rt, is_left_by_all)?);
     Ok(())
 }
 
@@ -188,7 +186,6 @@ fn misses_that_alone<R: Net>(rt: &R, centre: &mut Centre) -> Result<bool, Fail> 
 
 #[test]
 fn a_feed_that_stops_inside_a_record_loses_that_record_alone(rt: HostRuntime) -> Result<(), Fail> {
-    let mut centre = Centre::open(&rt, CENTRE)?;
-    assert!(rt; misses_that_alone(&rt, &mut centre)?);
+    assert!(rt; at_centre(&rt, misses_that_alone)?);
     Ok(())
 }

@@ -1,6 +1,6 @@
 //! Dialogues as slinktool and other programs on libslink send them: each command ends with CR, and the next one waits
 //! for the answer, but for the last one.
-use loopback::{CENTRE, Centre, GREETING, packet, record};
+use loopback::{Centre, GREETING, at_centre, packet, record};
 use std::io;
 use std::io::{Read, Write};
 use std::net::Net;
@@ -78,9 +78,10 @@ fn first_other<R: Net, S: Read + Write>(
 
 /// The place of the first step that goes otherwise, at a new server with a new client.
 fn first_other_of<R: Net + AllocGlobal>(rt: &R, steps: &[Step]) -> Result<Option<usize>, Fail> {
-    let mut centre = Centre::open(rt, CENTRE)?;
-    let mut client = centre.client(rt)?;
-    first_other(rt, &mut centre, &mut client, steps)
+    at_centre(rt, |rt: &R, centre: &mut Centre| {
+        let mut client = centre.client(rt)?;
+        first_other(rt, centre, &mut client, steps)
+    })
 }
 
 /// One station, with a selector.

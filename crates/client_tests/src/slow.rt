@@ -1,5 +1,5 @@
 //! Clients that don't read for a while.
-use loopback::{CENTRE, Centre, record};
+use loopback::{Centre, at_centre, record};
 use sl_packet::{Seq, frame};
 use std::io::{Read, Write};
 use std::net::Net;
@@ -81,13 +81,12 @@ fn read_late<R: Net>(rt: &R, centre: &mut Centre) -> Result<Option<Came>, Fail> 
 fn a_client_that_did_not_read_goes_on_with_the_oldest_that_is_held(
     rt: HostRuntime,
 ) -> Result<(), Fail> {
-    let mut centre = Centre::open(&rt, CENTRE)?;
     let wanted = Came {
         gaps: 1,
         since: HELD,
         last: MANY - 1,
     };
-    assert_eq!(rt; read_late(&rt, &mut centre)?, Some(wanted));
+    assert_eq!(rt; at_centre(&rt, read_late)?, Some(wanted));
     Ok(())
 }
 
@@ -125,7 +124,6 @@ fn late_client_is_given_all<R: Net>(rt: &R, centre: &mut Centre) -> Result<bool,
 
 #[test]
 fn the_end_reaches_a_slow_reader_behind_100_kilobytes(rt: HostRuntime) -> Result<(), Fail> {
-    let mut centre = Centre::open(&rt, CENTRE)?;
-    assert!(rt; late_client_is_given_all(&rt, &mut centre)?);
+    assert!(rt; at_centre(&rt, late_client_is_given_all)?);
     Ok(())
 }

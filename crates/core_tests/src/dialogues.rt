@@ -127,9 +127,14 @@ fn each_split_of_a_dialogue_is_answered_alike(rt: HostRuntime) -> Result<(), Fai
     Ok(())
 }
 
-/// A server of the three stations.
-fn server(alloc: Global) -> Result<Server, Fail> {
-    Ok(Server::new(alloc, config(alloc)?)?)
+/// What is seen at a new server of the three stations.
+fn at_server<T, F>(alloc: Global, look: F) -> Result<T, Fail>
+where
+    F: FnOnce(&mut Server, Global) -> Result<T, Fail>,
+    requires { F.IsAlwaysCallable look }
+{
+    let mut server = Server::new(alloc, config(alloc)?)?;
+    look(&mut server, alloc)
 }
 
 /// Why the last of some pieces of a new client is refused, where it is, and how much room there is behind it.
@@ -177,11 +182,17 @@ fn is_greeted_beside_a_closed_one(server: &mut Server, alloc: Global) -> Result<
     Ok(is_offered && is_next && server.waiting(second)? == GREETING)
 }
 
+/// Whether all three are so, one after the other.
+fn are_served(server: &mut Server, alloc: Global) -> Result<[bool; 3], Fail> {
+    Ok([
+        are_refused_whole(server, alloc)?,
+        is_gone_once_closed(server, alloc)?,
+        is_greeted_beside_a_closed_one(server, alloc)?,
+    ])
+}
+
 #[test]
 fn clients_come_send_and_close(rt: HostRuntime) -> Result<(), Fail> {
-    let mut server = server(rt.alloc())?;
-    assert!(rt; are_refused_whole(&mut server, rt.alloc())?);
-    assert!(rt; is_gone_once_closed(&mut server, rt.alloc())?);
-    assert!(rt; is_greeted_beside_a_closed_one(&mut server, rt.alloc())?);
+    assert_eq!(rt; at_server(rt.alloc(), are_served)?, [true, true, true]);
     Ok(())
 }

@@ -1,5 +1,5 @@
 //! A loop of whose ports one call fails, each call in turn: what it costs is that port alone.
-use super::runs::{Row, happenings, looped_over, pieces};
+use super::runs::{Row, at_loop, happenings, looped_over, pieces};
 use catalog::Config;
 use event_loop::Loop;
 use ports::{FailingPorts, MemoryPorts, PortScript, ReadAnswer, Script};
@@ -66,15 +66,24 @@ fn endings(
     Ok(endings)
 }
 
-/// What becomes of a scene where the `due`-th call fails.
-fn run_with(alloc: Global, scene: Scene, due: u64) -> Result<Outcome, Fail> {
-    let mut all = failing(alloc, scene, due)?;
-    let faults = faults(&mut all, scene.turns());
+/// What becomes of a scene at that loop.
+fn outcome_at(
+    alloc: Global,
+    scene: Scene,
+    all: &mut Loop<FailingPorts<MemoryPorts>>,
+) -> Result<Outcome, Fail> {
+    let faults = faults(all, scene.turns());
     Ok(Outcome {
-        endings: endings(alloc, &all, scene.ports())?,
+        endings: endings(alloc, all, scene.ports())?,
         faults,
         has_failed: all.ports().has_failed(),
     })
+}
+
+/// What becomes of a scene where the `due`-th call fails.
+fn run_with(alloc: Global, scene: Scene, due: u64) -> Result<Outcome, Fail> {
+    let mut all = failing(alloc, scene, due)?;
+    outcome_at(alloc, scene, &mut all)
 }
 
 /// Whether a port took what it took without the failure, and is open.
@@ -184,11 +193,15 @@ fn half_shut(alloc: Global) -> Result<Loop<MemoryPorts>, Fail> {
     looped_over(alloc, CENTRE, &[Row::Inside(1)], scripts)
 }
 
+/// How many clients are connected after a turn, and whether the first one's port was shut.
+fn closed(alloc: Global, all: &mut Loop<MemoryPorts>) -> Result<(usize, bool), Fail> {
+    let _turned = all.turn(64)?;
+    Ok((all.clients(), all.ports().record(alloc, 1)?.is_shut))
+}
+
 #[test]
 fn a_client_that_shuts_its_sending_half_is_closed(rt: HostRuntime) -> Result<(), Fail> {
-    let mut all = half_shut(rt.alloc())?;
-    let _turned = all.turn(64)?;
-    assert_eq!(rt; all.clients(), 0);
-    assert!(rt; all.ports().record(rt.alloc(), 1)?.is_shut);
+    let found = at_loop(half_shut(rt.alloc()), |all| closed(rt.alloc(), all))?;
+    assert_eq!(rt; found, (0, true));
     Ok(())
 }

@@ -1,6 +1,6 @@
 //! Ports that join.
 use super::runs::Row::{Feed, Inside, Quiet, Reads, Writes};
-use super::runs::{Row, is_turned_away, looped, turns};
+use super::runs::{Row, at_loop, is_turned_away, looped, turns};
 use event_loop::Loop;
 use ports::{MemoryPorts, PortScript, ReadAnswer};
 use std::alloc::Global;
@@ -27,14 +27,27 @@ static FEEDS: [Row; 17] = [
     Feed(16),
 ];
 
+/// How much was heard in a turn, and how many clients and feeds are connected after it.
+fn heard(all: &mut Loop<MemoryPorts>) -> Result<[usize; 3], Fail> {
+    let turned = turns(all, 1, 64)?;
+    Ok([turned.happenings, all.clients(), all.feeds()])
+}
+
+/// The same, and whether the ports 15 and 16 were turned away.
+fn feeds_heard(
+    alloc: Global,
+    all: &mut Loop<MemoryPorts>,
+) -> Result<([usize; 3], [bool; 2]), Fail> {
+    let counts = heard(all)?;
+    let last = is_turned_away(alloc, all, 15)?;
+    Ok((counts, [last, is_turned_away(alloc, all, 16)?]))
+}
+
 #[test]
 fn a_seventeenth_feed_is_shut(rt: HostRuntime) -> Result<(), Fail> {
-    let mut all = looped(rt.alloc(), &FEEDS, Vec::new(rt.alloc()))?;
-    let turned = turns(&mut all, 1, 64)?;
-    assert_eq!(rt; turned.happenings, 17);
-    assert_eq!(rt; all.feeds(), 16);
-    assert!(rt; is_turned_away(rt.alloc(), &all, 16)?);
-    assert!(rt; !is_turned_away(rt.alloc(), &all, 15)?);
+    let all = looped(rt.alloc(), &FEEDS, Vec::new(rt.alloc()));
+    let found = at_loop(all, |all| feeds_heard(rt.alloc(), all))?;
+    assert_eq!(rt; found, ([17, 0, 16], [false, true]));
     Ok(())
 }
 
@@ -61,42 +74,50 @@ fn with_clients(alloc: Global) -> Result<Loop<MemoryPorts>, Fail> {
     looped(alloc, &CLIENTS, scripts)
 }
 
+/// What was heard in two turns, and whether the port 8 was turned away in the first and 20 in the second.
+fn clients_heard(
+    alloc: Global,
+    all: &mut Loop<MemoryPorts>,
+) -> Result<[([usize; 3], bool); 2], Fail> {
+    let first = heard(all)?;
+    let ninth = is_turned_away(alloc, all, 8)?;
+    let second = heard(all)?;
+    let tenth = is_turned_away(alloc, all, 20)?;
+    Ok([(first, ninth), (second, tenth)])
+}
+
 #[test]
 fn so_many_clients_are_connected_and_a_place_is_taken_again(rt: HostRuntime) -> Result<(), Fail> {
-    let mut all = with_clients(rt.alloc())?;
-    let first = turns(&mut all, 1, 64)?;
-    assert_eq!(rt; first.happenings, 9);
-    assert_eq!(rt; all.clients(), 7);
-    assert!(rt; is_turned_away(rt.alloc(), &all, 8)?);
-    let second = turns(&mut all, 1, 64)?;
-    assert_eq!(rt; second.happenings, 1);
-    assert_eq!(rt; all.clients(), 8);
-    assert!(rt; !is_turned_away(rt.alloc(), &all, 20)?);
+    let found = at_loop(
+        with_clients(rt.alloc()),
+        |all| clients_heard(rt.alloc(), all),
+    )?;
+    assert_eq!(rt; found, [([9, 7, 0], true), ([1, 8, 0], false)]);
     Ok(())
 }
 
 /// A port joins twice, and two that never joined may be read and written to.
 static STRAYS: [Row; 5] = [Inside(1), Inside(1), Feed(1), Reads(5), Writes(6)];
 
+/// What was heard in a turn, and how many calls the loop has made.
+fn strays_heard(all: &mut Loop<MemoryPorts>) -> Result<([usize; 3], usize), Fail> {
+    Ok((heard(all)?, all.ports().calls().len()))
+}
+
 #[test]
 fn no_port_joins_twice_and_one_that_is_not_open_changes_nothing(
     rt: HostRuntime,
 ) -> Result<(), Fail> {
-    let mut all = looped(rt.alloc(), &STRAYS, Vec::new(rt.alloc()))?;
-    let turned = turns(&mut all, 1, 64)?;
-    assert_eq!(rt; turned.happenings, 3);
-    assert_eq!(rt; all.clients(), 1);
-    assert_eq!(rt; all.feeds(), 0);
+    let all = looped(rt.alloc(), &STRAYS, Vec::new(rt.alloc()));
     // four calls of `next`, and the one read of the port that is open
-    assert_eq!(rt; all.ports().calls().len(), 5);
+    assert_eq!(rt; at_loop(all, strays_heard)?, ([3, 1, 0], 5));
     Ok(())
 }
 
 #[test]
 fn a_turn_takes_no_more_happenings_than_its_limit(rt: HostRuntime) -> Result<(), Fail> {
-    let mut all = looped(rt.alloc(), &STRAYS, Vec::new(rt.alloc()))?;
-    let turned = turns(&mut all, 1, 1)?;
-    assert_eq!(rt; turned.happenings, 1);
-    assert!(rt; !turned.quiet);
+    let all = looped(rt.alloc(), &STRAYS, Vec::new(rt.alloc()));
+    let turned = at_loop(all, |all| turns(all, 1, 1))?;
+    assert!(rt; turned.happenings == 1 && !turned.quiet);
     Ok(())
 }

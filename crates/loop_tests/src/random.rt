@@ -119,22 +119,50 @@ fn is_same_port(
     )
 }
 
-/// Whether both loops do the same in a scene.
-fn agree(alloc: Global, scene: &Scene, slip: Slip) -> Result<bool, Fail> {
-    let mut all = looped(alloc, scene)?;
-    let mut plain = PlainLoop::new(alloc, scene, slip)?;
+/// Whether both loops do the same in all turns of a scene.
+fn turn_alike(
+    scene: &Scene,
+    all: &mut Loop<FailingPorts<MemoryPorts>>,
+    plain: &mut PlainLoop,
+) -> Result<bool, Fail> {
     for _ in 0..scene.turns {
         let seen = plain.turn(scene.arrivals.as_slice())?;
-        if turn(&mut all, scene.limit) != seen {
-            return Ok(false);
-        }
-    }
-    for number in 0..PORTS {
-        if !is_same_port(alloc, &all, &mut plain, number)? {
+        if turn(all, scene.limit) != seen {
             return Ok(false);
         }
     }
     Ok(true)
+}
+
+/// Whether all ports gave, took and became the same.
+fn have_same_ports(
+    alloc: Global,
+    all: &Loop<FailingPorts<MemoryPorts>>,
+    plain: &mut PlainLoop,
+) -> Result<bool, Fail> {
+    for number in 0..PORTS {
+        if !is_same_port(alloc, all, plain, number)? {
+            return Ok(false);
+        }
+    }
+    Ok(true)
+}
+
+/// Whether a plain loop does in a scene what the loop does.
+fn agrees_with(
+    alloc: Global,
+    scene: &Scene,
+    slip: Slip,
+    all: &mut Loop<FailingPorts<MemoryPorts>>,
+) -> Result<bool, Fail> {
+    let mut plain = PlainLoop::new(alloc, scene, slip)?;
+    Ok(turn_alike(scene, all, &mut plain)? && have_same_ports(alloc, all, &mut plain)?)
+}
+
+/// Whether both loops do the same in a scene.
+fn agree(alloc: Global, scene: &Scene, slip: Slip) -> Result<bool, Fail> {
+    let mut all = looped(alloc, scene)?;
+    agrees_with(alloc, scene, slip, &mut all)
 }
 
 /// The lines of a scene in which the loops differ, without those that don't matter to that.

@@ -74,6 +74,16 @@ pub fn looped_over(
     Ok(Loop::new(alloc, config, ports)?)
 }
 
+/// What is seen at a loop that was made.
+pub fn at_loop<T, F>(made: Result<Loop<MemoryPorts>, Fail>, look: F) -> Result<T, Fail>
+where
+    F: FnOnce(&mut Loop<MemoryPorts>) -> Result<T, Fail>,
+    requires { F.IsAlwaysCallable look }
+{
+    let mut all = made?;
+    look(&mut all)
+}
+
 /// What so many turns did in all.
 pub fn turns(all: &mut Loop<MemoryPorts>, count: usize, limit: usize) -> Result<Turned, Fail> {
     let mut sum = Turned {

@@ -1,6 +1,8 @@
 //! Commands and records that come in pieces, and packets that are taken in parts.
 use super::runs::Row::{Feed, Inside, Outside, Quiet, Reads};
-use super::runs::{Row, both, feed, looped, looped_over, pieces, port, record, taken, turns};
+use super::runs::{
+    Row, at_loop, both, feed, looped, looped_over, pieces, port, record, taken, turns,
+};
 use event_loop::Loop;
 use ports::memory_ports::Made;
 use ports::{MemoryPorts, PortScript, ReadAnswer, WriteAnswer};
@@ -55,12 +57,19 @@ fn client_and_feed(
 /// The client joins, and then the feed.
 static ALONE: [Row; 4] = [Inside(1), Quiet, Quiet, Feed(2)];
 
+/// What a port takes in six turns.
+fn taken_in_turns(alloc: Global, all: &mut Loop<MemoryPorts>, port: u64) -> Result<Vec<u8>, Fail> {
+    let _turned = turns(all, 6, 3000)?;
+    taken(alloc, all, port)
+}
+
 /// What that client takes.
 fn transferred(alloc: Global, size: usize, most: usize, feed_size: usize) -> Result<Vec<u8>, Fail> {
     let scripts = client_and_feed(alloc, (1, 2), size, most, feed_size)?;
-    let mut all = looped(alloc, &ALONE, scripts)?;
-    let _turned = turns(&mut all, 6, 3000)?;
-    taken(alloc, &all, 1)
+    at_loop(
+        looped(alloc, &ALONE, scripts),
+        |all| taken_in_turns(alloc, all, 1),
+    )
 }
 
 /// The sizes of a client's pieces, of its writes and of a feed's pieces.
@@ -130,30 +139,32 @@ static AMONG: [Row; 8] = [
     Inside(1),
 ];
 
-/// What the client takes that asks for both stations, among other clients and hidden arrivals.
-fn among_others(alloc: Global) -> Result<Vec<u8>, Fail> {
+/// The ports of all of them.
+fn crowded(alloc: Global) -> Result<Vec<PortScript>, Fail> {
     let mut scripts = client_and_feed(alloc, (3, 6), 7, 10, 520)?;
     others(alloc, &mut scripts)?;
-    let mut all = looped(alloc, &AMONG, scripts)?;
-    let _turned = turns(&mut all, 6, 3000)?;
-    taken(alloc, &all, 3)
+    Ok(scripts)
+}
+
+/// What the client takes that asks for both stations, among other clients and hidden arrivals.
+fn among_others(alloc: Global) -> Result<Vec<u8>, Fail> {
+    let all = looped(alloc, &AMONG, crowded(alloc)?);
+    at_loop(all, |all| taken_in_turns(alloc, all, 3))
 }
 
 /// The same where there is no hidden station, so that its records are refused.
 fn among_others_alone(alloc: Global) -> Result<Vec<u8>, Fail> {
-    let mut scripts = client_and_feed(alloc, (3, 6), 7, 10, 520)?;
-    others(alloc, &mut scripts)?;
-    let mut all = looped_over(alloc, CENTRE, &AMONG, scripts)?;
-    let _turned = turns(&mut all, 6, 3000)?;
-    taken(alloc, &all, 3)
+    let all = looped_over(alloc, CENTRE, &AMONG, crowded(alloc)?);
+    at_loop(all, |all| taken_in_turns(alloc, all, 3))
 }
 
 #[test]
 fn others_and_hidden_arrivals_change_nothing(rt: HostRuntime) -> Result<(), Fail> {
+    let wanted = wanted(rt.alloc())?;
     let given = among_others(rt.alloc())?;
-    assert!(rt; given.as_slice() == wanted(rt.alloc())?.as_slice());
     let without = among_others_alone(rt.alloc())?;
-    assert!(rt; without.as_slice() == given.as_slice());
+    assert!(rt; given.as_slice() == wanted.as_slice());
+    assert!(rt; without.as_slice() == wanted.as_slice());
     Ok(())
 }
 
@@ -201,15 +212,17 @@ fn is_shut(alloc: Global, all: &Loop<MemoryPorts>) -> Result<bool, Fail> {
     Ok(second.taken.is_empty() && second.is_shut && writes(all, 2) == 1)
 }
 
+/// Whether both clients were heard, and the first is there and served, and the second gone and shut.
+fn costs_the_second_alone(alloc: Global, all: &mut Loop<MemoryPorts>) -> Result<bool, Fail> {
+    let turned = turns(all, 2, 64)?;
+    let is_heard = turned.happenings == 3 && turned.quiet && all.clients() == 1;
+    Ok(is_heard && is_served(alloc, all)? && is_shut(alloc, all)?)
+}
+
 #[test]
 fn a_failed_write_is_its_client_s_alone(rt: HostRuntime) -> Result<(), Fail> {
-    let mut all = two_clients(rt.alloc())?;
-    let turned = turns(&mut all, 2, 64)?;
-    assert_eq!(rt; turned.happenings, 3);
-    assert!(rt; turned.quiet);
-    assert!(rt; is_served(rt.alloc(), &all)?);
-    assert!(rt; is_shut(rt.alloc(), &all)?);
-    assert_eq!(rt; all.clients(), 1);
+    let all = two_clients(rt.alloc());
+    assert!(rt; at_loop(all, |all| costs_the_second_alone(rt.alloc(), all))?);
     Ok(())
 }
 
@@ -246,15 +259,23 @@ fn fetching(alloc: Global) -> Result<Loop<MemoryPorts>, Fail> {
     looped(alloc, &FETCH, both(alloc, client, records)?)
 }
 
+/// Whether the client is sent what it fetches, so that its connection is over.
+fn is_sent_and_over(alloc: Global, all: &mut Loop<MemoryPorts>) -> Result<bool, Fail> {
+    let _turned = turns(all, 2, 64)?;
+    let given = taken(alloc, all, 2)?;
+    Ok(given.as_slice() == fetched(alloc)?.as_slice() && all.clients() == 0)
+}
+
+/// How many records are refused in the first turn, how many feeds are connected after it, and whether all goes on.
+fn goes_on(alloc: Global, all: &mut Loop<MemoryPorts>) -> Result<(u64, usize, bool), Fail> {
+    let turned = turns(all, 1, 64)?;
+    let feeds = all.feeds();
+    Ok((turned.dropped, feeds, is_sent_and_over(alloc, all)?))
+}
+
 #[test]
 fn a_refused_record_is_counted_and_the_next_one_arrives(rt: HostRuntime) -> Result<(), Fail> {
-    let mut all = fetching(rt.alloc())?;
-    let turned = turns(&mut all, 1, 64)?;
-    assert_eq!(rt; turned.dropped, 1);
-    assert_eq!(rt; all.feeds(), 1);
-    let _later = turns(&mut all, 2, 64)?;
-    assert!(rt; taken(rt.alloc(), &all, 2)?.as_slice() == fetched(rt.alloc())?.as_slice());
-    // all was sent and handed, so that the connection is over
-    assert_eq!(rt; all.clients(), 0);
+    let found = at_loop(fetching(rt.alloc()), |all| goes_on(rt.alloc(), all))?;
+    assert_eq!(rt; found, (1, 1, true));
     Ok(())
 }

@@ -44,6 +44,17 @@ pub fn any_port() -> SocketAddrV4 {
     SocketAddrV4::new(Ipv4Addr::LOCALHOST, 0)
 }
 
+/// What is seen at a new server of the three stations.
+pub fn at_centre<T, R, F>(rt: &R, look: F) -> Result<T, Fail>
+where
+    R: Net + AllocGlobal,
+    F: FnOnce(&R, &mut Centre) -> Result<T, Fail>,
+    requires { F.IsAlwaysCallable look }
+{
+    let mut centre = Centre::open(rt, CENTRE)?;
+    look(rt, &mut centre)
+}
+
 /// A connection to a port of this machine, whose calls never wait.
 pub fn connect<R: Net>(rt: &R, port: u16) -> io::Result<R::Stream> {
     let stream = TcpStream::connect(rt, SocketAddr::from((Ipv4Addr::LOCALHOST, port)))?;

@@ -6,6 +6,6 @@
 mod centre;
 mod records;
 
-pub use centre::{CENTRE, Centre, any_port, connect};
+pub use centre::{CENTRE, Centre, any_port, at_centre, connect};
 pub use records::{packet, record};
 pub use test_centre::GREETING;

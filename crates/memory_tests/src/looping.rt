@@ -85,17 +85,19 @@ fn turns(all: &mut Loop<Wires>) -> bool {
     are_well
 }
 
+/// Whether each port that was not refused is served in eight turns.
+fn are_served(all: &mut Loop<Wires>) -> Result<bool, Fault> {
+    let are_well = turns(all);
+    let wires = all.ports();
+    Ok(are_well && is_first_right(wires)? && is_second_right(wires) && is_one_shut(wires))
+}
+
 /// Turns of a loop: a port that joins without memory is shut, and the others are served.
 pub fn turn(alloc: Global) -> Result<Trial, Fault> {
-    let config = Config::read(alloc, CENTRE)?;
-    let mut all = Loop::new(alloc, config, wires(alloc)?)?;
-    let are_well = turns(&mut all);
-    let wires = all.ports();
-    let is_right = are_well
-        && is_first_right(wires)?
-        && is_second_right(wires)
-        && is_one_shut(wires);
-    Ok(Trial::by(is_right, "a port that was not refused is not served"))
+    let wires = wires(alloc)?;
+    let mut all = Loop::new(alloc, Config::read(alloc, CENTRE)?, wires)?;
+    let are_served = are_served(&mut all)?;
+    Ok(Trial::by(are_served, "a port that was not refused is not served"))
 }
 
 /// A port that reads a text once, and takes all.
@@ -122,17 +124,23 @@ fn memory_ports(alloc: Global) -> Result<MemoryPorts, Fault> {
     Ok(MemoryPorts::new(alloc, script))
 }
 
-/// Turns over ports whose record may not grow: that call fails, and costs its port, or one turn its hearing and what it
-/// would have heard.
-pub fn ports(alloc: Global) -> Result<Trial, Fault> {
-    let config = Config::read(alloc, CENTRE)?;
-    let mut all = Loop::new(alloc, config, memory_ports(alloc)?)?;
+/// How many of eight turns could not hear what happened.
+fn faults(all: &mut Loop<MemoryPorts>) -> usize {
     let mut faults: usize = 0;
     for _ in 0..8 {
         if all.turn(64).is_err() {
             faults = faults.saturating_add(1);
         }
     }
+    faults
+}
+
+/// Turns over ports whose record may not grow: that call fails, and costs its port, or one turn its hearing and what it
+/// would have heard.
+pub fn ports(alloc: Global) -> Result<Trial, Fault> {
+    let ports = memory_ports(alloc)?;
+    let mut all = Loop::new(alloc, Config::read(alloc, CENTRE)?, ports)?;
+    let faults = faults(&mut all);
     let open = all.clients().saturating_add(all.feeds());
     let is_right = matches!((faults, open), (0 | 1, 2 | 3));
     Ok(Trial::by(is_right, "more than a port or a hearing is lost"))

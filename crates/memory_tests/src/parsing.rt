@@ -56,12 +56,17 @@ fn want<'a>(alloc: Global, station: &'a [u8], patterns: &[&'a [u8]]) -> Result<W
     })
 }
 
-/// A reader of two wants.
-pub fn reader(alloc: Global) -> Result<Trial, Fault> {
+/// A plan of two wants.
+fn plan(alloc: Global) -> Result<Plan<'static>, Fault> {
     let mut wants = Vec::new(alloc);
     wants.push(want(alloc, b"WLF", &[b"BH?", b"!E"])?)?;
     wants.push(want(alloc, b"NONE", &[])?)?;
-    match ReaderCore::new(alloc, Plan::Multi(wants)) {
+    Ok(Plan::Multi(wants))
+}
+
+/// A reader of that plan.
+pub fn reader(alloc: Global) -> Result<Trial, Fault> {
+    match ReaderCore::new(alloc, plan(alloc)?) {
         Ok(core) => Ok(Trial::by(
             core.outgoing() == b"HELLO\r".as_slice(),
             "another first command",

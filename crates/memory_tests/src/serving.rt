@@ -33,8 +33,8 @@ fn is_greeted(server: &mut Server, client: Client) -> Result<bool, Fault> {
     takes(server, client, GREETING)
 }
 
-/// Whether a client that asks for two stations is handed their records, in order.
-fn is_served(server: &mut Server, client: Client) -> Result<bool, Fault> {
+/// Whether a client may ask for two stations.
+fn asks_for_both(server: &mut Server, client: Client) -> Result<bool, Fault> {
     let mut is_right = true;
     for line in BOTH {
         server.receive(client, line)?;
@@ -45,9 +45,20 @@ fn is_served(server: &mut Server, client: Client) -> Result<bool, Fault> {
         };
         is_right = is_right && takes(server, client, reply)?;
     }
+    Ok(is_right)
+}
+
+/// Records of the two stations arrive.
+fn arrive_all(server: &mut Server) -> Result<(), Fault> {
     for (station, second, _number) in ARRIVALS {
         let _number = server.arrive(&record(station, second)?)?;
     }
+    Ok(())
+}
+
+/// Whether a client is handed them, in order.
+fn is_handed_all(server: &mut Server, client: Client) -> Result<bool, Fault> {
+    let mut is_right = true;
     for (station, second, number) in ARRIVALS {
         let is_offered = server.offer(client)? == Offer::Bytes;
         let is_next = is_packet(server.waiting(client)?, station, second, number)?;
@@ -57,13 +68,25 @@ fn is_served(server: &mut Server, client: Client) -> Result<bool, Fault> {
     Ok(is_right)
 }
 
+/// Whether a client that asks for two stations is handed their records, in order.
+fn is_served(server: &mut Server, client: Client) -> Result<bool, Fault> {
+    let may_ask = asks_for_both(server, client)?;
+    arrive_all(server)?;
+    Ok(is_handed_all(server, client)? && may_ask)
+}
+
+/// Whether a new client is served.
+fn serves_one(server: &mut Server, alloc: Global) -> Result<bool, Fault> {
+    let client = server.open(alloc, inside())?;
+    is_served(server, client)
+}
+
 /// A server of three stations.
 pub fn server(alloc: Global) -> Result<Trial, Fault> {
     let config = Config::read(alloc, CENTRE)?;
     match Server::new(alloc, config) {
         Ok(mut server) => {
-            let client = server.open(alloc, inside())?;
-            let is_right = is_served(&mut server, client)?;
+            let is_right = serves_one(&mut server, alloc)?;
             Ok(Trial::by(is_right, "a client that is not served"))
         }
         Err(_) => Ok(Trial::Right),
@@ -96,15 +119,20 @@ fn is_unharmed(server: &mut Server, first: Client, next: Client) -> Result<bool,
     Ok(is_right && is_served(server, first)?)
 }
 
-/// A second client opens. Where it is refused, the next one has its number, and the first one is served all the same.
-pub fn open(alloc: Global) -> Result<Trial, Fault> {
-    let mut server = Server::new(alloc, Config::read(alloc, CENTRE)?)?;
+/// A second client opens, again if it is refused. Whether both are served as they are to be.
+fn opens_two(server: &mut Server, alloc: Global) -> Result<bool, Fault> {
     let first = server.open(alloc, inside())?;
     let second = match server.open(alloc, outside()) {
         Ok(client) => client,
         Err(_) => server.open(alloc, outside())?,
     };
-    let is_right = is_unharmed(&mut server, first, second)?;
+    is_unharmed(server, first, second)
+}
+
+/// A second client opens. Where it is refused, the next one has its number, and the first one is served all the same.
+pub fn open(alloc: Global) -> Result<Trial, Fault> {
+    let mut server = Server::new(alloc, Config::read(alloc, CENTRE)?)?;
+    let is_right = opens_two(&mut server, alloc)?;
     Ok(Trial::by(is_right, "a client that is not served, or another number"))
 }
 

@@ -180,15 +180,22 @@ fn joined(alloc: Global, core: &mut ReaderCore, most: usize) -> Result<Log, Fail
 
 const ASKED: &[u8] = b"HELLO\rSTATION WLF GE\rSELECT BH?\rSELECT !E\rFETCH\rSTATION NONE GE\rEND\r";
 
-/// Whether the dialogue is the one of the records that the server holds.
+/// Whether a reader's dialogue is the one of the records that the server holds.
+fn is_told_all(alloc: Global, core: &mut ReaderCore, most: usize) -> Result<bool, Fail>
+    requires { 0 < most }
+{
+    let log = joined(alloc, core, most)?;
+    let is_told = log.given.as_slice() == b"hello\nrefused 1\nFFFFFF\n000000\nend\n".as_slice();
+    let goes_on = core.next_wanted(0) == Seq::of(1) && core.next_wanted(1) == None;
+    Ok(log.asked.as_slice() == ASKED && is_told && core.records() == 2 && goes_on)
+}
+
+/// The same of a new reader.
 fn is_right(alloc: Global, most: usize) -> Result<bool, Fail>
     requires { 0 < most }
 {
     let mut core = ReaderCore::new(alloc, plan(alloc)?)?;
-    let log = joined(alloc, &mut core, most)?;
-    let is_told = log.given.as_slice() == b"hello\nrefused 1\nFFFFFF\n000000\nend\n".as_slice();
-    let goes_on = core.next_wanted(0) == Seq::of(1) && core.next_wanted(1) == None;
-    Ok(log.asked.as_slice() == ASKED && is_told && core.records() == 2 && goes_on)
+    is_told_all(alloc, &mut core, most)
 }
 
 #[test]
@@ -238,11 +245,16 @@ fn plans_outside_the_limits_are_refused(rt: HostRuntime) -> Result<(), Fail> {
     Ok(())
 }
 
+/// What a new reader answers to a byte that is none of a greeting, to nothing, and to a greeting's beginning.
+fn answers_after_a_fault(core: &mut ReaderCore) -> [Option<ReaderFault>; 3] {
+    let first = core.incoming(b"X").err();
+    let second = core.incoming(b"").err();
+    [first, second, core.incoming(b"SeedLink v3").err()]
+}
+
 #[test]
 fn a_fault_stays(rt: HostRuntime) -> Result<(), Fail> {
     let mut core = ReaderCore::new(rt.alloc(), plan(rt.alloc())?)?;
-    assert!(rt; core.incoming(b"X").err() == Some(ReaderFault::BadReply));
-    assert!(rt; core.incoming(b"").err() == Some(ReaderFault::BadReply));
-    assert!(rt; core.incoming(b"SeedLink v3").err() == Some(ReaderFault::BadReply));
+    assert!(rt; answers_after_a_fault(&mut core) == [Some(ReaderFault::BadReply); 3]);
     Ok(())
 }

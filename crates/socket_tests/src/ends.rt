@@ -1,5 +1,5 @@
 //! Clients that come and go.
-use loopback::{CENTRE, Centre, GREETING};
+use loopback::{Centre, GREETING, at_centre};
 use std::io::Write;
 use std::net::Net;
 use std::test::Fail;
@@ -14,8 +14,7 @@ fn is_one_line<R: Net>(rt: &R, centre: &mut Centre) -> Result<bool, Fail> {
 
 #[test]
 fn a_line_in_pieces_is_one_line(rt: HostRuntime) -> Result<(), Fail> {
-    let mut centre = Centre::open(&rt, CENTRE)?;
-    assert!(rt; is_one_line(&rt, &mut centre)?);
+    assert!(rt; at_centre(&rt, is_one_line)?);
     Ok(())
 }
 
@@ -28,8 +27,7 @@ fn ends_after_the_answer<R: Net>(rt: &R, centre: &mut Centre) -> Result<bool, Fa
 
 #[test]
 fn bye_ends_a_connection_after_the_last_answer(rt: HostRuntime) -> Result<(), Fail> {
-    let mut centre = Centre::open(&rt, CENTRE)?;
-    assert!(rt; ends_after_the_answer(&rt, &mut centre)?);
+    assert!(rt; at_centre(&rt, ends_after_the_answer)?);
     Ok(())
 }
 
@@ -52,16 +50,16 @@ fn counts_before_and_after<R: Net>(
 
 #[test]
 fn a_client_that_ends_is_closed_and_others_go_on(rt: HostRuntime) -> Result<(), Fail> {
-    let mut centre = Centre::open(&rt, CENTRE)?;
-    assert_eq!(rt; counts_before_and_after(&rt, &mut centre, b"")?, (2, 1));
+    let counts = at_centre(&rt, |rt, centre| counts_before_and_after(rt, centre, b""))?;
+    assert_eq!(rt; counts, (2, 1));
     Ok(())
 }
 
 /// A connection that is closed with bytes unread is reset by the system.
 #[test]
 fn a_client_that_resets_is_closed_and_others_go_on(rt: HostRuntime) -> Result<(), Fail> {
-    let mut centre = Centre::open(&rt, CENTRE)?;
     let said = b"HELLO\rCAT\rSTATION WLF GE\rDATA\rEND\r";
-    assert_eq!(rt; counts_before_and_after(&rt, &mut centre, said)?, (2, 1));
+    let counts = at_centre(&rt, |rt, centre| counts_before_and_after(rt, centre, said))?;
+    assert_eq!(rt; counts, (2, 1));
     Ok(())
 }

@@ -1,6 +1,6 @@
 //! What `feed` does over sockets.
 use jobs::{Endpoint, Failure, feed};
-use loopback::{CENTRE, Centre, any_port, packet, record};
+use loopback::{Centre, any_port, at_centre, packet, record};
 use sl_io::MemorySource;
 use socket_ports::MioPorts;
 use std::alloc::Global;
@@ -15,10 +15,11 @@ fn here(port: u16) -> Endpoint {
     }
 }
 
-/// Two records of GE APE.
-fn two_records(alloc: Global) -> Result<Vec<u8>, Fail> {
+/// Two records of GE APE, and a rest behind them.
+fn two_records(alloc: Global, rest: &[u8]) -> Result<Vec<u8>, Fail> {
     let mut bytes = record(b"APE", b"BHZ", 1)?.to_vec(alloc)?;
     bytes.extend_from_slice(&record(b"APE", b"BHZ", 2)?)?;
+    bytes.extend_from_slice(rest)?;
     Ok(bytes)
 }
 
@@ -34,10 +35,14 @@ fn holds_two<R: Net>(rt: &R, centre: &mut Centre) -> Result<bool, Fail> {
     )
 }
 
-/// What a feed of these bytes answers, and whether two records have arrived then.
-fn fed<R: Net>(rt: &R, centre: &mut Centre, bytes: &[u8]) -> Result<(Option<u64>, bool), Fail> {
-    let mut source = MemorySource::new(bytes);
-    let sent = feed(rt, here(centre.ports().1), &mut source);
+/// What a feed of two records and a rest answers, and whether the two have arrived then.
+fn fed<R: Net + AllocGlobal>(
+    rt: &R,
+    centre: &mut Centre,
+    rest: &[u8],
+) -> Result<(Option<u64>, bool), Fail> {
+    let bytes = two_records(rt.alloc(), rest)?;
+    let sent = feed(rt, here(centre.ports().1), &mut MemorySource::new(&bytes));
     centre.turns(3);
     let number = match sent {
         Ok(count) => Some(count),
@@ -49,9 +54,8 @@ fn fed<R: Net>(rt: &R, centre: &mut Centre, bytes: &[u8]) -> Result<(Option<u64>
 
 #[test]
 fn records_of_a_feed_arrive(rt: HostRuntime) -> Result<(), Fail> {
-    let mut centre = Centre::open(&rt, CENTRE)?;
-    let bytes = two_records(rt.alloc())?;
-    assert_eq!(rt; fed(&rt, &mut centre, &bytes)?, (Some(2), true));
+    let found = at_centre(&rt, |rt, centre| fed(rt, centre, b""))?;
+    assert_eq!(rt; found, (Some(2), true));
     Ok(())
 }
 
@@ -59,10 +63,8 @@ fn records_of_a_feed_arrive(rt: HostRuntime) -> Result<(), Fail> {
 fn a_feed_that_ends_inside_a_record_is_fault_41_and_its_whole_records_arrive(
     rt: HostRuntime,
 ) -> Result<(), Fail> {
-    let mut centre = Centre::open(&rt, CENTRE)?;
-    let mut bytes = two_records(rt.alloc())?;
-    bytes.extend_from_slice(&[b'0'; 511])?;
-    assert_eq!(rt; fed(&rt, &mut centre, &bytes)?, (None, true));
+    let found = at_centre(&rt, |rt, centre| fed(rt, centre, &[b'0'; 511]))?;
+    assert_eq!(rt; found, (None, true));
     Ok(())
 }
 
@@ -71,7 +73,7 @@ fn a_feed_to_a_closed_port_is_fault_47(rt: HostRuntime) -> Result<(), Fail> {
     let ports = MioPorts::listen(&rt, rt.alloc(), any_port(), any_port())?;
     let (_, feeds) = ports.bound();
     drop(ports);
-    let bytes = two_records(rt.alloc())?;
+    let bytes = two_records(rt.alloc(), b"")?;
     let sent = feed(&rt, here(feeds), &mut MemorySource::new(bytes.as_slice()));
     assert!(rt; matches!(sent, Err(Failure::Connect)));
     assert_eq!(rt; Failure::Connect.report().number, 47);

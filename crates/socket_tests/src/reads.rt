@@ -1,5 +1,5 @@
 //! What `read` does over sockets.
-use loopback::{CENTRE, Centre, record};
+use loopback::{Centre, at_centre, record};
 use packet_listing::{ListingFault, read_over};
 use sl_io::{MemorySink, Outer};
 use slreader::{Plan, Want};
@@ -83,39 +83,52 @@ FFFFFE GE WLF -- BHN D 17091648000000 17091648000200 2
 000001 GE APE -- BHE D 17091648000000 17091648000300 3
 ";
 
+/// Whether a reader of a server that was fed writes those lines, and so many bytes of records, of which that is the
+/// first.
+fn lists<R: Net + AllocGlobal>(
+    rt: &R,
+    centre: &mut Centre,
+    words: &[&[u8]],
+    lines: &[u8],
+    records: (usize, [u8; 512]),
+) -> Result<bool, Fail> {
+    feed(rt, centre)?;
+    let listed = read(rt, centre, words)?;
+    let written = listed.records.bytes();
+    let are_records = written.len() == records.0 && written.starts_with(&records.1);
+    Ok(listed.fault.is_none() && are_records && listed.lines.bytes() == lines)
+}
+
 #[test]
 fn a_reader_lists_what_a_server_holds(rt: HostRuntime) -> Result<(), Fail> {
-    let mut centre = Centre::open(&rt, CENTRE)?;
-    feed(&rt, &mut centre)?;
-    let listed = read(&rt, &mut centre, &[b"GE_APE", b"ZZ_SHUT", b"GE_WLF:BH?"])?;
-    assert!(rt; listed.fault.is_none());
-    assert!(rt; listed.lines.bytes() == LINES);
-    assert_eq!(rt; listed.records.bytes().len(), 3 * 512);
-    let first = record(b"APE", b"BHZ", 1)?;
-    assert!(rt; listed.records.bytes().starts_with(&first));
+    let records = (3 * 512, record(b"APE", b"BHZ", 1)?);
+    let words: [&[u8]; 3] = [b"GE_APE", b"ZZ_SHUT", b"GE_WLF:BH?"];
+    assert!(rt; at_centre(&rt, |rt, centre| lists(rt, centre, &words, LINES, records))?);
     Ok(())
 }
 
 /// A reader goes on with the number behind the last one that it has.
 #[test]
 fn a_reader_goes_on_after_a_break(rt: HostRuntime) -> Result<(), Fail> {
-    let mut centre = Centre::open(&rt, CENTRE)?;
-    feed(&rt, &mut centre)?;
-    let listed = read(&rt, &mut centre, &[b"GE_APE@000001"])?;
-    assert!(rt; listed.fault.is_none());
-    assert!(rt;
-        listed.lines.bytes()
-            == b"000001 GE APE -- BHE D 17091648000000 17091648000300 3\n".as_slice()
-    );
+    let line = b"000001 GE APE -- BHE D 17091648000000 17091648000300 3\n";
+    let records = (512, record(b"APE", b"BHE", 3)?);
+    let words: [&[u8]; 1] = [b"GE_APE@000001"];
+    assert!(rt; at_centre(&rt, |rt, centre| lists(rt, centre, &words, line, records))?);
     Ok(())
+}
+
+/// The number of the fault of a reader that is refused all that it asks for, if it tells of each.
+fn fault_of_the_refused<R: Net + AllocGlobal>(rt: &R, centre: &mut Centre) -> Result<u8, Fail> {
+    let listed = read(rt, centre, &[b"ZZ_SHUT", b"GE_NONE"])?;
+    if listed.lines.bytes() != b"refused ZZ SHUT\nrefused GE NONE\n".as_slice() {
+        return Err(Fail::from("other lines"));
+    }
+    let fault = listed.fault.ok_or("no fault")?;
+    Ok(fault.report().number)
 }
 
 #[test]
 fn a_reader_that_is_refused_everything_is_fault_51(rt: HostRuntime) -> Result<(), Fail> {
-    let mut centre = Centre::open(&rt, CENTRE)?;
-    let listed = read(&rt, &mut centre, &[b"ZZ_SHUT", b"GE_NONE"])?;
-    let fault = listed.fault.ok_or("no fault")?;
-    assert_eq!(rt; fault.report().number, 51);
-    assert!(rt; listed.lines.bytes() == b"refused ZZ SHUT\nrefused GE NONE\n".as_slice());
+    assert_eq!(rt; at_centre(&rt, fault_of_the_refused)?, 51);
     Ok(())
 }

@@ -1,5 +1,5 @@
 //! Access lists that are read again while clients are in a transfer.
-use loopback::{CENTRE, Centre, packet, record};
+use loopback::{Centre, at_centre, packet, record};
 use std::io::{Read, Write};
 use std::net::Net;
 use std::test::Fail;
@@ -90,8 +90,7 @@ fn is_cut_in_time<R: Net + AllocGlobal>(rt: &R, centre: &mut Centre) -> Result<b
 
 #[test]
 fn a_client_is_cut_where_its_own_stations_change(rt: HostRuntime) -> Result<(), Fail> {
-    let mut centre = Centre::open(&rt, CENTRE)?;
-    assert!(rt; is_cut_in_time(&rt, &mut centre)?);
+    assert!(rt; at_centre(&rt, is_cut_in_time)?);
     Ok(())
 }
 
@@ -104,7 +103,6 @@ fn sees_the_new_lists<R: Net + AllocGlobal>(rt: &R, centre: &mut Centre) -> Resu
 
 #[test]
 fn a_client_that_comes_later_sees_the_new_lists(rt: HostRuntime) -> Result<(), Fail> {
-    let mut centre = Centre::open(&rt, CENTRE)?;
-    assert!(rt; sees_the_new_lists(&rt, &mut centre)?);
+    assert!(rt; at_centre(&rt, sees_the_new_lists)?);
     Ok(())
 }

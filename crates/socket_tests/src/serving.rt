@@ -5,35 +5,52 @@ use loopback::{CENTRE, GREETING, any_port, connect};
 use socket_ports::MioPorts;
 use std::io;
 use std::io::{Read, Write};
-use std::net::{Ipv4Addr, SocketAddrV4};
+use std::net::{Ipv4Addr, Net, SocketAddrV4};
 use std::test::Fail;
+
+/// A client that has said HELLO at the ports of a server.
+fn visitor<R: Net>(rt: &R, ports: &MioPorts) -> io::Result<R::Stream> {
+    let mut client = connect(rt, ports.bound().0)?;
+    client.write_all(b"HELLO\r")?;
+    Ok(client)
+}
+
+/// The ports after so many turns of a server.
+fn served<R: AllocGlobal>(rt: &R, ports: MioPorts, turns: u64) -> Result<MioPorts, Fail> {
+    let config = Config::read(rt.alloc(), CENTRE)?;
+    Ok(serve(rt.alloc(), config, ports, turns)?)
+}
+
+/// Whether a client finds nothing to read.
+fn finds_nothing<S: Read>(client: &mut S) -> bool {
+    let read = client.read(&mut [0u8; 1]);
+    matches!(&read, Err(error) if error.kind() == io::ErrorKind::WouldBlock)
+}
+
+/// Whether a client reads the answer to HELLO.
+fn is_greeted<S: Read>(client: &mut S) -> io::Result<bool> {
+    let mut answer = [0u8; 45];
+    client.read_exact(&mut answer)?;
+    Ok(answer.as_slice() == GREETING)
+}
 
 #[test]
 fn hello_is_answered_by_serve(rt: HostRuntime) -> Result<(), Fail> {
     let ports = MioPorts::listen(&rt, rt.alloc(), any_port(), any_port())?;
-    let mut client = connect(&rt, ports.bound().0)?;
-    client.write_all(b"HELLO\r")?;
-    let config = Config::read(rt.alloc(), CENTRE)?;
-    let _ports = serve(rt.alloc(), config, ports, 20)?;
-    let mut answer = [0u8; 45];
-    client.read_exact(&mut answer)?;
-    assert!(rt; answer.as_slice() == GREETING);
+    let mut client = visitor(&rt, &ports)?;
+    let _ports = served(&rt, ports, 20)?;
+    assert!(rt; is_greeted(&mut client)?);
     Ok(())
 }
 
 #[test]
 fn the_last_bytes_are_sent_once_serve_has_ended(rt: HostRuntime) -> Result<(), Fail> {
     let ports = MioPorts::listen(&rt, rt.alloc(), any_port(), any_port())?;
-    let mut client = connect(&rt, ports.bound().0)?;
-    client.write_all(b"HELLO\r")?;
-    let config = Config::read(rt.alloc(), CENTRE)?;
-    let mut ports = serve(rt.alloc(), config, ports, 1)?;
-    let mut answer = [0u8; 45];
-    let early = client.read(&mut answer);
-    assert!(rt; matches!(&early, Err(error) if error.kind() == io::ErrorKind::WouldBlock));
+    let mut client = visitor(&rt, &ports)?;
+    let mut ports = served(&rt, ports, 1)?;
+    assert!(rt; finds_nothing(&mut client));
     ports.finish();
-    client.read_exact(&mut answer)?;
-    assert!(rt; answer.as_slice() == GREETING);
+    assert!(rt; is_greeted(&mut client)?);
     Ok(())
 }
 
@@ -48,20 +65,30 @@ fn unheard(rt: &HostRuntime, clients: SocketAddrV4, feeds: SocketAddrV4) -> Resu
     }
 }
 
+/// What is told of the address for clients, and of that for feeds.
+const TOLD: [&str; 2] = [
+    "46  cause: an address can't be listened on\n  address: A\n  \
+        reason: Address already in use (os error 98)\n",
+    "46  cause: an address can't be listened on\n  address: B\n  \
+        reason: Address already in use (os error 98)\n",
+];
+
+/// Whether an address that is taken is told, as that for clients and as that for feeds.
+fn is_told(rt: &HostRuntime, taken: SocketAddrV4) -> Result<bool, Fail> {
+    let [clients, feeds] = TOLD;
+    let is_first = unheard(rt, taken, any_port())?.as_str() == clients;
+    Ok(is_first && unheard(rt, any_port(), taken)?.as_str() == feeds)
+}
+
 #[test]
 fn a_taken_port_is_told_with_its_address(rt: HostRuntime) -> Result<(), Fail> {
     let ports = MioPorts::listen(&rt, rt.alloc(), any_port(), any_port())?;
     let (clients, feeds) = ports.bound();
     for port in [clients, feeds] {
-        let taken = SocketAddrV4::new(Ipv4Addr::LOCALHOST, port);
-        let told = unheard(&rt, taken, any_port())?;
-        let wanted = "46  cause: an address can't be listened on\n  address: A\n  \
-            reason: Address already in use (os error 98)\n";
-        assert!(rt; told.as_str() == wanted, "{told}");
-        let told = unheard(&rt, any_port(), taken)?;
-        let wanted = "46  cause: an address can't be listened on\n  address: B\n  \
-            reason: Address already in use (os error 98)\n";
-        assert!(rt; told.as_str() == wanted, "{told}");
+        assert!(rt;
+            is_told(&rt, SocketAddrV4::new(Ipv4Addr::LOCALHOST, port))?,
+            "{port}"
+        );
     }
     Ok(())
 }

@@ -1,5 +1,5 @@
 //! Records from feeds to clients over sockets.
-use loopback::{CENTRE, Centre, packet, record};
+use loopback::{Centre, at_centre, packet, record};
 use std::io;
 use std::io::Write;
 use std::net::Net;
@@ -25,9 +25,8 @@ fn goes_to_a_client<R: Net>(rt: &R, centre: &mut Centre, first: &[u8; 512]) -> R
 
 #[test]
 fn a_record_goes_from_a_feed_to_a_client(rt: HostRuntime) -> Result<(), Fail> {
-    let mut centre = Centre::open(&rt, CENTRE)?;
     let first = record(b"APE", b"BHZ", 100)?;
-    assert!(rt; goes_to_a_client(&rt, &mut centre, &first)?);
+    assert!(rt; at_centre(&rt, |rt, centre| goes_to_a_client(rt, centre, &first))?);
     Ok(())
 }
 
@@ -53,8 +52,7 @@ fn list_beside_a_transfer<R: Net>(
 
 #[test]
 fn a_client_lists_stations_while_another_is_in_a_transfer(rt: HostRuntime) -> Result<(), Fail> {
-    let mut centre = Centre::open(&rt, CENTRE)?;
     let first = record(b"WLF", b"BHZ", 7)?;
-    assert!(rt; list_beside_a_transfer(&rt, &mut centre, &first)?);
+    assert!(rt; at_centre(&rt, |rt, centre| list_beside_a_transfer(rt, centre, &first))?);
     Ok(())
 }

@@ -1,5 +1,5 @@
 //! What a server answers to a record that arrives.
-use super::server;
+use super::at_server;
 use super::steps::{Record, made};
 use mseed_header::RecordFault;
 use server_core::{ArriveFault, Server};
@@ -47,11 +47,15 @@ fn first_missed(server: &mut Server) -> Result<Option<u32>, Fail> {
     Ok(None)
 }
 
+/// Whether those are refused, and the first number that another record does not get after them.
+fn refused_and_missed(server: &mut Server) -> Result<(bool, Option<u32>), Fail> {
+    Ok((are_refused(server)?, first_missed(server)?))
+}
+
 #[test]
 fn records_are_numbered_by_their_station_or_refused(rt: HostRuntime) -> Result<(), Fail> {
-    let mut server = server(rt.alloc())?;
-    assert!(rt; are_refused(&mut server)?);
-    assert_eq!(rt; first_missed(&mut server)?, None);
+    let found = at_server(rt.alloc(), |server, _alloc| refused_and_missed(server))?;
+    assert_eq!(rt; found, (true, None));
     Ok(())
 }
 

@@ -1,6 +1,6 @@
 //! For which clients an offer may find something, and for which it would.
 use super::steps::{Record, made};
-use super::{inside, outside, server};
+use super::{at_server, inside, outside};
 use server_core::{Client, Offer, Server};
 use std::alloc::Global;
 use std::net::Ipv4Addr;
@@ -72,8 +72,7 @@ fn states_beside_another_station(
 
 #[test]
 fn a_record_marks_who_asks_for_its_station(rt: HostRuntime) -> Result<(), Fail> {
-    let mut server = server(rt.alloc())?;
-    let states = states_beside_another_station(&mut server, rt.alloc())?;
+    let states = at_server(rt.alloc(), states_beside_another_station)?;
     assert!(rt; states == [(false, false), (false, false), (true, true)]);
     Ok(())
 }
@@ -92,13 +91,17 @@ fn states_by_channel(server: &mut Server, client: Client) -> Result<[(bool, bool
     Ok([wanted, other])
 }
 
+/// Whether it is so until an offer finds nothing, and no longer.
+fn marks_until_an_offer(server: &mut Server, alloc: Global) -> Result<bool, Fail> {
+    let client = settled(server, alloc, outside(), VAULT)?;
+    let is_marked = states_by_channel(server, client)? == [(true, true), (true, false)];
+    let is_idle = server.offer(client)? == Offer::Idle;
+    Ok(is_marked && is_idle && states(server, client)? == (false, false))
+}
+
 #[test]
 fn a_record_that_is_not_wanted_marks_until_an_offer(rt: HostRuntime) -> Result<(), Fail> {
-    let mut server = server(rt.alloc())?;
-    let client = settled(&mut server, rt.alloc(), outside(), VAULT)?;
-    assert!(rt; states_by_channel(&mut server, client)? == [(true, true), (true, false)]);
-    assert_eq!(rt; server.offer(client), Ok(Offer::Idle));
-    assert_eq!(rt; states(&mut server, client)?, (false, false));
+    assert!(rt; at_server(rt.alloc(), marks_until_an_offer)?);
     Ok(())
 }
 
@@ -115,12 +118,16 @@ fn is_ended(server: &mut Server, client: Client) -> Result<bool, Fail> {
     Ok(offer == Offer::Bytes && server.waiting(client)? == b"END".as_slice())
 }
 
+/// Whether a client is marked once its window of time is over, and not before, and its transfer ends.
+fn marks_at_the_end(server: &mut Server, alloc: Global) -> Result<bool, Fail> {
+    let client = settled(server, alloc, inside(), WINDOW)?;
+    let is_marked = states_about_the_end(server, client)? == [(false, false), (true, true)];
+    Ok(is_marked && is_ended(server, client)?)
+}
+
 #[test]
 fn a_record_after_the_end_of_time_marks(rt: HostRuntime) -> Result<(), Fail> {
-    let mut server = server(rt.alloc())?;
-    let client = settled(&mut server, rt.alloc(), inside(), WINDOW)?;
-    assert!(rt; states_about_the_end(&mut server, client)? == [(false, false), (true, true)]);
-    assert!(rt; is_ended(&mut server, client)?);
+    assert!(rt; at_server(rt.alloc(), marks_at_the_end)?);
     Ok(())
 }
 
@@ -137,8 +144,7 @@ fn states_of_a_visit(server: &mut Server, alloc: Global) -> Result<[(bool, bool)
 
 #[test]
 fn a_new_client_is_marked_by_what_it_sends(rt: HostRuntime) -> Result<(), Fail> {
-    let mut server = server(rt.alloc())?;
-    let states = states_of_a_visit(&mut server, rt.alloc())?;
+    let states = at_server(rt.alloc(), states_of_a_visit)?;
     assert!(rt; states == [(false, false), (true, true), (true, true)]);
     Ok(())
 }
@@ -167,11 +173,15 @@ fn are_ready_by_turns(server: &mut Server, clients: &[Client], first: usize) -> 
     Ok(true)
 }
 
+/// Whether a record of GE WLF marks those of a crowd who wait for it, and no one else.
+fn marks_one_half(server: &mut Server, alloc: Global) -> Result<bool, Fail> {
+    let clients = crowd(server, alloc)?;
+    server.arrive(&made(Record::Forest(1))?)?;
+    are_ready_by_turns(server, clients.as_slice(), 0)
+}
+
 #[test]
 fn a_record_marks_no_one_else_of_a_crowd(rt: HostRuntime) -> Result<(), Fail> {
-    let mut server = server(rt.alloc())?;
-    let clients = crowd(&mut server, rt.alloc())?;
-    server.arrive(&made(Record::Forest(1))?)?;
-    assert!(rt; are_ready_by_turns(&mut server, clients.as_slice(), 0)?);
+    assert!(rt; at_server(rt.alloc(), marks_one_half)?);
     Ok(())
 }

@@ -2,7 +2,7 @@
 use super::steps::Step::{Arrives, Inside, Outside, Reloads, Sends, Takes};
 use super::steps::Wanted::{Ended, Packet, Rest, Text};
 use super::steps::{ERROR, NOTHING, OK, Record, Step, differing_take};
-use super::{inside, outside};
+use super::{at_server, inside, outside};
 use catalog::Config;
 use server_core::Server;
 use std::alloc::Global;
@@ -113,33 +113,32 @@ fn clients_whose_view_changes_are_cut(rt: HostRuntime) -> Result<(), Fail> {
     Ok(())
 }
 
-/// A server with a client inside and one outside, which both have nothing to take.
-fn served(alloc: Global) -> Result<Server, Fail> {
-    let mut server = Server::new(alloc, Config::read(alloc, CENTRE)?)?;
+/// A client inside and one outside, which both have nothing to take.
+fn opened(server: &mut Server, alloc: Global) -> Result<(), Fail> {
     let _outside = server.open(alloc, outside())?;
     let _inside = server.open(alloc, inside())?;
-    Ok(server)
+    Ok(())
 }
 
 /// What a reload is answered: its number, or 0 where it is accepted.
-fn reloaded(alloc: Global, server: &mut Server, text: &[u8]) -> Result<u8, Fail> {
+fn reloaded(server: &mut Server, alloc: Global, text: &[u8]) -> Result<u8, Fail> {
     match server.reload(Config::read(alloc, text)?) {
         Ok(()) => Ok(0),
         Err(fault) => Ok(fault.report().number),
     }
 }
 
-/// What three reloads are answered: a larger ring, and two other access lists.
-fn all_reloaded(alloc: Global, server: &mut Server) -> Result<[u8; 3], Fail> {
-    let larger = reloaded(alloc, server, ISLAND_LARGER)?;
-    let narrowed = reloaded(alloc, server, ISLAND_NARROWED)?;
-    let closed = reloaded(alloc, server, FOREST_CLOSED)?;
+/// What three reloads are answered while those are there: a larger ring, and two other access lists.
+fn all_reloaded(server: &mut Server, alloc: Global) -> Result<[u8; 3], Fail> {
+    opened(server, alloc)?;
+    let larger = reloaded(server, alloc, ISLAND_LARGER)?;
+    let narrowed = reloaded(server, alloc, ISLAND_NARROWED)?;
+    let closed = reloaded(server, alloc, FOREST_CLOSED)?;
     Ok([larger, narrowed, closed])
 }
 
 #[test]
 fn reloads_are_answered(rt: HostRuntime) -> Result<(), Fail> {
-    let mut server = served(rt.alloc())?;
-    assert_eq!(rt; all_reloaded(rt.alloc(), &mut server)?, [34, 0, 0]);
+    assert_eq!(rt; at_server(rt.alloc(), all_reloaded)?, [34, 0, 0]);
     Ok(())
 }

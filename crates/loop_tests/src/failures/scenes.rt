@@ -42,18 +42,22 @@ const BOTH: &[u8] = b"STATION APE GE\rDATA\rSTATION WLF GE\rDATA\rEND\r";
 /// A greeting, and a transfer of GE WLF from now on.
 const FOREST: &[u8] = b"HELLO\rSTATION WLF GE\rDATA\rEND\r";
 
-/// Two records of each of two stations, in turn, or three records.
+/// Two records of each of two stations of GE, in turn: the station, and its record's second.
+static FOUR: [(&[u8], u8); 4] = [(b"APE", 1), (b"WLF", 1), (b"APE", 2), (b"WLF", 2)];
+
+/// Three records.
+static THREE: [(&[u8], u8); 3] = [(b"APE", 1), (b"WLF", 2), (b"WLF", 3)];
+
+/// What the feed brings.
 fn arrivals(alloc: Global, scene: Scene) -> Result<Vec<u8>, Fail> {
+    let rows: &[(&[u8], u8)] = match scene {
+        Scene::Bytes => &FOUR,
+        _ => &THREE,
+    };
     let mut bytes = Vec::new(alloc);
-    if scene == Scene::Bytes {
-        bytes.extend_from_slice(&record(b"GE", b"APE", 1)?)?;
-        bytes.extend_from_slice(&record(b"GE", b"WLF", 1)?)?;
-        bytes.extend_from_slice(&record(b"GE", b"APE", 2)?)?;
-        bytes.extend_from_slice(&record(b"GE", b"WLF", 2)?)?;
-    } else {
-        bytes.extend_from_slice(&record(b"GE", b"APE", 1)?)?;
-        bytes.extend_from_slice(&record(b"GE", b"WLF", 2)?)?;
-        bytes.extend_from_slice(&record(b"GE", b"WLF", 3)?)?;
+    for row in rows {
+        let (station, second) = *row;
+        bytes.extend_from_slice(&record(b"GE", station, second)?)?;
     }
     Ok(bytes)
 }
