@@ -88,8 +88,8 @@ fn replay_command<'a>(alloc: Global) -> Result<Command<'a>, AllocError>
         "Replays a script against a server and prints what each client receives, in hex",
     );
     let config = wanted(alloc, "CONFIG", "The configuration, in TOML");
-    let script = wanted(alloc, "SCRIPT", "The script, an event a line");
     let with_config = with_argument(command, config)?;
+    let script = wanted(alloc, "SCRIPT", "The script, an event a line");
     let with_script = with_argument(with_config, script)?;
     with_verbose(alloc, with_script)
 }
@@ -109,7 +109,9 @@ fn addressed_command<'a>(alloc: Global) -> Result<Command<'a>, AllocError>
 {
     let command = Command::new(alloc, "serve").about("Serves records to clients over sockets");
     let config = wanted(alloc, "CONFIG", "The configuration, in TOML");
+    let with_config = with_argument(command, config)?;
     let listen = option(alloc, "listen", "A:P", true, "Address and port for clients");
+    let with_listen = with_argument(with_config, listen)?;
     let feed = option(
         alloc,
         "feed",
@@ -117,8 +119,6 @@ fn addressed_command<'a>(alloc: Global) -> Result<Command<'a>, AllocError>
         true,
         "Address and port for feeds of records",
     );
-    let with_config = with_argument(command, config)?;
-    let with_listen = with_argument(with_config, listen)?;
     with_argument(with_listen, feed)
 }
 
@@ -129,18 +129,18 @@ fn serve_command<'a>(alloc: Global) -> Result<Command<'a>, AllocError>
 {
     let command = addressed_command(alloc)?;
     let end = turns(alloc, "turns", "Ends after N turns, 1 to 1000000000");
+    let with_end = with_argument(command, end)?;
     let reread = turns(
         alloc,
         "reread",
         "Reads CONFIG again every N turns, 1 to 1000000000",
     );
+    let with_reread = with_argument(with_end, reread)?;
     let report = turns(
         alloc,
         "report",
         "Writes a line on standard error every N turns, 1 to 1000000000",
     );
-    let with_end = with_argument(command, end)?;
-    let with_reread = with_argument(with_end, reread)?;
     let with_report = with_argument(with_reread, report)?;
     with_verbose(alloc, with_report)
 }
@@ -156,8 +156,8 @@ fn feed_command<'a>(alloc: Global) -> Result<Command<'a>, AllocError>
         "SERVER",
         "Address and port for feeds, as 127.0.0.1:18001",
     );
-    let file = wanted(alloc, "FILE", "The file, of records of 512 bytes");
     let with_server = with_argument(command, server)?;
+    let file = wanted(alloc, "FILE", "The file, of records of 512 bytes");
     let with_file = with_argument(with_server, file)?;
     with_verbose(alloc, with_file)
 }
@@ -206,7 +206,7 @@ fn read_command<'a>(alloc: Global) -> Result<Command<'a>, AllocError>
     ensures app { IfOk result (λ c. app_of c ≡ read_app) }
     ensures own { IfOk result (λ c. (fields_of c).has_globals ≡ false) }
 {
-    let command = wants_command(alloc)?;
+    let with_fetch = with_argument(wants_command(alloc)?, fetch(alloc))?;
     let output = option(
         alloc,
         "output",
@@ -214,7 +214,6 @@ fn read_command<'a>(alloc: Global) -> Result<Command<'a>, AllocError>
         false,
         "Adds each record to FILE; - is standard output",
     );
-    let with_fetch = with_argument(command, fetch(alloc))?;
     let with_output = with_argument(with_fetch, output)?;
     with_verbose(alloc, with_output)
 }
@@ -223,26 +222,21 @@ fn read_command<'a>(alloc: Global) -> Result<Command<'a>, AllocError>
 fn program_over_files<'a>(alloc: Global) -> Result<Command<'a>, AllocError>
     ensures { IfOk result (λ c. app_of c ≡ with_subcommand (with_subcommand named_app check_app.top) replay_app.top) }
 {
-    let check = check_command(alloc)?;
-    let replay = replay_command(alloc)?;
     let named = Command::new(alloc, "seedlinkd")
         .about("A SeedLink 3 server whose stations are open to stated addresses only")
         .version(VERSION)
         .subcommand_required(true);
-    with_verbose(alloc, named)?
-        .subcommand(check)?
-        .subcommand(replay)
+    let with_flag = with_verbose(alloc, named)?;
+    let with_check = with_flag.subcommand(check_command(alloc)?)?;
+    with_check.subcommand(replay_command(alloc)?)
 }
 
 /// The program and its subcommands.
 pub fn program<'a>(alloc: Global) -> Result<Command<'a>, AllocError>
     ensures { IfOk result (λ c. app_of c ≡ program_app) }
 {
-    let serve = serve_command(alloc)?;
-    let feed = feed_command(alloc)?;
-    let read = read_command(alloc)?;
-    program_over_files(alloc)?
-        .subcommand(serve)?
-        .subcommand(feed)?
-        .subcommand(read)
+    let over_files = program_over_files(alloc)?;
+    let with_serve = over_files.subcommand(serve_command(alloc)?)?;
+    let with_feed = with_serve.subcommand(feed_command(alloc)?)?;
+    with_feed.subcommand(read_command(alloc)?)
 }
