@@ -1,5 +1,5 @@
 //! The commands that the program takes, as `clap` has them.
-ghost use Rattle.std.specs.Prelude.{◌≡◌, Some, false, IfOk};
+ghost use Rattle.std.specs.Prelude.{◌≡◌, Some, false, true, codes, IfOk};
 ghost use Rattle.clap.specs.Words.{app_of, rule_of, with_rule, with_subcommand};
 ghost use Rattle.clap.specs.declared.Command.TheViews.{out-Command as fields_of};
 ghost use Rattle.command_line.specs.Jobs.{addressed_app, check_app, feed_app, fetch_rule, named_app, option};
@@ -48,6 +48,19 @@ fn with_argument<'a>(command: Command<'a>, argument: Arg<'a>) -> Result<Command<
     command.arg(argument)
 }
 
+/// A command with a text that has to be there.
+fn with_wanted<'a>(
+    alloc: Global,
+    command: Command<'a>,
+    name: &'a str,
+    help: &'a str,
+) -> Result<Command<'a>, AllocError>
+    ensures app { IfOk result (λ c. app_of c ≡ with_rule (app_of command.entry) (wanted name.entry.now)) }
+    ensures own { IfOk result (λ c. (fields_of c).has_globals ≡ (fields_of command.entry).has_globals) }
+{
+    with_argument(command, wanted(alloc, name, help))
+}
+
 /// The flag `-v` or `--verbose`.
 fn verbose<'a>(alloc: Global) -> Arg<'a>
     ensures rule { rule_of result ≡ verbose_rule }
@@ -74,8 +87,7 @@ fn check_command<'a>(alloc: Global) -> Result<Command<'a>, AllocError>
     ensures own { IfOk result (λ c. (fields_of c).has_globals ≡ false) }
 {
     let command = Command::new(alloc, "check").about("Lists the records of a file, a line each");
-    let file = wanted(alloc, "FILE", "The file, of records of 512 bytes");
-    let with_file = with_argument(command, file)?;
+    let with_file = with_wanted(alloc, command, "FILE", "The file, of records of 512 bytes")?;
     with_verbose(alloc, with_file)
 }
 
@@ -87,10 +99,8 @@ fn replay_command<'a>(alloc: Global) -> Result<Command<'a>, AllocError>
     let command = Command::new(alloc, "replay").about(
         "Replays a script against a server and prints what each client receives, in hex",
     );
-    let config = wanted(alloc, "CONFIG", "The configuration, in TOML");
-    let with_config = with_argument(command, config)?;
-    let script = wanted(alloc, "SCRIPT", "The script, an event a line");
-    let with_script = with_argument(with_config, script)?;
+    let with_config = with_wanted(alloc, command, "CONFIG", "The configuration, in TOML")?;
+    let with_script = with_wanted(alloc, with_config, "SCRIPT", "The script, an event a line")?;
     with_verbose(alloc, with_script)
 }
 
@@ -102,24 +112,46 @@ fn turns<'a>(alloc: Global, name: &'a str, help: &'a str) -> Arg<'a>
     option(alloc, name, "N", false, help).value_parser(ValueParser::Unsigned(1, 1_000_000_000))
 }
 
+/// A command with an option `--name N` that counts turns.
+fn with_turns<'a>(
+    alloc: Global,
+    command: Command<'a>,
+    name: &'a str,
+    help: &'a str,
+) -> Result<Command<'a>, AllocError>
+    ensures app { IfOk result (λ c. app_of c ≡ with_rule (app_of command.entry) (turns_rule name.entry.now)) }
+    ensures own { IfOk result (λ c. (fields_of c).has_globals ≡ (fields_of command.entry).has_globals) }
+{
+    with_argument(command, turns(alloc, name, help))
+}
+
+/// A command with an option `--name A:P` that has to be there.
+fn with_address<'a>(
+    alloc: Global,
+    command: Command<'a>,
+    name: &'a str,
+    help: &'a str,
+) -> Result<Command<'a>, AllocError>
+    ensures app { IfOk result (λ c. app_of c ≡ with_rule (app_of command.entry) (option true name.entry.now)) }
+    ensures own { IfOk result (λ c. (fields_of c).has_globals ≡ (fields_of command.entry).has_globals) }
+{
+    with_argument(command, option(alloc, name, "A:P", true, help))
+}
+
 /// `serve CONFIG --listen A:P --feed A:P`.
 fn addressed_command<'a>(alloc: Global) -> Result<Command<'a>, AllocError>
     ensures app { IfOk result (λ c. app_of c ≡ addressed_app) }
     ensures own { IfOk result (λ c. (fields_of c).has_globals ≡ false) }
 {
     let command = Command::new(alloc, "serve").about("Serves records to clients over sockets");
-    let config = wanted(alloc, "CONFIG", "The configuration, in TOML");
-    let with_config = with_argument(command, config)?;
-    let listen = option(alloc, "listen", "A:P", true, "Address and port for clients");
-    let with_listen = with_argument(with_config, listen)?;
-    let feed = option(
+    let with_config = with_wanted(alloc, command, "CONFIG", "The configuration, in TOML")?;
+    let with_listen = with_address(alloc, with_config, "listen", "Address and port for clients")?;
+    with_address(
         alloc,
+        with_listen,
         "feed",
-        "A:P",
-        true,
         "Address and port for feeds of records",
-    );
-    with_argument(with_listen, feed)
+    )
 }
 
 /// `serve CONFIG --listen A:P --feed A:P [--turns N] [--reread N] [--report N]`.
@@ -128,20 +160,24 @@ fn serve_command<'a>(alloc: Global) -> Result<Command<'a>, AllocError>
     ensures own { IfOk result (λ c. (fields_of c).has_globals ≡ false) }
 {
     let command = addressed_command(alloc)?;
-    let end = turns(alloc, "turns", "Ends after N turns, 1 to 1000000000");
-    let with_end = with_argument(command, end)?;
-    let reread = turns(
+    let with_end = with_turns(
         alloc,
+        command,
+        "turns",
+        "Ends after N turns, 1 to 1000000000",
+    )?;
+    let with_reread = with_turns(
+        alloc,
+        with_end,
         "reread",
         "Reads CONFIG again every N turns, 1 to 1000000000",
-    );
-    let with_reread = with_argument(with_end, reread)?;
-    let report = turns(
+    )?;
+    let with_report = with_turns(
         alloc,
+        with_reread,
         "report",
         "Writes a line on standard error every N turns, 1 to 1000000000",
-    );
-    let with_report = with_argument(with_reread, report)?;
+    )?;
     with_verbose(alloc, with_report)
 }
 
@@ -151,14 +187,18 @@ fn feed_command<'a>(alloc: Global) -> Result<Command<'a>, AllocError>
     ensures own { IfOk result (λ c. (fields_of c).has_globals ≡ false) }
 {
     let command = Command::new(alloc, "feed").about("Sends the records of a file to a server");
-    let server = wanted(
+    let with_server = with_wanted(
         alloc,
+        command,
         "SERVER",
         "Address and port for feeds, as 127.0.0.1:18001",
-    );
-    let with_server = with_argument(command, server)?;
-    let file = wanted(alloc, "FILE", "The file, of records of 512 bytes");
-    let with_file = with_argument(with_server, file)?;
+    )?;
+    let with_file = with_wanted(
+        alloc,
+        with_server,
+        "FILE",
+        "The file, of records of 512 bytes",
+    )?;
     with_verbose(alloc, with_file)
 }
 
@@ -192,13 +232,27 @@ fn wants_command<'a>(alloc: Global) -> Result<Command<'a>, AllocError>
     ensures own { IfOk result (λ c. (fields_of c).has_globals ≡ false) }
 {
     let command = Command::new(alloc, "read").about("Reads records from a server, a line each");
-    let server = wanted(
+    let with_server = with_wanted(
         alloc,
+        command,
         "SERVER",
         "Address and port for clients, as 127.0.0.1:18000",
-    );
-    let with_server = with_argument(command, server)?;
+    )?;
     with_argument(with_server, wants(alloc))
+}
+
+/// The option `--output FILE`.
+fn output<'a>(alloc: Global) -> Arg<'a>
+    ensures rule { rule_of result ≡ option false (codes "output") }
+    ensures own { result.global ≡ false }
+{
+    option(
+        alloc,
+        "output",
+        "FILE",
+        false,
+        "Adds each record to FILE; - is standard output",
+    )
 }
 
 /// `read A:P WANT.. [--fetch] [--output FILE]`.
@@ -206,15 +260,9 @@ fn read_command<'a>(alloc: Global) -> Result<Command<'a>, AllocError>
     ensures app { IfOk result (λ c. app_of c ≡ read_app) }
     ensures own { IfOk result (λ c. (fields_of c).has_globals ≡ false) }
 {
-    let with_fetch = with_argument(wants_command(alloc)?, fetch(alloc))?;
-    let output = option(
-        alloc,
-        "output",
-        "FILE",
-        false,
-        "Adds each record to FILE; - is standard output",
-    );
-    let with_output = with_argument(with_fetch, output)?;
+    let command = wants_command(alloc)?;
+    let with_fetch = with_argument(command, fetch(alloc))?;
+    let with_output = with_argument(with_fetch, output(alloc))?;
     with_verbose(alloc, with_output)
 }
 

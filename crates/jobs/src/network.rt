@@ -52,6 +52,26 @@ fn unconnected<'a>(server: Server<'a>, reason: io::Error) -> Incident<'a> {
     }
 }
 
+/// Ports that listen at two addresses, for clients and for feeds.
+fn listening<'a, R: Net + AllocGlobal>(
+    rt: &R,
+    clients: Server<'a>,
+    feeds: Server<'a>,
+) -> Result<MioPorts, Incident<'a>> {
+    let for_clients = clients.endpoint.socket_address();
+    let for_feeds = feeds.endpoint.socket_address();
+    match MioPorts::listen(rt, rt.alloc(), for_clients, for_feeds) {
+        Ok(ports) => Ok(ports),
+        Err(error) => Err(Incident::of_listening(clients.word, feeds.word, error)),
+    }
+}
+
+/// Sends what was not sent yet over a server's ports, and shuts them.
+fn finish(ports: MioPorts) {
+    let mut ports = ports;
+    ports.finish();
+}
+
 /// Serves clients and feeds as the options say, and then sends what was not sent yet.
 pub fn serve_sockets<'a, R: Files + Eprint + Net + AllocGlobal>(
     rt: &R,
@@ -59,17 +79,13 @@ pub fn serve_sockets<'a, R: Files + Eprint + Net + AllocGlobal>(
     feed: &'a str,
     options: ServeOptions<'a>,
 ) -> Result<(), Incident<'a>> {
-    let clients = server_of(listen)?.endpoint.socket_address();
-    let feeds = server_of(feed)?.endpoint.socket_address();
+    let clients = server_of(listen)?;
+    let feeds = server_of(feed)?;
     let config = config_at(rt, options.path)?;
-    let ports = match MioPorts::listen(rt, rt.alloc(), clients, feeds) {
-        Ok(ports) => ports,
-        Err(error) => return Err(Incident::of_listening(listen, feed, error)),
-    };
+    let ports = listening(rt, clients, feeds)?;
     match serve_by(rt, config, ports, &options) {
         Ok(ports) => {
-            let mut ports = ports;
-            ports.finish();
+            finish(ports);
             Ok(())
         }
         Err(fault) => Err(Incident::from(Failure::Serve(fault))),
@@ -150,6 +166,39 @@ fn list<'a, R: Net + AllocGlobal, O: Sink, P: Sink>(
     }
 }
 
+/// Writes lines to the standard output, and no records.
+fn list_lines<'a, R: Print + Net + AllocGlobal>(
+    rt: &R,
+    server: Server<'a>,
+    plan: Plan<'_>,
+) -> Result<(), Incident<'a>> {
+    let mut lines = Outer::new(io::writer(rt));
+    list(rt, server, plan, &mut lines, &mut Nowhere::new())
+}
+
+/// Writes records to the standard output, and lines to the standard error.
+fn list_records<'a, R: Print + Eprint + Net + AllocGlobal>(
+    rt: &R,
+    server: Server<'a>,
+    plan: Plan<'_>,
+) -> Result<(), Incident<'a>> {
+    let mut lines = Outer::new(StandardError::new(rt));
+    let mut records = Outer::new(io::writer(rt));
+    list(rt, server, plan, &mut lines, &mut records)
+}
+
+/// Writes lines to the standard output, and adds records to a file.
+fn list_and_add<'a, R: Files + Print + Net + AllocGlobal>(
+    rt: &R,
+    server: Server<'a>,
+    plan: Plan<'_>,
+    path: &'a str,
+) -> Result<(), Incident<'a>> {
+    let mut lines = Outer::new(io::writer(rt));
+    let mut records = Outer::new(opened_to_add(rt, path)?);
+    list(rt, server, plan, &mut lines, &mut records)
+}
+
 /// Asks a server for records, and writes a line for each packet to the standard output. With an output each record is
 /// added to that file. If the output is `-`, records go to the standard output, and lines to the standard error.
 pub fn read_server<'a, R: Files + Print + Eprint + Net + AllocGlobal>(
@@ -161,16 +210,9 @@ pub fn read_server<'a, R: Files + Print + Eprint + Net + AllocGlobal>(
 ) -> Result<(), Incident<'a>> {
     let server = server_of(server)?;
     let plan = Plan::Multi(wants_of(rt.alloc(), wants, fetch)?);
-    let mut standard = Outer::new(io::writer(rt));
     match output {
-        None => list(rt, server, plan, &mut standard, &mut Nowhere::new()),
-        Some("-") => {
-            let mut lines = Outer::new(StandardError::new(rt));
-            list(rt, server, plan, &mut lines, &mut standard)
-        }
-        Some(path) => {
-            let mut file = Outer::new(opened_to_add(rt, path)?);
-            list(rt, server, plan, &mut standard, &mut file)
-        }
+        None => list_lines(rt, server, plan),
+        Some("-") => list_records(rt, server, plan),
+        Some(path) => list_and_add(rt, server, plan, path),
     }
 }

@@ -19,7 +19,43 @@ mod centre;
 mod turns;
 mod works;
 
+use std::alloc::Global;
 use std::env;
+
+/// What a work answers, by its name and its numbers. There is none where no work has that name and so many numbers.
+fn sum_of(alloc: Global, work: &str, numbers: &[u32]) -> Option<anyhow::Result<u64>> {
+    let sum = match (work, numbers) {
+        ("arrive", [capacity, rounds]) => works::arrive(alloc, *capacity, *rounds),
+        ("packets", [requests, capacity, rounds]) => works::packets(
+            alloc, *requests, *capacity, *rounds,
+        ),
+        ("idle", [requests, capacity, rounds]) => works::idle(alloc, *requests, *capacity, *rounds),
+        ("passed", [offers, rounds]) => works::passed(alloc, *offers, *rounds),
+        ("visits", [rounds]) => works::visits(alloc, *rounds),
+        ("largest", [clients]) => works::largest(alloc, *clients),
+        ("crowd", [clients]) => works::crowd(alloc, *clients),
+        ("ready", [rounds]) => works::ready(alloc, *rounds),
+        ("apart", [clients, rounds]) => works::apart(alloc, *clients, *rounds),
+        ("sleepers", [clients, rounds]) => turns::sleepers(alloc, *clients, *rounds),
+        ("reload", [clients, changed, rounds]) => works::reload(alloc, *clients, *changed, *rounds),
+        _ => return None,
+    };
+    Some(sum)
+}
+
+/// The line that says what the sum is, or which works there are.
+fn told(rt: HostRuntime, work: &str, numbers: &[u32]) -> anyhow::Result<()> {
+    match sum_of(rt.alloc(), work, numbers) {
+        Some(sum) => {
+            let sum = sum?;
+            println!(rt; "{sum}")?;
+        }
+        None => println!(rt;
+            "server_bench arrive|packets|idle|passed|visits|crowd|largest|ready|..  NUMBER.. ROUNDS"
+        )?,
+    }
+    Ok(())
+}
 
 fn main(rt: HostRuntime) -> anyhow::Result<()> {
     let alloc = rt.alloc();
@@ -32,31 +68,5 @@ fn main(rt: HostRuntime) -> anyhow::Result<()> {
             _ => numbers.push(word.as_str().parse()?)?,
         }
     }
-    let sum = match (work.as_str(), numbers.as_slice()) {
-        ("arrive", [capacity, rounds]) => works::arrive(alloc, *capacity, *rounds)?,
-        ("packets", [requests, capacity, rounds]) => works::packets(
-            alloc, *requests, *capacity, *rounds,
-        )?,
-        ("idle", [requests, capacity, rounds]) => works::idle(
-            alloc, *requests, *capacity, *rounds,
-        )?,
-        ("passed", [offers, rounds]) => works::passed(alloc, *offers, *rounds)?,
-        ("visits", [rounds]) => works::visits(alloc, *rounds)?,
-        ("largest", [clients]) => works::largest(alloc, *clients)?,
-        ("crowd", [clients]) => works::crowd(alloc, *clients)?,
-        ("ready", [rounds]) => works::ready(alloc, *rounds)?,
-        ("apart", [clients, rounds]) => works::apart(alloc, *clients, *rounds)?,
-        ("sleepers", [clients, rounds]) => turns::sleepers(alloc, *clients, *rounds)?,
-        ("reload", [clients, changed, rounds]) => works::reload(
-            alloc, *clients, *changed, *rounds,
-        )?,
-        _ => {
-            println!(rt;
-                "server_bench arrive|packets|idle|passed|visits|crowd|largest|ready|..  NUMBER.. ROUNDS"
-            )?;
-            return Ok(());
-        }
-    };
-    println!(rt; "{sum}")?;
-    Ok(())
+    told(rt, work.as_str(), numbers.as_slice())
 }

@@ -52,15 +52,22 @@ fn ports(alloc: Global, sleepers: u32, records: u32) -> anyhow::Result<MemoryPor
     Ok(MemoryPorts::new(alloc, Script::new(happenings, scripts)))
 }
 
-/// Turns in each of which a client is handed the packet of a record that was just fed, while so many clients sleep.
-/// Answers how many bytes it was handed in all: 8 for its lines, and 520 a turn.
-pub fn sleepers(alloc: Global, sleepers: u32, rounds: u32) -> anyhow::Result<u64> {
-    let ports = ports(alloc, sleepers, rounds)?;
-    let mut all = Loop::new(alloc, config_of(alloc, 1, 1, 4096)?, ports)?;
+/// So many turns of a loop, after one in which its clients join. Answers how many bytes the client that is awake was
+/// handed.
+fn handed(alloc: Global, all: &mut Loop<MemoryPorts>, rounds: u32) -> anyhow::Result<u64> {
     all.turn(20_000)?;
     for _ in 0..rounds {
         all.turn(1)?;
     }
     let record = all.ports().record(alloc, AWAKE)?;
     Ok(record.taken.len() as u64)
+}
+
+/// Turns in each of which a client is handed the packet of a record that was just fed, while so many clients sleep.
+/// Answers how many bytes it was handed in all: 8 for its lines, and 520 a turn.
+pub fn sleepers(alloc: Global, sleepers: u32, rounds: u32) -> anyhow::Result<u64> {
+    let config = config_of(alloc, 1, 1, 4096)?;
+    let ports = ports(alloc, sleepers, rounds)?;
+    let mut all = Loop::new(alloc, config, ports)?;
+    handed(alloc, &mut all, rounds)
 }

@@ -3,6 +3,7 @@ use crate::centre::{
     arrive_all, arrive_by_turns, asking, asking_all, full_server, listed_config, record_of,
     take_one,
 };
+use catalog::Config;
 use server_core::{Client, Offer, Server};
 use std::alloc::Global;
 use std::net::Ipv4Addr;
@@ -43,22 +44,32 @@ pub fn idle(alloc: Global, requests: u32, capacity: u32, rounds: u32) -> anyhow:
     Ok(offers(&mut server, client, rounds))
 }
 
-/// Again and again 1,000 records arrive that the client's selector does not let pass, and then it is offered something.
-pub fn passed(alloc: Global, each: u32, rounds: u32) -> anyhow::Result<u64> {
-    let mut server = full_server(alloc, 0, 1, 4096)?;
-    let client = asking(alloc, &mut server, 1, b"DATA\r")?;
-    let record = record_of(alloc, 0, b"BHN")?;
+/// Again and again each record arrives 1,000 times, and then a client is offered something.
+fn offers_between(
+    server: &mut Server,
+    client: Client,
+    records: &[[u8; 512]],
+    each: u32,
+    rounds: u32,
+) -> u64 {
     let mut sum: u64 = 0;
     for _ in 0..rounds {
-        arrive_by_turns(&mut server, &[record], 1000);
-        sum = sum.wrapping_add(offers(&mut server, client, each));
+        arrive_by_turns(server, records, 1000);
+        sum = sum.wrapping_add(offers(server, client, each));
     }
-    Ok(sum)
+    sum
 }
 
-/// Clients come and go, one after the other. Answers the number of the last one.
-pub fn visits(alloc: Global, rounds: u32) -> anyhow::Result<u64> {
-    let mut server = full_server(alloc, 1, 0, 1)?;
+/// Again and again 1,000 records arrive that the client's selector does not let pass, and then it is offered something.
+pub fn passed(alloc: Global, each: u32, rounds: u32) -> anyhow::Result<u64> {
+    let record = record_of(alloc, 0, b"BHN")?;
+    let mut server = full_server(alloc, 0, 1, 4096)?;
+    let client = asking(alloc, &mut server, 1, b"DATA\r")?;
+    Ok(offers_between(&mut server, client, &[record], each, rounds))
+}
+
+/// Clients of a server come and go, one after the other. Answers the number of the last one.
+fn visit_by_turns(alloc: Global, server: &mut Server, rounds: u32) -> anyhow::Result<u64> {
     let mut last = 0;
     for _ in 0..rounds {
         let client = server.open(alloc, Ipv4Addr::LOCALHOST)?;
@@ -68,12 +79,32 @@ pub fn visits(alloc: Global, rounds: u32) -> anyhow::Result<u64> {
     Ok(last as u64)
 }
 
+/// Clients come and go, one after the other. Answers the number of the last one.
+pub fn visits(alloc: Global, rounds: u32) -> anyhow::Result<u64> {
+    let mut server = full_server(alloc, 1, 0, 1)?;
+    visit_by_turns(alloc, &mut server, rounds)
+}
+
+/// So many clients of a server ask for 255 stations each. Answers the number of the last one.
+fn ask_by_turns(alloc: Global, server: &mut Server, clients: u32) -> anyhow::Result<u64> {
+    let mut last = 0;
+    for _ in 0..clients {
+        last = asking_all(alloc, server)?.number();
+    }
+    Ok(last as u64)
+}
+
 /// So many clients are open, each of which asks for 255 stations with 1,024 selectors together.
 pub fn largest(alloc: Global, clients: u32) -> anyhow::Result<u64> {
     let mut server = full_server(alloc, 0, 255, 1)?;
+    ask_by_turns(alloc, &mut server, clients)
+}
+
+/// So many clients of a server are opened. Answers the number of the last one.
+fn open_by_turns(alloc: Global, server: &mut Server, clients: u32) -> anyhow::Result<u64> {
     let mut last = 0;
     for _ in 0..clients {
-        last = asking_all(alloc, &mut server)?.number();
+        last = server.open(alloc, Ipv4Addr::LOCALHOST)?.number();
     }
     Ok(last as u64)
 }
@@ -81,11 +112,7 @@ pub fn largest(alloc: Global, clients: u32) -> anyhow::Result<u64> {
 /// So many clients are open.
 pub fn crowd(alloc: Global, clients: u32) -> anyhow::Result<u64> {
     let mut server = full_server(alloc, 1, 0, 1)?;
-    let mut last = 0;
-    for _ in 0..clients {
-        last = server.open(alloc, Ipv4Addr::LOCALHOST)?.number();
-    }
-    Ok(last as u64)
+    open_by_turns(alloc, &mut server, clients)
 }
 
 /// A client that waits is asked whether it is ready.
@@ -101,23 +128,48 @@ pub fn ready(alloc: Global, rounds: u32) -> anyhow::Result<u64> {
     Ok(sum)
 }
 
+/// So many clients of a server wait for records of the first station.
+fn wait_by_turns(alloc: Global, server: &mut Server, clients: u32) -> anyhow::Result<()> {
+    for _ in 0..clients {
+        let client = asking(alloc, server, 1, b"DATA\r")?;
+        offers(server, client, 1);
+    }
+    Ok(())
+}
+
 /// Records arrive at a station while so many clients wait for those of another one.
 pub fn apart(alloc: Global, clients: u32, rounds: u32) -> anyhow::Result<u64> {
-    let mut server = full_server(alloc, 1, 1, 4096)?;
-    for _ in 0..clients {
-        let client = asking(alloc, &mut server, 1, b"DATA\r")?;
-        offers(&mut server, client, 1);
-    }
     let record = record_of(alloc, 1, b"BHZ")?;
+    let mut server = full_server(alloc, 1, 1, 4096)?;
+    wait_by_turns(alloc, &mut server, clients)?;
     Ok(arrive_by_turns(&mut server, &[record], rounds))
 }
 
-/// The server's clients, from so many addresses that begin with 10.
-fn open_from_many(alloc: Global, server: &mut Server, clients: u32) -> anyhow::Result<()> {
+/// A server with a configuration and so many clients, from so many addresses that begin with 10.
+fn visited(alloc: Global, config: &Config, clients: u32) -> anyhow::Result<Server> {
+    let mut server = Server::new(alloc, config.copy(alloc)?)?;
     for host in 0..clients {
         server.open(alloc, Ipv4Addr::from_bits(0x0A00_0000 | host))?;
     }
-    Ok(())
+    Ok(server)
+}
+
+/// Two configurations come into force by turns, the other one first. Answers how many were accepted.
+fn reload_by_turns(
+    alloc: Global,
+    server: &mut Server,
+    one: &Config,
+    other: &Config,
+    rounds: u32,
+) -> anyhow::Result<u64> {
+    let mut accepted: u64 = 0;
+    for round in 0..rounds {
+        let next = if round % 2 == 0 { other } else { one };
+        if server.reload(next.copy(alloc)?).is_ok() {
+            accepted = accepted.wrapping_add(1);
+        }
+    }
+    Ok(accepted)
 }
 
 /// Two configurations come into force by turns, in which so many of 1,024 stations have other lists, while so many
@@ -125,14 +177,6 @@ fn open_from_many(alloc: Global, server: &mut Server, clients: u32) -> anyhow::R
 pub fn reload(alloc: Global, clients: u32, changed: u32, rounds: u32) -> anyhow::Result<u64> {
     let one = listed_config(alloc, changed, 1)?;
     let other = listed_config(alloc, changed, 2)?;
-    let mut server = Server::new(alloc, one.copy(alloc)?)?;
-    open_from_many(alloc, &mut server, clients)?;
-    let mut accepted: u64 = 0;
-    for round in 0..rounds {
-        let next = if round % 2 == 0 { &other } else { &one };
-        if server.reload(next.copy(alloc)?).is_ok() {
-            accepted = accepted.wrapping_add(1);
-        }
-    }
-    Ok(accepted)
+    let mut server = visited(alloc, &one, clients)?;
+    reload_by_turns(alloc, &mut server, &one, &other, rounds)
 }
