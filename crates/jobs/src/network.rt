@@ -52,8 +52,8 @@ fn unconnected<'a>(server: Server<'a>, reason: io::Error) -> Incident<'a> {
     }
 }
 
-/// Ports that listen at two addresses, for clients and for feeds.
-fn listening<'a, R: Net + AllocGlobal>(
+/// Listens at two addresses, for clients and for feeds.
+fn listen_at<'a, R: Net + AllocGlobal>(
     rt: &R,
     clients: Server<'a>,
     feeds: Server<'a>,
@@ -66,12 +66,6 @@ fn listening<'a, R: Net + AllocGlobal>(
     }
 }
 
-/// Sends what was not sent yet over a server's ports, and shuts them.
-fn finish(ports: MioPorts) {
-    let mut ports = ports;
-    ports.finish();
-}
-
 /// Serves clients and feeds as the options say, and then sends what was not sent yet.
 pub fn serve_sockets<'a, R: Files + Eprint + Net + AllocGlobal>(
     rt: &R,
@@ -82,10 +76,10 @@ pub fn serve_sockets<'a, R: Files + Eprint + Net + AllocGlobal>(
     let clients = server_of(listen)?;
     let feeds = server_of(feed)?;
     let config = config_at(rt, options.path)?;
-    let ports = listening(rt, clients, feeds)?;
+    let ports = listen_at(rt, clients, feeds)?;
     match serve_by(rt, config, ports, &options) {
-        Ok(ports) => {
-            finish(ports);
+        Ok(mut ports) => {
+            ports.finish();
             Ok(())
         }
         Err(fault) => Err(Incident::from(Failure::Serve(fault))),
@@ -166,7 +160,7 @@ fn list<'a, R: Net + AllocGlobal, O: Sink, P: Sink>(
     }
 }
 
-/// Writes lines to the standard output, and no records.
+/// Lists packets on the standard output, and writes no records.
 fn list_lines<'a, R: Print + Net + AllocGlobal>(
     rt: &R,
     server: Server<'a>,
@@ -176,7 +170,7 @@ fn list_lines<'a, R: Print + Net + AllocGlobal>(
     list(rt, server, plan, &mut lines, &mut Nowhere::new())
 }
 
-/// Writes records to the standard output, and lines to the standard error.
+/// Lists packets on the standard error, and writes their records to the standard output.
 fn list_records<'a, R: Print + Eprint + Net + AllocGlobal>(
     rt: &R,
     server: Server<'a>,
@@ -187,7 +181,7 @@ fn list_records<'a, R: Print + Eprint + Net + AllocGlobal>(
     list(rt, server, plan, &mut lines, &mut records)
 }
 
-/// Writes lines to the standard output, and adds records to a file.
+/// Lists packets on the standard output, and adds their records to a file.
 fn list_and_add<'a, R: Files + Print + Net + AllocGlobal>(
     rt: &R,
     server: Server<'a>,

@@ -22,7 +22,7 @@ mod works;
 use std::alloc::Global;
 use std::env;
 
-/// What a work answers, by its name and its numbers. There is none where no work has that name and so many numbers.
+/// The sum that a work answers. There is none if no work has this name and so many numbers.
 fn sum_of(alloc: Global, work: &str, numbers: &[u32]) -> Option<anyhow::Result<u64>> {
     let sum = match (work, numbers) {
         ("arrive", [capacity, rounds]) => works::arrive(alloc, *capacity, *rounds),
@@ -43,8 +43,8 @@ fn sum_of(alloc: Global, work: &str, numbers: &[u32]) -> Option<anyhow::Result<u
     Some(sum)
 }
 
-/// The line that says what the sum is, or which works there are.
-fn told(rt: HostRuntime, work: &str, numbers: &[u32]) -> anyhow::Result<()> {
+/// Prints the sum that a work answers, or which works there are.
+fn print_sum(rt: HostRuntime, work: &str, numbers: &[u32]) -> anyhow::Result<()> {
     match sum_of(rt.alloc(), work, numbers) {
         Some(sum) => {
             let sum = sum?;
@@ -68,5 +68,5 @@ fn main(rt: HostRuntime) -> anyhow::Result<()> {
             _ => numbers.push(word.as_str().parse()?)?,
         }
     }
-    told(rt, work.as_str(), numbers.as_slice())
+    print_sum(rt, work.as_str(), numbers.as_slice())
 }

@@ -52,9 +52,9 @@ fn ports(alloc: Global, sleepers: u32, records: u32) -> anyhow::Result<MemoryPor
     Ok(MemoryPorts::new(alloc, Script::new(happenings, scripts)))
 }
 
-/// So many turns of a loop, after one in which its clients join. Answers how many bytes the client that is awake was
-/// handed.
-fn handed(alloc: Global, all: &mut Loop<MemoryPorts>, rounds: u32) -> anyhow::Result<u64> {
+/// Runs a loop for one turn, in which its clients join, and for so many more. Answers how many bytes the client that is
+/// awake was handed.
+fn bytes_handed(alloc: Global, all: &mut Loop<MemoryPorts>, rounds: u32) -> anyhow::Result<u64> {
     all.turn(20_000)?;
     for _ in 0..rounds {
         all.turn(1)?;
@@ -69,5 +69,5 @@ pub fn sleepers(alloc: Global, sleepers: u32, rounds: u32) -> anyhow::Result<u64
     let config = config_of(alloc, 1, 1, 4096)?;
     let ports = ports(alloc, sleepers, rounds)?;
     let mut all = Loop::new(alloc, config, ports)?;
-    handed(alloc, &mut all, rounds)
+    bytes_handed(alloc, &mut all, rounds)
 }

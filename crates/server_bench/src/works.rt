@@ -44,8 +44,9 @@ pub fn idle(alloc: Global, requests: u32, capacity: u32, rounds: u32) -> anyhow:
     Ok(offers(&mut server, client, rounds))
 }
 
-/// Again and again each record arrives 1,000 times, and then a client is offered something.
-fn offers_between(
+/// In each round every record arrives 1,000 times, and then a client is offered something so many times. Answers how
+/// many offers had nothing.
+fn offer_between(
     server: &mut Server,
     client: Client,
     records: &[[u8; 512]],
@@ -65,11 +66,11 @@ pub fn passed(alloc: Global, each: u32, rounds: u32) -> anyhow::Result<u64> {
     let record = record_of(alloc, 0, b"BHN")?;
     let mut server = full_server(alloc, 0, 1, 4096)?;
     let client = asking(alloc, &mut server, 1, b"DATA\r")?;
-    Ok(offers_between(&mut server, client, &[record], each, rounds))
+    Ok(offer_between(&mut server, client, &[record], each, rounds))
 }
 
-/// Clients of a server come and go, one after the other. Answers the number of the last one.
-fn visit_by_turns(alloc: Global, server: &mut Server, rounds: u32) -> anyhow::Result<u64> {
+/// Opens a client and closes it, so many times. Answers the number of the last one.
+fn open_and_close(alloc: Global, server: &mut Server, rounds: u32) -> anyhow::Result<u64> {
     let mut last = 0;
     for _ in 0..rounds {
         let client = server.open(alloc, Ipv4Addr::LOCALHOST)?;
@@ -82,11 +83,11 @@ fn visit_by_turns(alloc: Global, server: &mut Server, rounds: u32) -> anyhow::Re
 /// Clients come and go, one after the other. Answers the number of the last one.
 pub fn visits(alloc: Global, rounds: u32) -> anyhow::Result<u64> {
     let mut server = full_server(alloc, 1, 0, 1)?;
-    visit_by_turns(alloc, &mut server, rounds)
+    open_and_close(alloc, &mut server, rounds)
 }
 
-/// So many clients of a server ask for 255 stations each. Answers the number of the last one.
-fn ask_by_turns(alloc: Global, server: &mut Server, clients: u32) -> anyhow::Result<u64> {
+/// Opens so many clients that ask for 255 stations each. Answers the number of the last one.
+fn open_asking(alloc: Global, server: &mut Server, clients: u32) -> anyhow::Result<u64> {
     let mut last = 0;
     for _ in 0..clients {
         last = asking_all(alloc, server)?.number();
@@ -97,11 +98,11 @@ fn ask_by_turns(alloc: Global, server: &mut Server, clients: u32) -> anyhow::Res
 /// So many clients are open, each of which asks for 255 stations with 1,024 selectors together.
 pub fn largest(alloc: Global, clients: u32) -> anyhow::Result<u64> {
     let mut server = full_server(alloc, 0, 255, 1)?;
-    ask_by_turns(alloc, &mut server, clients)
+    open_asking(alloc, &mut server, clients)
 }
 
-/// So many clients of a server are opened. Answers the number of the last one.
-fn open_by_turns(alloc: Global, server: &mut Server, clients: u32) -> anyhow::Result<u64> {
+/// Opens so many clients. Answers the number of the last one.
+fn open_all(alloc: Global, server: &mut Server, clients: u32) -> anyhow::Result<u64> {
     let mut last = 0;
     for _ in 0..clients {
         last = server.open(alloc, Ipv4Addr::LOCALHOST)?.number();
@@ -112,7 +113,7 @@ fn open_by_turns(alloc: Global, server: &mut Server, clients: u32) -> anyhow::Re
 /// So many clients are open.
 pub fn crowd(alloc: Global, clients: u32) -> anyhow::Result<u64> {
     let mut server = full_server(alloc, 1, 0, 1)?;
-    open_by_turns(alloc, &mut server, clients)
+    open_all(alloc, &mut server, clients)
 }
 
 /// A client that waits is asked whether it is ready.
@@ -128,8 +129,8 @@ pub fn ready(alloc: Global, rounds: u32) -> anyhow::Result<u64> {
     Ok(sum)
 }
 
-/// So many clients of a server wait for records of the first station.
-fn wait_by_turns(alloc: Global, server: &mut Server, clients: u32) -> anyhow::Result<()> {
+/// Opens so many clients that wait for records of the first station.
+fn open_waiting(alloc: Global, server: &mut Server, clients: u32) -> anyhow::Result<()> {
     for _ in 0..clients {
         let client = asking(alloc, server, 1, b"DATA\r")?;
         offers(server, client, 1);
@@ -141,12 +142,12 @@ fn wait_by_turns(alloc: Global, server: &mut Server, clients: u32) -> anyhow::Re
 pub fn apart(alloc: Global, clients: u32, rounds: u32) -> anyhow::Result<u64> {
     let record = record_of(alloc, 1, b"BHZ")?;
     let mut server = full_server(alloc, 1, 1, 4096)?;
-    wait_by_turns(alloc, &mut server, clients)?;
+    open_waiting(alloc, &mut server, clients)?;
     Ok(arrive_by_turns(&mut server, &[record], rounds))
 }
 
-/// A server with a configuration and so many clients, from so many addresses that begin with 10.
-fn visited(alloc: Global, config: &Config, clients: u32) -> anyhow::Result<Server> {
+/// A server with a configuration and so many clients. Each has an address of its own that begins with 10.
+fn server_of_many(alloc: Global, config: &Config, clients: u32) -> anyhow::Result<Server> {
     let mut server = Server::new(alloc, config.copy(alloc)?)?;
     for host in 0..clients {
         server.open(alloc, Ipv4Addr::from_bits(0x0A00_0000 | host))?;
@@ -154,17 +155,17 @@ fn visited(alloc: Global, config: &Config, clients: u32) -> anyhow::Result<Serve
     Ok(server)
 }
 
-/// Two configurations come into force by turns, the other one first. Answers how many were accepted.
+/// Reloads a server with two configurations by turns, the second one first. Answers how many reloads were accepted.
 fn reload_by_turns(
     alloc: Global,
     server: &mut Server,
-    one: &Config,
-    other: &Config,
+    first: &Config,
+    second: &Config,
     rounds: u32,
 ) -> anyhow::Result<u64> {
     let mut accepted: u64 = 0;
     for round in 0..rounds {
-        let next = if round % 2 == 0 { other } else { one };
+        let next = if round % 2 == 0 { second } else { first };
         if server.reload(next.copy(alloc)?).is_ok() {
             accepted = accepted.wrapping_add(1);
         }
@@ -177,6 +178,6 @@ fn reload_by_turns(
 pub fn reload(alloc: Global, clients: u32, changed: u32, rounds: u32) -> anyhow::Result<u64> {
     let one = listed_config(alloc, changed, 1)?;
     let other = listed_config(alloc, changed, 2)?;
-    let mut server = visited(alloc, &one, clients)?;
+    let mut server = server_of_many(alloc, &one, clients)?;
     reload_by_turns(alloc, &mut server, &one, &other, rounds)
 }
