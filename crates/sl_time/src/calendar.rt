@@ -1,12 +1,12 @@
-//! The days of the calendar, by `jiff`.
+//! The days of the calendar, by `jiff_core`.
 ghost use Rattle.std.specs.Prelude.{◌≡◌, ◌+◌, ◌-◌, ◌≤◌, if◌then◌else◌, pos, ◌≤ℤ◌, unsigned_abs, IfSome, is_some};
 ghost use Rattle.sl_time.specs.Dates.{is_date};
 ghost use Rattle.jiff_core.specs.Date.{IsYmd};
 ghost use Rattle.protocol.specs.Time.{days_before, days_of_year_before};
 
-use jiff::civil::Date;
+use jiff_core::civil::Date;
 
-/// Days from -9999-01-01, the first date that `jiff` has, to January 1 of the year 1.
+/// Days from -9999-01-01, the first date that `jiff_core` has, to January 1 of the year 1.
 const DAYS_TO_YEAR_1: u32 = 3_652_425;
 
 /// Days from January 1 of the year 1 to a date not before it.
@@ -15,7 +15,7 @@ fn days_to(date: Date) -> u32
     ensures { result ≡ days_before
         (unsigned_abs date.year) + (days_of_year_before (unsigned_abs date.year) date.month + date.day - 1) }
 {
-    date.to_plain().days_since_min() - DAYS_TO_YEAR_1
+    date.days_since_min() - DAYS_TO_YEAR_1
 }
 
 /// Days from January 1 of the year 1 to January 1 of the year.
@@ -24,7 +24,11 @@ pub fn days_before(year: u16) -> u32
     requires to { year ≤ 9999 }
     ensures { result ≡ days_before year }
 {
-    days_to(jiff::civil::date(year as i16, 1, 1))
+    days_to(Date {
+        year: year as i16,
+        month: 1,
+        day: 1,
+    })
 }
 
 /// The date of that year, month and day; None where the calendar has no such date.

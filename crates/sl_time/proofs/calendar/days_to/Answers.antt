@@ -8,9 +8,8 @@ days_is : (c : goal.After-days_since_min)
     + (days_before (unsigned_abs c.args.date.year)
     + (days_of_year_before (unsigned_abs c.args.date.year) c.args.date.month + c.args.date.day - 1))
 days_is c =
-    let here = rw c.to_plain.ensures at c.days_since_min.ensures.value in
     date_days c.args.date.year c.args.date.month c.args.date.day c.days_since_min.result c.requires
-    (omega (arith, c.args.date.month_in)) (omega (arith, c.args.date.day_in)) here
+    (omega (arith, c.args.date.month_in)) (omega (arith, c.args.date.day_in)) c.days_since_min.ensures.value
 
 pub overflow_sub-result : goal.overflow_sub-result
 overflow_sub-result c = omega (arith, days_is c)
