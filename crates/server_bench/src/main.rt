@@ -22,7 +22,7 @@ mod works;
 use std::alloc::Global;
 use std::env;
 
-/// The sum that a work answers. There is none if no work has this name and so many numbers.
+/// Does a work and answers its sum. It is None if no work has this name and takes this many numbers.
 fn sum_of(alloc: Global, work: &str, numbers: &[u32]) -> Option<anyhow::Result<u64>> {
     let sum = match (work, numbers) {
         ("arrive", [capacity, rounds]) => works::arrive(alloc, *capacity, *rounds),
@@ -43,7 +43,7 @@ fn sum_of(alloc: Global, work: &str, numbers: &[u32]) -> Option<anyhow::Result<u
     Some(sum)
 }
 
-/// Prints the sum that a work answers, or which works there are.
+/// Does a work and prints its sum, or prints which works there are.
 fn print_sum(rt: HostRuntime, work: &str, numbers: &[u32]) -> anyhow::Result<()> {
     match sum_of(rt.alloc(), work, numbers) {
         Some(sum) => {

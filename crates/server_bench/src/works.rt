@@ -44,8 +44,8 @@ pub fn idle(alloc: Global, requests: u32, capacity: u32, rounds: u32) -> anyhow:
     Ok(offers(&mut server, client, rounds))
 }
 
-/// In each round every record arrives 1,000 times, and then a client is offered something so many times. Answers how
-/// many offers had nothing.
+/// In each round every record arrives 1,000 times, and then `each` offers are made to a client. Answers how many of them
+/// had nothing.
 fn offer_between(
     server: &mut Server,
     client: Client,
@@ -69,7 +69,7 @@ pub fn passed(alloc: Global, each: u32, rounds: u32) -> anyhow::Result<u64> {
     Ok(offer_between(&mut server, client, &[record], each, rounds))
 }
 
-/// Opens a client and closes it, so many times. Answers the number of the last one.
+/// Opens and closes a client, once a round. Answers the number of the last one.
 fn open_and_close(alloc: Global, server: &mut Server, rounds: u32) -> anyhow::Result<u64> {
     let mut last = 0;
     for _ in 0..rounds {
@@ -86,7 +86,7 @@ pub fn visits(alloc: Global, rounds: u32) -> anyhow::Result<u64> {
     open_and_close(alloc, &mut server, rounds)
 }
 
-/// Opens so many clients that ask for 255 stations each. Answers the number of the last one.
+/// Opens clients that ask for 255 stations each. Answers the number of the last one.
 fn open_asking(alloc: Global, server: &mut Server, clients: u32) -> anyhow::Result<u64> {
     let mut last = 0;
     for _ in 0..clients {
@@ -101,7 +101,7 @@ pub fn largest(alloc: Global, clients: u32) -> anyhow::Result<u64> {
     open_asking(alloc, &mut server, clients)
 }
 
-/// Opens so many clients. Answers the number of the last one.
+/// Opens clients. Answers the number of the last one.
 fn open_all(alloc: Global, server: &mut Server, clients: u32) -> anyhow::Result<u64> {
     let mut last = 0;
     for _ in 0..clients {
@@ -129,7 +129,7 @@ pub fn ready(alloc: Global, rounds: u32) -> anyhow::Result<u64> {
     Ok(sum)
 }
 
-/// Opens so many clients that wait for records of the first station.
+/// Opens clients that wait for records of the first station.
 fn open_waiting(alloc: Global, server: &mut Server, clients: u32) -> anyhow::Result<()> {
     for _ in 0..clients {
         let client = asking(alloc, server, 1, b"DATA\r")?;
@@ -146,7 +146,7 @@ pub fn apart(alloc: Global, clients: u32, rounds: u32) -> anyhow::Result<u64> {
     Ok(arrive_by_turns(&mut server, &[record], rounds))
 }
 
-/// A server with a configuration and so many clients. Each has an address of its own that begins with 10.
+/// A server with clients, each of which has an address of its own that begins with 10.
 fn server_of_many(alloc: Global, config: &Config, clients: u32) -> anyhow::Result<Server> {
     let mut server = Server::new(alloc, config.copy(alloc)?)?;
     for host in 0..clients {
@@ -176,8 +176,8 @@ fn reload_by_turns(
 /// Two configurations come into force by turns, in which so many of 1,024 stations have other lists, while so many
 /// clients are open. The lists differ in one address, from which no client came. Answers how many were accepted.
 pub fn reload(alloc: Global, clients: u32, changed: u32, rounds: u32) -> anyhow::Result<u64> {
-    let one = listed_config(alloc, changed, 1)?;
-    let other = listed_config(alloc, changed, 2)?;
-    let mut server = server_of_many(alloc, &one, clients)?;
-    reload_by_turns(alloc, &mut server, &one, &other, rounds)
+    let first = listed_config(alloc, changed, 1)?;
+    let second = listed_config(alloc, changed, 2)?;
+    let mut server = server_of_many(alloc, &first, clients)?;
+    reload_by_turns(alloc, &mut server, &first, &second, rounds)
 }

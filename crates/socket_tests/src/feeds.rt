@@ -1,10 +1,13 @@
 //! What `feed` does over sockets.
-use jobs::{Endpoint, Failure, feed};
+use command_line::Job;
+use jobs::{Endpoint, Failure, feed, run_job};
 use loopback::{Centre, any_port, at_centre, packet, record};
 use sl_io::MemorySource;
 use socket_ports::MioPorts;
 use std::alloc::Global;
+use std::fs;
 use std::net::{Ipv4Addr, Net};
+use std::rt::Files;
 use std::test::Fail;
 
 /// A port of this machine.
@@ -65,6 +68,30 @@ fn a_feed_that_ends_inside_a_record_is_fault_41_and_its_whole_records_arrive(
 ) -> Result<(), Fail> {
     let found = at_centre(&rt, |rt, centre| fed(rt, centre, &[b'0'; 511]))?;
     assert_eq!(rt; found, (None, true));
+    Ok(())
+}
+
+/// Runs the job `feed` with a file of two records, and answers whether they have arrived then.
+fn fed_by_the_job<R: Files + Print + Eprint + Net + AllocGlobal>(
+    rt: &R,
+    centre: &mut Centre,
+) -> Result<bool, Fail> {
+    let bytes = two_records(rt.alloc(), b"")?;
+    fs::write(rt, "two.mseed", bytes.as_slice())?;
+    let server = format!(in rt.alloc(); "127.0.0.1:{}", centre.ports().1)?;
+    let job = Job::Feed {
+        server: server.as_str(),
+        file: "two.mseed",
+    };
+    let is_done = run_job(rt, job, false).is_ok();
+    centre.turns(3);
+    Ok(is_done && holds_two(rt, centre)?)
+}
+
+#[test]
+fn the_job_feed_sends_the_records_of_its_file(rt: HostRuntime) -> Result<(), Fail> {
+    let has_arrived = at_centre(&rt, |rt, centre| fed_by_the_job(rt, centre))?;
+    assert!(rt; has_arrived);
     Ok(())
 }
 
