@@ -43,6 +43,8 @@ pub struct Sockets {
     joined: u64,
     /// By rising number.
     connections: Vec<Connection>,
+    /// The place at which a connection was found last. A loop asks for one port many times, and then for another.
+    near: usize,
     lingering: Lingering,
     pool: Pool,
     /// The ports whose bytes are to be sent at the next hearing.
@@ -60,24 +62,31 @@ fn address_of(peer: SocketAddr) -> Option<Ipv4Addr> {
     }
 }
 
-/// The place of the connection with a number.
-fn place_of(connections: &[Connection], number: u64) -> Option<usize>
+/// A place, if the connection there has a number.
+fn place_if(connections: &[Connection], at: usize, number: u64) -> Option<usize>
     ensures place { IfSome result (λ at. at < length connections.now) }
     ensures number { IfSome result (λ at. Contains (numbers connections.now) number) }
 {
+    let connection = connections.get(at)?;
+    if connection.number == number {
+        Some(at)
+    } else {
+        None
+    }
+}
+
+/// The place of the connection with a number: where one was found last, or else found by halving.
+fn place_of(connections: &[Connection], near: usize, number: u64) -> Option<usize>
+    ensures place { IfSome result (λ at. at < length connections.now) }
+    ensures number { IfSome result (λ at. Contains (numbers connections.now) number) }
+{
+    if let Some(at) = place_if(connections, near, number) {
+        return Some(at);
+    }
     let Ok(at) = connections.binary_search_by_key(&number, |connection| connection.number) else {
         return None;
     };
-    match connections.get(at) {
-        Some(connection) => {
-            if connection.number == number {
-                Some(at)
-            } else {
-                None
-            }
-        }
-        None => None,
-    }
+    place_if(connections, at, number)
 }
 
 impl Sockets {
@@ -101,6 +110,7 @@ impl Sockets {
             listeners,
             joined: 0,
             connections: Vec::new(alloc),
+            near: 0,
             lingering: Lingering::new(alloc),
             pool: Pool::new(alloc),
             gathered: Vec::new(alloc),
@@ -157,7 +167,7 @@ impl Sockets {
     fn is_open(&self, number: u64) -> bool
         ensures { result ≡ true → Contains (numbers self.now.connections.items) number }
     {
-        place_of(self.connections.as_slice(), number).is_some()
+        place_of(self.connections.as_slice(), self.near, number).is_some()
     }
 
     /// What is still to be told of the last poll.
@@ -212,7 +222,7 @@ impl Sockets {
         ensures { self.new.joined ≡ self.old.joined }
     {
         let over = event.is_read_closed() || event.is_error();
-        let Some(at) = place_of(self.connections.as_slice(), number) else {
+        let Some(at) = place_of(self.connections.as_slice(), self.near, number) else {
             self.lingering
                 .mark(number, over, event.is_writable(), &mut self.pool);
             return None;
@@ -313,7 +323,7 @@ impl Sockets {
         ensures { self.new.joined ≡ self.old.joined }
     {
         for number in self.gathered.iter() {
-            if let Some(at) = place_of(self.connections.as_slice(), *number) {
+            if let Some(at) = place_of(self.connections.as_slice(), self.near, *number) {
                 if let Some(connection) = self.connections.get_mut(at) {
                     connection.send_gathered(&mut self.pool);
                     if connection.has_failed() {
@@ -331,9 +341,10 @@ impl Sockets {
         ensures bound { IsGiven result (length buffer.new) }
         ensures joined { self.new.joined ≡ self.old.joined }
     {
-        let Some(at) = place_of(self.connections.as_slice(), port) else {
+        let Some(at) = place_of(self.connections.as_slice(), self.near, port) else {
             return Ok(Got::Closed);
         };
+        self.near = at;
         let Some(connection) = self.connections.get_mut(at) else {
             return Ok(Got::Closed);
         };
@@ -348,9 +359,10 @@ impl Sockets {
         ensures bound { IsTaken result (length bytes.now) }
         ensures joined { self.new.joined ≡ self.old.joined }
     {
-        let Some(at) = place_of(self.connections.as_slice(), port) else {
+        let Some(at) = place_of(self.connections.as_slice(), self.near, port) else {
             return Ok(Put::Later);
         };
+        self.near = at;
         let Some(connection) = self.connections.get_mut(at) else {
             return Ok(Put::Later);
         };
@@ -368,7 +380,7 @@ impl Sockets {
     pub fn shut(&mut self, port: u64)
         ensures { self.new.joined ≡ self.old.joined }
     {
-        let Some(at) = place_of(self.connections.as_slice(), port) else {
+        let Some(at) = place_of(self.connections.as_slice(), self.near, port) else {
             return;
         };
         if at < self.connections.len() {
