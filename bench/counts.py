@@ -16,6 +16,7 @@ import load
 import wire
 
 READERS = 16
+IDLE = 5_000
 SECONDS = 5
 
 
@@ -24,13 +25,13 @@ def told(figure, most, what):
     return figure <= most
 
 
-def each(config):
-    """The instructions that a packet takes of a server under load."""
+def each(config, idle=0):
+    """The instructions that a packet takes of a server under load, beside so many idle clients."""
     records = 4_000
     with tempfile.NamedTemporaryFile(suffix=".callgrind") as out:
         before = ["valgrind", "--tool=callgrind", "-q", f"--callgrind-out-file={out.name}"]
         with wire.Arm(wire.serve_words(config), before) as arm:
-            one = load.Load(*arm.ports, READERS, records)
+            one = load.Load(*arm.ports, READERS, records, idle)
             subprocess.run(["callgrind_control", "-z", str(arm.program.pid)], capture_output=True, check=True)
             one.run(300)
             arm.program.send_signal(signal.SIGINT)
@@ -108,9 +109,10 @@ def main():
         print(f"{'each':>10} {'at most':>8}  work")
         writes, reads = under_load(config.name)
         calm, waits = at_rest(config.name)
-        alone = each(config.name)
+        alone, crowded = each(config.name), each(config.name, IDLE)
         good = [
             told(alone, 2_500, f"instructions, a packet handed on, {READERS} readers"),
+            told(crowded, int(alone * 1.4), f"the same with {IDLE} idle clients"),
             told(writes, 1, "write calls for 16 packets"),
             told(reads, 1, "read calls for 16 records"),
             told(calm, 20, "system calls a second with 1,000 idle clients"),

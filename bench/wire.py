@@ -31,7 +31,7 @@ description = "One station"
 capacity = 65536
 """
 RECORDS = 20_000
-ROUNDS = 5
+ROUNDS = 15
 
 
 def free_ports():
