@@ -112,7 +112,7 @@ def main():
         alone, crowded = each(config.name), each(config.name, IDLE)
         good = [
             told(alone, 2_500, f"instructions, a packet handed on, {READERS} readers"),
-            told(crowded, int(alone * 1.4), f"the same with {IDLE} idle clients"),
+            told(crowded, int(alone * 1.3), f"the same with {IDLE} idle clients"),
             told(writes, 1, "write calls for 16 packets"),
             told(reads, 1, "read calls for 16 records"),
             told(calm, 20, "system calls a second with 1,000 idle clients"),
