@@ -1,6 +1,6 @@
 -- What the words of a command line ask, by the definitions of `clap`: which subcommand they name, and which text or
 -- number stands at each of its arguments.
-use Rattle.std.specs.Prelude.{◌≡◌, ◌⊎◌, ◌||◌, ℕ, Bool, true, false, List, [], ◌∷◌, Option, Some, None, option_map, map}
+use Rattle.std.specs.Prelude.{◌≡◌, ◌⊎◌, ◌||◌, ℕ, Bool, true, false, List, [], Option, Some, None, option_map, map}
 use Rattle.std.specs.Prelude.{if◌then◌else◌, codes, nat_lt, IsSome}
 use Rattle.std.specs.Option.{option_map_or}
 use Rattle.std.specs.Str.{bytes_eq}
@@ -85,11 +85,15 @@ wants_app = with_rule (with_rule (new_app (codes "read")) (wanted (codes "SERVER
 abbrev pub read_app : App
 read_app = with_verbose (with_rule (with_rule wants_app fetch_rule) (option false (codes "output")))
 
--- the program, which wants a subcommand
-abbrev pub named_app : App
-named_app =
+-- the program before it has arguments and subcommands, of which it wants one
+abbrev pub bare_app : App
+bare_app =
     let a = new_app (codes "seedlinkd") in
-    with_verbose (record a { top = record a.top { subcommand_required = true; has_version = true } })
+    record a { top = record a.top { subcommand_required = true; has_version = true } }
+
+-- the program, before it has subcommands
+abbrev pub named_app : App
+named_app = with_verbose bare_app
 
 -- the program and its subcommands
 abbrev pub program_app : App

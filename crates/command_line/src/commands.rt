@@ -1,8 +1,8 @@
 //! The commands that the program takes, as `clap` has them.
 ghost use Rattle.std.specs.Prelude.{◌≡◌, Some, false, true, codes, IfOk};
-ghost use Rattle.clap.specs.Words.{app_of, rule_of, with_rule, with_subcommand};
-ghost use Rattle.clap.specs.declared.Command.TheViews.{out-Command as fields_of};
-ghost use Rattle.command_line.specs.Jobs.{addressed_app, check_app, feed_app, fetch_rule, named_app, option};
+ghost use Rattle.clap.specs.Words.{App, app_of, new_app, rule_of, with_rule, with_subcommand};
+ghost use Rattle.command_line.specs.Building.{Builds};
+ghost use Rattle.command_line.specs.Jobs.{addressed_app, bare_app, check_app, feed_app, fetch_rule, option};
 ghost use Rattle.command_line.specs.Jobs.{program_app, read_app, replay_app, serve_app, turns_rule, verbose_rule};
 ghost use Rattle.command_line.specs.Jobs.{wanted, wants_app, wants_rule, with_verbose};
 
@@ -12,6 +12,9 @@ use std::alloc::{AllocError, Global};
 
 /// What `--version` prints after the program's name.
 const VERSION: &str = "0.1.0";
+
+/// A command that is being built, unless memory ran out on the way.
+type Built<'a> = Result<Command<'a>, AllocError>;
 
 /// A text that has to be there.
 fn wanted<'a>(alloc: Global, name: &'a str, help: &'a str) -> Arg<'a>
@@ -39,24 +42,29 @@ fn option<'a>(
         .help(help)
 }
 
-/// A command with one more argument.
-fn with_argument<'a>(command: Command<'a>, argument: Arg<'a>) -> Result<Command<'a>, AllocError>
-    requires { argument.global ≡ false }
-    ensures app { IfOk result (λ c. app_of c ≡ with_rule (app_of command.entry) (rule_of argument.entry)) }
-    ensures own { IfOk result (λ c. (fields_of c).has_globals ≡ (fields_of command.entry).has_globals) }
+/// A command that takes nothing yet.
+#[tactic(auto, unfolding(crate::specs::Building::Builds))]
+fn started<'a>(alloc: Global, name: &'a str, about: &'a str) -> Built<'a>
+    ensures { Builds result (new_app name.entry.now) }
 {
-    command.arg(argument)
+    Ok(Command::new(alloc, name).about(about))
+}
+
+/// A command with one more argument.
+#[tactic(auto, unfolding(crate::specs::Building::Builds))]
+fn with_argument<'a>(command: Built<'a>, argument: Arg<'a>) -> Built<'a>
+    requires { argument.global ≡ false }
+    ensures { (app : App) → Builds command.entry app → Builds result (with_rule app (rule_of argument.entry)) }
+{
+    match command {
+        Ok(command) => command.arg(argument),
+        Err(error) => Err(error),
+    }
 }
 
 /// A command with a text that has to be there.
-fn with_wanted<'a>(
-    alloc: Global,
-    command: Command<'a>,
-    name: &'a str,
-    help: &'a str,
-) -> Result<Command<'a>, AllocError>
-    ensures app { IfOk result (λ c. app_of c ≡ with_rule (app_of command.entry) (wanted name.entry.now)) }
-    ensures own { IfOk result (λ c. (fields_of c).has_globals ≡ (fields_of command.entry).has_globals) }
+fn with_wanted<'a>(alloc: Global, command: Built<'a>, name: &'a str, help: &'a str) -> Built<'a>
+    ensures { (app : App) → Builds command.entry app → Builds result (with_rule app (wanted name.entry.now)) }
 {
     with_argument(command, wanted(alloc, name, help))
 }
@@ -74,33 +82,32 @@ fn verbose<'a>(alloc: Global) -> Arg<'a>
 }
 
 /// A command with that flag.
-fn with_verbose<'a>(alloc: Global, command: Command<'a>) -> Result<Command<'a>, AllocError>
-    ensures app { IfOk result (λ c. app_of c ≡ with_verbose (app_of command.entry)) }
-    ensures own { IfOk result (λ c. (fields_of c).has_globals ≡ (fields_of command.entry).has_globals) }
+fn with_verbose<'a>(alloc: Global, command: Built<'a>) -> Built<'a>
+    ensures { (app : App) → Builds command.entry app → Builds result (with_verbose app) }
 {
     with_argument(command, verbose(alloc))
 }
 
 /// `check FILE`.
-fn check_command<'a>(alloc: Global) -> Result<Command<'a>, AllocError>
-    ensures app { IfOk result (λ c. app_of c ≡ check_app) }
-    ensures own { IfOk result (λ c. (fields_of c).has_globals ≡ false) }
+fn check_command<'a>(alloc: Global) -> Built<'a>
+    ensures { Builds result check_app }
 {
-    let command = Command::new(alloc, "check").about("Lists the records of a file, a line each");
-    let with_file = with_wanted(alloc, command, "FILE", "The file, of records of 512 bytes")?;
+    let command = started(alloc, "check", "Lists the records of a file, a line each");
+    let with_file = with_wanted(alloc, command, "FILE", "The file, of records of 512 bytes");
     with_verbose(alloc, with_file)
 }
 
 /// `replay CONFIG SCRIPT`.
-fn replay_command<'a>(alloc: Global) -> Result<Command<'a>, AllocError>
-    ensures app { IfOk result (λ c. app_of c ≡ replay_app) }
-    ensures own { IfOk result (λ c. (fields_of c).has_globals ≡ false) }
+fn replay_command<'a>(alloc: Global) -> Built<'a>
+    ensures { Builds result replay_app }
 {
-    let command = Command::new(alloc, "replay").about(
+    let command = started(
+        alloc,
+        "replay",
         "Replays a script against a server and prints what each client receives, in hex",
     );
-    let with_config = with_wanted(alloc, command, "CONFIG", "The configuration, in TOML")?;
-    let with_script = with_wanted(alloc, with_config, "SCRIPT", "The script, an event a line")?;
+    let with_config = with_wanted(alloc, command, "CONFIG", "The configuration, in TOML");
+    let with_script = with_wanted(alloc, with_config, "SCRIPT", "The script, an event a line");
     with_verbose(alloc, with_script)
 }
 
@@ -113,39 +120,26 @@ fn turns<'a>(alloc: Global, name: &'a str, help: &'a str) -> Arg<'a>
 }
 
 /// A command with an option `--name N` that counts turns.
-fn with_turns<'a>(
-    alloc: Global,
-    command: Command<'a>,
-    name: &'a str,
-    help: &'a str,
-) -> Result<Command<'a>, AllocError>
-    ensures app { IfOk result (λ c. app_of c ≡ with_rule (app_of command.entry) (turns_rule name.entry.now)) }
-    ensures own { IfOk result (λ c. (fields_of c).has_globals ≡ (fields_of command.entry).has_globals) }
+fn with_turns<'a>(alloc: Global, command: Built<'a>, name: &'a str, help: &'a str) -> Built<'a>
+    ensures { (app : App) → Builds command.entry app → Builds result (with_rule app (turns_rule name.entry.now)) }
 {
     with_argument(command, turns(alloc, name, help))
 }
 
 /// A command with an option `--name A:P` that has to be there.
-fn with_address<'a>(
-    alloc: Global,
-    command: Command<'a>,
-    name: &'a str,
-    help: &'a str,
-) -> Result<Command<'a>, AllocError>
-    ensures app { IfOk result (λ c. app_of c ≡ with_rule (app_of command.entry) (option true name.entry.now)) }
-    ensures own { IfOk result (λ c. (fields_of c).has_globals ≡ (fields_of command.entry).has_globals) }
+fn with_address<'a>(alloc: Global, command: Built<'a>, name: &'a str, help: &'a str) -> Built<'a>
+    ensures { (app : App) → Builds command.entry app → Builds result (with_rule app (option true name.entry.now)) }
 {
     with_argument(command, option(alloc, name, "A:P", true, help))
 }
 
 /// `serve CONFIG --listen A:P --feed A:P`.
-fn addressed_command<'a>(alloc: Global) -> Result<Command<'a>, AllocError>
-    ensures app { IfOk result (λ c. app_of c ≡ addressed_app) }
-    ensures own { IfOk result (λ c. (fields_of c).has_globals ≡ false) }
+fn addressed_command<'a>(alloc: Global) -> Built<'a>
+    ensures { Builds result addressed_app }
 {
-    let command = Command::new(alloc, "serve").about("Serves records to clients over sockets");
-    let with_config = with_wanted(alloc, command, "CONFIG", "The configuration, in TOML")?;
-    let with_listen = with_address(alloc, with_config, "listen", "Address and port for clients")?;
+    let command = started(alloc, "serve", "Serves records to clients over sockets");
+    let with_config = with_wanted(alloc, command, "CONFIG", "The configuration, in TOML");
+    let with_listen = with_address(alloc, with_config, "listen", "Address and port for clients");
     with_address(
         alloc,
         with_listen,
@@ -155,50 +149,47 @@ fn addressed_command<'a>(alloc: Global) -> Result<Command<'a>, AllocError>
 }
 
 /// `serve CONFIG --listen A:P --feed A:P [--turns N] [--reread N] [--report N]`.
-fn serve_command<'a>(alloc: Global) -> Result<Command<'a>, AllocError>
-    ensures app { IfOk result (λ c. app_of c ≡ serve_app) }
-    ensures own { IfOk result (λ c. (fields_of c).has_globals ≡ false) }
+fn serve_command<'a>(alloc: Global) -> Built<'a>
+    ensures { Builds result serve_app }
 {
-    let command = addressed_command(alloc)?;
     let with_end = with_turns(
         alloc,
-        command,
+        addressed_command(alloc),
         "turns",
         "Ends after N turns, 1 to 1000000000",
-    )?;
+    );
     let with_reread = with_turns(
         alloc,
         with_end,
         "reread",
         "Reads CONFIG again every N turns, 1 to 1000000000",
-    )?;
+    );
     let with_report = with_turns(
         alloc,
         with_reread,
         "report",
         "Writes a line on standard error every N turns, 1 to 1000000000",
-    )?;
+    );
     with_verbose(alloc, with_report)
 }
 
 /// `feed A:P FILE`.
-fn feed_command<'a>(alloc: Global) -> Result<Command<'a>, AllocError>
-    ensures app { IfOk result (λ c. app_of c ≡ feed_app) }
-    ensures own { IfOk result (λ c. (fields_of c).has_globals ≡ false) }
+fn feed_command<'a>(alloc: Global) -> Built<'a>
+    ensures { Builds result feed_app }
 {
-    let command = Command::new(alloc, "feed").about("Sends the records of a file to a server");
+    let command = started(alloc, "feed", "Sends the records of a file to a server");
     let with_server = with_wanted(
         alloc,
         command,
         "SERVER",
         "Address and port for feeds, as 127.0.0.1:18001",
-    )?;
+    );
     let with_file = with_wanted(
         alloc,
         with_server,
         "FILE",
         "The file, of records of 512 bytes",
-    )?;
+    );
     with_verbose(alloc, with_file)
 }
 
@@ -227,17 +218,16 @@ fn fetch<'a>(alloc: Global) -> Arg<'a>
 }
 
 /// `read A:P WANT..`.
-fn wants_command<'a>(alloc: Global) -> Result<Command<'a>, AllocError>
-    ensures app { IfOk result (λ c. app_of c ≡ wants_app) }
-    ensures own { IfOk result (λ c. (fields_of c).has_globals ≡ false) }
+fn wants_command<'a>(alloc: Global) -> Built<'a>
+    ensures { Builds result wants_app }
 {
-    let command = Command::new(alloc, "read").about("Reads records from a server, a line each");
+    let command = started(alloc, "read", "Reads records from a server, a line each");
     let with_server = with_wanted(
         alloc,
         command,
         "SERVER",
         "Address and port for clients, as 127.0.0.1:18000",
-    )?;
+    );
     with_argument(with_server, wants(alloc))
 }
 
@@ -256,35 +246,54 @@ fn output<'a>(alloc: Global) -> Arg<'a>
 }
 
 /// `read A:P WANT.. [--fetch] [--output FILE]`.
-fn read_command<'a>(alloc: Global) -> Result<Command<'a>, AllocError>
-    ensures app { IfOk result (λ c. app_of c ≡ read_app) }
-    ensures own { IfOk result (λ c. (fields_of c).has_globals ≡ false) }
+fn read_command<'a>(alloc: Global) -> Built<'a>
+    ensures { Builds result read_app }
 {
-    let command = wants_command(alloc)?;
-    let with_fetch = with_argument(command, fetch(alloc))?;
-    let with_output = with_argument(with_fetch, output(alloc))?;
+    let with_fetch = with_argument(wants_command(alloc), fetch(alloc));
+    let with_output = with_argument(with_fetch, output(alloc));
     with_verbose(alloc, with_output)
 }
 
-/// The program with the subcommands that need no socket.
-fn program_over_files<'a>(alloc: Global) -> Result<Command<'a>, AllocError>
-    ensures { IfOk result (λ c. app_of c ≡ with_subcommand (with_subcommand named_app check_app.top) replay_app.top) }
+/// The program before it has arguments and subcommands.
+#[tactic(auto, unfolding(crate::specs::Building::Builds))]
+fn bare<'a>(alloc: Global) -> Built<'a>
+    ensures { Builds result bare_app }
 {
-    let named = Command::new(alloc, "seedlinkd")
+    let bare = Command::new(alloc, "seedlinkd")
         .about("A SeedLink 3 server whose stations are open to stated addresses only")
         .version(VERSION)
         .subcommand_required(true);
-    let with_flag = with_verbose(alloc, named)?;
-    let with_check = with_flag.subcommand(check_command(alloc)?)?;
-    with_check.subcommand(replay_command(alloc)?)
+    Ok(bare)
+}
+
+/// A command with one more subcommand.
+#[tactic(auto, unfolding(crate::specs::Building::Builds))]
+fn with_subcommand<'a>(command: Built<'a>, subcommand: Built<'a>) -> Built<'a>
+    ensures { (app sub : App) → Builds command.entry app → Builds subcommand.entry sub
+        → Builds result (with_subcommand app sub.top) }
+{
+    match (command, subcommand) {
+        (Ok(command), Ok(subcommand)) => command.subcommand(subcommand),
+        _ => Err(AllocError),
+    }
+}
+
+/// The program as it is built, step by step.
+fn built<'a>(alloc: Global) -> Built<'a>
+    ensures { Builds result program_app }
+{
+    let named = with_verbose(alloc, bare(alloc));
+    let with_check = with_subcommand(named, check_command(alloc));
+    let with_replay = with_subcommand(with_check, replay_command(alloc));
+    let with_serve = with_subcommand(with_replay, serve_command(alloc));
+    let with_feed = with_subcommand(with_serve, feed_command(alloc));
+    with_subcommand(with_feed, read_command(alloc))
 }
 
 /// The program and its subcommands.
+#[tactic(auto, unfolding(crate::specs::Building::Builds))]
 pub fn program<'a>(alloc: Global) -> Result<Command<'a>, AllocError>
     ensures { IfOk result (λ c. app_of c ≡ program_app) }
 {
-    let over_files = program_over_files(alloc)?;
-    let with_serve = over_files.subcommand(serve_command(alloc)?)?;
-    let with_feed = with_serve.subcommand(feed_command(alloc)?)?;
-    with_feed.subcommand(read_command(alloc)?)
+    built(alloc)
 }

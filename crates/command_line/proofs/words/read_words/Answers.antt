@@ -1,4 +1,4 @@
-use Rattle.std.proofs.Common.{◌∙◌, ◌||◌, ap, ap₂, inl, refl, subst, sym, map, option_map, string_bytes}
+use Rattle.std.proofs.Common.{◌∙◌, ◌||◌, ap, ap₂, refl, subst, sym, map, option_map, string_bytes}
 use Rattle.clap.specs.Words.{Kinds, fault_of, is_simple, is_simple_and_free, matches_of, subcommand_of}
 use Rattle.command_line.specs.Jobs.{IsTold, asked, asked_by, verbose_by, verbose_in}
 use Rattle.command_line.proofs.Refusing.{is_told, left_over, no_job, only_memory, program_is_simple}
