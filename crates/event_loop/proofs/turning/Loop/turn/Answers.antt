@@ -1,3 +1,4 @@
+use Rattle.std.proofs.Common.{rules}
 use Rattle.event_loop.proofs.TurnLemmas.{turn-made, turn-failed}
 use Rattle.event_loop.proofs.turning.Loop.turn.Goals as goal
 
@@ -19,3 +20,8 @@ returns-clause-ok g c = λ config w stands.
     (calls c.pass_all.new.ports) c.pass_all.new.server c.pass_all.new.seats.items c.in-Ok.heard
     c.pass_all.new.dropped
     (c.in-Ok.ensures.ok config w stands) (λ v there. c.pass_all.ensures.goes c.in-Ok.heard.happenings config v there)
+
+-- The search finds this by itself. It is written down since the prover takes a minute to offer an answer where there is
+-- none, which a wrong body would wait for.
+pub returns-clause-refused : goal.returns-clause-refused
+returns-clause-refused g c = search rules

@@ -1,0 +1,7 @@
+-- The search finds this by itself. It is written down since the prover takes half a minute to offer an answer where
+-- there is none, which a wrong body would wait for.
+use Rattle.std.proofs.Common.{rules}
+use Rattle.event_loop.proofs.turning.Loop.new.Goals as goal
+
+pub returns-clause-server : goal.returns-clause-server
+returns-clause-server g c = search rules
