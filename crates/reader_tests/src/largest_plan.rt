@@ -124,14 +124,18 @@ fn outcome_at(alloc: Global, server: &mut Server, codes: &[String]) -> Result<Ou
     outcome_of(server, client, &mut core)
 }
 
+/// What comes of the largest plan at a server that has all its stations.
+fn outcome_at_all(alloc: Global) -> Result<Outcome, Fail> {
+    let codes = station_codes(alloc)?;
+    let mut server = server_of(alloc, &codes)?;
+    outcome_at(alloc, &mut server, &codes)
+}
+
 // HELLO, a STATION and a FETCH for each of 255 stations, 1,024 SELECTs, and END.
 #[test]
 fn the_largest_plan_is_refused_nothing(rt: HostRuntime) -> Result<(), Fail> {
-    let codes = station_codes(rt.alloc())?;
-    let mut server = server_of(rt.alloc(), &codes)?;
-    let outcome = outcome_at(rt.alloc(), &mut server, &codes)?;
     assert_eq!(rt;
-        outcome,
+        outcome_at_all(rt.alloc())?,
         Outcome {
             lines: 1 + 255 + 1024 + 255 + 1,
             refused: 0,

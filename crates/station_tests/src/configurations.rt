@@ -47,8 +47,10 @@ fn config_with(alloc: Global, word: &str, line: &str) -> Result<Config, ConfigFa
 
 /// Whether those lines are a configuration, or why they are none.
 fn judged(alloc: Global, word: &str, line: &str) -> Result<(), ConfigFault> {
-    let _ = config_with(alloc, word, line)?;
-    Ok(())
+    match with_line(alloc, word, line) {
+        Ok(text) => read(alloc, text.as_bytes()),
+        Err(_) => Err(ConfigFault::OutOfMemory),
+    }
 }
 
 /// The word of a line, another line in its place, and what is said of that.
