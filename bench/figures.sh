@@ -19,7 +19,7 @@ row() {
     [ "$1" -le "$2" ] || failed=1
 }
 
-# Of a work of the program `bench`, 1,000 and 2,000 rounds.
+# small LIMIT WORK LINE TEXT COMPARED : of a work without a server, 1,000 and 2,000 rounds.
 small() {
     few=$(counted "$top/crates/bench/out/bench" "$2" 1000 "$3")
     many=$(counted "$top/crates/bench/out/bench" "$2" 2000 "$3")
@@ -33,9 +33,9 @@ pool() {
     small "$((alone * 12 / 10))" pool '' 'the same in a pool that holds 1,024' "at most 1.2 times the figure above"
 }
 
-# server WORK NUMBER.. : instructions of so many rounds of a work of the program `server_bench`.
+# server WORK NUMBER.. : instructions of so many rounds of a work with a server.
 server() {
-    counted "$top/crates/server_bench/out/server_bench" "$@"
+    counted "$top/crates/bench/out/bench" "$@"
 }
 
 # round ROUNDS WORK NUMBER.. : what one of the last so many rounds takes of 1,000 rounds and those.
@@ -92,7 +92,7 @@ reloads() {
 peak() {
     python3 -c 'import resource, subprocess, sys
 subprocess.run(sys.argv[1:], check=True, stdout=subprocess.DEVNULL)
-print(resource.getrusage(resource.RUSAGE_CHILDREN).ru_maxrss)' "$top/crates/server_bench/out/server_bench" "$@"
+print(resource.getrusage(resource.RUSAGE_CHILDREN).ru_maxrss)' "$top/crates/bench/out/bench" "$@"
 }
 
 # What clients keep. A client that is kept by mistake would show in the second figure as 10 KiB.
@@ -150,12 +150,10 @@ replay() {
 }
 
 "$top/seedlinkd" --help >/dev/null
-for program in bench server_bench; do
-    if ! (cd "$top/crates/$program" && rt run) >"$folder/said" 2>&1; then
-        tail -n 20 "$folder/said" >&2
-        exit 3
-    fi
-done
+if ! (cd "$top/crates/bench" && rt run) >"$folder/said" 2>&1; then
+    tail -n 20 "$folder/said" >&2
+    exit 3
+fi
 times='TIME 2024,2,29,0,0,0 2024,2,29,0,0,10'
 printf '%10s %10s  %-72s %s\n' each 'at most' work 'compared with'
 small 300 command HELLO 'command of HELLO' ''
@@ -166,7 +164,7 @@ small 700 header '' 'mseed_header::read, of a record with one blockette' 'libmse
 small 200 number '' 'a sequence number read, counted on and written' ''
 small 1500 selectors '' 'sixteen selectors over a record' ''
 pool
-small 2500 packets '' 'a packet read, cut out and listed by the reader' ''
+small 2500 listing '' 'a packet read, cut out and listed by the reader' ''
 calls
 sleepers
 reloads

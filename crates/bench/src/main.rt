@@ -1,149 +1,118 @@
-//! Does one piece of work many times, so that its instructions can be counted: `bench command ROUNDS LINE` reads a
-//! line as a command, `bench lines ROUNDS LINE` cuts it out of bytes first, `bench header ROUNDS` reads the header
-//! of a record, `bench selectors ROUNDS` asks sixteen selectors whether a record passes, `bench pool ROUNDS` asks
-//! the same sixteen in a pool that holds 1,024, `bench number ROUNDS` reads a sequence number and writes the one
-//! that follows, and `bench packets ROUNDS` reads packets and lists them. It prints a sum of what was read, so that
-//! no work can be left out.
+//! Does one piece of work many times, so that its instructions can be counted: `bench WORK NUMBER.. [LINE]`. It prints
+//! a sum of what was answered, so that no work can be left out.
+//!
+//! Works without a server: `command ROUNDS LINE` reads a line as a command, and `lines ROUNDS LINE` cuts it out of
+//! bytes first. `number ROUNDS` reads a sequence number and writes the one that follows. `header ROUNDS` reads the
+//! header of a record. `selectors ROUNDS` asks sixteen selectors whether a record passes, and `pool ROUNDS` asks the
+//! same sixteen in a pool that holds 1,024. `listing ROUNDS` reads packets and lists them.
+//!
+//! Works with a server: `arrive CAPACITY ROUNDS`: a record arrives at one of 1,024 stations, whose ring holds so many
+//! and is full. `packets REQUESTS CAPACITY ROUNDS`: a client that asks by FETCH for so many stations, whose rings are
+//! full, is offered a packet and takes it. `idle REQUESTS CAPACITY ROUNDS`: a client that asks for them by DATA is
+//! offered something, and nothing arrived. `passed OFFERS ROUNDS`: 1,000 records arrive that no pattern of a client
+//! lets pass, and the client is offered something so many times. `visits ROUNDS`: clients come and go, one after the
+//! other. `crowd CLIENTS`: so many are open at the end. `largest CLIENTS`: the same, each of which asks for 255
+//! stations with 1,024 selectors together. `ready ROUNDS`: a client that waits is asked whether it is ready. `apart
+//! CLIENTS ROUNDS`: a record arrives while so many clients wait at another station. `reload CLIENTS CHANGED ROUNDS`: a
+//! new configuration comes into force, in which so many of 1,024 stations have lists that differ for no client's
+//! address. `sleepers CLIENTS ROUNDS`: a turn of a loop hands one client a packet while so many others wait.
 #![tactic(auto)]
 
+mod centre;
+mod headers;
+mod lines;
 mod pools;
 mod reading;
+mod serving;
+mod turns;
 
-use mseed_header::{Header, RecordFault};
-use sl_lines::{Action, Line, LineCutter, Order, command};
-use sl_packet::Seq;
+use std::alloc::Global;
 use std::env;
 
-/// A number for each command.
-fn weight(line: Line<'_>) -> u64 {
-    match command(line) {
-        Order::Blank => 1,
-        Order::Hello => 2,
-        Order::Cat => 3,
-        Order::Bye => 4,
-        Order::End => 5,
-        Order::Station {
-            station: _,
-            network: _,
-        } => 6,
-        Order::Select { pattern: _ } => 7,
-        Order::Act(
-            Action::Data {
-                number: _,
-                begin: _,
-            },
-        ) => 8,
-        Order::Act(
-            Action::Fetch {
-                number: _,
-                begin: _,
-            },
-        ) => 9,
-        Order::Act(Action::Time { begin: _, last: _ }) => 10,
-        Order::Bad => 11,
-    }
+/// The words after the program's name: a work, numbers, and a line where there is one.
+#[derive(Drop)]
+struct Words {
+    work: String,
+    numbers: Vec<u32>,
+    line: String,
 }
 
-fn read_commands(line: &[u8], rounds: u64) -> u64 {
-    let mut sum: u64 = 0;
-    for _ in 0..rounds {
-        sum = sum.wrapping_add(weight(Line::Text(line)));
-    }
-    sum
-}
-
-fn cut_line(cutter: &mut LineCutter, line: &[u8]) -> u64 {
-    for byte in line {
-        let _ = cutter.push(*byte);
-    }
-    match cutter.push(b'\n') {
-        Some(line) => weight(line),
-        None => 0,
-    }
-}
-
-fn cut_lines(line: &[u8], rounds: u64) -> u64 {
-    let mut cutter = LineCutter::new();
-    let mut sum: u64 = 0;
-    for _ in 0..rounds {
-        sum = sum.wrapping_add(cut_line(&mut cutter, line));
-    }
-    sum
-}
-
-/// A record of GE APE, BHZ, of 2024-02-29T00:00:00, with 100 samples at 100 a second.
-fn sample() -> [u8; 512] {
-    let head =
-        *b"000001D APE    BHZGE\x07\xe8\x00\x3c\x00\x00\x00\x00\x00\x00\x00\x64\x00\x64\x00\x01\x00\x00\x00\x01\x00\x00\x00\x00\x00\x40\x00\x30\x03\xe8\x00\x00\x0b\x01\x09\x00";
-    let mut record = [0; 512];
-    record[..56].copy_from_slice(&head);
-    record
-}
-
-/// A number for each header, of all that it says.
-fn told(read: Result<Header<'_>, RecordFault>) -> u64 {
-    match read {
-        Ok(header) => {
-            let codes = header.station().len()
-                ^ header.network().len()
-                ^ usize::from(header.location()[0])
-                ^ usize::from(header.channel()[2]);
-            (header.start().value() ^ header.end().value()).cast_unsigned()
-                ^ u64::from(header.samples())
-                ^ (codes as u64)
-        }
-        Err(fault) => u64::from(fault.report().number),
-    }
-}
-
-/// Goes over four records, of which the last sum picks the next one and changes another, so that none is known
-/// before it is read.
-fn read_headers(rounds: u64) -> u64 {
-    let mut records = [sample(); 4];
-    let mut sum: u64 = 0;
-    for _ in 0..rounds {
-        let place = (sum % 4) as usize;
-        records[(place + 1) % 4][25] = (sum % 60) as u8;
-        records[(place + 2) % 4][10] = 65 + (sum % 26) as u8;
-        sum = sum.wrapping_mul(3) ^ told(mseed_header::read(&records[place]));
-    }
-    sum
-}
-
-/// Reads a number's digits and writes those of the next one, from FFFF00 on.
-fn count_on(rounds: u64) -> u64 {
-    let mut digits = *b"FFFF00";
-    for _ in 0..rounds {
-        if let Some(number) = Seq::parse(&digits) {
-            digits = number.next().digits();
+/// Reads the words that the program was started with. What is no number is the line.
+fn words_of(rt: &HostRuntime) -> anyhow::Result<Words> {
+    let mut words = Words {
+        work: String::new(rt.alloc()),
+        numbers: Vec::new(rt.alloc()),
+        line: String::new(rt.alloc()),
+    };
+    for (place, word) in env::args(rt)?.enumerate() {
+        match (place, word.as_str().parse()) {
+            (0, _) => {}
+            (1, _) => words.work = word,
+            (_, Ok(number)) => words.numbers.push(number)?,
+            (_, Err(_)) => words.line = word,
         }
     }
-    u64::from(digits[5])
+    Ok(words)
+}
+
+/// Does a work without a server and answers its sum. It is None if no work has this name and takes these numbers.
+fn sum_of_reading(
+    alloc: Global,
+    work: &str,
+    numbers: &[u32],
+    line: &[u8],
+) -> Option<anyhow::Result<u64>> {
+    let sum = match (work, numbers) {
+        ("command", [rounds]) => Ok(lines::read_commands(line, *rounds)),
+        ("lines", [rounds]) => Ok(lines::cut_lines(line, *rounds)),
+        ("number", [rounds]) => Ok(lines::count_on(*rounds)),
+        ("header", [rounds]) => Ok(headers::read_headers(*rounds)),
+        ("selectors", [rounds]) => pools::ask_alone(alloc, *rounds),
+        ("pool", [rounds]) => pools::ask_full(alloc, *rounds),
+        ("listing", [rounds]) => reading::list_packets(alloc, &headers::sample(), *rounds),
+        _ => return None,
+    };
+    Some(sum)
+}
+
+/// Does a work with a server, in the same way.
+fn sum_of_serving(alloc: Global, work: &str, numbers: &[u32]) -> Option<anyhow::Result<u64>> {
+    let sum = match (work, numbers) {
+        ("arrive", [capacity, rounds]) => serving::arrive(alloc, *capacity, *rounds),
+        ("packets", [requests, capacity, rounds]) => serving::packets(
+            alloc, *requests, *capacity, *rounds,
+        ),
+        ("idle", [requests, capacity, rounds]) => serving::idle(
+            alloc, *requests, *capacity, *rounds,
+        ),
+        ("passed", [offers, rounds]) => serving::passed(alloc, *offers, *rounds),
+        ("visits", [rounds]) => serving::visits(alloc, *rounds),
+        ("largest", [clients]) => serving::largest(alloc, *clients),
+        ("crowd", [clients]) => serving::crowd(alloc, *clients),
+        ("ready", [rounds]) => serving::ready(alloc, *rounds),
+        ("apart", [clients, rounds]) => serving::apart(alloc, *clients, *rounds),
+        ("reload", [clients, changed, rounds]) => serving::reload(
+            alloc, *clients, *changed, *rounds,
+        ),
+        ("sleepers", [clients, rounds]) => turns::sleepers(alloc, *clients, *rounds),
+        _ => return None,
+    };
+    Some(sum)
 }
 
 fn main(rt: HostRuntime) -> anyhow::Result<()> {
-    let mut words = Vec::new(rt.alloc());
-    for word in env::args(&rt)? {
-        words.push(word)?;
-    }
-    if words.len() < 3 {
-        println!(rt; "bench command|lines|header|selectors|pool|number|packets ROUNDS [LINE]")?;
-        return Ok(());
-    }
-    let rounds: u64 = words[2].as_str().parse()?;
-    let line = match words.get(3) {
-        Some(line) => line.as_bytes(),
-        None => b"",
+    let words = words_of(&rt)?;
+    let (work, numbers) = (words.work.as_str(), words.numbers.as_slice());
+    let sum = match sum_of_reading(rt.alloc(), work, numbers, words.line.as_bytes()) {
+        None => sum_of_serving(rt.alloc(), work, numbers),
+        sum => sum,
     };
-    let sum = match words[1].as_str() {
-        "command" => read_commands(line, rounds),
-        "lines" => cut_lines(line, rounds),
-        "selectors" => pools::ask_alone(rt.alloc(), rounds)?,
-        "pool" => pools::ask_full(rt.alloc(), rounds)?,
-        "number" => count_on(rounds),
-        "packets" => reading::list_packets(rt.alloc(), &sample(), rounds)?,
-        _ => read_headers(rounds),
-    };
-    println!(rt; "{sum}")?;
+    match sum {
+        Some(sum) => {
+            let sum = sum?;
+            println!(rt; "{sum}")?;
+        }
+        None => println!(rt; "bench WORK NUMBER.. [LINE]")?,
+    }
     Ok(())
 }

@@ -40,7 +40,7 @@ fn full_pool(alloc: Global) -> Result<Pool, AllocError> {
 }
 
 /// Asks of records of one channel after the other whether they pass the list.
-fn ask(pool: &Pool, rounds: u64) -> u64 {
+fn ask(pool: &Pool, rounds: u32) -> u64 {
     let mut channel = *b"BHZ";
     let mut sum: u64 = 0;
     for _ in 0..rounds {
@@ -52,11 +52,11 @@ fn ask(pool: &Pool, rounds: u64) -> u64 {
 }
 
 /// The list in a pool that holds nothing else.
-pub fn ask_alone(alloc: Global, rounds: u64) -> Result<u64, AllocError> {
+pub fn ask_alone(alloc: Global, rounds: u32) -> anyhow::Result<u64> {
     Ok(ask(&small_pool(alloc)?, rounds))
 }
 
 /// The list in a full pool.
-pub fn ask_full(alloc: Global, rounds: u64) -> Result<u64, AllocError> {
+pub fn ask_full(alloc: Global, rounds: u32) -> anyhow::Result<u64> {
     Ok(ask(&full_pool(alloc)?, rounds))
 }

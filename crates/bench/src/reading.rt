@@ -12,7 +12,7 @@ const NEGOTIATED: &[u8] = b"SeedLink v3\r\n\r\nOK\r\nOK\r\n";
 const PIECE: usize = 65_536;
 
 /// So many packets with one record, and what comes before and after them.
-fn sent(alloc: Global, record: &[u8; 512], packets: u64) -> anyhow::Result<Vec<u8>> {
+fn sent(alloc: Global, record: &[u8; 512], packets: u32) -> anyhow::Result<Vec<u8>> {
     let mut sent = NEGOTIATED.to_vec(alloc)?;
     if let Some(number) = Seq::of(0xABCD) {
         let packet = frame(number, record);
@@ -25,7 +25,7 @@ fn sent(alloc: Global, record: &[u8; 512], packets: u64) -> anyhow::Result<Vec<u
 }
 
 /// Lists so many packets, and answers how many bytes the lines have.
-pub fn list_packets(alloc: Global, record: &[u8; 512], packets: u64) -> anyhow::Result<u64> {
+pub fn list_packets(alloc: Global, record: &[u8; 512], packets: u32) -> anyhow::Result<u64> {
     let sent = sent(alloc, record, packets)?;
     let mut wants = Vec::new(alloc);
     wants.push(Want::parse(alloc, b"GE_WLF", true)?)?;

@@ -1,7 +1,14 @@
-//! Tests of the whole core: worked dialogues at the server, and rows of bits. Nothing but tests.
+//! Tests of the whole core: worked dialogues at the server, rows of bits, and random lists of events, records and
+//! clients, at the server and at small plain programs that share no code with it. Nothing but tests.
 #![tactic(auto)]
 
 #[cfg(test)]
 mod dialogues;
 #[cfg(test)]
+mod random;
+#[cfg(test)]
+mod random_records;
+#[cfg(test)]
 mod rows;
+#[cfg(test)]
+mod slots;

@@ -4,6 +4,9 @@
 //! words are none that it takes.
 #![tactic(auto)]
 
+#[cfg(test)]
+mod tests;
+
 use jobs::{Failure, failed, obey, told};
 use std::process::ExitCode;
 use std::rt::Env;

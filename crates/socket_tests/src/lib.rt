@@ -1,16 +1,26 @@
-//! Tests of the server, the feeder and the reader over sockets on loopback, with both ends in one process: the system
-//! takes connections and bytes before the server's next turn. Nothing but tests.
+//! Tests over sockets on loopback, with both ends in one process: the system takes connections and bytes before the
+//! server's next turn. They are of the server, the feeder and the reader, and of other people's clients: what slinktool
+//! and programs that stand on libslink send, readers that are many, slow or gone, and those that misbehave. Nothing but
+//! tests.
 #![tactic(auto)]
 
+#[cfg(test)]
+mod crowd;
 #[cfg(test)]
 mod ends;
 #[cfg(test)]
 mod feeds;
+#[cfg(test)]
+mod hostile;
+#[cfg(test)]
+mod libslink;
 #[cfg(test)]
 mod reads;
 #[cfg(test)]
 mod reloads;
 #[cfg(test)]
 mod serving;
+#[cfg(test)]
+mod slow;
 #[cfg(test)]
 mod transfers;

@@ -1,6 +1,6 @@
 //! Scripts in which a configuration is read again.
 use super::{push_digits, written};
-use crate::scripts::record_with;
+use crate::tests::scripts::record_with;
 use std::alloc::Global;
 use std::test::Fail;
 use test_centre::{FOREST_CLOSED, ISLAND_LARGER};

@@ -93,15 +93,37 @@ pub fn arrive_by_turns(server: &mut Server, records: &[[u8; 512]], rounds: u32) 
     sum
 }
 
-/// A server of stations that hold one record each, and of `large` that hold `capacity`. All rings are full, and those
-/// of the large stations were filled by turns.
-pub fn full_server(alloc: Global, small: u32, large: u32, capacity: u32) -> anyhow::Result<Server> {
-    let mut server = Server::new(alloc, config_of(alloc, small, large, capacity)?)?;
+/// All of so many stations' rings are filled, first those that hold one record, and then by turns those that hold more.
+fn fill(
+    alloc: Global,
+    server: &mut Server,
+    small: u32,
+    large: u32,
+    capacity: u32,
+) -> anyhow::Result<()> {
     let records = records_of(alloc, small.saturating_add(large))?;
-    arrive_all(&mut server, records.as_slice());
+    arrive_all(server, records.as_slice());
     let of_large = records.as_slice().get(small as usize..).unwrap_or(&[]);
-    arrive_by_turns(&mut server, of_large, capacity);
-    Ok(server)
+    arrive_by_turns(server, of_large, capacity);
+    Ok(())
+}
+
+/// Does a work at a server of stations that hold one record each, and of `large` that hold `capacity`. All rings are
+/// full.
+pub fn at_full_server<F>(
+    alloc: Global,
+    small: u32,
+    large: u32,
+    capacity: u32,
+    work: F,
+) -> anyhow::Result<u64>
+where
+    F: FnOnce(&mut Server) -> anyhow::Result<u64>,
+    requires { F.IsAlwaysCallable work }
+{
+    let mut server = Server::new(alloc, config_of(alloc, small, large, capacity)?)?;
+    fill(alloc, &mut server, small, large, capacity)?;
+    work(&mut server)
 }
 
 /// What waits for a client is taken. Answers how many bytes it was.

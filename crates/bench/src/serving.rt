@@ -1,7 +1,6 @@
-//! The works whose instructions are counted. Each answers a sum of what it was answered.
+//! Calls of a server. Each work answers a sum of what it was answered.
 use crate::centre::{
-    arrive_all, arrive_by_turns, asking, asking_all, full_server, listed_config, record_of,
-    take_one,
+    arrive_by_turns, asking, asking_all, at_full_server, listed_config, record_of, take_one,
 };
 use catalog::Config;
 use server_core::{Client, Offer, Server};
@@ -10,20 +9,35 @@ use std::net::Ipv4Addr;
 
 /// Records arrive at the last of 1,024 stations, whose ring is full.
 pub fn arrive(alloc: Global, capacity: u32, rounds: u32) -> anyhow::Result<u64> {
-    let mut server = full_server(alloc, 1023, 1, capacity)?;
     let record = record_of(alloc, 1023, b"BHZ")?;
-    Ok(arrive_by_turns(&mut server, &[record], rounds))
+    at_full_server(
+        alloc,
+        1023,
+        1,
+        capacity,
+        |server| Ok(arrive_by_turns(server, &[record], rounds)),
+    )
+}
+
+/// A client asks for so many stations. It is offered packets and takes them, one after the other.
+fn take_all(alloc: Global, server: &mut Server, requests: u32, rounds: u32) -> anyhow::Result<u64> {
+    let client = asking(alloc, server, requests, b"FETCH\r")?;
+    let mut sum: u64 = 0;
+    for _ in 0..rounds {
+        sum = sum.wrapping_add(take_one(server, client));
+    }
+    Ok(sum)
 }
 
 /// Packets are offered and taken, one after the other.
 pub fn packets(alloc: Global, requests: u32, capacity: u32, rounds: u32) -> anyhow::Result<u64> {
-    let mut server = full_server(alloc, 0, requests, capacity)?;
-    let client = asking(alloc, &mut server, requests, b"FETCH\r")?;
-    let mut sum: u64 = 0;
-    for _ in 0..rounds {
-        sum = sum.wrapping_add(take_one(&mut server, client));
-    }
-    Ok(sum)
+    at_full_server(
+        alloc,
+        0,
+        requests,
+        capacity,
+        |server| take_all(alloc, server, requests, rounds),
+    )
 }
 
 /// Offers of which none has anything.
@@ -39,13 +53,14 @@ fn offers(server: &mut Server, client: Client, rounds: u32) -> u64 {
 
 /// Offers to a client of whose stations nothing arrived since the last one.
 pub fn idle(alloc: Global, requests: u32, capacity: u32, rounds: u32) -> anyhow::Result<u64> {
-    let mut server = full_server(alloc, 0, requests, capacity)?;
-    let client = asking(alloc, &mut server, requests, b"DATA\r")?;
-    Ok(offers(&mut server, client, rounds))
+    at_full_server(alloc, 0, requests, capacity, |server| {
+        let client = asking(alloc, server, requests, b"DATA\r")?;
+        Ok(offers(server, client, rounds))
+    })
 }
 
-/// In each round every record arrives 1,000 times, and then `each` offers are made to a client. Answers how many of them
-/// had nothing.
+/// In each round every record arrives 1,000 times, and then `each` offers are made to a client. Answers how many of
+/// them had nothing.
 fn offer_between(
     server: &mut Server,
     client: Client,
@@ -64,9 +79,10 @@ fn offer_between(
 /// Again and again 1,000 records arrive that the client's selector does not let pass, and then it is offered something.
 pub fn passed(alloc: Global, each: u32, rounds: u32) -> anyhow::Result<u64> {
     let record = record_of(alloc, 0, b"BHN")?;
-    let mut server = full_server(alloc, 0, 1, 4096)?;
-    let client = asking(alloc, &mut server, 1, b"DATA\r")?;
-    Ok(offer_between(&mut server, client, &[record], each, rounds))
+    at_full_server(alloc, 0, 1, 4096, |server| {
+        let client = asking(alloc, server, 1, b"DATA\r")?;
+        Ok(offer_between(server, client, &[record], each, rounds))
+    })
 }
 
 /// Opens and closes a client, once a round. Answers the number of the last one.
@@ -82,8 +98,13 @@ fn open_and_close(alloc: Global, server: &mut Server, rounds: u32) -> anyhow::Re
 
 /// Clients come and go, one after the other. Answers the number of the last one.
 pub fn visits(alloc: Global, rounds: u32) -> anyhow::Result<u64> {
-    let mut server = full_server(alloc, 1, 0, 1)?;
-    open_and_close(alloc, &mut server, rounds)
+    at_full_server(
+        alloc,
+        1,
+        0,
+        1,
+        |server| open_and_close(alloc, server, rounds),
+    )
 }
 
 /// Opens clients that ask for 255 stations each. Answers the number of the last one.
@@ -97,8 +118,13 @@ fn open_asking(alloc: Global, server: &mut Server, clients: u32) -> anyhow::Resu
 
 /// So many clients are open, each of which asks for 255 stations with 1,024 selectors together.
 pub fn largest(alloc: Global, clients: u32) -> anyhow::Result<u64> {
-    let mut server = full_server(alloc, 0, 255, 1)?;
-    open_asking(alloc, &mut server, clients)
+    at_full_server(
+        alloc,
+        0,
+        255,
+        1,
+        |server| open_asking(alloc, server, clients),
+    )
 }
 
 /// Opens clients. Answers the number of the last one.
@@ -112,21 +138,27 @@ fn open_all(alloc: Global, server: &mut Server, clients: u32) -> anyhow::Result<
 
 /// So many clients are open.
 pub fn crowd(alloc: Global, clients: u32) -> anyhow::Result<u64> {
-    let mut server = full_server(alloc, 1, 0, 1)?;
-    open_all(alloc, &mut server, clients)
+    at_full_server(alloc, 1, 0, 1, |server| open_all(alloc, server, clients))
 }
 
-/// A client that waits is asked whether it is ready.
-pub fn ready(alloc: Global, rounds: u32) -> anyhow::Result<u64> {
-    let mut server = full_server(alloc, 0, 1, 4096)?;
-    let client = asking(alloc, &mut server, 1, b"DATA\r")?;
-    let mut sum = offers(&mut server, client, 1);
+/// A client that waits is asked whether it is ready. Answers how often it was not.
+fn ask_often(server: &mut Server, client: Client, rounds: u32) -> u64 {
+    let mut sum: u64 = 0;
     for _ in 0..rounds {
         if server.ready(client) == Ok(false) {
             sum = sum.wrapping_add(1);
         }
     }
-    Ok(sum)
+    sum
+}
+
+/// A client that waits is asked whether it is ready.
+pub fn ready(alloc: Global, rounds: u32) -> anyhow::Result<u64> {
+    at_full_server(alloc, 0, 1, 4096, |server| {
+        let client = asking(alloc, server, 1, b"DATA\r")?;
+        offers(server, client, 1);
+        Ok(ask_often(server, client, rounds))
+    })
 }
 
 /// Opens clients that wait for records of the first station.
@@ -141,31 +173,30 @@ fn open_waiting(alloc: Global, server: &mut Server, clients: u32) -> anyhow::Res
 /// Records arrive at a station while so many clients wait for those of another one.
 pub fn apart(alloc: Global, clients: u32, rounds: u32) -> anyhow::Result<u64> {
     let record = record_of(alloc, 1, b"BHZ")?;
-    let mut server = full_server(alloc, 1, 1, 4096)?;
-    open_waiting(alloc, &mut server, clients)?;
-    Ok(arrive_by_turns(&mut server, &[record], rounds))
+    at_full_server(alloc, 1, 1, 4096, |server| {
+        open_waiting(alloc, server, clients)?;
+        Ok(arrive_by_turns(server, &[record], rounds))
+    })
 }
 
-/// A server with clients, each of which has an address of its own that begins with 10.
-fn server_of_many(alloc: Global, config: &Config, clients: u32) -> anyhow::Result<Server> {
-    let mut server = Server::new(alloc, config.copy(alloc)?)?;
+/// Opens clients, each of which has an address of its own that begins with 10.
+fn open_apart(alloc: Global, server: &mut Server, clients: u32) -> anyhow::Result<()> {
     for host in 0..clients {
         server.open(alloc, Ipv4Addr::from_bits(0x0A00_0000 | host))?;
     }
-    Ok(server)
+    Ok(())
 }
 
 /// Reloads a server with two configurations by turns, the second one first. Answers how many reloads were accepted.
 fn reload_by_turns(
     alloc: Global,
     server: &mut Server,
-    first: &Config,
-    second: &Config,
+    configs: [&Config; 2],
     rounds: u32,
 ) -> anyhow::Result<u64> {
     let mut accepted: u64 = 0;
     for round in 0..rounds {
-        let next = if round % 2 == 0 { second } else { first };
+        let next = configs[1 - round as usize % 2];
         if server.reload(next.copy(alloc)?).is_ok() {
             accepted = accepted.wrapping_add(1);
         }
@@ -173,11 +204,22 @@ fn reload_by_turns(
     Ok(accepted)
 }
 
+/// Opens so many clients at a server with the first of two configurations, and reloads it with both by turns.
+fn reload_all(
+    alloc: Global,
+    configs: [&Config; 2],
+    clients: u32,
+    rounds: u32,
+) -> anyhow::Result<u64> {
+    let mut server = Server::new(alloc, configs[0].copy(alloc)?)?;
+    open_apart(alloc, &mut server, clients)?;
+    reload_by_turns(alloc, &mut server, configs, rounds)
+}
+
 /// Two configurations come into force by turns, in which so many of 1,024 stations have other lists, while so many
 /// clients are open. The lists differ in one address, from which no client came. Answers how many were accepted.
 pub fn reload(alloc: Global, clients: u32, changed: u32, rounds: u32) -> anyhow::Result<u64> {
     let first = listed_config(alloc, changed, 1)?;
     let second = listed_config(alloc, changed, 2)?;
-    let mut server = server_of_many(alloc, &first, clients)?;
-    reload_by_turns(alloc, &mut server, &first, &second, rounds)
+    reload_all(alloc, [&first, &second], clients, rounds)
 }

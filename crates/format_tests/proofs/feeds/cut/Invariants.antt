@@ -1,5 +1,5 @@
 use Rattle.std.proofs.Common.{length}
-use Rattle.record_tests.proofs.feeds.cut.Given as goal
+use Rattle.format_tests.proofs.feeds.cut.Given as goal
 
 abbrev pub decreases-loop-left : goal.decreases-loop-left
 decreases-loop-left l = length l.left

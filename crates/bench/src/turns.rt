@@ -52,8 +52,8 @@ fn ports(alloc: Global, sleepers: u32, records: u32) -> anyhow::Result<MemoryPor
     Ok(MemoryPorts::new(alloc, Script::new(happenings, scripts)))
 }
 
-/// Runs a loop for a turn in which its clients join, and then for a turn a round. Answers how many bytes the client that
-/// is awake was handed.
+/// Runs a loop for a turn in which its clients join, and then for a turn a round. Answers how many bytes the client
+/// that is awake was handed.
 fn bytes_handed(alloc: Global, all: &mut Loop<MemoryPorts>, rounds: u32) -> anyhow::Result<u64> {
     all.turn(20_000)?;
     for _ in 0..rounds {

@@ -1,0 +1,6 @@
+//! Tests of what the program does: the words of its command line, the lines of scripts, and replays.
+mod endpoints;
+mod explained;
+mod replays;
+mod scripts;
+mod words;
