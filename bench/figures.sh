@@ -88,7 +88,7 @@ reloads() {
     row "$(a_client 257)" 30000 'the same, 257 of 1,024 lists: all stations are looked at' ''
 }
 
-# peak WORK NUMBER : the most memory, in KiB, that a work of the program `server_bench` had at once.
+# peak WORK NUMBER : the most memory, in KiB, that a work of the program `bench` had at once.
 peak() {
     python3 -c 'import resource, subprocess, sys
 subprocess.run(sys.argv[1:], check=True, stdout=subprocess.DEVNULL)
