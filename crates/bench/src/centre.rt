@@ -1,4 +1,4 @@
-//! A server whose rings are full, and a client of it.
+//! Records, a server whose rings are full of them, and a client of it.
 use catalog::Config;
 use mseed_header::{ByteOrder, Fields, make};
 use server_core::{Client, Server};

@@ -1,14 +1,7 @@
 //! Headers of records.
+use crate::centre::record_of;
 use mseed_header::{Header, RecordFault};
-
-/// A record of GE APE, BHZ, of 2024-02-29T00:00:00, with 100 samples at 100 a second.
-pub fn sample() -> [u8; 512] {
-    let head =
-        *b"000001D APE    BHZGE\x07\xe8\x00\x3c\x00\x00\x00\x00\x00\x00\x00\x64\x00\x64\x00\x01\x00\x00\x00\x01\x00\x00\x00\x00\x00\x40\x00\x30\x03\xe8\x00\x00\x0b\x01\x09\x00";
-    let mut record = [0; 512];
-    record[..56].copy_from_slice(&head);
-    record
-}
+use std::alloc::Global;
 
 /// A number for each header, of all that it says.
 fn told(read: Result<Header<'_>, RecordFault>) -> u64 {
@@ -28,8 +21,8 @@ fn told(read: Result<Header<'_>, RecordFault>) -> u64 {
 
 /// Goes over four records, of which the last sum picks the next one and changes another, so that none is known
 /// before it is read.
-pub fn read_headers(rounds: u32) -> u64 {
-    let mut records = [sample(); 4];
+pub fn read_headers(alloc: Global, rounds: u32) -> anyhow::Result<u64> {
+    let mut records = [record_of(alloc, 0, b"BHZ")?; 4];
     let mut sum: u64 = 0;
     for _ in 0..rounds {
         let place = (sum % 4) as usize;
@@ -37,5 +30,5 @@ pub fn read_headers(rounds: u32) -> u64 {
         records[(place + 2) % 4][10] = 65 + (sum % 26) as u8;
         sum = sum.wrapping_mul(3) ^ told(mseed_header::read(&records[place]));
     }
-    sum
+    Ok(sum)
 }

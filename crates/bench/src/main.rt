@@ -66,10 +66,10 @@ fn sum_of_reading(
         ("command", [rounds]) => Ok(lines::read_commands(line, *rounds)),
         ("lines", [rounds]) => Ok(lines::cut_lines(line, *rounds)),
         ("number", [rounds]) => Ok(lines::count_on(*rounds)),
-        ("header", [rounds]) => Ok(headers::read_headers(*rounds)),
+        ("header", [rounds]) => headers::read_headers(alloc, *rounds),
         ("selectors", [rounds]) => pools::ask_alone(alloc, *rounds),
         ("pool", [rounds]) => pools::ask_full(alloc, *rounds),
-        ("listing", [rounds]) => reading::list_packets(alloc, &headers::sample(), *rounds),
+        ("listing", [rounds]) => reading::list_packets(alloc, *rounds),
         _ => return None,
     };
     Some(sum)

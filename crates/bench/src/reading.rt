@@ -1,4 +1,5 @@
 //! A reader over memory: packets are read, cut out and listed.
+use crate::centre::record_of;
 use packet_listing::{Nowhere, read_over};
 use sl_io::{MemorySink, MemorySource};
 use sl_packet::{Seq, frame};
@@ -25,8 +26,9 @@ fn sent(alloc: Global, record: &[u8; 512], packets: u32) -> anyhow::Result<Vec<u
 }
 
 /// Lists so many packets, and answers how many bytes the lines have.
-pub fn list_packets(alloc: Global, record: &[u8; 512], packets: u32) -> anyhow::Result<u64> {
-    let sent = sent(alloc, record, packets)?;
+pub fn list_packets(alloc: Global, packets: u32) -> anyhow::Result<u64> {
+    let record = record_of(alloc, 0, b"BHZ")?;
+    let sent = sent(alloc, &record, packets)?;
     let mut wants = Vec::new(alloc);
     wants.push(Want::parse(alloc, b"GE_WLF", true)?)?;
     let mut reader = MemorySource::in_pieces(&sent, PIECE);

@@ -1,5 +1,5 @@
--- The search finds this by itself. It is written down since the prover takes two minutes to offer an answer where there is
--- none, which a wrong body would wait for.
+-- The search finds this by itself. It is written down since the prover takes two minutes to offer an answer where
+-- there is none, which a wrong body would wait for.
 use Rattle.std.proofs.Common.{rules}
 use Rattle.jobs.proofs.statuses.obey.Goals as goal
 
