@@ -11,7 +11,7 @@ use Rattle.protocol.specs.Alone.{OwnEvent, alone, address_of, own_view, cons_if,
 use Rattle.protocol.specs.Alone.{seen, handed_to, restricted, with_new, all_restricted, reloads_accepted}
 use Rattle.protocol.specs.Alone.{KeepsVisible, configs_in_force}
 use Rattle.protocol.specs.Alone.OwnEvent.{Arrives, OwnCut}
-use Rattle.protocol.proofs.FoundLemmas.{both, filter-filter}
+use Rattle.protocol.proofs.FoundLemmas.{both}
 use Rattle.protocol.proofs.Configs.{same_configured, reloaded_where, reloaded_not}
 use Rattle.protocol.proofs.OfferChains.{contains_here, contains_there}
 use Rattle.protocol.proofs.AloneLemmas.{isolated}
@@ -167,11 +167,23 @@ same_view config config' events k same accepted =
     (own_configured config' events k) is (rw (all_as_they_are events) accepted) (λ c there. refl) in
     alike config config' events events k k same (rw same (rw (all_as_they_are events) at seen_there))
 
+-- what passes the second test is the same where the first keeps each element that does
+filter_kept : (keep test : Entry → Bool) (es : List Entry)
+    → ((e : Entry) → Contains es e → test e ≡ true → keep e ≡ true) → filter test (filter keep es) ≡ filter test es
+filter_kept keep test [] keeps = refl
+filter_kept keep test (e ∷ es) keeps =
+    let rest = filter_kept keep test es (λ x there. keeps x (contains_there e es x there)) in
+    both (keep e)
+    (λ y. rw (y, rest))
+    (λ n. both (test e)
+    (λ y. absurd (true≢false (sym (keeps e (contains_here e es) y) ∙ n)))
+    (λ m. rw (n, m, rest)))
+
 view_restricted : (config : Config) (keep : Entry → Bool) (a : ℕ)
-    → ((e : Entry) → sees e.access config.access a ≡ true → keep e ≡ true)
+    → ((e : Entry) → Contains config.entries e → sees e.access config.access a ≡ true → keep e ≡ true)
     → view_of (restricted keep config) a ≡ view_of config a
 view_restricted config keep a keeps =
-    rw (filter-filter keep (λ e. sees e.access config.access a) (λ e seen. keeps e seen) config.entries)
+    rw (filter_kept keep (λ e. sees e.access config.access a) config.entries keeps)
 
 address_restricted : (keep : Entry → Bool) (es : List Event) (k : ℕ)
     → address_of (all_restricted keep es) k ≡ address_of es k
@@ -216,7 +228,7 @@ module _ (keep : Entry → Bool) where
   own_same : (es : List Event) → SameOwn es
   own_same [] config k hidden accepted = refl
   own_same (Open a ∷ es) config zero hidden accepted =
-      view_restricted config keep a (λ e seen. hidden config a e (first_in_force config es) refl seen)
+      view_restricted config keep a (λ e in_it seen. hidden config a e (first_in_force config es) in_it refl seen)
   own_same (Open a ∷ es) config (suc k) hidden accepted = own_same es config k hidden accepted
   own_same (Bytes j bytes ∷ es) config k hidden accepted = own_same es config k hidden accepted
   own_same (Take j count ∷ es) config k hidden accepted = own_same es config k hidden accepted
@@ -229,7 +241,7 @@ module _ (keep : Entry → Bool) where
       → has_view (restricted keep c) from v ≡ has_view c from v
   same_sight config es k v hidden c there None e = refl
   same_sight config es k v hidden c there (Some a) e =
-      ap (λ w. is_same_view w v) (view_restricted c keep a (λ x seen. hidden c a x there e seen))
+      ap (λ w. is_same_view w v) (view_restricted c keep a (λ x in_it seen. hidden c a x there in_it e seen))
 
 -- a server without stations that the client doesn't see under any configuration in force
 pub without_hidden : (config : Config) (keep : Entry → Bool) (events : List Event) (k : ℕ)
