@@ -1,10 +1,13 @@
-//! Bytes of a feed that were read ahead of whoever takes them.
+//! Bytes of feeds that were read ahead of whoever takes them.
 ghost use Rattle.std.specs.Prelude.{length, ◌≤◌};
 
 use std::alloc::{AllocError, Global};
 
 /// How many bytes are read ahead at most.
 const BLOCK: usize = 65_536;
+
+/// How many feeds are read ahead: as many as a loop lets be open.
+const FEEDS: usize = 16;
 
 /// Bytes that were read and not taken yet.
 #[derive(Drop)]
@@ -16,7 +19,7 @@ pub struct Ahead {
 }
 
 impl Ahead {
-    pub fn new(alloc: Global) -> Result<Ahead, AllocError> {
+    fn new(alloc: Global) -> Result<Ahead, AllocError> {
         Ok(Ahead {
             bytes: Vec::from_elem(alloc, 0u8, BLOCK)?,
             start: 0,
@@ -45,5 +48,34 @@ impl Ahead {
     pub fn came(&mut self, count: usize) {
         self.start = 0;
         self.end = count;
+    }
+}
+
+/// The room to read ahead that no feed has now. All of it is made at the start. A feed has some from its first read on,
+/// so that one that is turned away unread costs none.
+#[derive(Drop)]
+pub struct AheadPool {
+    free: Vec<Ahead>,
+}
+
+impl AheadPool {
+    pub fn new(alloc: Global) -> Result<AheadPool, AllocError> {
+        let mut free = Vec::with_capacity(alloc, FEEDS)?;
+        for _ in 0..FEEDS {
+            free.push(Ahead::new(alloc)?)?;
+        }
+        Ok(AheadPool { free })
+    }
+
+    /// Room to read ahead; none while sixteen feeds have some.
+    pub fn lend(&mut self) -> Option<Ahead> {
+        self.free.pop()
+    }
+
+    /// A feed is over, and what was read ahead of it is dropped.
+    pub fn take_back(&mut self, mut ahead: Ahead) {
+        ahead.came(0);
+        // There is room for all that were lent.
+        let _ = self.free.push(ahead);
     }
 }

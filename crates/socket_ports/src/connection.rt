@@ -1,10 +1,16 @@
 //! A connection with the bytes that it took and has not sent, and those of a feed that were read ahead.
-ghost use Rattle.std.specs.Prelude.{◌≡◌, ◌<◌, ◌≤◌, length};
+ghost use Rattle.std.specs.Prelude.{◌≡◌, ◌<◌, ◌≤◌, ◌↔◌, IsTrue, Ok, length};
 ghost use Rattle.ports.specs.Calls.{IsGiven, IsTaken};
+ghost use Rattle.socket_ports.specs.Ends.{IsNoted};
+ghost use Rattle.socket_ports.specs.Reads.{IsOver, ReadsBy};
 ghost use Rattle.socket_ports.specs.Receipts.{IsReceived, IsSent};
+ghost use Rattle.socket_ports.specs.declared.listeners.Kind.TheVariants.{Client};
 
-use crate::ahead::Ahead;
+use crate::ahead::{Ahead, AheadPool};
+use crate::listeners::Kind;
+use crate::peer_end::PeerEnd;
 use crate::pool::{Pool, ROOM};
+use crate::ration::Ration;
 use mio::net::TcpStream;
 use ports::{Got, PortFault, Put};
 use std::io::{ErrorKind, Read, Write};
@@ -29,7 +35,16 @@ enum Sent {
     Failed,
 }
 
-/// What happened to a connection: which of its calls are worth making again.
+/// What happened to a connection.
+#[derive(Clone, Copy, Drop)]
+pub struct Readiness {
+    pub is_readable: bool,
+    /// The peer sends no more, or the connection failed.
+    pub is_over: bool,
+    pub is_writable: bool,
+}
+
+/// Which calls of a connection are worth making again.
 #[derive(Clone, Copy, Drop)]
 pub struct Marks {
     pub readable: bool,
@@ -39,24 +54,27 @@ pub struct Marks {
 #[derive(Drop)]
 pub struct Connection {
     pub number: u64,
+    pub kind: Kind,
     stream: TcpStream,
     /// Bytes that were taken and are not sent yet; a buffer is here only while there are some.
-    unsent: Option<Vec<u8>>,
+    pub unsent: Option<Vec<u8>>,
     /// Bytes of a feed that were read ahead.
     ahead: Option<Ahead>,
+    /// How much of a client's bytes was given since the last poll.
+    pub ration: Ration,
+    /// The end of what a client sends.
+    pub end: PeerEnd,
     /// The system takes no more for now.
     is_full: bool,
     /// A write was answered Later, and Writable was not told since.
-    owes_writable: bool,
+    pub owes_writable: bool,
     /// All that the system had was read.
     is_drained: bool,
     /// The peer sends no more.
     is_over: bool,
     has_failed: bool,
-    /// The bytes are to be sent at the next hearing.
-    is_gathered: bool,
-    /// Bytes were taken, now or before.
-    has_taken: bool,
+    /// It is told after the next poll.
+    is_listed: bool,
 }
 
 /// Reads once.
@@ -98,21 +116,23 @@ fn send(stream: &TcpStream, bytes: &[u8]) -> Sent
 }
 
 impl Connection {
-    pub fn new(number: u64, stream: TcpStream, ahead: Option<Ahead>) -> Connection
+    pub fn new(number: u64, kind: Kind, stream: TcpStream) -> Connection
         ensures { result.number ≡ number }
     {
         Connection {
             number,
+            kind,
             stream,
             unsent: None,
-            ahead,
+            ahead: None,
+            ration: Ration::new(),
+            end: PeerEnd::new(),
             is_full: false,
             owes_writable: false,
             is_drained: false,
             is_over: false,
             has_failed: false,
-            is_gathered: false,
-            has_taken: false,
+            is_listed: false,
         }
     }
 
@@ -120,35 +140,104 @@ impl Connection {
         &self.stream
     }
 
-    /// An event came. What waits is sent as far as the system takes it.
-    pub fn mark(&mut self, readable: bool, over: bool, writable: bool, pool: &mut Pool) -> Marks
+    /// An event came, after so many polls. What waits is sent as far as the system takes it.
+    pub fn mark(&mut self, event: Readiness, polls: u64, pool: &mut Pool) -> Marks
         ensures { self.new.number ≡ self.old.number }
     {
-        if readable || over {
+        let comes = event.is_readable || event.is_over;
+        if comes {
             self.is_drained = false;
         }
-        self.is_over = self.is_over || over;
-        if writable {
-            self.is_full = false;
-            self.flush(pool);
+        self.is_over = self.is_over || event.is_over;
+        if event.is_writable && self.resume(pool) > 0 {
+            self.end.note_move(polls);
         }
-        let told = writable && self.owes_writable && !self.is_full;
+        let told = event.is_writable && self.owes_writable && !self.is_full;
         if told {
             self.owes_writable = false;
         }
         Marks {
-            readable: readable || over || self.has_failed,
+            readable: comes || self.has_failed || self.end.is_found(),
             writable: told,
         }
     }
 
-    pub fn read(&mut self, buffer: &mut [u8]) -> Result<Got, PortFault>
+    /// Reads after so many polls. A client's connection gives no more than its ration, and its end only once nothing
+    /// moved to it from one poll to the next. A feed's is read ahead, from its first read on.
+    pub fn read(
+        &mut self,
+        buffer: &mut [u8],
+        polls: u64,
+        aheads: &mut AheadPool,
+    ) -> Result<Got, PortFault>
         requires { 0 < length buffer.old }
         ensures given { IsGiven result (length buffer.new) }
+        ensures by { ReadsBy self.old.kind polls self.old self.new result }
         ensures number { self.new.number ≡ self.old.number }
     {
         if self.has_failed {
             return Err(PortFault);
+        }
+        match self.kind {
+            Kind::Client => self.read_client(buffer, polls),
+            Kind::Feed => self.read_feed(buffer, aheads),
+        }
+    }
+
+    fn read_client(&mut self, buffer: &mut [u8], polls: u64) -> Result<Got, PortFault>
+        requires { 0 < length buffer.old }
+        ensures given { IsGiven result (length buffer.new) }
+        ensures by { ReadsBy Client polls self.old self.new result }
+        ensures number { self.new.number ≡ self.old.number }
+    {
+        let most = self.ration.left(polls).min(buffer.len());
+        if most == 0 || self.has_nothing() {
+            return Ok(Got::Later);
+        }
+        let receipt = receive(&self.stream, &mut buffer[..most]);
+        self.is_drained = is_short(receipt, most);
+        match receipt {
+            Receipt::Bytes(count) => {
+                self.ration.give(polls, count);
+                Ok(Got::Bytes(count))
+            }
+            Receipt::Later => Ok(Got::Later),
+            Receipt::Closed => Ok(self.find_end(polls)),
+            Receipt::Failed => Err(PortFault),
+        }
+    }
+
+    /// The system has nothing more to be read, and no end.
+    fn has_nothing(&self) -> bool {
+        self.is_drained && !self.is_over
+    }
+
+    /// The client sends no more. Whether that is told already.
+    fn find_end(&mut self, polls: u64) -> Got
+        ensures given { IsGiven (Ok result) 0 }
+        ensures by { ReadsBy Client polls self.old self.new (Ok result) }
+        ensures number { self.new.number ≡ self.old.number }
+    {
+        if self.is_finished(polls) {
+            return Got::Closed;
+        }
+        self.end.find(polls);
+        Got::Later
+    }
+
+    fn is_finished(&self, polls: u64) -> bool
+        ensures { IsTrue result ↔ IsOver self.now polls }
+    {
+        self.unsent.is_none() && !self.owes_writable && self.end.is_past(polls)
+    }
+
+    fn read_feed(&mut self, buffer: &mut [u8], aheads: &mut AheadPool) -> Result<Got, PortFault>
+        requires { 0 < length buffer.old }
+        ensures given { IsGiven result (length buffer.new) }
+        ensures number { self.new.number ≡ self.old.number }
+    {
+        if self.ahead.is_none() {
+            self.ahead = aheads.lend();
         }
         if let Some(ahead) = &mut self.ahead {
             let count = ahead.take(buffer);
@@ -156,10 +245,10 @@ impl Connection {
                 return Ok(Got::Bytes(count));
             }
         }
-        if self.is_drained && !self.is_over {
+        if self.has_nothing() {
             return Ok(Got::Later);
         }
-        match self.receive(buffer) {
+        match self.receive_ahead(buffer) {
             Receipt::Bytes(count) => Ok(Got::Bytes(count)),
             Receipt::Later => Ok(Got::Later),
             Receipt::Closed => Ok(Got::Closed),
@@ -168,7 +257,7 @@ impl Connection {
     }
 
     /// Reads once from the system, and as far ahead as there is room for.
-    fn receive(&mut self, buffer: &mut [u8]) -> Receipt
+    fn receive_ahead(&mut self, buffer: &mut [u8]) -> Receipt
         requires { 0 < length buffer.old }
         ensures received { IsReceived result (length buffer.new) }
         ensures number { self.new.number ≡ self.old.number }
@@ -201,8 +290,22 @@ impl Connection {
         }
     }
 
-    /// Takes bytes, which are sent later, or at once where there is no buffer for them.
-    pub fn write(&mut self, bytes: &[u8], pool: &mut Pool) -> Result<Put, PortFault>
+    /// Takes bytes, after so many polls. They are sent later, or at once if there is no buffer for them.
+    pub fn write(&mut self, bytes: &[u8], polls: u64, pool: &mut Pool) -> Result<Put, PortFault>
+        ensures taken { IsTaken result (length bytes.now) }
+        ensures moved { IsNoted result self.new.end polls }
+        ensures number { self.new.number ≡ self.old.number }
+    {
+        let put = self.take(bytes, pool);
+        match put {
+            Ok(Put::Took(_)) => self.end.note_move(polls),
+            Ok(Put::Later) => self.owes_writable = true,
+            Err(PortFault) => {}
+        }
+        put
+    }
+
+    fn take(&mut self, bytes: &[u8], pool: &mut Pool) -> Result<Put, PortFault>
         ensures taken { IsTaken result (length bytes.now) }
         ensures number { self.new.number ≡ self.old.number }
     {
@@ -224,10 +327,8 @@ impl Connection {
         let room = ROOM - unsent.len().min(ROOM);
         let count = room.min(bytes.len());
         if count == 0 || unsent.extend_from_slice(&bytes[..count]).is_err() {
-            self.owes_writable = true;
             return Ok(Put::Later);
         }
-        self.has_taken = true;
         Ok(Put::Took(count))
     }
 
@@ -241,10 +342,8 @@ impl Connection {
             return Err(PortFault);
         }
         if count == 0 {
-            self.owes_writable = true;
             return Ok(Put::Later);
         }
-        self.has_taken = true;
         Ok(Put::Took(count))
     }
 
@@ -269,25 +368,35 @@ impl Connection {
         }
     }
 
-    /// Sends what waits, as far as the system takes it. A failure is told by the next read or write.
-    pub fn flush(&mut self, pool: &mut Pool)
+    /// The system takes bytes again. How many of those that wait it took.
+    pub fn resume(&mut self, pool: &mut Pool) -> usize
+        ensures { self.new.number ≡ self.old.number }
+    {
+        self.is_full = false;
+        self.flush(pool)
+    }
+
+    /// Sends what waits, as far as the system takes it, and answers how many bytes went. A failure is told by the next
+    /// read or write.
+    pub fn flush(&mut self, pool: &mut Pool) -> usize
         ensures { self.new.number ≡ self.old.number }
     {
         if self.is_full || self.has_failed {
-            return;
+            return 0;
         }
         let Some(mut unsent) = self.unsent.take() else {
-            return;
+            return 0;
         };
         let count = self.send(unsent.as_slice());
         if count >= unsent.len() {
             pool.take_back(unsent);
-            return;
+            return count;
         }
         let left = unsent.len() - count;
         unsent.as_mut_slice().copy_within(count.., 0);
         unsent.truncate(left);
         self.unsent = Some(unsent);
+        count
     }
 
     pub fn unsent_count(&self) -> usize {
@@ -297,23 +406,40 @@ impl Connection {
         }
     }
 
-    /// Whether bytes wait that nothing will send: from now on the next hearing does.
-    pub fn gather(&mut self) -> bool
-        ensures { self.new.number ≡ self.old.number }
-    {
-        if self.is_gathered || self.is_full || self.unsent.is_none() {
-            return false;
-        }
-        self.is_gathered = true;
-        true
+    /// Whether bytes wait that nothing will send but the next port's turn.
+    pub fn has_gathered(&self) -> bool {
+        self.unsent.is_some() && !self.is_full
     }
 
-    /// The bytes that were gathered are sent.
-    pub fn send_gathered(&mut self, pool: &mut Pool)
+    /// Whether bytes wait until the system takes more.
+    fn is_stuck(&self) -> bool {
+        self.owes_writable || (self.is_full && self.unsent.is_some())
+    }
+
+    /// Whether there may be more to be read after the next poll, though nothing new comes: what is beyond the ration, a
+    /// failure, or an end that was not told.
+    pub fn is_due(&self, polls: u64) -> bool {
+        self.has_failed
+            || (self.ration.left(polls) == 0 && !self.has_nothing())
+            || (self.end.is_found() && !self.is_stuck())
+    }
+
+    /// Whether it is told after the next poll.
+    pub fn is_listed(&self) -> bool {
+        self.is_listed
+    }
+
+    pub fn set_listed(&mut self, is_listed: bool)
         ensures { self.new.number ≡ self.old.number }
     {
-        self.is_gathered = false;
-        self.flush(pool);
+        self.is_listed = is_listed;
+    }
+
+    /// The room to read ahead, if it has some. What was read ahead is dropped.
+    pub fn take_ahead(&mut self) -> Option<Ahead>
+        ensures { self.new.number ≡ self.old.number }
+    {
+        self.ahead.take()
     }
 
     pub fn has_failed(&self) -> bool {
@@ -321,7 +447,7 @@ impl Connection {
     }
 
     pub fn has_taken(&self) -> bool {
-        self.has_taken
+        self.end.has_moved()
     }
 }
 

@@ -1,16 +1,22 @@
 //! Ports over sockets: clients and feeds that connect over TCP, by `mio`.
 //!
 //! What is written to a port is gathered and goes out in large pieces, and feeds are read ahead, so that a loop that
-//! handles one packet and one record at a time makes few system calls. What sockets carry is in no contract.
+//! handles one packet and one record at a time makes few system calls. How many ports join and how much a client gives
+//! between two polls is limited, so that no client keeps the others waiting. What sockets carry is in no contract.
 #![tactic(auto)]
 
 mod ahead;
 mod connection;
 mod fault;
+mod joins;
 mod lingering;
 mod listeners;
+mod listing;
 mod mio_ports;
+mod options;
+mod peer_end;
 mod pool;
+mod ration;
 mod sockets;
 
 pub use fault::{ListenError, ListenFault};

@@ -53,8 +53,8 @@ impl Lingering {
         }
     }
 
-    /// An event came of one of them.
-    pub fn mark(&mut self, number: u64, over: bool, writable: bool, pool: &mut Pool) {
+    /// An event came of one of them. The system may take bytes again.
+    pub fn mark(&mut self, number: u64, is_writable: bool, pool: &mut Pool) {
         let Some(at) = self
             .endings
             .iter()
@@ -65,7 +65,9 @@ impl Lingering {
         let Some(ending) = self.endings.get_mut(at) else {
             return;
         };
-        let _ = ending.connection.mark(true, over, writable, pool);
+        if is_writable {
+            let _ = ending.connection.resume(pool);
+        }
         if !stays(ending, pool) && at < self.endings.len() {
             let _gone = self.endings.remove(at);
         }
@@ -85,7 +87,7 @@ impl Lingering {
 /// what it sends is passed over: a connection that is closed with bytes unread would lose those that are on their way
 /// to the peer.
 fn stays(ending: &mut Ending, pool: &mut Pool) -> bool {
-    ending.connection.flush(pool);
+    let _ = ending.connection.flush(pool);
     if ending.connection.has_failed() {
         return false;
     }

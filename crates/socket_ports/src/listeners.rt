@@ -1,5 +1,9 @@
 //! The two sockets that are listened on: one for clients and one for feeds.
+ghost use Rattle.std.specs.Prelude.{◌≡◌, ◌<◌, ◌^◌};
+ghost use Rattle.socket_ports.specs.Doors.{GivesOf, IfConnection, PassesOver, TakesTurns, listener_of, other_kind};
+
 use crate::fault::ListenError;
+use crate::options::set_options;
 use mio::net::{TcpListener, TcpStream};
 use mio::{Interest, Poll, Token};
 use std::io;
@@ -19,7 +23,7 @@ pub enum Kind {
 /// What came of taking a connection.
 #[derive(Drop)]
 pub enum Accepted {
-    Connection(TcpStream, SocketAddr),
+    Connection(Kind, TcpStream, SocketAddr),
     /// None waits.
     Nothing,
     /// One waits, and the system has no descriptor or no memory for it now.
@@ -27,23 +31,56 @@ pub enum Accepted {
 }
 
 #[derive(Drop)]
-struct Listener {
+pub struct Listener {
     socket: TcpListener,
     /// Connections may wait to be taken.
-    is_ready: bool,
+    pub is_ready: bool,
 }
 
 #[derive(Drop)]
 pub struct Listeners {
-    clients: Listener,
-    feeds: Listener,
+    pub clients: Listener,
+    pub feeds: Listener,
+    /// Whose connection is taken next, if one waits.
+    pub first: Kind,
 }
 
-/// Under which token each is registered. Ports have smaller numbers.
-pub fn token_of(kind: Kind) -> usize {
+/// The number above those of all ports.
+pub const LAST: u64 = (1 << 63) - 1;
+
+/// What an event came of.
+#[derive(Clone, Copy, Drop)]
+pub enum Origin {
+    Listener(Kind),
+    Port(u64),
+}
+
+/// The token under which a port is registered. The sockets that are listened on have those of the last number.
+pub fn token_of(number: u64, kind: Kind) -> Token
+    requires { number < 2 ^ 63 }
+{
     match kind {
-        Kind::Client => usize::MAX,
-        Kind::Feed => usize::MAX - 1,
+        Kind::Client => Token((number * 2) as usize),
+        Kind::Feed => Token((number * 2 + 1) as usize),
+    }
+}
+
+/// Of whom a token is.
+pub fn kind_of(token: Token) -> Kind {
+    if token.0 % 2 == 0 {
+        Kind::Client
+    } else {
+        Kind::Feed
+    }
+}
+
+/// What a token is of.
+pub fn origin_of(token: Token) -> Origin {
+    let number = (token.0 / 2) as u64;
+    if number == LAST {
+        Origin::Listener(kind_of(token))
+    } else {
+        Origin::Port(number)
     }
 }
 
@@ -54,8 +91,9 @@ fn listen_on(
     kind: Kind,
 ) -> io::Result<Listener> {
     let mut socket = TcpListener::bind(rt, SocketAddr::V4(address))?;
+    set_options(&socket)?;
     poll.registry()
-        .register(&mut socket, Token(token_of(kind)), Interest::READABLE)?;
+        .register(&mut socket, token_of(LAST, kind), Interest::READABLE)?;
     Ok(Listener {
         socket,
         is_ready: true,
@@ -66,14 +104,28 @@ fn port_of(listener: &Listener) -> io::Result<u16> {
     Ok(listener.socket.local_addr()?.port())
 }
 
+impl Kind {
+    /// The other one.
+    fn other(self) -> Kind
+        ensures { result ≡ other_kind self }
+    {
+        match self {
+            Kind::Client => Kind::Feed,
+            Kind::Feed => Kind::Client,
+        }
+    }
+}
+
 impl Listener {
-    fn accept(&mut self) -> Accepted {
+    fn accept(&mut self, kind: Kind) -> Accepted
+        ensures { GivesOf kind self.new result }
+    {
         if !self.is_ready {
             return Accepted::Nothing;
         }
         for _ in 0..ABORTED {
             match self.socket.accept() {
-                Ok((stream, address)) => return Accepted::Connection(stream, address),
+                Ok((stream, address)) => return Accepted::Connection(kind, stream, address),
                 Err(error) => match error.kind() {
                     ErrorKind::ConnectionAborted => {}
                     ErrorKind::Interrupted => {}
@@ -98,7 +150,11 @@ impl Listeners {
     ) -> Result<Listeners, ListenError> {
         let clients = listen_on(rt, poll, clients, Kind::Client).map_err(ListenError::Clients)?;
         let feeds = listen_on(rt, poll, feeds, Kind::Feed).map_err(ListenError::Feeds)?;
-        Ok(Listeners { clients, feeds })
+        Ok(Listeners {
+            clients,
+            feeds,
+            first: Kind::Client,
+        })
     }
 
     /// The ports that are listened on, for clients and for feeds.
@@ -116,11 +172,40 @@ impl Listeners {
         }
     }
 
-    /// The next connection of a kind.
-    pub fn accept(&mut self, kind: Kind) -> Accepted {
+    /// The next connection. Clients and feeds take turns, so that none of them waits for all of the others.
+    pub fn accept(&mut self) -> Accepted
+        ensures { TakesTurns self.old self.new result }
+    {
+        match self.accept_in_turn() {
+            Accepted::Connection(kind, stream, address) => {
+                self.first = kind.other();
+                Accepted::Connection(kind, stream, address)
+            }
+            Accepted::Nothing => Accepted::Nothing,
+            Accepted::Refused => Accepted::Refused,
+        }
+    }
+
+    /// The next connection of the kind whose turn it is, or else of the other one.
+    fn accept_in_turn(&mut self) -> Accepted
+        ensures passes_over { IfConnection result (PassesOver self.new self.old.first) }
+        ensures first { self.new.first ≡ self.old.first }
+    {
+        let first = self.first;
+        match self.accept_of(first) {
+            Accepted::Nothing => self.accept_of(first.other()),
+            accepted => accepted,
+        }
+    }
+
+    fn accept_of(&mut self, kind: Kind) -> Accepted
+        ensures gives { GivesOf kind (listener_of self.new kind) result }
+        ensures other { listener_of self.new (other_kind kind) ≡ listener_of self.old (other_kind kind) }
+        ensures first { self.new.first ≡ self.old.first }
+    {
         match kind {
-            Kind::Client => self.clients.accept(),
-            Kind::Feed => self.feeds.accept(),
+            Kind::Client => self.clients.accept(kind),
+            Kind::Feed => self.feeds.accept(kind),
         }
     }
 }

@@ -3,6 +3,7 @@ ghost use Rattle.std.specs.Prelude.{◌≡◌, ◌<◌, [], ◌∷◌, length, N
 ghost use Rattle.sl_io.specs.Counts.{CountsFailure};
 ghost use Rattle.ports.specs.Calls.{Tells, given, IsGiven, IsTaken};
 ghost use Rattle.ports.specs.Calls.Call.{Next, Read, Write, Shut};
+ghost use Rattle.socket_ports.specs.Doors.{RationsJoins};
 ghost use Rattle.socket_ports.specs.Numbers.{TellsOpenPorts, numbers};
 
 use crate::fault::ListenError;
@@ -61,12 +62,14 @@ impl Ports for MioPorts {
     ghost failures = { λ s. s.failures };
 
     /// What happened next. A new port has a number that no port had before: the count of those that joined, which no
-    /// other call changes. Readable and Writable are told of open ports alone.
+    /// other call changes. Readable and Writable are told of open ports alone. At most sixteen ports join between two polls.
     fn next(&mut self) -> Result<Happening, PortFault>
         ensures call { Tells None None (Next result ∷ []) }
         ensures failure { CountsFailure self.old.failures self.new.failures result }
         ensures numbers { TellsOpenPorts self.old.sockets.joined self.new.sockets.joined
             (numbers self.new.sockets.connections.items) result }
+        ensures rationed { RationsJoins self.old.sockets.polls self.old.sockets.joins.count
+            self.new.sockets.polls self.new.sockets.joins.count result }
     {
         let answer = self.sockets.next();
         if answer.is_err() {

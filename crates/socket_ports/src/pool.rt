@@ -1,27 +1,33 @@
-//! Buffers for bytes that wait to be sent. A port has one only while it holds something, so that ports that are idle
-//! hold none.
-use std::alloc::Global;
+//! Buffers for bytes that wait to be sent. A port has one only while it holds something. What was gathered for one port
+//! is sent before another one's turn, so that a single buffer serves all ports whose sockets take everything.
+ghost use Rattle.std.specs.Prelude.{◌≡◌, ◌≤◌, [], IfOk, length};
+
+use std::alloc::{AllocError, Global};
 
 /// How many bytes a buffer holds: 64 packets, as many as a server hands to a port in a turn, so that one write sends
 /// them.
 pub const ROOM: usize = 33_280;
+
+/// How many buffers are kept at most that no port has.
+const FREE: usize = 16;
 
 /// Buffers that no port has now.
 #[derive(Drop)]
 pub struct Pool {
     alloc: Global,
     free: Vec<Vec<u8>>,
+    ghost few: { length free.items ≤ 16 },
 }
 
 impl Pool {
-    pub fn new(alloc: Global) -> Pool {
-        Pool {
+    pub fn new(alloc: Global) -> Result<Pool, AllocError> {
+        Ok(Pool {
             alloc,
-            free: Vec::new(alloc),
-        }
+            free: Vec::with_capacity(alloc, FREE)?,
+        })
     }
 
-    /// An empty buffer; none where there is no memory for one.
+    /// An empty buffer, or none if there is no memory for one.
     pub fn lend(&mut self) -> Option<Vec<u8>> {
         if let Some(buffer) = self.free.pop() {
             return Some(buffer);
@@ -29,10 +35,13 @@ impl Pool {
         Vec::with_capacity(self.alloc, ROOM).ok()
     }
 
-    /// Takes a buffer back.
+    /// Takes a buffer back. Beyond 16 it is dropped.
     pub fn take_back(&mut self, mut buffer: Vec<u8>) {
+        if self.free.len() >= FREE {
+            return;
+        }
         buffer.clear();
-        // Where there is no memory to keep it, it is dropped.
+        // There is room for it.
         let _ = self.free.push(buffer);
     }
 }

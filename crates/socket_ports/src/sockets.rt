@@ -2,17 +2,20 @@
 ghost use Rattle.std.specs.Prelude.{◌≡◌, ◌<◌, ◌+◌, Err, IfErr, IfNone, IfSome, Ok, OnOk, length, true};
 ghost use Rattle.std.specs.List.{Contains};
 ghost use Rattle.ports.specs.Calls.{IsGiven, IsTaken};
+ghost use Rattle.socket_ports.specs.Doors.{IsPolled, RationsJoins, joins_by};
 ghost use Rattle.socket_ports.specs.Numbers.{TellsOpenPorts, numbers};
 
-use crate::ahead::Ahead;
-use crate::connection::{Connection, Marks};
+use crate::ahead::AheadPool;
+use crate::connection::{Connection, Marks, Readiness};
 use crate::fault::ListenError;
+use crate::joins::Joins;
 use crate::lingering::Lingering;
-use crate::listeners::{Accepted, Kind, Listeners, token_of};
+use crate::listeners::{Accepted, Kind, LAST, Listeners, Origin, kind_of, origin_of, token_of};
+use crate::listing::Listing;
 use crate::pool::Pool;
 use mio::event::Event;
 use mio::net::TcpStream;
-use mio::{Events, Interest, Poll, Token};
+use mio::{Events, Interest, Poll};
 use ports::{Got, Happening, PortFault, Put};
 use std::alloc::Global;
 use std::net::{Ipv4Addr, Net, SocketAddr, SocketAddrV4};
@@ -29,9 +32,10 @@ const LAST_POLLS: u8 = 50;
 
 #[derive(Drop)]
 pub struct Sockets {
-    alloc: Global,
     poll: Poll,
     events: Events,
+    /// How many polls were made.
+    pub polls: u64,
     /// The events of the last poll that were not answered yet.
     happened: Vec<Event>,
     /// The events of the last poll are being answered.
@@ -40,17 +44,20 @@ pub struct Sockets {
     is_busy: bool,
     listeners: Listeners,
     /// How many ports joined: the number of the next one.
-    joined: u64,
+    pub joined: u64,
+    /// How many of them did since the last poll.
+    pub joins: Joins,
     /// By rising number.
-    connections: Vec<Connection>,
+    pub connections: Vec<Connection>,
     /// The place at which a connection was found last. A loop asks for one port many times, and then for another.
     near: usize,
     lingering: Lingering,
     pool: Pool,
-    /// The ports whose bytes are to be sent at the next hearing.
-    gathered: Vec<u64>,
-    /// Ports at which sending failed.
-    failed: Vec<u64>,
+    aheads: AheadPool,
+    /// The port whose bytes are sent when the next one has its turn.
+    gathering: Option<u64>,
+    /// The ports that are told readable though no event comes of them.
+    listing: Listing,
     /// A port that is to be told writable next.
     writable: Option<u64>,
 }
@@ -98,23 +105,27 @@ impl Sockets {
     ) -> Result<Sockets, ListenError> {
         let events = Events::with_capacity(alloc, EVENTS).map_err(|_| ListenError::OutOfMemory)?;
         let happened = Vec::with_capacity(alloc, EVENTS).map_err(|_| ListenError::OutOfMemory)?;
+        let pool = Pool::new(alloc).map_err(|_| ListenError::OutOfMemory)?;
+        let aheads = AheadPool::new(alloc).map_err(|_| ListenError::OutOfMemory)?;
         let poll = Poll::new(rt).map_err(ListenError::Clients)?;
         let listeners = Listeners::listen(rt, &poll, clients, feeds)?;
         Ok(Sockets {
-            alloc,
             poll,
             events,
+            polls: 0,
             happened,
             is_polled: false,
             is_busy: false,
             listeners,
             joined: 0,
+            joins: Joins::new(),
             connections: Vec::new(alloc),
             near: 0,
             lingering: Lingering::new(alloc),
-            pool: Pool::new(alloc),
-            gathered: Vec::new(alloc),
-            failed: Vec::new(alloc),
+            pool,
+            aheads,
+            gathering: None,
+            listing: Listing::new(alloc),
             writable: None,
         })
     }
@@ -123,16 +134,14 @@ impl Sockets {
         self.listeners.bound()
     }
 
-    /// What happened next: the happenings of one poll one after the other, and then Quiet. A poll waits at most 100 ms,
-    /// and not at all if bytes went or a port joined since the last one.
+    /// What happened next: the happenings of one poll one after the other, up to sixteen ports that join, and then Quiet. A
+    /// poll waits at most 100 ms, and not at all if bytes went, a port joined or one is to be told since the last one.
     pub fn next(&mut self) -> Result<Happening, PortFault>
-        ensures { TellsOpenPorts self.old.joined self.new.joined (numbers self.new.connections.items) result }
+        ensures numbers { TellsOpenPorts self.old.joined self.new.joined (numbers self.new.connections.items) result }
+        ensures rationed { RationsJoins self.old.polls self.old.joins.count self.new.polls self.new.joins.count result }
     {
         self.send_gathered();
-        if !self.is_polled {
-            self.poll()?;
-            self.is_polled = true;
-        }
+        self.poll_if_due()?;
         if let Some(happening) = self.pending() {
             return Ok(happening);
         }
@@ -143,12 +152,36 @@ impl Sockets {
         Ok(Happening::Quiet)
     }
 
+    /// Asks the system what happened, once all that it said before is answered.
+    fn poll_if_due(&mut self) -> Result<(), PortFault>
+        ensures joined { self.new.joined ≡ self.old.joined }
+        ensures polls { IsPolled self.old.polls self.old.joins.count self.new.polls self.new.joins.count }
+    {
+        if self.is_polled {
+            return Ok(());
+        }
+        self.poll()?;
+        self.is_polled = true;
+        Ok(())
+    }
+
     /// Asks the system what happened.
     fn poll(&mut self) -> Result<(), PortFault>
-        ensures { self.new.joined ≡ self.old.joined }
+        ensures joined { self.new.joined ≡ self.old.joined }
+        ensures polls { IsPolled self.old.polls self.old.joins.count self.new.polls self.new.joins.count }
     {
-        let wait = if self.is_busy { 0 } else { WAIT };
+        let Some(polls) = self.polls.checked_add(1) else {
+            return Err(PortFault);
+        };
+        let wait = if self.is_busy || !self.listing.is_empty() {
+            0
+        } else {
+            WAIT
+        };
+        self.polls = polls;
+        self.joins = Joins::new();
         self.is_busy = false;
+        self.listing.begin();
         self.happened.clear();
         if self
             .poll
@@ -157,11 +190,23 @@ impl Sockets {
         {
             return Err(PortFault);
         }
-        for event in self.events.iter() {
-            // There is room for all events of a poll.
-            let _ = self.happened.push(*event);
-        }
+        // The last are answered first.
+        self.keep_events(Kind::Client);
+        self.keep_events(Kind::Feed);
         Ok(())
+    }
+
+    /// Keeps the events of clients, or those of feeds. There is room for all events of a poll.
+    fn keep_events(&mut self, kind: Kind)
+        ensures joined { self.new.joined ≡ self.old.joined }
+        ensures polls { self.new.polls ≡ self.old.polls }
+        ensures joins { self.new.joins ≡ self.old.joins }
+    {
+        for event in self.events.iter() {
+            if kind_of(event.token()) == kind {
+                let _ = self.happened.push(*event);
+            }
+        }
     }
 
     fn is_open(&self, number: u64) -> bool
@@ -175,18 +220,31 @@ impl Sockets {
         ensures some { IfSome result
             (λ h. TellsOpenPorts self.old.joined self.new.joined (numbers self.new.connections.items) (Ok h)) }
         ensures none { IfNone result (self.new.joined ≡ self.old.joined) }
+        ensures no_join { IfSome result (λ h. joins_by (Ok h) ≡ 0) }
+        ensures polls { self.new.polls ≡ self.old.polls }
+        ensures joins { self.new.joins ≡ self.old.joins }
     {
-        if let Some(number) = self.failed.pop() {
-            if self.is_open(number) {
-                return Some(Happening::Readable(number));
-            }
-        }
         if let Some(number) = self.writable.take() {
             if self.is_open(number) {
                 return Some(Happening::Writable(number));
             }
         }
-        let (number, marks) = self.next_marks()?;
+        if let Some((number, marks)) = self.next_marks() {
+            return self.tell(number, marks);
+        }
+        let number = self.next_due()?;
+        Some(Happening::Readable(number))
+    }
+
+    /// Tells what an event says of a port.
+    fn tell(&mut self, number: u64, marks: Marks) -> Option<Happening>
+        ensures some { IfSome result
+            (λ h. TellsOpenPorts self.old.joined self.new.joined (numbers self.new.connections.items) (Ok h)) }
+        ensures none { IfNone result (self.new.joined ≡ self.old.joined) }
+        ensures no_join { IfSome result (λ h. joins_by (Ok h) ≡ 0) }
+        ensures polls { self.new.polls ≡ self.old.polls }
+        ensures joins { self.new.joins ≡ self.old.joins }
+    {
         if !self.is_open(number) {
             return None;
         }
@@ -201,17 +259,19 @@ impl Sockets {
 
     /// The next port of which an event tells something.
     fn next_marks(&mut self) -> Option<(u64, Marks)>
-        ensures { self.new.joined ≡ self.old.joined }
+        ensures joined { self.new.joined ≡ self.old.joined }
+        ensures polls { self.new.polls ≡ self.old.polls }
+        ensures joins { self.new.joins ≡ self.old.joins }
     {
         'events: for _ in 0..EVENTS {
             let event = self.happened.pop()?;
-            let token = event.token().0;
-            if token == token_of(Kind::Client) {
-                self.listeners.mark(Kind::Client);
-            } else if token == token_of(Kind::Feed) {
-                self.listeners.mark(Kind::Feed);
-            } else if let Some(marks) = self.mark(token as u64, event) {
-                return Some((token as u64, marks));
+            match origin_of(event.token()) {
+                Origin::Listener(kind) => self.listeners.mark(kind),
+                Origin::Port(number) => {
+                    if let Some(marks) = self.mark(number, event) {
+                        return Some((number, marks));
+                    }
+                }
             }
         }
         None
@@ -219,21 +279,22 @@ impl Sockets {
 
     /// An event of a port came.
     fn mark(&mut self, number: u64, event: Event) -> Option<Marks>
-        ensures { self.new.joined ≡ self.old.joined }
+        ensures joined { self.new.joined ≡ self.old.joined }
+        ensures polls { self.new.polls ≡ self.old.polls }
+        ensures joins { self.new.joins ≡ self.old.joins }
     {
-        let over = event.is_read_closed() || event.is_error();
         let Some(at) = place_of(self.connections.as_slice(), self.near, number) else {
             self.lingering
-                .mark(number, over, event.is_writable(), &mut self.pool);
+                .mark(number, event.is_writable(), &mut self.pool);
             return None;
         };
         let connection = self.connections.get_mut(at)?;
-        let marks = connection.mark(
-            event.is_readable(),
-            over,
-            event.is_writable(),
-            &mut self.pool,
-        );
+        let readiness = Readiness {
+            is_readable: event.is_readable(),
+            is_over: event.is_read_closed() || event.is_error(),
+            is_writable: event.is_writable(),
+        };
+        let marks = connection.mark(readiness, self.polls, &mut self.pool);
         if marks.readable || marks.writable {
             Some(marks)
         } else {
@@ -241,13 +302,49 @@ impl Sockets {
         }
     }
 
+    /// The next port that is told though no event came of it.
+    fn next_due(&mut self) -> Option<u64>
+        ensures open { IfSome result (λ number. Contains (numbers self.new.connections.items) number) }
+        ensures joined { self.new.joined ≡ self.old.joined }
+        ensures polls { self.new.polls ≡ self.old.polls }
+        ensures joins { self.new.joins ≡ self.old.joins }
+    {
+        'due: for _ in 0..self.listing.due() {
+            let number = self.listing.next()?;
+            if self.unlist(number) {
+                return Some(number);
+            }
+        }
+        None
+    }
+
+    /// A port is told, and may be listed again. Whether it is open.
+    fn unlist(&mut self, number: u64) -> bool
+        ensures open { result ≡ true → Contains (numbers self.new.connections.items) number }
+        ensures joined { self.new.joined ≡ self.old.joined }
+        ensures polls { self.new.polls ≡ self.old.polls }
+        ensures joins { self.new.joins ≡ self.old.joins }
+    {
+        if let Some(at) = place_of(self.connections.as_slice(), self.near, number) {
+            if let Some(connection) = self.connections.get_mut(at) {
+                connection.set_listed(false);
+            }
+        }
+        self.is_open(number)
+    }
+
     /// The next connection that waits. If the system has no descriptor left, the connection that lingers longest makes
     /// room.
-    fn accept(&mut self, kind: Kind) -> Option<(TcpStream, SocketAddr)>
-        ensures { self.new.joined ≡ self.old.joined }
+    fn accept(&mut self) -> Option<(Kind, TcpStream, SocketAddr)>
+        ensures joined { self.new.joined ≡ self.old.joined }
+        ensures polls { self.new.polls ≡ self.old.polls }
+        ensures joins { self.new.joins ≡ self.old.joins }
     {
-        match self.listeners.accept(kind) {
-            Accepted::Connection(stream, peer) => Some((stream, peer)),
+        match self.listeners.accept() {
+            Accepted::Connection(kind, stream, peer) => {
+                self.is_busy = true;
+                Some((kind, stream, peer))
+            }
             Accepted::Nothing => None,
             Accepted::Refused => {
                 self.lingering.drop_oldest();
@@ -256,51 +353,46 @@ impl Sockets {
         }
     }
 
-    /// A new port, of a client or of a feed.
+    /// A new port, of a client or of a feed, unless sixteen joined since the last poll.
     fn join(&mut self) -> Option<Happening>
         ensures some { IfSome result
             (λ h. TellsOpenPorts self.old.joined self.new.joined (numbers self.new.connections.items) (Ok h)) }
         ensures none { IfNone result (self.new.joined ≡ self.old.joined) }
+        ensures polls { self.new.polls ≡ self.old.polls }
+        ensures counts { IfSome result (λ h. self.new.joins.count ≡ self.old.joins.count + joins_by (Ok h)) }
+        ensures no_count { IfNone result (self.new.joins.count ≡ self.old.joins.count) }
     {
-        match self.join_client() {
-            Some(happening) => Some(happening),
-            None => self.join_feed(),
+        if self.joins.is_full() {
+            return None;
         }
-    }
-
-    fn join_client(&mut self) -> Option<Happening>
-        ensures some { IfSome result
-            (λ h. TellsOpenPorts self.old.joined self.new.joined (numbers self.new.connections.items) (Ok h)) }
-        ensures none { IfNone result (self.new.joined ≡ self.old.joined) }
-    {
-        let (stream, peer) = self.accept(Kind::Client)?;
-        let address = address_of(peer)?;
-        let number = self.hold(stream, None)?;
-        Some(Happening::Joined(number, address))
-    }
-
-    fn join_feed(&mut self) -> Option<Happening>
-        ensures some { IfSome result
-            (λ h. TellsOpenPorts self.old.joined self.new.joined (numbers self.new.connections.items) (Ok h)) }
-        ensures none { IfNone result (self.new.joined ≡ self.old.joined) }
-    {
-        let (stream, _) = self.accept(Kind::Feed)?;
-        // Where there is no memory to read ahead, it is read as it is asked for.
-        let number = self.hold(stream, Ahead::new(self.alloc).ok())?;
-        Some(Happening::JoinedFeed(number))
+        let (kind, stream, peer) = self.accept()?;
+        match kind {
+            Kind::Client => {
+                let address = address_of(peer)?;
+                let number = self.hold(kind, stream)?;
+                Some(Happening::Joined(number, address))
+            }
+            Kind::Feed => {
+                let number = self.hold(kind, stream)?;
+                Some(Happening::JoinedFeed(number))
+            }
+        }
     }
 
     /// Holds a new connection under the next number.
-    fn hold(&mut self, mut stream: TcpStream, ahead: Option<Ahead>) -> Option<u64>
-        ensures some { IfSome result (λ n. (n ≡ self.old.joined) × (self.new.joined ≡ self.old.joined + 1)) }
-        ensures none { IfNone result (self.new.joined ≡ self.old.joined) }
+    fn hold(&mut self, kind: Kind, mut stream: TcpStream) -> Option<u64>
+        requires { self.old.joins.count < 16 }
+        ensures some { IfSome result (λ n. (n ≡ self.old.joined) × (self.new.joined ≡ self.old.joined + 1)
+            × (self.new.joins.count ≡ self.old.joins.count + 1)) }
+        ensures none { IfNone result ((self.new.joined ≡ self.old.joined) × (self.new.joins ≡ self.old.joins)) }
+        ensures polls { self.new.polls ≡ self.old.polls }
     {
         let number = self.joined;
-        if number >= u64::MAX - 1 || stream.set_nodelay(true).is_err() {
+        if number >= LAST || stream.set_nodelay(true).is_err() {
             return None;
         }
         let both = Interest::READABLE | Interest::WRITABLE;
-        let token = Token(number as usize);
+        let token = token_of(number, kind);
         if self
             .poll
             .registry()
@@ -309,31 +401,59 @@ impl Sockets {
         {
             return None;
         }
-        let connection = Connection::new(number, stream, ahead);
+        let open = self.connections.len().saturating_add(1);
+        if self.listing.reserve(open).is_err() {
+            return None;
+        }
+        let connection = Connection::new(number, kind, stream);
         if self.connections.push(connection).is_err() {
             return None;
         }
         self.joined = number + 1;
-        self.is_busy = true;
+        self.joins.add();
         Some(number)
     }
 
-    /// Sends what the ports took since the last hearing.
-    fn send_gathered(&mut self)
-        ensures { self.new.joined ≡ self.old.joined }
+    /// Sends what a port gathered, if it is not this one.
+    fn turn_to(&mut self, port: u64)
+        ensures joined { self.new.joined ≡ self.old.joined }
+        ensures polls { self.new.polls ≡ self.old.polls }
     {
-        for number in self.gathered.iter() {
-            if let Some(at) = place_of(self.connections.as_slice(), self.near, *number) {
-                if let Some(connection) = self.connections.get_mut(at) {
-                    connection.send_gathered(&mut self.pool);
-                    if connection.has_failed() {
-                        // If it can't be kept, the port's next call fails all the same.
-                        let _ = self.failed.push(*number);
-                    }
-                }
+        match self.gathering {
+            Some(gathering) if gathering == port => {}
+            _ => self.send_gathered(),
+        }
+    }
+
+    /// Sends what the last port took. If that fails, the port is told.
+    fn send_gathered(&mut self)
+        ensures joined { self.new.joined ≡ self.old.joined }
+        ensures polls { self.new.polls ≡ self.old.polls }
+        ensures joins { self.new.joins ≡ self.old.joins }
+    {
+        let Some(port) = self.gathering.take() else {
+            return;
+        };
+        let Some(at) = place_of(self.connections.as_slice(), self.near, port) else {
+            return;
+        };
+        if let Some(connection) = self.connections.get_mut(at) {
+            let _ = connection.flush(&mut self.pool);
+        }
+        self.list_if_due(at);
+    }
+
+    /// Has a port told after the next poll, if there may be more to be read by then though no event comes.
+    fn list_if_due(&mut self, at: usize)
+        ensures joined { self.new.joined ≡ self.old.joined }
+        ensures polls { self.new.polls ≡ self.old.polls }
+        ensures joins { self.new.joins ≡ self.old.joins }
+    {
+        if let Some(connection) = self.connections.get_mut(at) {
+            if !connection.is_listed() && connection.is_due(self.polls) {
+                connection.set_listed(self.listing.add(connection.number));
             }
         }
-        self.gathered.clear();
     }
 
     pub fn read(&mut self, port: u64, buffer: &mut [u8]) -> Result<Got, PortFault>
@@ -341,6 +461,7 @@ impl Sockets {
         ensures bound { IsGiven result (length buffer.new) }
         ensures joined { self.new.joined ≡ self.old.joined }
     {
+        self.turn_to(port);
         let Some(at) = place_of(self.connections.as_slice(), self.near, port) else {
             return Ok(Got::Closed);
         };
@@ -348,9 +469,11 @@ impl Sockets {
         let Some(connection) = self.connections.get_mut(at) else {
             return Ok(Got::Closed);
         };
-        let got = connection.read(buffer);
-        if matches!(&got, Ok(Got::Bytes(_))) {
-            self.is_busy = true;
+        let got = connection.read(buffer, self.polls, &mut self.aheads);
+        match &got {
+            Ok(Got::Bytes(_)) => self.is_busy = true,
+            Ok(Got::Later) => self.list_if_due(at),
+            Ok(Got::Closed) | Err(PortFault) => {}
         }
         got
     }
@@ -359,6 +482,7 @@ impl Sockets {
         ensures bound { IsTaken result (length bytes.now) }
         ensures joined { self.new.joined ≡ self.old.joined }
     {
+        self.turn_to(port);
         let Some(at) = place_of(self.connections.as_slice(), self.near, port) else {
             return Ok(Put::Later);
         };
@@ -366,12 +490,12 @@ impl Sockets {
         let Some(connection) = self.connections.get_mut(at) else {
             return Ok(Put::Later);
         };
-        let put = connection.write(bytes, &mut self.pool);
+        let put = connection.write(bytes, self.polls, &mut self.pool);
         if matches!(&put, Ok(Put::Took(_))) {
             self.is_busy = true;
         }
-        if connection.gather() && self.gathered.push(port).is_err() {
-            connection.send_gathered(&mut self.pool);
+        if connection.has_gathered() {
+            self.gathering = Some(port);
         }
         put
     }
@@ -384,7 +508,10 @@ impl Sockets {
             return;
         };
         if at < self.connections.len() {
-            let connection = self.connections.remove(at);
+            let mut connection = self.connections.remove(at);
+            if let Some(ahead) = connection.take_ahead() {
+                self.aheads.take_back(ahead);
+            }
             if connection.has_taken() {
                 self.lingering.keep(connection, &mut self.pool);
             }
@@ -403,6 +530,7 @@ impl Sockets {
     fn take_events(&mut self)
         ensures { self.new.joined ≡ self.old.joined }
     {
+        self.listing.clear();
         'events: for _ in 0..EVENTS {
             if self.next_marks().is_none() {
                 return;
@@ -414,8 +542,8 @@ impl Sockets {
     pub fn finish(&mut self)
         ensures { self.new.joined ≡ self.old.joined }
     {
+        self.send_gathered();
         'polls: for _ in 0..LAST_POLLS {
-            self.send_gathered();
             if self.unsent_count() == 0 || self.poll().is_err() {
                 return;
             }
