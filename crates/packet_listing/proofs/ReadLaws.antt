@@ -6,17 +6,16 @@ use Rattle.std.proofs.lemmas.List.{take_all, drop_all, drop-append-le, take-appe
 use Rattle.std.proofs.KnownBytes.{Appends-nil, Appends-trans, Consumes-nil, Consumes-trans, Consumes-kept, Keeps-refl}
 use Rattle.std.specs.Prelude.{Option}
 use Rattle.std.specs.Io.KnownBytes.{Appends, Consumes, Keeps, prepend_known}
-use Rattle.sl_io.specs.Known.{AppendsBeginning}
 use Rattle.slreader.specs.declared.fault.ReaderFault.{ReaderFault}
 use Rattle.slreader.specs.declared.fault.ReaderFault.TheVariants.{Limit, OutOfMemory, NotAPacket, AllRefused, BadReply}
-use Rattle.slreader.specs.Dialogue.{ReaderValue, Stage, Given, given_from, read_on}
+use Rattle.slreader.specs.Dialogue.{ReaderValue, Given, given_from, read_on}
 use Rattle.slreader.specs.Dialogue.Given.{Hello, Refused, Packet, End}
-use Rattle.slreader.specs.Dialogue.Stage.{Over, Failed}
+use Rattle.slreader.specs.Dialogue.Stage.{Failed}
 use Rattle.slreader.proofs.SentLaws.{with_sent, read_on-sent, given_from-sent, asked-grows}
 use Rattle.slreader.proofs.FaultLaws.{read-no-limit}
 use Rattle.slreader.proofs.ReadingLaws.{read_on-append, given_from-append}
 use Rattle.packet_listing.specs.declared.fault.ListingFault.{ListingFault}
-use Rattle.packet_listing.specs.declared.fault.ListingFault.TheVariants.{Reader, Read, Write}
+use Rattle.packet_listing.specs.declared.fault.ListingFault.TheVariants.{Reader}
 use Rattle.packet_listing.specs.Lines.{OutputValue, refusal_at, with_given, with_all}
 use Rattle.packet_listing.specs.Pieces.{GoesOver, Takes, FailsIn}
 use Rattle.packet_listing.specs.Whole.{Ends, IsWhy, StopsAt, is_told_before, line_given, lines_given, record_given}
@@ -24,21 +23,21 @@ use Rattle.packet_listing.specs.Whole.{records_given}
 
 -- ---- what is told of things given one after the other
 
-lines-append : (refusals : List (List ℕ)) (gs hs : List Given)
+pub lines-append : (refusals : List (List ℕ)) (gs hs : List Given)
     → lines_given refusals (gs ++ hs) ≡ lines_given refusals gs ++ lines_given refusals hs
 lines-append refusals [] hs = refl
 lines-append refusals (g ∷ gs) hs =
     ap (λ x. line_given refusals g ++ x) (lines-append refusals gs hs)
     ∙ sym (append_assoc (line_given refusals g) (lines_given refusals gs) (lines_given refusals hs))
 
-records-append : (gs hs : List Given) → records_given (gs ++ hs) ≡ records_given gs ++ records_given hs
+pub records-append : (gs hs : List Given) → records_given (gs ++ hs) ≡ records_given gs ++ records_given hs
 records-append [] hs = refl
 records-append (g ∷ gs) hs =
     ap (λ x. record_given g ++ x) (records-append gs hs)
     ∙ sym (append_assoc (record_given g) (records_given gs) (records_given hs))
 
 -- what is told after some lines and records
-abbrev told_after : OutputValue → (lines records : List ℕ) → OutputValue
+abbrev pub told_after : OutputValue → (lines records : List ℕ) → OutputValue
 told_after o lines records = record { refusals = o.refusals; lines = o.lines ++ lines; records = o.records ++ records }
 
 nothing-added : (o : OutputValue) → o ≡ told_after o [] []
@@ -54,7 +53,7 @@ given-adds o (Refused want) =
 given-adds o (Packet packet) = refl
 given-adds o End = nothing-added o
 
-all-adds : (o : OutputValue) (gs : List Given)
+pub all-adds : (o : OutputValue) (gs : List Given)
     → with_all o gs ≡ told_after o (lines_given o.refusals gs) (records_given gs)
 all-adds o [] = nothing-added o
 all-adds o (g ∷ gs) =

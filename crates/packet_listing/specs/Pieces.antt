@@ -1,6 +1,8 @@
 -- What is taken of one piece that was read.
 -- SeedLink 3: the dialogue of a reader.
-use Rattle.std.specs.Prelude.{◌≡◌, ℕ, Bool, true, false, List, [], ◌++◌}
+use Rattle.std.specs.Prelude.{◌≡◌, ℕ, Bool, true, false, List, [], ◌++◌, Option, ◌⊎◌}
+use Rattle.std.specs.Io.KnownBytes.{Appends}
+use Rattle.sl_io.specs.Known.{AppendsBeginning}
 use Rattle.slreader.specs.declared.fault.ReaderFault.{ReaderFault}
 use Rattle.slreader.specs.Dialogue.{ReaderValue, given_from, read_on}
 use Rattle.slreader.specs.Dialogue.Stage.{Over, Failed}
@@ -24,3 +26,16 @@ pub record Takes (r r' : ReaderValue) (o o' : OutputValue) (piece : List ℕ) (i
 pub record FailsIn (r r' : ReaderValue) (o o' : OutputValue) (piece : List ℕ) (fault : ReaderFault) : Type 0 where
   pub goes : GoesOver r r' o o' piece
   pub stage : (read_on r piece).stage ≡ Failed fault
+
+-- Of a piece some first bytes are told, and nothing of what comes after them.
+pub record TellsFirst (r : ReaderValue) (o o' : OutputValue) (piece : List ℕ) : Type 0 where
+  pub bytes : List ℕ
+  pub behind : List ℕ
+  pub parts : bytes ++ behind ≡ piece
+  pub output : o' ≡ with_all o (given_from r bytes)
+
+-- A writing that stopped: a beginning of the records and no line, or all records and a beginning of the lines.
+abbrev pub WritesRecordsFirst : OutputValue → (lines lines' records records' : Option (List ℕ)) → Type 0
+WritesRecordsFirst o lines lines' records records' =
+    (Appends lines lines' [] × AppendsBeginning records records' o.records)
+    ⊎ (AppendsBeginning lines lines' o.lines × Appends records records' o.records)

@@ -77,3 +77,23 @@ pub record StopsAt (fault : ListingFault) (r : ReaderValue) (refusals : List (Li
   pub asked : AppendsBeginning sent sent' (drop r.sent (read_on r came).asked)
   pub told : Appends lines lines' (lines_given refusals (given_from r came))
   pub kept : Appends records records' (records_given (given_from r came))
+
+-- ---- at whatever point it stops
+
+-- Bytes `came`, and of what they give first what is `listed` and then what comes `later`. The records of all that is
+-- listed were written, and of those that come later a beginning at most. Of the lines of what is listed a beginning
+-- was written, and none of what comes later. So each packet of which a line was written, in part or as a whole, has its
+-- record written before it.
+pub record RecordsFirst (r : ReaderValue) (refusals : List (List ℕ))
+    (left left' lines lines' records records' : Option (List ℕ)) : Type 0 where
+  pub came : List ℕ
+  pub behind : List ℕ
+  pub read : Consumes left left' (came ++ behind)
+  pub listed : List Given
+  pub later : List Given
+  pub given : listed ++ later ≡ given_from r came
+  pub told : AppendsBeginning lines lines' (lines_given refusals listed)
+  pub more : List ℕ
+  pub rest : List ℕ
+  pub begun : more ++ rest ≡ records_given later
+  pub kept : Appends records records' (records_given listed ++ more)

@@ -66,6 +66,8 @@ pub(crate) struct Output {
     refusals: Vec<RefusalLine>,
     lines: Vec<u8>,
     records: Vec<u8>,
+    /// The line that is being made.
+    line: Vec<u8>,
 }
 
 impl Model for Output {
@@ -77,7 +79,7 @@ impl Model for Output {
 }
 
 impl Output {
-    ghost use Rattle.std.specs.Prelude.{◌≡◌, ◌++◌, [], IfOk, OnOk};
+    ghost use Rattle.std.specs.Prelude.{◌≡◌, ◌++◌, [], IfOk, OnErr, OnOk};
     ghost use Rattle.slreader.specs.Views.{plan_value};
     ghost use Rattle.slreader.specs.Whats.{what_value};
     ghost use Rattle.packet_listing.specs.Lines.{nothing_told, packet_line, refusal_at, record_of, told};
@@ -95,33 +97,45 @@ impl Output {
             refusals,
             lines: Vec::new(alloc),
             records: Vec::new(alloc),
+            line: Vec::new(alloc),
         })
     }
 
-    /// The line of a packet, and its record.
+    /// The record of a packet, and its line; or neither.
     fn put_packet(&mut self, packet: &[u8; 520]) -> Result<(), AllocError>
-        ensures { OnOk result (self.new ≡ record self.old {
+        ensures told { OnOk result (self.new ≡ record self.old {
           lines = self.old.lines ++ packet_line packet.now;
           records = self.old.records ++ record_of packet.now;
         }) }
+        ensures kept { OnErr result (self.new ≡ self.old) }
     {
-        put_packet(&mut self.lines, packet)?;
+        self.line.clear();
+        put_packet(&mut self.line, packet)?;
+        let before = self.records.len();
         self.records.extend_from_slice(record_of(packet))?;
-        Ok(())
+        match self.lines.extend_from_slice(&self.line) {
+            Ok(()) => Ok(()),
+            Err(error) => {
+                self.records.truncate(before);
+                Err(error)
+            }
+        }
     }
 
-    /// The line of a want that is refused.
+    /// The line of a want that is refused; or nothing.
     fn put_refused(&mut self, want: usize) -> Result<(), AllocError>
-        ensures { OnOk result
+        ensures told { OnOk result
             (self.new ≡ record self.old { lines = self.old.lines ++ refusal_at self.old.refusals want }) }
+        ensures kept { OnErr result (self.new ≡ self.old) }
     {
         self.lines
             .extend_from_slice(refusal_at(&self.refusals, want))
     }
 
-    /// Tells what was given.
+    /// Tells what was given; or nothing.
     pub(crate) fn put(&mut self, what: What<'_>) -> Result<(), AllocError>
-        ensures { OnOk result (self.new ≡ told self.old (what_value what.entry)) }
+        ensures told { OnOk result (self.new ≡ told self.old (what_value what.entry)) }
+        ensures kept { OnErr result (self.new ≡ self.old) }
     {
         match what {
             What::Nothing => Ok(()),

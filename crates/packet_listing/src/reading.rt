@@ -11,8 +11,8 @@ ghost use Rattle.slreader.specs.Views.{plan_value};
 ghost use Rattle.slreader.specs.Wants.{is_plan};
 ghost use Rattle.packet_listing.specs.declared.fault.ListingFault.TheVariants.{Reader};
 ghost use Rattle.packet_listing.specs.Lines.{refusals_of};
-ghost use Rattle.packet_listing.specs.Pieces.{FailsIn, Takes};
-ghost use Rattle.packet_listing.specs.Whole.{Ends, StopsAt, is_told_before};
+ghost use Rattle.packet_listing.specs.Pieces.{FailsIn, Takes, TellsFirst, WritesRecordsFirst};
+ghost use Rattle.packet_listing.specs.Whole.{Ends, RecordsFirst, StopsAt, is_told_before};
 ghost use Rattle.packet_listing.specs.Stops.{EndsReading, EndsReads, IsQuiet, StopsListing};
 
 use crate::fault::ListingFault;
@@ -46,7 +46,7 @@ fn send<W: Sink>(core: &mut ReaderCore, writer: &mut W) -> Result<(), WriteFault
     }
 }
 
-/// Writes what is told, the lines and then the records.
+/// Writes what is told: the records, and their lines only once the writer has taken all of the records.
 fn write_output<O: Sink, P: Sink>(
     output: &mut Output,
     out: &mut O,
@@ -66,12 +66,14 @@ fn write_output<O: Sink, P: Sink>(
         ⊎ (IsQuiet (O.failures out.old) (O.failures out.new) (O.empty_writes out.old) (O.empty_writes out.new)
         × StopsWriting (P.failures records.old) (P.failures records.new)
         (P.empty_writes records.old) (P.empty_writes records.new))) }
+    ensures order { OnErr result (WritesRecordsFirst output.old
+        (O.written out.old) (O.written out.new) (P.written records.old) (P.written records.new)) }
 {
-    match write_all(out, output.lines()) {
+    match write_all(records, output.records()) {
         Ok(()) => {}
         Err(fault) => return Err(fault),
     }
-    match write_all(records, output.records()) {
+    match write_all(out, output.lines()) {
         Ok(()) => {}
         Err(fault) => return Err(fault),
     }
@@ -86,6 +88,7 @@ fn take_piece(core: &mut ReaderCore, output: &mut Output, piece: &[u8]) -> Resul
     ensures failed { IfErr result (λ fault. fault ≢ OutOfMemory
         → FailsIn core.old core.new output.old output.new piece.now fault) }
     ensures plan { IfErr result (λ fault. fault ≢ Limit) }
+    ensures first { TellsFirst core.old output.old output.new piece.now }
 {
     let mut left = piece;
     'given: loop {
@@ -160,6 +163,8 @@ fn read_blocks<R: Source, W: Sink, O: Sink, P: Sink>(
     ensures told { IfErr result (λ fault. is_told_before fault ≡ true → StopsAt fault core.old output.old.refusals
         (R.left reader.old) (R.left reader.new) (W.written writer.old) (W.written writer.new)
         (O.written out.old) (O.written out.new) (P.written records.old) (P.written records.new)) }
+    ensures order { RecordsFirst core.old output.old.refusals (R.left reader.old) (R.left reader.new)
+        (O.written out.old) (O.written out.new) (P.written records.old) (P.written records.new) }
     ensures plan { IfErr result (λ fault. fault ≢ Reader Limit) }
     ensures stopped { IfErr result (λ fault. StopsListing fault
         (EndsReads (R.failures reader.old) (R.failures reader.new)
@@ -217,6 +222,9 @@ fn read_blocks<R: Source, W: Sink, O: Sink, P: Sink>(
 /// held back while it waits. A read takes up to 64 KiB. After a fault all that was told before it is written, where
 /// the writers take it.
 ///
+/// Records are written before their lines: at the end and at every fault each packet that has a line, or a part of
+/// one, has its whole record written. A fault of writing records leaves no line of theirs.
+///
 /// It fails with the reader's faults; with Read where a read failed, where the input ends before the end of the
 /// transfer, or where 2^64 - 1 reads were made; and with Write where something could not be written.
 pub fn read_over<R: Source, W: Sink, O: Sink, P: Sink>(
@@ -234,6 +242,9 @@ pub fn read_over<R: Source, W: Sink, O: Sink, P: Sink>(
         StopsAt fault (begun (plan_value plan.entry)) (refusals_of (plan_value plan.entry))
         (R.left reader.old) (R.left reader.new) (W.written writer.old) (W.written writer.new)
         (O.written out.old) (O.written out.new) (P.written records.old) (P.written records.new)) }
+    ensures order { RecordsFirst (begun (plan_value plan.entry)) (refusals_of (plan_value plan.entry))
+        (R.left reader.old) (R.left reader.new)
+        (O.written out.old) (O.written out.new) (P.written records.old) (P.written records.new) }
     ensures limit { IfErr result (λ fault. fault ≡ Reader Limit → is_plan (plan_value plan.entry) ≡ false) }
     ensures stopped { IfErr result (λ fault. StopsListing fault
         (EndsReads (R.failures reader.old) (R.failures reader.new)

@@ -1,10 +1,11 @@
 -- A read more: what was asked is sent, a piece is read, and what it gives is told.
-use Rattle.std.proofs.Common.{◌≡◌, ◌∙◌, subst, Ok, Err}
+use Rattle.std.proofs.Common.{◌∙◌, subst, Ok, Err}
 use Rattle.std.specs.Prelude.{OnOk, Result}
 use Rattle.std.proofs.KnownBytes.{Keeps-refl}
 use Rattle.sl_io.proofs.TotalLemmas.{Made-more}
 use Rattle.packet_listing.specs.Pieces.{Takes}
 use Rattle.packet_listing.proofs.ReadLaws.{led-no-limit, listed-sent, goes-on-listed, ends, stops, fails, not-memory}
+use Rattle.packet_listing.proofs.OrderLaws.{listed-first, written-first, all-written}
 use Rattle.packet_listing.proofs.reading.read_blocks.Goals as goal
 
 on-ok : {T E : Type 0} → (P Q : Type 0) → (r : Result T E) → OnOk r P → (P → Q) → OnOk r Q
@@ -60,3 +61,34 @@ reads-preserved g c =
 
 pub returns-clause-told : goal.returns-clause-told
 returns-clause-told g c = λ _. stops _ _ _ _ _ _ _ _ _ _ _ _ _ _ c.reads.invariant.listed (Keeps-refl _) tt
+
+pub returns-in-Err-clause-order : goal.returns-in-Err-clause-order
+returns-in-Err-clause-order g c = listed-first _ _ _ _ _ _ _ _ _ _ _ _ _ c.reads.invariant.listed (Keeps-refl _)
+
+pub returns-in-None-clause-order : goal.returns-in-None-clause-order
+returns-in-None-clause-order g c =
+    listed-first _ _ _ _ _ _ _ _ _ _ _ _ _ c.reads.invariant.listed c.in-None.ensures.kept
+
+pub returns-in-Err-write_output-clause-order : goal.returns-in-Err-write_output-clause-order
+returns-in-Err-write_output-clause-order g c =
+    let t = listed-sent _ _ _ _ _ _ _ _ _ _ _ _ _ _ c.reads.invariant.listed c.in-Ok.ensures.written
+    c.in-Ok.ensures.sent in
+    written-first _ _ _ _ _ _ _ _ _ _ _ _ _ _ _ _ _ t c.take_piece-taken.ensures.first c.in-Some.ensures.consumed
+    c.in-Err-write_output.ensures.order
+
+pub returns-in-Ok-true-clause-order : goal.returns-in-Ok-true-clause-order
+returns-in-Ok-true-clause-order g c =
+    let t = listed-sent _ _ _ _ _ _ _ _ _ _ _ _ _ _ c.reads.invariant.listed c.in-Ok.ensures.written
+    c.in-Ok.ensures.sent in
+    all-written _ _ _ _ _ _ _ _ _ _ _ _ _ _ _ _ _ t c.take_piece-taken.ensures.first c.in-Some.ensures.consumed
+    c.in-Ok-write_output.ensures.lines c.in-Ok-write_output.ensures.records
+
+pub returns-in-Err-taken-clause-order : goal.returns-in-Err-taken-clause-order
+returns-in-Err-taken-clause-order g c =
+    let t = listed-sent _ _ _ _ _ _ _ _ _ _ _ _ _ _ c.reads.invariant.listed c.in-Ok.ensures.written
+    c.in-Ok.ensures.sent in
+    all-written _ _ _ _ _ _ _ _ _ _ _ _ _ _ _ _ _ t c.take_piece-taken.ensures.first c.in-Some.ensures.consumed
+    c.in-Ok-write_output.ensures.lines c.in-Ok-write_output.ensures.records
+
+pub returns-clause-order : goal.returns-clause-order
+returns-clause-order g c = listed-first _ _ _ _ _ _ _ _ _ _ _ _ _ c.reads.invariant.listed (Keeps-refl _)

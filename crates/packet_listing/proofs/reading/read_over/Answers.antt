@@ -1,5 +1,5 @@
 -- The reader begins with the plan, and what it reads is told.
-use Rattle.std.proofs.Common.{◌≡◌, ap, true, false, Ok, Err}
+use Rattle.std.proofs.Common.{◌≡◌, ap, true, Ok, Err}
 use Rattle.std.specs.Prelude.{IfErr, Result}
 use Rattle.slreader.specs.declared.fault.ReaderFault.{ReaderFault}
 use Rattle.slreader.specs.declared.fault.ReaderFault.TheVariants.{Limit, OutOfMemory, NotAPacket, AllRefused, BadReply}
@@ -8,6 +8,7 @@ use Rattle.slreader.specs.Comings.{IsNotBegun}
 use Rattle.packet_listing.specs.declared.fault.ListingFault.TheVariants.{Reader}
 use Rattle.packet_listing.specs.Lines.{OutputValue}
 use Rattle.packet_listing.specs.Whole.{is_told_before}
+use Rattle.packet_listing.proofs.OrderLaws.{first-as, nothing-written}
 use Rattle.packet_listing.proofs.ReadLaws.{stops-as}
 use Rattle.packet_listing.proofs.reading.read_over.Goals as goal
 
@@ -34,3 +35,17 @@ returns-in-Ok-new-clause-limit g c =
 
 pub returns-clause-told : goal.returns-clause-told
 returns-clause-told g c = λ told. absurd (not-begun c.in-Err.fault _ c.in-Err.ensures.fault told)
+
+pub returns-in-Ok-new-clause-order : goal.returns-in-Ok-new-clause-order
+returns-in-Ok-new-clause-order g c =
+    first-as _ _ _ _ _ _ _ _ _ _ c.in-Ok-new.ensures.begun (ap (λ (o : OutputValue). o.refusals) c.in-Ok.ensures)
+    c.read_blocks.ensures.order
+
+pub returns-in_default-clause-order : goal.returns-in_default-clause-order
+returns-in_default-clause-order g c = nothing-written _ _ _ _ _
+
+pub returns-in_default-vec-clause-order : goal.returns-in_default-vec-clause-order
+returns-in_default-vec-clause-order g c = nothing-written _ _ _ _ _
+
+pub returns-clause-order : goal.returns-clause-order
+returns-clause-order g c = nothing-written _ _ _ _ _

@@ -1,8 +1,9 @@
 -- A part of the piece was read, and what it gave is told.
-use Rattle.std.proofs.Common.{◌≡◌, sym, ap, ◌∙◌}
+use Rattle.std.proofs.Common.{sym, ap, ◌∙◌}
 use Rattle.slreader.specs.Dialogue.Outcome.{Gave}
 use Rattle.slreader.specs.Whats.{what_value}
 use Rattle.packet_listing.proofs.PieceLaws.{takes-nothing, takes-end, taken-on, fails-in, taken-no-limit}
+use Rattle.packet_listing.proofs.OrderLaws.{tells-first, tells-as-before}
 use Rattle.packet_listing.proofs.reading.take_piece.Goals as goal
 
 pub returns-in-Err-clause-failed : goal.returns-in-Err-clause-failed
@@ -22,7 +23,19 @@ returns-in-End-clause-taken c =
 pub given-preserved : goal.given-preserved
 given-preserved c =
     taken-on _ _ _ _ _ _ _ _ _ _ c.given.invariant c.in-Ok.ensures.outcome c.incoming.follows.holds-at-none
-    c.in-Ok-put.ensures
+    c.in-Ok-put.ensures.told
 
 pub returns-in-Err-clause-plan : goal.returns-in-Err-clause-plan
 returns-in-Err-clause-plan c = taken-no-limit _ _ _ _ _ _ _ c.given.invariant c.in-Err.ensures.outcome c.requires.plan
+
+pub returns-in-Err-clause-first : goal.returns-in-Err-clause-first
+returns-in-Err-clause-first c = tells-first _ _ _ _ _ _ c.given.invariant
+
+pub returns-in-Nothing-clause-first : goal.returns-in-Nothing-clause-first
+returns-in-Nothing-clause-first c = tells-first _ _ _ _ _ _ c.given.invariant
+
+pub returns-in-End-clause-first : goal.returns-in-End-clause-first
+returns-in-End-clause-first c = tells-first _ _ _ _ _ _ c.given.invariant
+
+pub returns-in-Err-put-clause-first : goal.returns-in-Err-put-clause-first
+returns-in-Err-put-clause-first c = tells-as-before _ _ _ _ _ _ _ c.given.invariant c.in-Err-put.ensures.kept
