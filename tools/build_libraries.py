@@ -1,22 +1,93 @@
 #!/usr/bin/env python3
-"""Proves and builds the libraries that a crate stands on, several side by side, and says which.
+"""Proves and builds the libraries that a program stands on, several side by side, and then the program, and says how far it is.
 
     tools/build_libraries.py seedlinkd
 
 `rt lib` keeps a crate's folder and those of all libraries below it to itself, so two crates over one library wait for each other.
 Here each crate is built in a room of its own, in which it and the libraries below it are hard links. What was built then moves to
-the crate's folder, where `rt` finds it as if it had been built there.
+the crate's folder, where `rt` finds it as if it had been built there. A signal ends what was started, and leaves no room behind.
+
+How long is left comes from tools/proving_seconds.txt, the processor seconds of each crate, and from how fast this machine was so far.
 """
 
+import math
 import os
 import shutil
+import signal
 import subprocess
 import sys
 import tempfile
+import threading
+import time
 from concurrent.futures import FIRST_COMPLETED, ThreadPoolExecutor, wait
 
 TOP = os.path.dirname(os.path.dirname(os.path.realpath(__file__)))
 MEMORY_OF_A_BUILD = 5 << 30
+PROCESSORS = len(os.sched_getaffinity(0))
+USUAL = 20 * 60 * 4 / PROCESSORS  # seconds that all takes, as it is known before anything is done
+TRUSTED = 60  # seconds for which that counts as much as what was seen since
+
+started = {}  # the processes that run, by their ids, each the first of a session of its own
+is_ending = threading.Event()
+
+
+class Ended(Exception):
+    """A signal came."""
+
+    def __init__(self, number):
+        super().__init__(number)
+        self.number = number
+
+
+def session_of(process):
+    """The session of a process, or 0 if it is gone."""
+    try:
+        return os.getsid(process)
+    except ProcessLookupError:
+        return 0
+
+
+def end_started():
+    """Ends all that was started: `rt`, and what it has started itself, which is in the same session."""
+    is_ending.set()
+    sessions = set(started)
+    for entry in os.listdir("/proc"):
+        if entry.isdigit() and session_of(int(entry)) in sessions:
+            try:
+                os.kill(int(entry), signal.SIGKILL)
+            except ProcessLookupError:
+                pass
+
+
+def end_at_signals():
+    """Makes a signal end the build in place of this process alone."""
+
+    def end(number, _):
+        for each in (signal.SIGINT, signal.SIGTERM, signal.SIGHUP):
+            signal.signal(each, signal.SIG_IGN)
+        raise Ended(number)
+
+    for number in (signal.SIGINT, signal.SIGTERM, signal.SIGHUP):
+        signal.signal(number, end)
+
+
+def remove_rooms_left():
+    """Removes the rooms of earlier builds that were killed: their names have the ids of processes that are gone."""
+    for name in os.listdir(TOP):
+        owner = name.removeprefix(".build-").partition("-")[0]
+        if name.startswith(".build-") and not (owner.isdigit() and session_of(int(owner))):
+            shutil.rmtree(f"{TOP}/{name}", ignore_errors=True)
+
+
+def run(words, folder):
+    """Runs a command in a session of its own, and returns what it said if it failed."""
+    with subprocess.Popen(words, cwd=folder, stdout=subprocess.PIPE, stderr=subprocess.STDOUT, text=True, start_new_session=True) as process:
+        started[process.pid] = process
+        if is_ending.is_set():
+            end_started()
+        said = process.communicate()[0]
+        del started[process.pid]
+    return said if process.returncode else None
 
 
 def crate_lines():
@@ -67,49 +138,100 @@ def copy_work(name, room):
 
 def build(name, needs, lines, jobs):
     """Builds one crate over the libraries below it, which are built, and returns what `rt` said if that failed."""
-    with tempfile.TemporaryDirectory(prefix=".build-", dir=TOP) as room:
+    with tempfile.TemporaryDirectory(prefix=f".build-{os.getpid()}-", dir=TOP) as room:
         for it in [*needs, name]:
             link_crate(it, room)
         copy_work(name, room)
         with open(f"{room}/crates.txt", "w", encoding="utf-8") as listed:
             listed.writelines(f"{lines[it]}\n" for it in [*needs, name])
-        done = subprocess.run(["rt", "lib", "--jobs", str(jobs)], cwd=f"{room}/crates/{name}", capture_output=True, text=True, check=False)
-        if done.returncode:
-            return done.stdout + done.stderr
-        shutil.rmtree(f"{TOP}/crates/{name}/out", ignore_errors=True)
-        os.rename(f"{room}/crates/{name}/out", f"{TOP}/crates/{name}/out")
-        return None
+        said = run(["rt", "lib", "--jobs", str(jobs)], f"{room}/crates/{name}")
+        if said is None:
+            shutil.rmtree(f"{TOP}/crates/{name}/out", ignore_errors=True)
+            os.rename(f"{room}/crates/{name}/out", f"{TOP}/crates/{name}/out")
+        return said
 
 
-def build_all(needs, lines):
+class Progress:
+    """How far a build is: which crates are done, and since when the others run."""
+
+    def __init__(self, names):
+        with open(f"{TOP}/tools/proving_seconds.txt", encoding="utf-8") as table:
+            known = dict(line.split() for line in table if not line.startswith("#"))
+        self.seconds = {it: int(known.get(it, 60)) for it in names}
+        self.began = time.monotonic()
+        self.running, self.done = {}, set()
+
+    def minutes_left(self):
+        """About how many minutes are left: the work that is left, at the speed so far."""
+        now = time.monotonic()
+        part = sum(min(now - since, self.seconds[it] / 2) for it, since in self.running.items())
+        done = sum(self.seconds[it] for it in self.done) + part
+        work = sum(self.seconds.values())
+        speed = (done + TRUSTED * work / USUAL) / (now - self.began + TRUSTED)
+        return math.ceil((work - done) / speed / 60)
+
+    def begins(self, name):
+        """A crate begins: says which of how many it is, and how long is left."""
+        count, left = len(self.done) + len(self.running) + 1, self.minutes_left()
+        self.running[name] = time.monotonic()
+        minutes = f"{left} minutes" if left > 1 else "a minute"
+        print(f"seedlinkd: proving {name} ({count} of {len(self.seconds)}, about {minutes} left)", file=sys.stderr, flush=True)
+
+    def ends(self, name):
+        """A crate is proved and built."""
+        del self.running[name]
+        self.done.add(name)
+
+
+def build_all(needs, lines, progress):
     """Builds crates, each once those below it are built, first those with the heaviest chain above them. Says whether all were built."""
-    processors = len(os.sched_getaffinity(0))
-    lanes = max(1, min(processors, os.sysconf("SC_PAGE_SIZE") * os.sysconf("SC_PHYS_PAGES") // MEMORY_OF_A_BUILD))
+    lanes = max(1, min(PROCESSORS, os.sysconf("SC_PAGE_SIZE") * os.sysconf("SC_PHYS_PAGES") // MEMORY_OF_A_BUILD))
     heaviest = chains(needs)
-    left, running, built = sorted(needs, key=lambda it: -heaviest[it]), {}, set()
+    left, running = sorted(needs, key=lambda it: -heaviest[it]), {}
     with ThreadPoolExecutor(lanes) as pool:
-        while left or running:
-            ready = [it for it in left if built.issuperset(needs[it])][: lanes - len(running)]
-            for name in ready:
-                jobs = max(2, processors // (len(running) + len(ready)))
-                print(f"seedlinkd: proving {name} ({len(needs) - len(left) + 1} of {len(needs)})", file=sys.stderr, flush=True)
-                left.remove(name)
-                running[pool.submit(build, name, needs[name], lines, jobs)] = name
-            for done in wait(running, return_when=FIRST_COMPLETED).done:
-                name, failure = running.pop(done), done.result()
-                if failure is not None:
-                    print(f"{failure}\nseedlinkd: {name} was not proved", file=sys.stderr)
-                    left = []
-                else:
-                    built.add(name)
-    return len(built) == len(needs)
+        try:
+            while left or running:
+                ready = [it for it in left if progress.done.issuperset(needs[it])][: lanes - len(running)]
+                for name in ready:
+                    jobs = max(2, PROCESSORS // (len(running) + len(ready)))
+                    progress.begins(name)
+                    left.remove(name)
+                    running[pool.submit(build, name, needs[name], lines, jobs)] = name
+                for done in wait(running, return_when=FIRST_COMPLETED).done:
+                    name, failure = running.pop(done), done.result()
+                    if failure is not None:
+                        print(f"{failure}\nseedlinkd: {name} was not proved", file=sys.stderr)
+                        left = []
+                    else:
+                        progress.ends(name)
+        except Ended:
+            end_started()
+            raise
+    return progress.done.issuperset(needs)
+
+
+def build_program(name, progress):
+    """Proves and builds the program itself. Says whether it was built."""
+    progress.begins(name)
+    said = run(["rt", "run", "--", "--help"], f"{TOP}/crates/{name}")
+    if said is not None:
+        print(f"{said[-4000:]}\nseedlinkd: the program was not proved", file=sys.stderr)
+    return said is None
 
 
 def main():
+    name = sys.argv[1]
     lines = crate_lines()
     below = below_each(lines)
-    needs = {name: below[name] for name in below[sys.argv[1]]}
-    return 0 if build_all(needs, lines) else 1
+    needs = {it: below[it] for it in below[name]}
+    remove_rooms_left()
+    end_at_signals()
+    progress = Progress([*needs, name])
+    try:
+        return 0 if build_all(needs, lines, progress) and build_program(name, progress) else 1
+    except Ended as ended:
+        end_started()
+        return 128 + ended.number
 
 
 if __name__ == "__main__":
