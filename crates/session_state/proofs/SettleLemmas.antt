@@ -1,25 +1,22 @@
 -- What a session does, step by step, is what its client does.
-use Rattle.std.proofs.Common.{◌≡◌, ◌≢◌, ℕ, true, false, List, [], ◌∷◌, length, refl, sym, ap, ◌∙◌, arith, nat_lt}
+use Rattle.std.proofs.Common.{◌≡◌, ◌≢◌, ℕ, true, false, zero, suc, List, [], ◌∷◌, length, take, drop, refl, sym, ap, ◌∙◌, arith}
+use Rattle.std.proofs.Common.{nat_lt}
+use Rattle.std.specs.List.{list_any, before_first, position_or_len}
+use Rattle.std.proofs.lemmas.Bool.{or_parts}
+use Rattle.protocol.specs.Lines.{is_line_end, joined, open_after}
 use Rattle.protocol.specs.Catalog.{Config, View}
 use Rattle.protocol.specs.History.{Arrival}
 use Rattle.protocol.specs.Client.{Client, reads, read_byte, read_on}
-use Rattle.protocol.proofs.UnreadLemmas.{read_on-step}
+use Rattle.protocol.proofs.UnreadLemmas.{read_on-step, read_on-unread}
 use Rattle.catalog.specs.Places.{view_in}
 use Rattle.session_state.specs.declared.session.State.{State}
 use Rattle.session_state.specs.declared.session.State.TheVariants.{Negotiating, Listing, Starting, Transfer, Ending}
 use Rattle.session_state.specs.declared.session.Settled.{Settled}
 use Rattle.session_state.specs.declared.session.Settled.TheVariants.{Rest, Start}
-use Rattle.session_state.specs.Sessions.{SessionValue, client_in, session_view, kept_unread, Comes, KeepsTransfer}
+use Rattle.session_state.specs.Sessions.{SessionValue, ReadsOnAs, client_in, session_view, kept_unread, Comes}
+use Rattle.session_state.specs.Sessions.{KeepsTransfer, text_taken}
 use Rattle.session_state.specs.Sessions.{never_starts}
 use Rattle.session_state.proofs.CursorLemmas.{keeps-apart, keeps-then}
-
--- the session will read on as the first one would
-pub record SettlesAs (config : Config) (now first : SessionValue) : Type 0 where
-  pub same : (h : List Arrival) → read_on (session_view config now) h now.unread (client_in config h now)
-      ≡ read_on (session_view config first) h first.unread (client_in config h first)
-  pub places : now.places ≡ first.places
-  pub stays : never_starts first.state ≡ true → never_starts now.state ≡ true
-  pub kept : KeepsTransfer first now
 
 -- a session that has nothing unread, or that may not read
 pub read_on-nothing : (config : Config) (v : View) (h : List Arrival) (s : SessionValue)
@@ -68,7 +65,7 @@ pub settle-step : (config : Config) (a n r : SessionValue) (b : ℕ) → a.unrea
     → ((h : List Arrival) → client_in config h r ≡ read_byte (session_view config n) h b (client_in config h n))
     → r.places ≡ n.places → r.unread ≡ n.unread → (never_starts n.state ≡ true → never_starts r.state ≡ true)
     → KeepsTransfer n r → ((h : List Arrival) → reads (client_in config h a).state a.waiting ≡ true)
-    → (first : SessionValue) → SettlesAs config a first → SettlesAs config r first
+    → (first : SessionValue) → ReadsOnAs config a first → ReadsOnAs config r first
 settle-step config a n r b byte rest client places unread stays kept may first so_far =
     record {
       same = λ h.
@@ -88,12 +85,52 @@ settle-step config a n r b byte rest client places unread stays kept may first s
           (ap (λ (s : SessionValue). s.looked) rest)) kept);
     }
 
+-- bytes of which none ends a line join the open line
+reads_run : (v : View) (h : List Arrival) (k : ℕ) (bytes : List ℕ) (c : Client) → reads c.state c.waiting ≡ true
+    → list_any is_line_end (take k bytes) ≡ false
+    → read_on v h (drop k bytes) (record c { open_line = open_after c.open_line (take k bytes) }) ≡ read_on v h bytes c
+reads_run v h zero bytes c may none = refl
+reads_run v h (suc k) [] c may none = refl
+reads_run v h (suc k) (b ∷ bytes) c may none =
+    let parts = or_parts (is_line_end b) (list_any is_line_end (take k bytes)) none in
+    rw (may, parts.0) (reads_run v h k bytes (record c { open_line = joined c.open_line b }) may parts.1)
+
+-- the bytes before the next line end join it
+pub settle-text : (config : Config) (a n : SessionValue) → n ≡ text_taken a
+    → list_any is_line_end (before_first is_line_end a.unread) ≡ false
+    → ((h : List Arrival) → reads (client_in config h a).state a.waiting ≡ true) → ReadsOnAs config n a
+settle-text config a n taken none may = record {
+  same = λ h.
+      let k = position_or_len is_line_end a.unread in
+      let v = session_view config a in
+      let c = client_in config h a in
+      ap (λ (s : SessionValue). read_on (session_view config s) h s.unread (client_in config h s)) taken
+      ∙ read_on-unread v h (drop k a.unread) (drop k a.unread)
+      (record c { open_line = open_after c.open_line (take k a.unread) })
+      ∙ reads_run v h k a.unread c (may h) none;
+  places = ap (λ (s : SessionValue). s.places) taken;
+  stays = λ e. ap (λ (s : SessionValue). never_starts s.state) taken ∙ e;
+  kept =
+      keeps-apart a n (ap (λ (s : SessionValue). s.state) taken) (ap (λ (s : SessionValue). s.mode) taken)
+      (ap (λ (s : SessionValue). s.looked) taken);
+}
+
+-- what a session comes to that read on as one that reads on as the first
+pub reads-then : (config : Config) (now between first : SessionValue) → ReadsOnAs config now between
+    → ReadsOnAs config between first → ReadsOnAs config now first
+reads-then config now between first late early = record {
+  same = λ h. late.same h ∙ early.same h;
+  places = late.places ∙ early.places;
+  stays = λ e. late.stays (early.stays e);
+  kept = keeps-then first between now early.kept late.kept;
+}
+
 -- what a session comes to that has read what it may
 pub settles : (config : Config) (h : List Arrival) (a d first : SessionValue) (settled : Settled)
     → (settled ≡ Start → d.state ≡ Starting) → (settled ≡ Rest → d.state ≢ Starting)
     → d ≡ record a { unread = kept_unread a.state a.unread }
     → (a.state ≢ Starting → client_in config h (record a { unread = kept_unread a.state a.unread })
-    ≡ read_on (session_view config a) h a.unread (client_in config h a)) → SettlesAs config a first
+    ≡ read_on (session_view config a) h a.unread (client_in config h a)) → ReadsOnAs config a first
     → Comes settled config h d (read_on (session_view config first) h first.unread (client_in config h first))
 settles config h a d first Rest start rest kept done so_far =
     let here : a.state ≢ Starting = λ e. rest refl (ap (λ (s : SessionValue). s.state) kept ∙ e) in
@@ -107,7 +144,7 @@ settles config h a d first Start start rest kept done so_far =
     )
 
 pub settles-kept : (config : Config) (a d first : SessionValue) → d ≡ record a { unread = kept_unread a.state a.unread }
-    → SettlesAs config a first → KeepsTransfer first d
+    → ReadsOnAs config a first → KeepsTransfer first d
 settles-kept config a d first kept so_far =
     keeps-then first a d so_far.kept
     (keeps-apart a d (ap (λ (s : SessionValue). s.state) kept) (ap (λ (s : SessionValue). s.mode) kept)

@@ -1,7 +1,8 @@
 -- A session, and the client that it is beside a configuration and a history.
 use Rattle.std.specs.Prelude.{◌≡◌, ℕ, ◌+◌, nat_lt, if◌then◌else◌, Bool, true, false, List, [], length, drop, map}
 use Rattle.std.specs.Prelude.{filter_map, slice_get, Option, Some, None, All}
-use Rattle.protocol.specs.Lines.{Line}
+use Rattle.std.specs.List.{before_first, position_or_len}
+use Rattle.protocol.specs.Lines.{Line, is_line_end, open_after}
 use Rattle.protocol.specs.Catalog.{Config, View, listing}
 use Rattle.protocol.specs.History.{Arrival, first_wanted}
 use Rattle.protocol.specs.Session.{choices_of, wish_of, error_line, ok_line}
@@ -64,6 +65,14 @@ effected s Done = record s { waiting = ok_line }
 effected s Refused = record s { waiting = error_line }
 effected s Starts = record s { state = Starting }
 
+-- the session once the bytes before the next line end have joined its open line
+abbrev pub text_taken : SessionValue → SessionValue
+text_taken s =
+    record s {
+      open_line = open_after s.open_line (before_first is_line_end s.unread);
+      unread = drop (position_or_len is_line_end s.unread) s.unread;
+    }
+
 -- In its end a session's unread bytes are dropped.
 abbrev pub kept_unread : State → List ℕ → List ℕ
 kept_unread Ending bytes = []
@@ -92,16 +101,25 @@ pub record KeepsTransfer (before after : SessionValue) : Type 0 where
   pub kept : (next : ℕ) → after.state ≡ Transfer next → (before.state ≡ Transfer next) × (after.mode ≡ before.mode)
   pub looked : (next : ℕ) → after.state ≡ Transfer next → after.looked ≡ before.looked
 
--- It is a listing.
-abbrev pub is_listing : State → Bool
-is_listing (Listing made) = true
-is_listing _ = false
-
 -- The state does not come to a transfer that is to start.
 abbrev pub never_starts : State → Bool
 never_starts (Transfer next) = true
 never_starts Ending = true
 never_starts _ = false
+
+-- A session will read on as another one would. It sees the same stations, has not come nearer to a transfer than that
+-- one's state allows, and is in a transfer only where that one is in the same.
+pub record ReadsOnAs (config : Config) (now first : SessionValue) : Type 0 where
+  pub same : (h : List Arrival) → read_on (session_view config now) h now.unread (client_in config h now)
+      ≡ read_on (session_view config first) h first.unread (client_in config h first)
+  pub places : now.places ≡ first.places
+  pub stays : never_starts first.state ≡ true → never_starts now.state ≡ true
+  pub kept : KeepsTransfer first now
+
+-- It is a listing.
+abbrev pub is_listing : State → Bool
+is_listing (Listing made) = true
+is_listing _ = false
 
 -- The session is that client, or will be once its transfer has started and what is unread is read.
 abbrev pub Comes : Settled → Config → List Arrival → SessionValue → Client → Type 0

@@ -241,8 +241,7 @@ impl Session {
         ensures settled { result ≡ Rest → self.new.state ≢ Starting }
     {
         while self.has_unread() && self.is_reading() {
-            let byte = self.next_byte();
-            self.read_byte(config, byte);
+            self.read_line(config);
         }
         self.drop_if_ending();
         self.settled()

@@ -1,8 +1,10 @@
 //! Lines out of bytes.
 ghost use Rattle.std.specs.Prelude.{◌≡◌};
+ghost use Rattle.std.specs.List.{position_or_len};
 ghost use Rattle.protocol.specs.Lines.{is_line_end};
 
 use arrayvec::ArrayVec;
+use memchr::memchr2;
 use std::marker::Model;
 
 /// A line of a client, without its end (SeedLink 3, commands).
@@ -19,6 +21,17 @@ fn is_line_end(byte: u8) -> bool
     ensures { result ≡ is_line_end byte }
 {
     byte == b'\r' || byte == b'\n'
+}
+
+/// How many bytes stand before the first CR or LF: all of them if there is none.
+#[tactic(auto, using(crate::proofs::TextLemmas::text_lemmas))]
+fn text_length(bytes: &[u8]) -> usize
+    ensures { result ≡ position_or_len is_line_end bytes.now }
+{
+    match memchr2(b'\r', b'\n', bytes) {
+        Some(end) => end,
+        None => bytes.len(),
+    }
 }
 
 /// The bytes since the last line end, as far as they are kept.
@@ -39,8 +52,9 @@ impl Model for OpenLine {
 }
 
 impl OpenLine {
-    ghost use Rattle.std.specs.Prelude.{[]};
-    ghost use Rattle.protocol.specs.Lines.{joined};
+    ghost use Rattle.std.specs.Prelude.{[], false};
+    ghost use Rattle.std.specs.List.{list_any};
+    ghost use Rattle.protocol.specs.Lines.{joined, open_after};
     ghost use Rattle.protocol.specs.Lines.Line.{Text};
     ghost use Rattle.sl_lines.specs.LineValues.{line_value};
 
@@ -62,6 +76,19 @@ impl OpenLine {
             self.is_too_long = true;
         } else {
             self.bytes.push(byte);
+        }
+    }
+
+    /// Takes bytes of which none ends a line.
+    #[tactic(auto, using(crate::proofs::TextLemmas::run_lemmas))]
+    fn extend(&mut self, text: &[u8])
+        requires { list_any is_line_end text.now ≡ false }
+        ensures { self.new ≡ open_after self.old text.now }
+    {
+        let _kept = self.bytes.len();
+        match self.bytes.try_extend_from_slice(text) {
+            Ok(()) => {}
+            Err(_) => self.is_too_long = true,
         }
     }
 
@@ -106,9 +133,10 @@ impl Model for LineCutter {
 }
 
 impl LineCutter {
-    ghost use Rattle.std.specs.Prelude.{[], ◌∷◌};
+    ghost use Rattle.std.specs.Prelude.{[], ◌∷◌, false};
     ghost use Rattle.std.specs.Borrow.{sem};
-    ghost use Rattle.protocol.specs.Lines.{cut_from};
+    ghost use Rattle.std.specs.List.{before_first, list_any, position_or_len};
+    ghost use Rattle.protocol.specs.Lines.{cut_from, open_after};
     ghost use Rattle.protocol.specs.Lines.Line.{Text};
     ghost use Rattle.sl_lines.specs.LineValues.{lines_value, LeavesOpen};
 
@@ -141,5 +169,22 @@ impl LineCutter {
             Line::Text([]) => None,
             line => Some(line),
         }
+    }
+
+    /// Takes the bytes before the first line end at once, and answers how many these are: all of them if none ends a
+    /// line. The same as a `push` of each, which lends no line.
+    #[tactic(auto, using(crate::proofs::TextLemmas::before_lemmas))]
+    pub fn take_text(&mut self, bytes: &[u8]) -> usize
+        ensures count { result ≡ position_or_len is_line_end bytes.now }
+        ensures open { self.new ≡ open_after self.old (before_first is_line_end bytes.now) }
+        ensures text { list_any is_line_end (before_first is_line_end bytes.now) ≡ false }
+    {
+        if self.is_ended {
+            self.open.clear();
+            self.is_ended = false;
+        }
+        let count = text_length(bytes);
+        self.open.extend(&bytes[..count]);
+        count
     }
 }

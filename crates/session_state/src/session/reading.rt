@@ -1,5 +1,5 @@
-//! How a session reads what came, byte by byte.
-ghost use Rattle.std.specs.Prelude.{◌≡◌, ◌≢◌, ℕ, List, [], ◌∷◌, true, false};
+//! How a session reads what came, line by line.
+ghost use Rattle.std.specs.Prelude.{◌≡◌, ◌≢◌, ◌<◌, ℕ, List, [], ◌∷◌, length, true, false};
 ghost use Rattle.protocol.specs.Catalog.{Config as ProtocolConfig};
 ghost use Rattle.protocol.specs.Lines.{open_after, cut_from};
 ghost use Rattle.protocol.specs.History.{Arrival};
@@ -14,6 +14,7 @@ impl Session {
     ghost use Rattle.session_state.specs.Choices.{negotiated_in};
     ghost use Rattle.session_state.specs.Asking.{outcome_by, outcome_of_lines, says_bye, is_leaving};
     ghost use Rattle.session_state.specs.Sessions.{client_in, session_view, HasPlaces, KeepsTransfer, never_starts};
+    ghost use Rattle.session_state.specs.Sessions.{ReadsOnAs};
     ghost use Rattle.session_state.specs.declared.session.State.TheVariants.{Negotiating, Starting, Transfer};
 
     /// What the line asks that a byte ends, where it ends one.
@@ -131,7 +132,7 @@ impl Session {
     }
 
     /// One more byte is read, where one may be.
-    pub(super) fn read_byte(&mut self, config: &Config, byte: u8)
+    fn read_byte(&mut self, config: &Config, byte: u8)
         requires places { HasPlaces config.now self.old }
         requires nothing_waits { self.old.state ≡ Negotiating → self.old.waiting ≡ [] }
         requires not_starting { self.old.state ≢ Starting }
@@ -149,6 +150,24 @@ impl Session {
             State::Listing(_) => {}
             State::Starting => {}
             State::Ending => {}
+        }
+    }
+
+    /// The unread bytes up to the next line end are read, and the line end with them: all that are unread if none ends
+    /// a line.
+    pub(super) fn read_line(&mut self, config: &Config)
+        requires places { HasPlaces config.now self.old }
+        requires unread { 0 < length self.old.unread }
+        requires nothing_waits { self.old.state ≡ Negotiating → self.old.waiting ≡ [] }
+        requires not_starting { self.old.state ≢ Starting }
+        requires reads { (h : List Arrival) → reads (client_in config.now h self.old).state self.old.waiting ≡ true }
+        ensures reads { ReadsOnAs config.now self.new self.old }
+        ensures shorter { length self.new.unread < length self.old.unread }
+    {
+        self.take_text();
+        if self.has_unread() {
+            let byte = self.next_byte();
+            self.read_byte(config, byte);
         }
     }
 }

@@ -1,5 +1,8 @@
 //! The steps of a session, each of which changes one thing.
 ghost use Rattle.std.specs.Prelude.{◌≡◌, ◌≤◌, ◌<◌, ◌+◌, ◌∷◌, ◌++◌, length, drop, nat_lt, None};
+ghost use Rattle.std.specs.Prelude.{false};
+ghost use Rattle.std.specs.List.{before_first, list_any};
+ghost use Rattle.protocol.specs.Lines.{is_line_end};
 ghost use Rattle.protocol.specs.Session.{greeting, ok_line, error_line};
 
 use super::{Session, State};
@@ -12,6 +15,7 @@ use catalog::Config;
 impl Session {
     ghost use Rattle.session_state.specs.Choices.{chosen_of, passed_in};
     ghost use Rattle.session_state.specs.Sessions.{session_view, effected, kept_unread, listed_in, line_made};
+    ghost use Rattle.session_state.specs.Sessions.{text_taken};
     ghost use Rattle.session_state.specs.Sessions.{HasPlaces};
 
     pub(super) fn turn_to(&mut self, state: State)
@@ -67,6 +71,15 @@ impl Session {
         let byte = self.unread.as_slice()[self.read];
         self.read += 1;
         byte
+    }
+
+    /// The bytes before the next line end join the open line: all that are unread if none ends a line.
+    pub(super) fn take_text(&mut self)
+        ensures taken { self.new ≡ text_taken self.old }
+        ensures text { list_any is_line_end (before_first is_line_end self.old.unread) ≡ false }
+    {
+        let count = self.cutter.take_text(&self.unread.as_slice()[self.read..]);
+        self.read += count;
     }
 
     pub(super) fn has_unread(&self) -> bool

@@ -1,21 +1,15 @@
-use Rattle.std.proofs.Common.{ap, sym, ◌∙◌}
-use Rattle.protocol.specs.Client.{reads}
-use Rattle.session_state.specs.Sessions.{SessionValue, client_in}
-use Rattle.session_state.proofs.SettleLemmas.{settle-step, settles, settles-kept, read_on-nothing, read_on-stopped}
+use Rattle.std.proofs.Common.{sym, ◌∙◌}
+use Rattle.session_state.proofs.SettleLemmas.{reads-then, settles, settles-kept, read_on-nothing, read_on-stopped}
 use Rattle.session_state.proofs.session.Session.settle.Goals.{then-loop-self-test+else-is_reading, else-loop-self-test}
 use Rattle.session_state.proofs.session.Session.settle.Goals as goal
 
-pub read_byte-requires-clause-reads : goal.read_byte-requires-clause-reads
-read_byte-requires-clause-reads c =
-    λ h. ap (λ (s : SessionValue). reads (client_in c.args.config.now h s).state s.waiting)
-    c.next_byte-byte.ensures.rest ∙ c.is_reading.ensures.may c.if-is_reading.true c.args.config.now h
+pub read_line-requires-clause-reads : goal.read_line-requires-clause-reads
+read_line-requires-clause-reads c = λ h. c.is_reading.ensures.may c.if-is_reading.true c.args.config.now h
 
 pub loop-self-preserved : goal.loop-self-preserved
 loop-self-preserved c =
-    settle-step c.args.config.now c.loop-self.self c.next_byte-byte.new.self c.read_byte.new.self _
-    c.next_byte-byte.ensures.byte c.next_byte-byte.ensures.rest c.read_byte.ensures.client c.read_byte.ensures.places
-    c.read_byte.ensures.unread c.read_byte.ensures.stays c.read_byte.ensures.kept
-    (λ h. c.is_reading.ensures.may c.if-is_reading.true c.args.config.now h) c.args.self.now c.loop-self.invariant
+    reads-then c.args.config.now c.read_line.new.self c.loop-self.self c.args.self.now c.read_line.ensures.reads
+    c.loop-self.invariant
 
 pub returns-clause-client : goal.returns-clause-client
 returns-clause-client c = λ h.
