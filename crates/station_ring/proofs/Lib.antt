@@ -2,3 +2,4 @@ pub mod PushLemmas
 pub mod NumberLemmas
 pub mod ReachLemmas
 pub mod GrowthLemmas
+pub mod BriefLemmas

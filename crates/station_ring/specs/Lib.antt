@@ -1,1 +1,2 @@
+pub mod Briefs
 pub mod Rings

@@ -9,9 +9,11 @@ ghost use Rattle.station_ring.specs.Rings.{RingValue, IsRing, empty, first_place
 ghost use Rattle.station_ring.specs.Rings.{holding_of, pushed, pushed_all};
 
 pub mod held;
+mod records;
 pub mod ring;
+mod streams;
 
-pub use held::{Held, Summary};
+pub use held::{Brief, Briefs, Held, Stream, Summary};
 pub use ring::Ring;
 
 /// After any pushes a ring holds the last of them, as many as its capacity, and has counted them all: what is held at a

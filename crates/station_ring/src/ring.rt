@@ -5,8 +5,8 @@ ghost use Rattle.std.specs.Option.{option_map, option_copied};
 ghost use Rattle.protocol.specs.Packet.{numbers};
 ghost use Rattle.station_ring.specs.Rings.{place_among};
 
-use crate::held::{Held, Summary};
-use circular_buffer::HeapCircularBuffer;
+use crate::held::{Briefs, Held, Summary};
+use crate::records::Records;
 use sl_packet::Seq;
 use std::alloc::{AllocError, Global};
 use std::marker::Model;
@@ -19,12 +19,12 @@ const NUMBERS: u64 = 0x100_0000;
 ///
 /// The records lie in a block of a fixed size that is allocated once, and a push into a full ring overwrites the
 /// oldest. No call goes through what is held: a place is reached by the count of pushes, and a number by its
-/// distance from the oldest one.
+/// distance from the oldest one. A search goes through the briefs, which lie in a block of their own.
 #[derive(Drop)]
 pub struct Ring {
     first: Seq,
     pushes: u64,
-    held: HeapCircularBuffer<Held>,
+    held: Records,
 }
 
 impl Model for Ring {
@@ -43,6 +43,7 @@ impl Ring {
     ghost use Rattle.station_ring.specs.Rings.{IsRing, empty, pushed, first_place, oldest_place, number_at};
     ghost use Rattle.station_ring.specs.Rings.{place_with};
     ghost use Rattle.station_ring.specs.Rings.{held_at, held_from, Grows};
+    ghost use Rattle.station_ring.specs.Briefs.{TellFrom};
 
     /// A ring that holds nothing yet: at most `capacity` records, 1 to 65,536, the first of which has the number
     /// `first`. It fails only where there is no memory for them.
@@ -51,7 +52,7 @@ impl Ring {
         requires most { capacity ≤ 65536 }
         ensures { IfOk result (λ r. r ≡ empty capacity first) }
     {
-        let held = HeapCircularBuffer::with_capacity(alloc, capacity)?;
+        let held = Records::with_capacity(alloc, capacity)?;
         let _below = first.value();
         Ok(Ring {
             first,
@@ -72,12 +73,7 @@ impl Ring {
         ensures grows { Grows self.old self.new }
     {
         let number = self.next_number();
-        let item = Held {
-            stamp,
-            bytes: *bytes,
-            summary,
-        };
-        let _oldest = self.held.push_back(item);
+        self.held.push(stamp, bytes, summary);
         self.pushes += 1;
         number
     }
@@ -93,7 +89,7 @@ impl Ring {
     pub fn oldest(&self) -> Option<u64>
         ensures { result ≡ oldest_place self.now }
     {
-        if self.held.is_empty() {
+        if self.held.len() == 0 {
             None
         } else {
             Some(self.first_place())
@@ -146,6 +142,16 @@ impl Ring {
         let place = place.max(self.first_place());
         let held = self.get(place)?;
         Some((place, held))
+    }
+
+    /// The briefs of the held records from a place on.
+    pub fn briefs_from(&self, place: u64) -> Briefs<'_>
+        requires low { first_place self.now ≤ place }
+        requires high { place ≤ self.now.pushes }
+        ensures { TellFrom self.now place result.streams.now (result.older.now ++ result.newer.now) }
+    {
+        let first = self.first_place();
+        self.held.briefs_from((place - first) as usize)
     }
 
     /// What is true of each ring: its capacity is 1 to 65,536, it holds as many records as were pushed, and no more

@@ -13,7 +13,7 @@ invariant_of-self c =
       held = c.self.inside.held.items;
     } in
     let item : Held = record { stamp = c.args.stamp; bytes = c.args.bytes.now; summary = c.args.summary } in
-    rw c.push_back-oldest.ensures.items
+    rw c.push.ensures
     (pushed_holds before item c.self.invariant (rw (← c.self.view_is) at c.requires.later))
 
 pub returns-clause-latest : goal.returns-clause-latest
@@ -25,7 +25,7 @@ returns-clause-latest c =
       held = c.self.inside.held.items;
     } in
     let item : Held = record { stamp = c.args.stamp; bytes = c.args.bytes.now; summary = c.args.summary } in
-    rw c.push_back-oldest.ensures.items (pushed_latest before item (rw (← c.self.view_is) at c.requires.later))
+    rw c.push.ensures (pushed_latest before item (rw (← c.self.view_is) at c.requires.later))
 
 pub returns-clause-grows : goal.returns-clause-grows
 returns-clause-grows c =
@@ -36,4 +36,4 @@ returns-clause-grows c =
       held = c.self.inside.held.items;
     } in
     let item : Held = record { stamp = c.args.stamp; bytes = c.args.bytes.now; summary = c.args.summary } in
-    rw (← c.self.view_is, c.push_back-oldest.ensures.items) (pushed-grows before item c.self.invariant)
+    rw (← c.self.view_is, c.push.ensures) (pushed-grows before item c.self.invariant)
