@@ -1,5 +1,5 @@
 //! Ports of which one call fails.
-ghost use Rattle.std.specs.Prelude.{◌≡◌, ◌<◌, ◌==◌, ◌-◌, ◌≢◌, List, [], ◌∷◌, Some, IsErr, IsSome, IfOk, length};
+ghost use Rattle.std.specs.Prelude.{◌≡◌, ◌<◌, ◌==◌, ◌-◌, ◌≢◌, List, [], ◌∷◌, Some, IsErr, IsSome, IfOk, OnOk, length};
 ghost use Rattle.sl_io.specs.Counts.{CountsFailure};
 ghost use Rattle.ports.specs.Calls.{Call, Tells, given, IsGiven, IsTaken};
 ghost use Rattle.ports.specs.Calls.Call.{Next, Read, Write, Shut};
@@ -68,6 +68,7 @@ impl<P: Ports> Ports for FailingPorts<P> {
     fn next(&mut self) -> Result<Happening, PortFault>
         ensures call { Tells (told self.old.log) (told self.new.log) (Next result ∷ []) }
         ensures failure { CountsFailure self.old.log.failures self.new.log.failures result }
+        ensures telling { OnOk result (IsSome (told self.old.log) → IsSome (told self.new.log)) }
         ensures fails { self.old.due ≡ 1 → IsErr result }
         ensures reaches_nothing { self.old.due ≡ 1 → self.new.inner ≡ self.old.inner }
         ensures passed_on { self.old.due ≢ 1 → IsSome (told self.new.log) →
@@ -88,6 +89,7 @@ impl<P: Ports> Ports for FailingPorts<P> {
         ensures call { Tells (told self.old.log) (told self.new.log)
             (Read port (length buffer.new) (given result buffer.new) ∷ []) }
         ensures failure { CountsFailure self.old.log.failures self.new.log.failures result }
+        ensures telling { OnOk result (IsSome (told self.old.log) → IsSome (told self.new.log)) }
         ensures fails { self.old.due ≡ 1 → IsErr result }
         ensures reaches_nothing { self.old.due ≡ 1 → self.new.inner ≡ self.old.inner }
         ensures passed_on { self.old.due ≢ 1 → IsSome (told self.new.log) →
@@ -108,6 +110,7 @@ impl<P: Ports> Ports for FailingPorts<P> {
         ensures bound { IsTaken result (length bytes.now) }
         ensures call { Tells (told self.old.log) (told self.new.log) (Write port bytes.now result ∷ []) }
         ensures failure { CountsFailure self.old.log.failures self.new.log.failures result }
+        ensures telling { OnOk result (IsSome (told self.old.log) → IsSome (told self.new.log)) }
         ensures fails { self.old.due ≡ 1 → IsErr result }
         ensures reaches_nothing { self.old.due ≡ 1 → self.new.inner ≡ self.old.inner }
         ensures passed_on { self.old.due ≢ 1 → IsSome (told self.new.log) →

@@ -1,6 +1,8 @@
 //! Ports in memory, that follow a script and tell every call.
-ghost use Rattle.std.specs.Prelude.{◌≡◌, List, Some, [], IfOk, map};
-ghost use Rattle.ports.specs.Calls.{Call};
+ghost use Rattle.std.specs.Prelude.{◌≡◌, ◌<◌, List, Some, [], ◌∷◌, IfOk, IsSome, OnOk, length, map};
+ghost use Rattle.sl_io.specs.Counts.{CountsFailure};
+ghost use Rattle.ports.specs.Calls.{Call, Tells, given, IsGiven, IsTaken};
+ghost use Rattle.ports.specs.Calls.Call.{Next, Read, Write};
 ghost use Rattle.ports.specs.Made.{told, made_value};
 ghost use Rattle.ports.specs.Records.{port_record, record_value};
 
@@ -16,8 +18,8 @@ pub use port_record::PortRecord;
 pub(crate) use port_record::record_of;
 pub use script::{PortScript, ReadAnswer, Script, WriteAnswer};
 
-/// Ports in memory. They answer by a script, and keep each call with its answer. Once there was no memory to keep one,
-/// which is a failure of that call, they tell their calls no more.
+/// Ports in memory. They answer by a script, and keep each call with its answer. Only if there was no memory to keep a
+/// call, which is then a failure of it (`shut` can't fail), do they stop telling their calls.
 #[derive(Drop)]
 pub struct MemoryPorts {
     script: Script,
@@ -57,17 +59,34 @@ impl Ports for MemoryPorts {
 
     ghost failures = { λ s. s.log.failures };
 
-    fn next(&mut self) -> Result<Happening, PortFault> {
+    fn next(&mut self) -> Result<Happening, PortFault>
+        ensures call { Tells (told self.old.log) (told self.new.log) (Next result ∷ []) }
+        ensures failure { CountsFailure self.old.log.failures self.new.log.failures result }
+        ensures telling { OnOk result (IsSome (told self.old.log) → IsSome (told self.new.log)) }
+    {
         let happening = self.script.next();
         self.log.next(Ok(happening))
     }
 
-    fn read(&mut self, port: u64, buffer: &mut [u8]) -> Result<Got, PortFault> {
+    fn read(&mut self, port: u64, buffer: &mut [u8]) -> Result<Got, PortFault>
+        requires { 0 < length buffer.old }
+        ensures bound { IsGiven result (length buffer.new) }
+        ensures call { Tells (told self.old.log) (told self.new.log)
+            (Read port (length buffer.new) (given result buffer.new) ∷ []) }
+        ensures failure { CountsFailure self.old.log.failures self.new.log.failures result }
+        ensures telling { OnOk result (IsSome (told self.old.log) → IsSome (told self.new.log)) }
+    {
         let answer = self.script.read(port, buffer);
         self.log.read(port, buffer, answer)
     }
 
-    fn write(&mut self, port: u64, bytes: &[u8]) -> Result<Put, PortFault> {
+    fn write(&mut self, port: u64, bytes: &[u8]) -> Result<Put, PortFault>
+        requires { 0 < length bytes.now }
+        ensures bound { IsTaken result (length bytes.now) }
+        ensures call { Tells (told self.old.log) (told self.new.log) (Write port bytes.now result ∷ []) }
+        ensures failure { CountsFailure self.old.log.failures self.new.log.failures result }
+        ensures telling { OnOk result (IsSome (told self.old.log) → IsSome (told self.new.log)) }
+    {
         let answer = self.script.write(port, bytes.len());
         self.log.write(port, bytes, answer)
     }

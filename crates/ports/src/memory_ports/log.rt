@@ -1,5 +1,5 @@
 //! Calls that were made.
-ghost use Rattle.std.specs.Prelude.{◌≡◌, IfOk, IsErr, IsSome, Some, None, [], ◌∷◌, length};
+ghost use Rattle.std.specs.Prelude.{◌≡◌, IfOk, IsErr, IsSome, OnOk, Some, None, [], ◌∷◌, length};
 ghost use Rattle.sl_io.specs.Counts.{CountsFailure, IsMore};
 ghost use Rattle.ports.specs.Calls.{Tells, given, IsGiven, IsTaken};
 ghost use Rattle.ports.specs.Calls.Call.{Next, Read, Write, Shut};
@@ -94,6 +94,7 @@ impl Log {
         ensures failure { CountsFailure self.old.failures self.new.failures result }
         ensures answer { IsSome (told self.new) → result ≡ answer }
         ensures failed { IsErr answer → IsErr result }
+        ensures telling { OnOk result (IsSome (told self.old) → IsSome (told self.new)) }
     {
         if self.made.push(Made::Next(answer)).is_err() {
             self.lose();
@@ -118,6 +119,7 @@ impl Log {
         ensures failure { CountsFailure self.old.failures self.new.failures result }
         ensures answer { IsSome (told self.new) → result ≡ answer }
         ensures failed { IsErr answer → IsErr result }
+        ensures telling { OnOk result (IsSome (told self.old) → IsSome (told self.new)) }
     {
         let Ok(gave) = kept_answer(self.alloc, buffer, answer) else {
             self.lose();
@@ -149,6 +151,7 @@ impl Log {
         ensures failure { CountsFailure self.old.failures self.new.failures result }
         ensures answer { IsSome (told self.new) → result ≡ answer }
         ensures failed { IsErr answer → IsErr result }
+        ensures telling { OnOk result (IsSome (told self.old) → IsSome (told self.new)) }
     {
         let Ok(copy) = bytes.to_vec(self.alloc) else {
             self.lose();

@@ -1,5 +1,5 @@
 //! Reads of which one fails.
-ghost use Rattle.std.specs.Prelude.{◌≡◌, ◌-◌, IsErr};
+ghost use Rattle.std.specs.Prelude.{◌≡◌, ◌≢◌, ◌-◌, IsErr};
 ghost use Rattle.std.specs.Io.{ReadsAtMost};
 ghost use Rattle.std.specs.Io.KnownBytes.{ReadConsumes};
 ghost use Rattle.sl_io.specs.Counts.{IsMore, CountsFailure};
@@ -20,6 +20,10 @@ impl<T: Source> Source for Failing<T> {
         ensures call { IsMore self.old.calls self.new.calls 1 }
         ensures fails { self.old.due ≡ 1 → IsErr result }
         ensures reaches_nothing { self.old.due ≡ 1 → self.new.inner ≡ self.old.inner }
+        ensures passed_on { self.old.due ≢ 1 →
+            ReadConsumes (T.left self.old.inner) (T.left self.new.inner) result buffer.new
+            × CountsFailure (T.failures self.old.inner) (T.failures self.new.inner) result
+            × IsMore (T.calls self.old.inner) (T.calls self.new.inner) 1 }
         ensures due { self.new.due ≡ self.old.due - 1 }
     {
         if self.count_call() {

@@ -1,5 +1,5 @@
 //! Writes of which one fails.
-ghost use Rattle.std.specs.Prelude.{◌≡◌, ◌-◌, IsErr};
+ghost use Rattle.std.specs.Prelude.{◌≡◌, ◌≢◌, ◌-◌, IsErr};
 ghost use Rattle.std.specs.Io.{WritesAtMost};
 ghost use Rattle.std.specs.Io.KnownBytes.{WriteAppends};
 ghost use Rattle.sl_io.specs.Counts.{IsMore, CountsFailure, CountsEmptyWrite};
@@ -23,6 +23,11 @@ impl<T: Sink> Sink for Failing<T> {
         ensures empty { CountsEmptyWrite self.old.empty_writes self.new.empty_writes result bytes.now }
         ensures fails { self.old.due ≡ 1 → IsErr result }
         ensures reaches_nothing { self.old.due ≡ 1 → self.new.inner ≡ self.old.inner }
+        ensures passed_on { self.old.due ≢ 1 →
+            WriteAppends (T.written self.old.inner) (T.written self.new.inner) result bytes.now
+            × CountsFailure (T.failures self.old.inner) (T.failures self.new.inner) result
+            × CountsEmptyWrite (T.empty_writes self.old.inner) (T.empty_writes self.new.inner) result bytes.now
+            × IsMore (T.calls self.old.inner) (T.calls self.new.inner) 1 }
         ensures due { self.new.due ≡ self.old.due - 1 }
     {
         if self.count_call() {
