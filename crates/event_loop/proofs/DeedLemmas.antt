@@ -52,7 +52,7 @@ deed-keeps config (Offers client) = refl
 deed-keeps config (Closes client port) = refl
 deed-keeps config (ShutsFeed port) = refl
 
-deeds-keep : (config : Config) (ds : List Deed) → config_after config (events_in ds) ≡ config
+pub deeds-keep : (config : Config) (ds : List Deed) → config_after config (events_in ds) ≡ config
 deeds-keep config [] = refl
 deeds-keep config (d ∷ ds) =
     config_after-append config (events_of d) (events_in ds)

@@ -1,13 +1,15 @@
 mod ReadLemmas
-mod DeedLemmas
+pub mod DeedLemmas
 mod StepLemmas
 mod WriteLemmas
 mod TurnLemmas
-mod HandsLemmas
+pub mod HandsLemmas
 mod TableLemmas
 mod HearLemmas
 mod FeedLemmas
 mod FeedStepLemmas
 mod SeatPassLemmas
 mod PassesLemmas
-pub mod ServesLemmas
+mod SleepLemmas
+mod LeaveLemmas
+mod AwakeLemmas

@@ -15,7 +15,7 @@ use Rattle.event_loop.specs.Turns.{PassOf, SeatPass}
 use Rattle.event_loop.proofs.DeedLemmas.{does-then, world_beyond-append}
 
 -- a seat with its role written out
-same-open : (s : Seat) (r : Role) → s.role ≡ r → record s { role = r } ≡ s
+pub same-open : (s : Seat) (r : Role) → s.role ≡ r → record s { role = r } ≡ s
 same-open s r e = ap (λ (x : Role). record s { role = x }) (sym e)
 
 module _ (config : Config) (limit : ℕ) (w : World) (a : Option (List Call)) (s : Seat) where

@@ -1,6 +1,6 @@
 -- One write to a client's port.
 use Rattle.std.proofs.Common.{◌≡◌, ℕ, zero, suc, ◌<◌, ◌≤◌, true, false, not, Bool, ◌&&◌, List, [], ◌∷◌, length, refl}
-use Rattle.std.proofs.Common.{sym, ap, ap₂, subst, ◌∙◌, Option, Some, None, Ok, Err, option_map, unwrap_or, arith}
+use Rattle.std.proofs.Common.{sym, ap, ap₂, subst, ◌∙◌, is_some, Option, Some, None, Ok, Err, option_map, unwrap_or, arith}
 use Rattle.protocol.specs.Catalog.{Config}
 use Rattle.protocol.specs.Client.{Client, offered, is_nothing}
 use Rattle.protocol.specs.World.{World, step, taken_by}
@@ -9,6 +9,7 @@ use Rattle.server_core.specs.declared.client.Offer.{Offer}
 use Rattle.server_core.specs.declared.client.Offer.TheVariants.{Bytes, Ended, Idle}
 use Rattle.server_core.specs.Refusals.{is_idle as finds_none, offer_when, offer_of}
 use Rattle.server_core.specs.ServerValues.{ServerValue, StandsAt}
+use Rattle.server_core.specs.Marks.{IsSpared}
 use Rattle.event_loop.specs.declared.seat.Seat.{Seat}
 use Rattle.ports.specs.declared.answers.Put.TheVariants.{Took, Later}
 use Rattle.ports.specs.declared.answers.PortFault.{PortFault}
@@ -240,22 +241,20 @@ pub not-set : (b : Bool) → not b ≡ true → b ≡ false
 not-set true e = sym e
 not-set false e = refl
 
--- A client that is not ready is open, and offered nothing.
-pub unready-found : (w : World) (k : ℕ) (ready : Bool)
-    → Some ready ≡ option_map (λ c. not (finds_none (offer_of (offered w.history c)))) (client_at w k)
-    → not ready ≡ true → Found w k (Some Idle)
-unready-found w k ready answer unready = by (client_at w k) answer
+-- A client that is open and may be spared is offered nothing.
+pub spared-found : (config : Config) (w : World) (k : ℕ) → IsSpared config w k → is_some (client_at w k) ≡ true
+    → Found w k (Some Idle)
+spared-found config w k spared there = by (client_at w k) refl there
   where
-    is-it : (o : Offer) → not (finds_none o) ≡ false → Idle ≡ o
+    is-it : (o : Offer) → finds_none o ≡ true → Idle ≡ o
     is-it Idle e = refl
     is-it Bytes e = absurd cc
     is-it Ended e = absurd cc
 
-    by : (o : Option Client) → Some ready ≡ option_map (λ c. not (finds_none (offer_of (offered w.history c)))) o
+    by : (o : Option Client) → client_at w k ≡ o → is_some o ≡ true
         → Some Idle ≡ option_map (λ c. offer_of (offered w.history c)) o
-    by None e = absurd cc
-    by (Some c) e =
-        ap Some (is-it (offer_of (offered w.history c)) (sym (some_inside ready _ e) ∙ not-set ready unready))
+    by None e open-there = absurd cc
+    by (Some c) e open-there = ap Some (is-it (offer_of (offered w.history c)) (spared.idle c e))
 
 -- ---- what can't be
 

@@ -6,4 +6,5 @@ pub mod Hearing
 pub mod Turns
 pub mod Tables
 pub mod Faithful
-pub mod Serves
+pub mod Loops
+pub mod Sleeping

@@ -6,33 +6,44 @@ ghost use Rattle.server_core.specs.ServerValues.{StandsAt};
 ghost use Rattle.event_loop.specs.Deeds.{Tally};
 ghost use Rattle.event_loop.specs.Feeding.{Arrives, FeedReads, fed, feed_seat, feed_tally};
 ghost use Rattle.event_loop.specs.Going.{Once, Whole, if_open};
+ghost use Rattle.event_loop.specs.Sleeping.{IsQuiet};
 
 use crate::passes::Went;
 use feeder::{FeedCutter, Feeding};
 use ports::{Got, PortFault, Ports};
 use server_core::Server;
 
-// A record arrives, and one that is refused is counted.
-fn take_record(server: &mut Server, whole: &[u8; 512], dropped: &mut u64)
-    ensures { (config : Config) (w : World) → StandsAt server.old config w →
+// A record arrives, and one that is refused is counted. It is told whether one was accepted.
+fn take_record(server: &mut Server, whole: &[u8; 512], dropped: &mut u64, brought: &mut bool)
+    ensures arrives { (config : Config) (w : World) → StandsAt server.old config w →
         Arrives config w (whole.now ∷ []) server.new dropped.old dropped.new }
+    ensures quiet { IsQuiet brought.old brought.new server.old server.new }
 {
     if server.arrive(whole).is_err() {
         *dropped = dropped.saturating_add(1);
+    } else {
+        *brought = true;
     }
 }
 
 // The records that a piece of a feed makes whole arrive.
-fn take_records(server: &mut Server, cutter: &mut FeedCutter, piece: &[u8], dropped: &mut u64)
+fn take_records(
+    server: &mut Server,
+    cutter: &mut FeedCutter,
+    piece: &[u8],
+    dropped: &mut u64,
+    brought: &mut bool,
+)
     ensures arrives { (config : Config) (w : World) → StandsAt server.old config w →
         Arrives config w (fed cutter.old piece.now).records server.new dropped.old dropped.new }
     ensures rest { cutter.new ≡ (fed cutter.old piece.now).rest }
+    ensures quiet { IsQuiet brought.old brought.new server.old server.new }
 {
     let mut left = piece;
     'records: while !left.is_empty() {
         let Feeding { used, whole } = cutter.feed(left);
         match whole {
-            Some(whole) => take_record(server, whole, dropped),
+            Some(whole) => take_record(server, whole, dropped, brought),
             None => {}
         }
         left = &left[used..];
@@ -48,6 +59,7 @@ fn read_feed_once<P: Ports>(
     cutter: &mut FeedCutter,
     buffer: &mut [u8],
     dropped: &mut u64,
+    brought: &mut bool,
 ) -> Went
     requires some { 0 < length buffer.old }
     requires short { length buffer.old ≤ 512 }
@@ -55,13 +67,14 @@ fn read_feed_once<P: Ports>(
         Once (FeedReads config) config w (P.calls ports.old) (P.calls ports.new) server.new
         (feed_tally happenings dropped.old) (feed_tally happenings dropped.new)
         (feed_seat port cutter.old readable.old writable) (feed_seat port cutter.new readable.new writable) result }
+    ensures quiet { IsQuiet brought.old brought.new server.old server.new }
 {
     if !*readable {
         return Went::Stop;
     }
     match ports.read(port, buffer) {
         Ok(Got::Bytes(count)) => {
-            take_records(server, cutter, &buffer[..count], dropped);
+            take_records(server, cutter, &buffer[..count], dropped, brought);
             Went::On
         }
         Ok(Got::Later) => {
@@ -89,6 +102,7 @@ pub fn read_feed<P: Ports>(
     buffer: &mut [u8],
     limit: usize,
     dropped: &mut u64,
+    brought: &mut bool,
 ) -> bool
     requires some { 0 < length buffer.old }
     requires short { length buffer.old ≤ 512 }
@@ -97,10 +111,13 @@ pub fn read_feed<P: Ports>(
         (feed_tally happenings dropped.old) (feed_tally happenings dropped.new)
         (feed_seat port cutter.old readable.old writable)
         (if_open result (feed_seat port cutter.new readable.new writable)) }
+    ensures quiet { IsQuiet brought.old brought.new server.old server.new }
 {
     let mut left = limit;
     'reads: while left > 0 {
-        match read_feed_once(server, ports, port, readable, cutter, buffer, dropped) {
+        match read_feed_once(
+            server, ports, port, readable, cutter, buffer, dropped, brought,
+        ) {
             Went::On => left -= 1,
             Went::Stop => return true,
             Went::Over => return false,

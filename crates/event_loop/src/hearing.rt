@@ -13,7 +13,10 @@ ghost use Rattle.event_loop.specs.Going.{Whole};
 ghost use Rattle.event_loop.specs.Hearing.{heard};
 ghost use Rattle.event_loop.specs.Hearing.End.{Faulted};
 ghost use Rattle.event_loop.specs.Tables.{IsTable, HearsOnce, HeardBy, WholeHearing, CountsFault, tally_heard_by};
+ghost use Rattle.event_loop.specs.Sleeping.{AreKnown, AreSeated};
 ghost use Rattle.event_loop.specs.Tables.{heard_end};
+ghost use Rattle.std.specs.Prelude.{◌<◌, true, vec_len};
+ghost use Rattle.std.specs.Vec.{vec_capacity};
 
 use crate::seat::{Role, Seat, Unfinished};
 use crate::table::{clients, feeds, mark_readable, mark_writable, place_of};
@@ -45,19 +48,37 @@ pub struct Report {
     pub quiet: bool,
 }
 
+// Makes room for one more seat, with its byte. It fails only where there is no memory.
+fn has_room(seats: &mut Vec<Seat>, awake: &mut Vec<u8>) -> bool
+    ensures seats { seats.new.items ≡ seats.old.items }
+    ensures awake { awake.new.items ≡ awake.old.items }
+    ensures room { result ≡ true → vec_len seats.new < vec_capacity seats.new }
+    ensures byte { result ≡ true → vec_len awake.new < vec_capacity awake.new }
+{
+    if seats.reserve(1).is_err() {
+        return false;
+    }
+    awake.reserve(1).is_ok()
+}
+
 // A client's port joins: a seat is made and the client opened; or else the port is shut, and nothing came of it. The
 // place of the seat is reserved first, so that no client is opened that could have no seat.
 fn join_client<P: Ports>(
     server: &mut Server,
     ports: &mut P,
     seats: &mut Vec<Seat>,
+    awake: &mut Vec<u8>,
     alloc: Global,
     most: usize,
     port: u64,
     address: Ipv4Addr,
 )
-    requires { IsTable most seats.old.items }
+    requires table { IsTable most seats.old.items }
+    requires known { AreKnown server.old seats.old.items awake.old.items }
+    requires seated { AreSeated server.old seats.old.items }
     ensures table { IsTable most seats.new.items }
+    ensures known { AreKnown server.new seats.new.items awake.new.items }
+    ensures seated { AreSeated server.new seats.new.items }
     ensures failures { P.failures ports.new ≡ P.failures ports.old }
     ensures goes { (t : Tally) (calls : Option (List Call)) (config : Config) (w : World) →
         Tells calls (P.calls ports.old) (Next (Ok (Joined port address)) ∷ []) → StandsAt server.old config w →
@@ -66,13 +87,14 @@ fn join_client<P: Ports>(
     let Err(at) = place_of(seats.as_slice(), port) else {
         return;
     };
-    if clients(seats.as_slice()) >= most || seats.reserve(1).is_err() {
+    if clients(seats.as_slice()) >= most || !has_room(seats, awake) {
         ports.shut(port);
         return;
     }
     match server.open(alloc, address) {
         Ok(client) => {
             let _kept = seats.insert(at, Seat::joining(port, Role::Client(client)));
+            let _woken = awake.insert(at, 1);
         }
         Err(_) => ports.shut(port),
     }
@@ -83,12 +105,17 @@ fn join_feed<P: Ports>(
     server: &Server,
     ports: &mut P,
     seats: &mut Vec<Seat>,
+    awake: &mut Vec<u8>,
     alloc: Global,
     most: usize,
     port: u64,
 )
-    requires { IsTable most seats.old.items }
+    requires table { IsTable most seats.old.items }
+    requires known { AreKnown server.now seats.old.items awake.old.items }
+    requires seated { AreSeated server.now seats.old.items }
     ensures table { IsTable most seats.new.items }
+    ensures known { AreKnown server.now seats.new.items awake.new.items }
+    ensures seated { AreSeated server.now seats.new.items }
     ensures failures { P.failures ports.new ≡ P.failures ports.old }
     ensures goes { (t : Tally) (calls : Option (List Call)) (config : Config) (w : World) →
         Tells calls (P.calls ports.old) (Next (Ok (JoinedFeed port)) ∷ []) → StandsAt server.now config w →
@@ -97,13 +124,14 @@ fn join_feed<P: Ports>(
     let Err(at) = place_of(seats.as_slice(), port) else {
         return;
     };
-    if feeds(seats.as_slice()) >= FEEDS || seats.reserve(1).is_err() {
+    if feeds(seats.as_slice()) >= FEEDS || !has_room(seats, awake) {
         ports.shut(port);
         return;
     }
     match Unfinished::new(alloc) {
         Ok(unfinished) => {
             let _kept = seats.insert(at, Seat::joining(port, Role::Feed(unfinished)));
+            let _woken = awake.insert(at, 1);
         }
         Err(_) => ports.shut(port),
     }
@@ -114,11 +142,16 @@ fn hear_once<P: Ports>(
     server: &mut Server,
     ports: &mut P,
     seats: &mut Vec<Seat>,
+    awake: &mut Vec<u8>,
     alloc: Global,
     most: usize,
 ) -> Hark
-    requires { IsTable most seats.old.items }
+    requires table { IsTable most seats.old.items }
+    requires known { AreKnown server.old seats.old.items awake.old.items }
+    requires seated { AreSeated server.old seats.old.items }
     ensures table { IsTable most seats.new.items }
+    ensures known { AreKnown server.new seats.new.items awake.new.items }
+    ensures seated { AreSeated server.new seats.new.items }
     ensures failures { CountsFault (P.failures ports.old) (P.failures ports.new) result }
     ensures goes { (t : Tally) (config : Config) (w : World) → StandsAt server.old config w →
         HearsOnce config most w (P.calls ports.old)
@@ -126,19 +159,19 @@ fn hear_once<P: Ports>(
 {
     match ports.next() {
         Ok(Happening::Joined(port, address)) => {
-            join_client(server, ports, seats, alloc, most, port, address);
+            join_client(server, ports, seats, awake, alloc, most, port, address);
             Hark::Happened
         }
         Ok(Happening::JoinedFeed(port)) => {
-            join_feed(server, ports, seats, alloc, most, port);
+            join_feed(server, ports, seats, awake, alloc, most, port);
             Hark::Happened
         }
         Ok(Happening::Readable(port)) => {
-            mark_readable(seats, port);
+            mark_readable(seats, awake, port);
             Hark::Happened
         }
         Ok(Happening::Writable(port)) => {
-            mark_writable(seats, port);
+            mark_writable(seats, awake, port);
             Hark::Happened
         }
         Ok(Happening::Quiet) => Hark::Quiet,
@@ -151,12 +184,17 @@ pub fn hear<P: Ports>(
     server: &mut Server,
     ports: &mut P,
     seats: &mut Vec<Seat>,
+    awake: &mut Vec<u8>,
     alloc: Global,
     most: usize,
     limit: usize,
 ) -> Result<Report, PortFault>
-    requires { IsTable most seats.old.items }
+    requires table { IsTable most seats.old.items }
+    requires known { AreKnown server.old seats.old.items awake.old.items }
+    requires seated { AreSeated server.old seats.old.items }
     ensures table { IsTable most seats.new.items }
+    ensures known { AreKnown server.new seats.new.items awake.new.items }
+    ensures seated { AreSeated server.new seats.new.items }
     ensures ok { IfOk result (λ report. (config : Config) (w : World) → StandsAt server.old config w →
         WholeHearing config most limit w (P.calls ports.old) (P.calls ports.new) server.new
         (tally_heard_by report) seats.old.items seats.new.items (heard_end report)) }
@@ -167,7 +205,7 @@ pub fn hear<P: Ports>(
 {
     let mut left = limit;
     'hearing: while left > 0 {
-        match hear_once(server, ports, seats, alloc, most) {
+        match hear_once(server, ports, seats, awake, alloc, most) {
             Hark::Happened => left -= 1,
             Hark::Quiet => {
                 return Ok(Report {

@@ -5,6 +5,7 @@ mod feeding;
 mod hearing;
 mod passes;
 pub mod seat;
+mod sleeping;
 mod table;
 mod turning;
 

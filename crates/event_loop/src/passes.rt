@@ -6,6 +6,7 @@ ghost use Rattle.protocol.specs.World.{World, step};
 ghost use Rattle.protocol.specs.World.Event.{Close, Take};
 ghost use Rattle.ports.specs.Calls.{Tells};
 ghost use Rattle.ports.specs.Calls.Call.{Shut};
+ghost use Rattle.server_core.specs.Marks.{LeavesOthers};
 ghost use Rattle.server_core.specs.Refusals.{offer_of};
 ghost use Rattle.server_core.specs.ServerValues.{StandsAt};
 ghost use Rattle.server_core.specs.declared.client.Offer.TheVariants.{Idle};
@@ -33,6 +34,7 @@ fn shut<P: Ports>(server: &mut Server, ports: &mut P, client: Client, port: u64)
     ensures call { Tells (P.calls ports.old) (P.calls ports.new) (Shut port ∷ []) }
     ensures stands { (config : Config) (w : World) → StandsAt server.old config w
         → StandsAt server.new config (step config w (Close client)) }
+    ensures others { LeavesOthers client server.old server.new }
 {
     ports.shut(port);
     let _ = server.close(client);
@@ -55,6 +57,7 @@ fn read_piece<P: Ports>(
         (P.calls ports.new) server.new t t seat.old seat.new result }
     ensures role { seat.new.role ≡ Role.Client client }
     ensures port { seat.new.port ≡ seat.old.port }
+    ensures others { LeavesOthers client server.old server.new }
 {
     match ports.read(seat.port, piece) {
         Ok(Got::Bytes(count)) => {
@@ -91,6 +94,7 @@ fn read_once<P: Ports>(
         (P.calls ports.new) server.new t t seat.old seat.new result }
     ensures role { seat.new.role ≡ Role.Client client }
     ensures port { seat.new.port ≡ seat.old.port }
+    ensures others { LeavesOthers client server.old server.new }
 {
     if !seat.readable {
         return Went::Stop;
@@ -118,6 +122,7 @@ pub fn read_client<P: Ports>(
         (if_open result seat.new) }
     ensures role { seat.new.role ≡ Role.Client client }
     ensures port { seat.new.port ≡ seat.old.port }
+    ensures others { LeavesOthers client server.old server.new }
 {
     let mut left = limit;
     'reads: while left > 0 {
@@ -138,6 +143,7 @@ fn write_once<P: Ports>(server: &mut Server, ports: &mut P, client: Client, seat
         (P.calls ports.new) server.new t t seat.old seat.new result }
     ensures role { seat.new.role ≡ Role.Client client }
     ensures port { seat.new.port ≡ seat.old.port }
+    ensures others { LeavesOthers client server.old server.new }
 {
     if !seat.writable {
         return Went::Stop;
@@ -181,16 +187,16 @@ fn write_once<P: Ports>(server: &mut Server, ports: &mut P, client: Client, seat
     }
 }
 
-// Whether an offer to a client would find nothing, so that it may be spared.
-fn finds_nothing(server: &mut Server, client: Client) -> bool
-    ensures stands { (config : Config) (w : World) → StandsAt server.old config w → StandsAt server.new config w }
-    ensures idle { result ≡ true → (config : Config) (w : World) → StandsAt server.old config w →
+// Whether an offer to a client is known to find nothing, so that it may be spared. A client that is marked is offered
+// something even if its selectors refuse what came: that offer finds nothing and takes the mark away.
+fn finds_nothing(server: &Server, client: Client) -> bool
+    ensures idle { result ≡ true → (config : Config) (w : World) → StandsAt server.now config w →
         Some Idle ≡ option_map (λ c. offer_of (offered w.history c)) (client_at w client) }
-    ensures nothing { result ≡ true → (config : Config) (w : World) → StandsAt server.old config w →
+    ensures nothing { result ≡ true → (config : Config) (w : World) → StandsAt server.now config w →
         step config w (Take client 0) ≡ w }
 {
-    match server.ready(client) {
-        Ok(ready) => !ready,
+    match server.marked(client) {
+        Ok(marked) => !marked,
         Err(_) => false,
     }
 }
@@ -212,6 +218,7 @@ pub fn write_client<P: Ports>(
         (if_open result seat.new) }
     ensures role { seat.new.role ≡ Role.Client client }
     ensures port { seat.new.port ≡ seat.old.port }
+    ensures others { LeavesOthers client server.old server.new }
 {
     if !seat.writable {
         return true;

@@ -1,10 +1,12 @@
 //! The seats of a loop, by rising port.
-ghost use Rattle.std.specs.Prelude.{◌≡◌, ◌<◌, ◌≤◌, IfOk, IfErr, map, length, vec_len};
+ghost use Rattle.std.specs.Prelude.{◌≡◌, ◌≢◌, ℕ, slice_index, ◌<◌, ◌≤◌, IfOk, IfErr, map, length, vec_len};
 ghost use Rattle.std.specs.List.{remove};
 ghost use Rattle.event_loop.specs.Hearing.{clients_in, feeds_in, readable_at, writable_at};
+ghost use Rattle.event_loop.specs.Sleeping.{seat_at};
 ghost use Rattle.event_loop.specs.Tables.{AreRising, IsSeatOf, IsGapFor};
 
 use crate::seat::Seat;
+use crate::sleeping::wake;
 
 /// The place of a port's seat, or the place where it belongs.
 pub fn place_of(seats: &[Seat], port: u64) -> Result<usize, usize>
@@ -16,22 +18,32 @@ pub fn place_of(seats: &[Seat], port: u64) -> Result<usize, usize>
 }
 
 /// The port may be read from now on, if it is open.
-pub fn mark_readable(seats: &mut Vec<Seat>, port: u64)
-    requires { AreRising seats.old.items }
-    ensures { seats.new.items ≡ map (readable_at port) seats.old.items }
+pub fn mark_readable(seats: &mut Vec<Seat>, awake: &mut Vec<u8>, port: u64)
+    requires rising { AreRising seats.old.items }
+    requires count { length awake.old.items ≡ length seats.old.items }
+    ensures marks { seats.new.items ≡ map (readable_at port) seats.old.items }
+    ensures count { length awake.new.items ≡ length awake.old.items }
+    ensures others { (i : ℕ) → slice_index awake.new.items i ≢ 1 → (slice_index awake.old.items i ≢ 1)
+        × (seat_at seats.new.items i ≡ seat_at seats.old.items i) }
 {
     if let Ok(at) = place_of(seats.as_slice(), port) {
         seats[at].readable = true;
+        wake(awake, at);
     }
 }
 
 /// The port may be written to from now on, if it is open.
-pub fn mark_writable(seats: &mut Vec<Seat>, port: u64)
-    requires { AreRising seats.old.items }
-    ensures { seats.new.items ≡ map (writable_at port) seats.old.items }
+pub fn mark_writable(seats: &mut Vec<Seat>, awake: &mut Vec<u8>, port: u64)
+    requires rising { AreRising seats.old.items }
+    requires count { length awake.old.items ≡ length seats.old.items }
+    ensures marks { seats.new.items ≡ map (writable_at port) seats.old.items }
+    ensures count { length awake.new.items ≡ length awake.old.items }
+    ensures others { (i : ℕ) → slice_index awake.new.items i ≢ 1 → (slice_index awake.old.items i ≢ 1)
+        × (seat_at seats.new.items i ≡ seat_at seats.old.items i) }
 {
     if let Ok(at) = place_of(seats.as_slice(), port) {
         seats[at].writable = true;
+        wake(awake, at);
     }
 }
 

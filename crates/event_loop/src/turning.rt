@@ -1,5 +1,7 @@
 //! The loop: what happens at its ports, and each port's pass in turn.
-ghost use Rattle.std.specs.Prelude.{◌≡◌, ◌≤◌, ℕ, [], IfOk, MatchResult, OnErr, codes, is_ok, length};
+ghost use Rattle.std.specs.Prelude.{◌≡◌, ◌+◌, ◌<◌, ◌≤◌, ℕ, [], List, IfOk, MatchResult, OnErr, codes, is_ok, length};
+ghost use Rattle.std.specs.Prelude.{drop, take};
+ghost use Rattle.std.specs.declared.option.Option.{Option};
 ghost use Rattle.protocol.specs.Catalog.{Config as ProtocolConfig, is_same_but_for_access};
 ghost use Rattle.protocol.specs.World.{World, config_by, empty_world, step};
 ghost use Rattle.protocol.specs.World.Event.{Reload};
@@ -9,19 +11,24 @@ ghost use Rattle.event_loop.specs.Deeds.{Tally, refused_more};
 ghost use Rattle.event_loop.specs.Feeding.{feed_tally};
 ghost use Rattle.event_loop.specs.Going.{Whole, if_open};
 ghost use Rattle.event_loop.specs.Hearing.{clients_in, feeds_in};
-ghost use Rattle.event_loop.specs.Tables.{IsTable, IsSameSeat, PassesAll};
-ghost use Rattle.event_loop.specs.Turns.{SeatPass, Turns, Fails};
+ghost use Rattle.event_loop.specs.Loops.{TurnMade, TurnFailed};
+ghost use Rattle.event_loop.specs.Sleeping.{AreKnown, AreSeated, LeavesRest};
+ghost use Rattle.event_loop.specs.Tables.{IsTable, IsSameSeat, PassesAll, PassesSoFar};
+ghost use Rattle.event_loop.specs.Turns.{SeatPass};
+ghost use Rattle.ports.specs.Calls.{Call};
+ghost use Rattle.event_loop.specs.declared.seat.Role.TheVariants.{Client as ClientRole};
 
 use crate::feeding::read_feed;
 use crate::hearing::hear;
 use crate::passes::{read_client, write_client};
 use crate::seat::{Role, Seat};
-use crate::table::remove;
+use crate::sleeping::{go, settle, skip, wake_after, wake_if};
 use catalog::Config;
 use ports::Ports;
 use protocol::report::Report;
-use server_core::{ReloadFault, Server};
+use server_core::{Client, ReloadFault, Server};
 use std::alloc::{AllocError, Global};
+use std::marker::Model;
 use thiserror::Error;
 
 /// How many bytes a client's read asks for at most: as many as a client ever has room for.
@@ -57,7 +64,7 @@ impl LoopFault {
     }
 }
 
-// The pass over one port; whether the port stays open.
+// The pass over one port; whether the port stays open. It is told whether records came by it.
 fn pass<P: Ports>(
     server: &mut Server,
     ports: &mut P,
@@ -65,11 +72,14 @@ fn pass<P: Ports>(
     buffer: &mut [u8; CLIENT_READ],
     limit: usize,
     dropped: &mut u64,
+    brought: &mut bool,
 ) -> bool
     ensures goes { (happenings : ℕ) (config : ProtocolConfig) (w : World) → StandsAt server.old config w →
         Whole (SeatPass config) limit config w (P.calls ports.old) (P.calls ports.new) server.new
         (feed_tally happenings dropped.old) (feed_tally happenings dropped.new) seat.old (if_open result seat.new) }
     ensures same { IsSameSeat seat.old seat.new }
+    ensures whose { (k : ℕ) → seat.new.role ≡ ClientRole k → seat.old.role ≡ ClientRole k }
+    ensures leaves { LeavesRest seat.old brought.new server.old server.new }
 {
     match &mut seat.role {
         Role::Client(client) => {
@@ -86,53 +96,135 @@ fn pass<P: Ports>(
             &mut buffer[..FEED_READ],
             limit,
             dropped,
+            brought,
         ),
     }
 }
 
-// The passes over all ports, by rising number. A port that is shut has no seat any more.
+// The pass over the port at a place, and where the next port is then. A port that is shut has no seat any more.
+fn pass_at<P: Ports>(
+    server: &mut Server,
+    ports: &mut P,
+    seats: &mut Vec<Seat>,
+    awake: &mut Vec<u8>,
+    marked: &mut Vec<Client>,
+    at: usize,
+    buffer: &mut [u8; CLIENT_READ],
+    limit: usize,
+    dropped: &mut u64,
+) -> usize
+    requires inside { at < length seats.old.items }
+    requires known { AreKnown server.old seats.old.items awake.old.items }
+    requires seated { AreSeated server.old seats.old.items }
+    ensures known { AreKnown server.new seats.new.items awake.new.items }
+    ensures seated { AreSeated server.new seats.new.items }
+    ensures within { result ≤ length seats.new.items }
+    ensures fewer { length seats.new.items + at < length seats.old.items + result }
+    ensures goes { (happenings : ℕ) (config : ProtocolConfig) (w : World) (calls : Option (List Call)) (t : Tally)
+        (ss : List Seat) → PassesSoFar limit config w calls (P.calls ports.old) server.old t
+        (feed_tally happenings dropped.old) ss (take at seats.old.items) (drop at seats.old.items)
+        → PassesSoFar limit config w calls (P.calls ports.new) server.new t
+        (feed_tally happenings dropped.new) ss (take result seats.new.items) (drop result seats.new.items) }
+    ensures table { (most : ℕ) → IsTable most seats.old.items → IsTable most seats.new.items }
+{
+    let mut brought = false;
+    let stays = pass(
+        server,
+        ports,
+        &mut seats[at],
+        buffer,
+        limit,
+        dropped,
+        &mut brought,
+    );
+    wake_after(server, seats.as_slice(), awake, marked, brought);
+    if stays {
+        settle(server, seats.as_slice(), awake, at);
+        at + 1
+    } else {
+        go(seats, awake, at);
+        at
+    }
+}
+
+// The passes over all ports, by rising number. Those that sleep are passed over.
 fn pass_all<P: Ports>(
     server: &mut Server,
     ports: &mut P,
     seats: &mut Vec<Seat>,
+    awake: &mut Vec<u8>,
+    marked: &mut Vec<Client>,
     limit: usize,
     dropped: &mut u64,
 )
+    requires known { AreKnown server.old seats.old.items awake.old.items }
+    requires seated { AreSeated server.old seats.old.items }
+    ensures known { AreKnown server.new seats.new.items awake.new.items }
+    ensures seated { AreSeated server.new seats.new.items }
     ensures goes { (happenings : ℕ) (config : ProtocolConfig) (w : World) → StandsAt server.old config w →
         PassesAll limit config w (P.calls ports.old) (P.calls ports.new) server.new
         (feed_tally happenings dropped.old) (feed_tally happenings dropped.new) seats.old.items seats.new.items }
     ensures table { (most : ℕ) → IsTable most seats.old.items → IsTable most seats.new.items }
 {
     let mut buffer = [0u8; CLIENT_READ];
-    let mut at = 0usize;
+    let mut at = skip(server, seats.as_slice(), awake.as_slice(), 0);
     'passes: while at < seats.len() {
-        if pass(server, ports, &mut seats[at], &mut buffer, limit, dropped) {
-            at += 1;
-        } else {
-            remove(seats, at);
-        }
+        let next = pass_at(
+            server,
+            ports,
+            seats,
+            awake,
+            marked,
+            at,
+            &mut buffer,
+            limit,
+            dropped,
+        );
+        at = skip(server, seats.as_slice(), awake.as_slice(), next);
     }
 }
 
 /// A server over ports. It goes on by turns, and a turn allocates only when a port joins.
 #[derive(Drop)]
-pub struct Loop<P> {
+pub struct Loop<P: Ports> {
     server: Server,
     ports: P,
     /// The open ports, by rising number.
     seats: Vec<Seat>,
+    /// For each seat a 1, or else the port sleeps: its pass would make no call.
+    awake: Vec<u8>,
+    /// Room for the clients that are marked.
+    marked: Vec<Client>,
     alloc: Global,
     most: usize,
     refused: u64,
-    ghost table: { IsTable most seats.items },
+}
+
+impl<P: Ports> Model for Loop<P> {
+    ghost use Rattle.event_loop.specs.Loops.{LoopValue};
+    ghost use Rattle.event_loop.specs.Sleeping.{IsLoop};
+
+    ghost Value = { LoopValue };
+
+    ghost view = { λ l. record {
+      server = l.server;
+      calls = P.calls l.ports;
+      failures = P.failures l.ports;
+      seats = l.seats.items;
+      most = l.most;
+      refused = l.refused;
+    } };
+
+    ghost invariant = { λ l. IsLoop l.most l.server l.seats.items l.awake.items };
 }
 
 impl<P: Ports + Drop> Loop<P> {
     /// A loop over a new server of this configuration, at which no port is open. It fails only for want of memory.
     pub fn new(alloc: Global, config: Config, ports: P) -> Result<Loop<P>, AllocError>
         ensures server { IfOk result (λ made. StandsAt made.server config empty_world) }
-        ensures ports { IfOk result (λ made. made.ports ≡ ports) }
-        ensures seats { IfOk result (λ made. made.seats.items ≡ []) }
+        ensures calls { IfOk result (λ made. made.calls ≡ P.calls ports) }
+        ensures failures { IfOk result (λ made. made.failures ≡ P.failures ports) }
+        ensures seats { IfOk result (λ made. made.seats ≡ []) }
         ensures most { IfOk result (λ made. made.most ≡ config.max_connections) }
         ensures refused { IfOk result (λ made. made.refused ≡ 0) }
     {
@@ -142,6 +234,8 @@ impl<P: Ports + Drop> Loop<P> {
             server,
             ports,
             seats: Vec::new(alloc),
+            awake: Vec::new(alloc),
+            marked: Vec::new(alloc),
             alloc,
             most,
             refused: 0,
@@ -158,14 +252,12 @@ impl<P: Ports> Loop<P> {
     /// and a further turn goes on.
     pub fn turn(&mut self, limit: usize) -> Result<Turned, LoopFault>
         ensures ok { IfOk result (λ turned. (config : ProtocolConfig) (w : World) → StandsAt self.old.server config w →
-            Turns config self.old.most limit w (P.calls self.old.ports) (P.calls self.new.ports) self.new.server
-            self.old.seats.items self.new.seats.items turned) }
+            TurnMade config limit w self.old self.new turned) }
         ensures failed { OnErr result ((config : ProtocolConfig) (w : World) → StandsAt self.old.server config w →
-            Fails config self.old.most limit w (P.calls self.old.ports) (P.calls self.new.ports) self.new.server
-            self.old.seats.items self.new.seats.items) }
-        ensures failures { OnErr result (IsMore (P.failures self.old.ports) (P.failures self.new.ports) 1) }
-        ensures few_clients { clients_in self.new.seats.items ≤ self.new.most }
-        ensures few_feeds { feeds_in self.new.seats.items ≤ 16 }
+            TurnFailed config limit w self.old self.new) }
+        ensures failures { OnErr result (IsMore self.old.failures self.new.failures 1) }
+        ensures few_clients { clients_in self.new.seats ≤ self.new.most }
+        ensures few_feeds { feeds_in self.new.seats ≤ 16 }
         ensures most { self.new.most ≡ self.old.most }
         ensures refused { MatchResult result (λ turned. self.new.refused ≡ refused_more self.old.refused turned.dropped)
             (λ _. self.new.refused ≡ self.old.refused) }
@@ -174,6 +266,7 @@ impl<P: Ports> Loop<P> {
             &mut self.server,
             &mut self.ports,
             &mut self.seats,
+            &mut self.awake,
             self.alloc,
             self.most,
             limit,
@@ -185,6 +278,8 @@ impl<P: Ports> Loop<P> {
             &mut self.server,
             &mut self.ports,
             &mut self.seats,
+            &mut self.awake,
+            &mut self.marked,
             limit,
             &mut dropped,
         );
@@ -204,40 +299,41 @@ impl<P: Ports> Loop<P> {
         ensures stands { (old : ProtocolConfig) (w : World) → StandsAt self.old.server old w →
             StandsAt self.new.server (config_by old (Reload config)) (step old w (Reload config)) }
         ensures answer { is_ok result ≡ is_same_but_for_access self.old.server.config config }
-        ensures unchanged { OnErr result (self.new.server ≡ self.old.server) }
-        ensures ports { self.new.ports ≡ self.old.ports }
-        ensures seats { self.new.seats.items ≡ self.old.seats.items }
-        ensures most { self.new.most ≡ self.old.most }
-        ensures refused { self.new.refused ≡ self.old.refused }
+        ensures unchanged { OnErr result (self.new ≡ self.old) }
+        ensures only { self.new ≡ record self.old { server = self.new.server } }
     {
         let _ = &self.ports;
-        self.server.reload(config)
+        let reloaded = self.server.reload(config);
+        wake_if(&mut self.awake, true);
+        reloaded
     }
 
     /// The ports.
     pub fn ports(&self) -> &P
-        ensures { result.now ≡ self.now.ports }
+        ensures calls { P.calls result.now ≡ self.now.calls }
+        ensures failures { P.failures result.now ≡ self.now.failures }
     {
         &self.ports
     }
 
     /// The ports, once the loop is over. The server is dropped.
     pub fn into_ports(self) -> P
-        ensures { result ≡ self.ports }
+        ensures calls { P.calls result ≡ self.calls }
+        ensures failures { P.failures result ≡ self.failures }
     {
         self.ports
     }
 
     /// How many clients' ports are open.
     pub fn clients(&self) -> usize
-        ensures { result ≡ clients_in self.now.seats.items }
+        ensures { result ≡ clients_in self.now.seats }
     {
         crate::table::clients(self.seats.as_slice())
     }
 
     /// How many feeds' ports are open.
     pub fn feeds(&self) -> usize
-        ensures { result ≡ feeds_in self.now.seats.items }
+        ensures { result ≡ feeds_in self.now.seats }
     {
         crate::table::feeds(self.seats.as_slice())
     }

@@ -11,3 +11,4 @@ pub mod MarkLemmas
 pub mod SpareLemmas
 mod ReloadLemmas
 mod CurrentLemmas
+mod AmongLemmas

@@ -1,7 +1,7 @@
 -- Marks by number, and offers that are spared.
 use Rattle.std.proofs.Common.{◌≡◌, ℕ, ◌<◌, ◌||◌, ◌&&◌, Bool, true, false, not, map, Option, Some, None, option_map}
 use Rattle.std.proofs.Common.{length, slice_get, slice_index_or, refl, sym, ap, ap₂, ◌∙◌, arith}
-use Rattle.std.specs.Prelude.{IsSome}
+use Rattle.std.specs.Prelude.{IsSome, is_some, ◌≢◌, ◌+◌}
 use Rattle.std.specs.List.{range_with_len}
 use Rattle.slab.specs.Slab.{get}
 use Rattle.slot_rows.specs.Rows.{bit_of, HasRoom}
@@ -15,13 +15,14 @@ use Rattle.transfer.specs.Choosing.{is_transfer}
 use Rattle.server_core.specs.declared.clients.Clients.{Clients}
 use Rattle.server_core.specs.declared.marks.Marks.{Marks}
 use Rattle.server_core.specs.Clients.{IsTable, in_slot, sessions_of, slot_in}
-use Rattle.server_core.specs.Marks.{AreMarked, IsSpared, MarksThose, asked, asks, bit_by, mark_in, mark_of, marks_of}
+use Rattle.server_core.specs.Marks.{AreMarked, Elsewhere, IsSpared, IsAmong, Keeps, LeavesOthers, MarksThose, OpensNext}
+use Rattle.server_core.specs.Marks.{asked, asks, bit_by, mark_in, mark_of, marks_of}
 use Rattle.server_core.specs.Refusals.{is_idle, offer_of}
 use Rattle.server_core.specs.ServerValues.{ServerValue, StandsAt, mark_at}
-use Rattle.server_core.proofs.SessionLemmas.{seen-there, serving}
+use Rattle.server_core.proofs.SessionLemmas.{seen-session, seen-there, serving}
 use Rattle.server_core.proofs.MarkLemmas.{unmarked-idle}
 use Rattle.server_core.proofs.NumberLemmas.{slot_in-below}
-use Rattle.server_core.proofs.SlotLemmas.{index-of, session-is, value-inside, values-same}
+use Rattle.server_core.proofs.SlotLemmas.{index-of, session-is, sessions-counted, value-inside, values-same}
 use Rattle.server_core.proofs.TakeLemmas.{idle-offer}
 
 -- a server of these clients with their marks
@@ -148,3 +149,83 @@ marks-those g before after c old new place table are within bits =
         (ap (λ b. bit_by (slice_get old.rows.items place) slot && b) is.sends
         ∙ both-ways (is_transfer s.state) (bit_by (slice_get old.rows.items place) slot)
         (asked place (chosen_of s.mode)) (λ sends. is.asks sends place within)))
+
+-- ---- what leaves the marks of others
+
+-- a number with the slot that it had, of which the bit stays
+mark-stays : (g : Config) (rings rings' : RingsValue) (c d : Clients) (old new : Marks) (other : ℕ) → IsTable c
+    → IsTable d → slot_in d.opened.items other ≡ slot_in c.opened.items other
+    → ((slot : ℕ) → slot_in c.opened.items other ≡ Some slot → bit_of new.marked slot ≡ bit_of old.marked slot)
+    → mark_at (serving-with g rings' d new) other ≡ mark_at (serving-with g rings c old) other
+mark-stays g rings rings' c d old new other table table' same bits = by (slot_in c.opened.items other) refl
+  where
+    by : (o : Option ℕ) → slot_in c.opened.items other ≡ o
+        → mark_at (serving-with g rings' d new) other ≡ mark_at (serving-with g rings c old) other
+    by None e = mark-nowhere g rings' d new other table' (same ∙ e) ∙ sym (mark-nowhere g rings c old other table e)
+    by (Some slot) e =
+        mark-there g rings' d new other table' slot (same ∙ e) ∙ ap Some (bits slot e)
+        ∙ sym (mark-there g rings c old other table slot e)
+
+pub leaves-others : (g : Config) (rings : RingsValue) (c d : Clients) (old new : Marks) (k : ℕ) → IsTable c
+    → IsTable d → d.opens ≡ c.opens
+    → ((other : ℕ) → other ≢ k → slot_in d.opened.items other ≡ slot_in c.opened.items other)
+    → ((other slot : ℕ) → other ≢ k → slot_in c.opened.items other ≡ Some slot
+    → bit_of new.marked slot ≡ bit_of old.marked slot)
+    → LeavesOthers k (serving-with g rings c old) (serving-with g rings d new)
+leaves-others g rings c d old new k table table' opens slots bits = record {
+  marks = λ other apart. mark-stays g rings rings c d old new other table table' (slots other apart)
+      (λ slot e. bits other slot apart e);
+  count = sessions-counted d ∙ opens ∙ sym (sessions-counted c);
+}
+
+-- The bits of other slots are those of other numbers.
+pub bits-elsewhere : (c : Clients) (old new : Marks) (k slot : ℕ) → IsTable c → slot_in c.opened.items k ≡ Some slot
+    → Keeps (Elsewhere slot) old new → (other slot' : ℕ) → other ≢ k → slot_in c.opened.items other ≡ Some slot'
+    → bit_of new.marked slot' ≡ bit_of old.marked slot'
+bits-elsewhere c old new k slot table there keeps other slot' apart e =
+    keeps.marked slot' (λ same. apart (table.apart other k slot (e ∙ ap Some same) there))
+
+pub opens-next : (g : Config) (rings : RingsValue) (c d : Clients) (old new : Marks) → IsTable c → IsTable d
+    → d.opens ≡ c.opens + 1
+    → ((other : ℕ) → other ≢ c.opens → slot_in d.opened.items other ≡ slot_in c.opened.items other)
+    → ((slot : ℕ) → bit_of new.marked slot ≡ bit_of old.marked slot)
+    → OpensNext (serving-with g rings c old) (serving-with g rings d new)
+opens-next g rings c d old new table table' opens slots bits = record {
+  marks = λ other apart. mark-stays g rings rings c d old new other table table'
+      (slots other (λ e. apart (e ∙ sym (sessions-counted c)))) (λ slot e. bits slot);
+  count = sessions-counted d ∙ opens ∙ ap (λ n. n + 1) (sym (sessions-counted c));
+}
+
+-- ---- who is not marked
+
+pub unmarked-slot : (g : Config) (rings : RingsValue) (c : Clients) (marks : Marks) (k : ℕ) → IsTable c
+    → mark_at (serving-with g rings c marks) k ≡ Some false
+    → (slot : ℕ) × (slot_in c.opened.items k ≡ Some slot) × (bit_of marks.marked slot ≡ false)
+unmarked-slot g rings c marks k table unmarked = by (slot_in c.opened.items k) refl
+  where
+    by : (o : Option ℕ) → slot_in c.opened.items k ≡ o
+        → (slot : ℕ) × (slot_in c.opened.items k ≡ Some slot) × (bit_of marks.marked slot ≡ false)
+    by None e = absurd (let q : None ≡ Some false = sym (mark-nowhere g rings c marks k table e) ∙ unmarked in cc)
+    by (Some slot) e = (slot, e, bool-inside _ _ (sym (mark-there g rings c marks k table slot e) ∙ unmarked))
+
+pub kept-open : (g : Config) (before after : RingsValue) (c : Clients) (old new : Marks) (k : ℕ)
+    → is_some (mark_at (serving-with g after c new) k) ≡ is_some (mark_at (serving-with g before c old) k)
+kept-open g before after c old new k = by (slice_index_or (sessions_of c) k None)
+  where
+    by : (o : Option SessionValue)
+        → is_some (option_map (λ s. slice_index_or (marks_of c new) k false) o)
+        ≡ is_some (option_map (λ s. slice_index_or (marks_of c old) k false) o)
+    by None = refl
+    by (Some s) = refl
+
+-- ---- all that are marked
+
+pub marked-slot : (g : Config) (rings : RingsValue) (c : Clients) (marks : Marks) (k : ℕ) → IsTable c
+    → mark_at (serving-with g rings c marks) k ≡ Some true
+    → (slot : ℕ) × (slot_in c.opened.items k ≡ Some slot) × (bit_of marks.marked slot ≡ true)
+marked-slot g rings c marks k table marked = by (slot_in c.opened.items k) refl
+  where
+    by : (o : Option ℕ) → slot_in c.opened.items k ≡ o
+        → (slot : ℕ) × (slot_in c.opened.items k ≡ Some slot) × (bit_of marks.marked slot ≡ true)
+    by None e = absurd (let q : None ≡ Some true = sym (mark-nowhere g rings c marks k table e) ∙ marked in cc)
+    by (Some slot) e = (slot, e, bool-inside _ _ (sym (mark-there g rings c marks k table slot e) ∙ marked))

@@ -1,6 +1,6 @@
 -- Which clients an offer may find something for, by the slots of their sessions.
 -- This project's own.
-use Rattle.std.specs.Prelude.{◌≡◌, ◌≢◌, ℕ, ◌<◌, ◌≤◌, ◌==◌, ◌&&◌, ◌||◌, Bool, true, false, List, [], length, map, Option}
+use Rattle.std.specs.Prelude.{◌≡◌, ◌≢◌, ℕ, ◌+◌, ◌<◌, ◌≤◌, ◌==◌, ◌&&◌, ◌||◌, Bool, true, false, List, [], length, map, Option}
 use Rattle.std.specs.Prelude.{Some, None, is_some, slice_get, slice_index_or}
 use Rattle.std.specs.List.{list_any, range_with_len}
 use Rattle.slab.specs.Slab.{Slab, get}
@@ -130,3 +130,19 @@ pub record MarksThose (place : ℕ) (old new : ServerValue) : Type 0 where
   pub marks : (k : ℕ) (s : SessionValue) (mark : Bool) → slice_index_or old.sessions k None ≡ Some s →
       mark_at old k ≡ Some mark →
       mark_at new k ≡ Some (mark || asks place s)
+
+-- What is done with one client leaves the marks of all others, and how many opened.
+pub record LeavesOthers (k : ℕ) (old new : ServerValue) : Type 0 where
+  pub marks : (other : ℕ) → other ≢ k → mark_at new other ≡ mark_at old other
+  pub count : length new.sessions ≡ length old.sessions
+
+-- One more client opens, and the marks of all others stay.
+pub record OpensNext (old new : ServerValue) : Type 0 where
+  pub marks : (other : ℕ) → other ≢ length old.sessions → mark_at new other ≡ mark_at old other
+  pub count : length new.sessions ≡ length old.sessions + 1
+
+-- A number is one of some.
+pub record IsAmong (k : ℕ) (ks : List ℕ) : Type 0 where
+  pub place : ℕ
+  pub inside : place < length ks
+  pub is : slice_index_or ks place 0 ≡ k

@@ -1,5 +1,5 @@
 //! The open clients of a server: their numbers, and the slots in which their sessions are.
-ghost use Rattle.std.specs.Prelude.{◌≡◌, ℕ, ◌∷◌, ◌++◌, [], IfOk, OnOk, OnErr, IfSome, Some, None, true, is_some};
+ghost use Rattle.std.specs.Prelude.{◌≡◌, ◌≢◌, ◌+◌, ℕ, ◌∷◌, ◌++◌, [], IfOk, OnOk, OnErr, IfSome, Some, None, true, is_some};
 ghost use Rattle.std.specs.Prelude.{slice_set};
 ghost use Rattle.std.specs.Net.Addr.{ipv4_bits};
 ghost use Rattle.slab.specs.Slab.{get, Updates};
@@ -97,6 +97,9 @@ impl Clients {
         ensures err { OnErr result (sessions_of self.new ≡ sessions_of self.old) }
         ensures slots { OnOk result (Updates self.old.slots self.new.slots self.old.slots.vacant_key (Some session)) }
         ensures vacant { OnOk result (get self.old.slots self.old.slots.vacant_key ≡ None) }
+        ensures opens { OnOk result (self.new.opens ≡ self.old.opens + 1) }
+        ensures others { OnOk result ((other : ℕ) → other ≢ self.old.opens →
+            slot_in self.new.opened.items other ≡ slot_in self.old.opened.items other) }
         ensures refused { OnErr result ((slot : ℕ) → get self.new.slots slot ≡ get self.old.slots slot) }
         ensures numbers { OnErr result ((self.new.opens ≡ self.old.opens)
             × (self.new.opened.items ≡ self.old.opened.items)) }
@@ -127,6 +130,10 @@ impl Clients {
         ensures left { addresses_of self.new ≡ slice_set (addresses_of self.old) number None }
         ensures answer { is_some result ≡ is_some (session_of self.old.opened.items self.old.slots number) }
         ensures freed { IfSome result (λ slot. Updates self.old.slots self.new.slots slot None) }
+        ensures slot { result ≡ slot_in self.old.opened.items number }
+        ensures opens { self.new.opens ≡ self.old.opens }
+        ensures others { (other : ℕ) → other ≢ number →
+            slot_in self.new.opened.items other ≡ slot_in self.old.opened.items other }
         ensures absent { result ≡ None → self.new.slots ≡ self.old.slots }
         ensures settled { (config : ProtocolConfig) (rings : RingsValue) → AreSettled config rings self.old.slots →
             AreSettled config rings self.new.slots }

@@ -9,7 +9,7 @@ ghost use Rattle.session_state.specs.Sessions.{SessionValue};
 ghost use Rattle.server_core.specs.ServerValues.{HoldsOf, SlotGoesOn, StayOpen, AreSettled, open_client};
 ghost use Rattle.server_core.specs.ServerValues.{client_of_open, taking};
 ghost use Rattle.slot_rows.specs.Rows.{bit_of};
-ghost use Rattle.server_core.specs.Marks.{AreMarked};
+ghost use Rattle.server_core.specs.Marks.{AreMarked, Elsewhere, Keeps};
 ghost use Rattle.server_core.specs.Refusals.{is_idle, receipt, offer_of};
 ghost use Rattle.server_core.specs.declared.client.Offer.TheVariants.{Idle};
 
@@ -38,6 +38,7 @@ pub fn receive_in(
     ensures marked { AreMarked config.now rings.now marks.new slots.new }
     ensures stations { length marks.new.rows.items ≡ length marks.old.rows.items }
     ensures kept { StayOpen slots.old slots.new }
+    ensures others { Keeps (Elsewhere slot) marks.old marks.new }
     ensures answer { (h : List Arrival)
         → result ≡ receipt (length bytes.now) (client_of_open (open_client config.now h (Some (get slots.old slot)))) }
 {
@@ -67,6 +68,7 @@ pub fn offer_in(
     ensures marked { AreMarked config.now rings.now marks.new slots.new }
     ensures stations { length marks.new.rows.items ≡ length marks.old.rows.items }
     ensures kept { StayOpen slots.old slots.new }
+    ensures others { Keeps (Elsewhere slot) marks.old marks.new }
     ensures answer { (h : List Arrival) → HoldsOf config.now rings.now h
         → result_ok result ≡ option_map (λ c. offer_of (offered h c))
         (client_of_open (open_client config.now h (Some (get slots.old slot)))) }
@@ -132,6 +134,7 @@ pub fn took_in(
     ensures marked { AreMarked config.now rings.now marks.new slots.new }
     ensures stations { length marks.new.rows.items ≡ length marks.old.rows.items }
     ensures kept { StayOpen slots.old slots.new }
+    ensures others { Keeps (Elsewhere slot) marks.old marks.new }
     ensures answer { (h : List Arrival)
         → is_ok result ≡ is_some (client_of_open (open_client config.now h (Some (get slots.old slot)))) }
 {

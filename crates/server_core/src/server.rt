@@ -1,7 +1,7 @@
 //! All clients of a server.
 ghost use Rattle.std.specs.Prelude.{OnErr, option_map, ◌≡◌, ◌≢◌, ◌-◌, ◌^◌, Err, ◌<◌, ◌≤◌, [], ◌∷◌, ◌++◌, length};
 ghost use Rattle.std.specs.Prelude.{slice_get, slice_index_or, IfOk, OnOk, Ok, Some, None, ℕ, not, false, is_some};
-ghost use Rattle.std.specs.Prelude.{is_ok};
+ghost use Rattle.std.specs.Prelude.{is_ok, true};
 ghost use Rattle.std.specs.Result.{result_ok};
 ghost use Rattle.std.specs.Net.Addr.{ipv4_bits};
 ghost use Rattle.protocol.specs.Catalog.{Config as ProtocolConfig, is_same_but_for_access};
@@ -12,7 +12,7 @@ ghost use Rattle.protocol.specs.World.Event.{Open, Bytes, Take, Close, Arrive, R
 use crate::arrivals::{ArriveFault, Placing, placed};
 use crate::client::{Client, Gone, Offer, Refusal, ReloadFault};
 use crate::clients::Clients;
-use crate::marks::Marks;
+use crate::marks::{Marks, marked_of};
 use crate::reviewing::review_all;
 use crate::seats;
 use catalog::Config;
@@ -59,7 +59,7 @@ impl Server {
     ghost use Rattle.session_state.specs.Sessions.{SessionValue};
     ghost use Rattle.station_ring.specs.declared.held.Summary.{Summary};
     ghost use Rattle.server_core.specs.ServerValues.{StandsAt, mark_at};
-    ghost use Rattle.server_core.specs.Marks.{IsSpared, MarksThose};
+    ghost use Rattle.server_core.specs.Marks.{IsAmong, IsSpared, LeavesOthers, MarksThose, OpensNext};
     ghost use Rattle.server_core.specs.Refusals.{is_idle, room_of, receipt, offer_of};
     ghost use Rattle.server_core.specs.declared.client.Offer.TheVariants.{Idle};
     ghost use Rattle.server_core.specs.Arrivals.{answer_to, IsExhausted, IsPlaced};
@@ -85,6 +85,7 @@ impl Server {
         ensures ok { OnOk result ((config : ProtocolConfig) (w : World) → StandsAt self.old config w
             → StandsAt self.new config (step config w (Open (ipv4_bits address)))) }
         ensures number { IfOk result (λ c. c ≡ length self.old.sessions) }
+        ensures others { OnOk result (OpensNext self.old self.new) }
         ensures err { OnErr result (self.new ≡ self.old) }
     {
         let view = self.config.view(alloc, address)?;
@@ -112,6 +113,7 @@ impl Server {
             → StandsAt self.new config (step config w (Bytes client bytes.now)) }
         ensures answer { (config : ProtocolConfig) (w : World) → StandsAt self.old config w
             → result ≡ receipt (length bytes.now) (client_of (slice_get w.connections client)) }
+        ensures others { LeavesOthers client self.old self.new }
     {
         match self.clients.seek(client.number()) {
             Some(slot) => seats::receive_in(
@@ -135,6 +137,7 @@ impl Server {
             → result_ok result ≡ option_map (λ c. offer_of (offered w.history c))
             (client_of (slice_get w.connections client)) }
         ensures unmarked { result ≡ Ok Idle → mark_at self.new client ≡ Some false }
+        ensures others { LeavesOthers client self.old self.new }
     {
         match self.clients.seek(client.number()) {
             Some(slot) => seats::offer_in(
@@ -164,6 +167,23 @@ impl Server {
         }
     }
 
+    /// A law: each client that is not marked is open, and may be spared.
+    pub fn unmarked_are_spared(&self)
+        ensures spared { (k : ℕ) → mark_at self.now k ≡ Some false → (config : ProtocolConfig) (w : World)
+            → StandsAt self.now config w → IsSpared config w k }
+        ensures there { (k : ℕ) → mark_at self.now k ≡ Some false → (config : ProtocolConfig) (w : World)
+            → StandsAt self.now config w → is_some (client_of (slice_get w.connections k)) ≡ true }
+    {
+        let _ = &self.clients;
+    }
+
+    /// All clients that are marked are added to some. It fails only where there is no room for them.
+    pub fn marked_clients(&self, some: &mut Vec<Client>) -> Result<(), AllocError>
+        ensures { OnOk result ((k : ℕ) → mark_at self.now k ≡ Some true → IsAmong k some.new.items) }
+    {
+        marked_of(self.clients.opened.as_slice(), &self.marks, some)
+    }
+
     /// Whether an offer to a client would find something: bytes, or that the connection is over. It is no event: the
     /// server stands for what it stood for, with the same marks. A client that is not marked is answered without a look
     /// at what is held, and for another no record is looked at twice that it doesn't want.
@@ -176,6 +196,7 @@ impl Server {
         ensures spared { result ≡ Ok false → (config : ProtocolConfig) (w : World) → StandsAt self.old config w →
             IsSpared config w client }
         ensures marks { self.new.marks ≡ self.old.marks }
+        ensures others { LeavesOthers client self.old self.new }
     {
         match self.clients.seek(client.number()) {
             Some(slot) => seats::is_ready_in(
@@ -212,6 +233,7 @@ impl Server {
             → StandsAt self.new config (step config w (Take client count)) }
         ensures answer { (config : ProtocolConfig) (w : World) → StandsAt self.old config w
             → is_ok result ≡ is_some (client_of (slice_get w.connections client)) }
+        ensures others { LeavesOthers client self.old self.new }
     {
         match self.clients.seek(client.number()) {
             Some(slot) => seats::took_in(
@@ -242,6 +264,8 @@ impl Server {
         ensures marks { OnOk result ((place : ℕ) (summary : Summary) →
             IsPlaced self.old.config bytes.now place summary →
             MarksThose place self.old self.new) }
+        ensures count { length self.new.sessions ≡ length self.old.sessions }
+        ensures kept { (k : ℕ) → is_some (mark_at self.new k) ≡ is_some (mark_at self.old k) }
         ensures unchanged { OnErr result (self.new ≡ self.old) }
     {
         match placed(&self.config, bytes) {
@@ -263,6 +287,8 @@ impl Server {
         ensures counted { OnOk result ((config : ProtocolConfig) (w : World) → StandsAt self.old config w →
             length w.history < 2 ^ 64 - 1) }
         ensures marks { OnOk result (MarksThose placing.place self.old self.new) }
+        ensures count { length self.new.sessions ≡ length self.old.sessions }
+        ensures kept { (k : ℕ) → is_some (mark_at self.new k) ≡ is_some (mark_at self.old k) }
         ensures unchanged { OnErr result (self.new ≡ self.old) }
     {
         self.config.codes_are_distinct();
@@ -287,6 +313,7 @@ impl Server {
             → StandsAt self.new config (step config w (Close client)) }
         ensures answer { (config : ProtocolConfig) (w : World) → StandsAt self.old config w
             → is_ok result ≡ is_some (client_of (slice_get w.connections client)) }
+        ensures others { LeavesOthers client self.old self.new }
     {
         match self.clients.close(client.number()) {
             Some(slot) => {
@@ -308,6 +335,7 @@ impl Server {
         ensures stands { (old : ProtocolConfig) (w : World) → StandsAt self.old old w →
             StandsAt self.new (config_by old (Reload config)) (step old w (Reload config)) }
         ensures answer { is_ok result ≡ is_same_but_for_access self.old.config config }
+        ensures count { length self.new.sessions ≡ length self.old.sessions }
         ensures unchanged { OnErr result (self.new ≡ self.old) }
     {
         if !self.config.is_same_but_for_access(&config) {

@@ -3,6 +3,7 @@ use Rattle.event_loop.specs.Feeding.{FeedReads, feed_seat, feed_tally}
 use Rattle.event_loop.specs.Feeding.FeedReads.{enough}
 use Rattle.event_loop.proofs.DeedLemmas.{goes-on-from, ends-from, runs-out-at}
 use Rattle.event_loop.proofs.StepLemmas.{once-on, once-stops, once-over}
+use Rattle.event_loop.proofs.LeaveLemmas.{quiet_then}
 use Rattle.event_loop.proofs.feeding.read_feed.Goals as goal
 
 pub reads-preserved : goal.reads-preserved
@@ -25,6 +26,8 @@ reads-preserved g c =
           (calls c.read_feed_once.new.ports) c.read_feed_once.new.server t t' s s' _
           (c.read_feed_once.ensures.goes writable happenings config v there) c.in-On.is);
       some = omega (arith, same, c.reads.invariant.some);
+      quiet = quiet_then c.args.brought.now c.reads.brought c.read_feed_once.new.brought c.args.server.now c.reads.server
+          c.read_feed_once.new.server c.reads.invariant.quiet c.read_feed_once.ensures.quiet;
       short = omega (arith, same, c.reads.invariant.short);
     }
 
@@ -46,6 +49,8 @@ returns-in-Stop g c =
           (λ v there. once-stops (FeedReads config) config v (calls c.reads.ports)
           (calls c.read_feed_once.new.ports) c.read_feed_once.new.server t t' s s' _
           (c.read_feed_once.ensures.goes writable happenings config v there) c.in-Stop.is);
+      quiet = quiet_then c.args.brought.now c.reads.brought c.read_feed_once.new.brought c.args.server.now c.reads.server
+          c.read_feed_once.new.server c.reads.invariant.quiet c.read_feed_once.ensures.quiet;
     }
 
 pub returns-in-Over : goal.returns-in-Over
@@ -66,6 +71,8 @@ returns-in-Over g c =
           (λ v there. once-over (FeedReads config) config v (calls c.reads.ports)
           (calls c.read_feed_once.new.ports) c.read_feed_once.new.server t t' s s' _
           (c.read_feed_once.ensures.goes writable happenings config v there) c.in-Over.is);
+      quiet = quiet_then c.args.brought.now c.reads.brought c.read_feed_once.new.brought c.args.server.now c.reads.server
+          c.read_feed_once.new.server c.reads.invariant.quiet c.read_feed_once.ensures.quiet;
     }
 
 pub returns : goal.returns
@@ -79,4 +86,5 @@ returns g c =
           (feed_tally happenings c.reads.dropped)
           (feed_seat c.args.port c.args.cutter.now c.args.readable.now writable) s (Some s) (λ v. enough)
           (c.reads.invariant.goes writable happenings config w stands);
+      quiet = c.reads.invariant.quiet;
     }

@@ -4,6 +4,7 @@ use Rattle.protocol.specs.World.{World}
 use Rattle.server_core.specs.ServerValues.{StandsAt}
 use Rattle.event_loop.specs.Feeding.{FeedReads, feed_seat, feed_tally}
 use Rattle.event_loop.specs.Going.{SoFar}
+use Rattle.event_loop.specs.Sleeping.{IsQuiet}
 use Rattle.event_loop.proofs.feeding.read_feed.Given as goal
 
 abbrev pub invariant-reads : goal.invariant-reads
@@ -15,6 +16,7 @@ invariant-reads g l =
           (feed_tally happenings l.fn.dropped) (feed_tally happenings l.dropped)
           (feed_seat l.port l.fn.cutter l.fn.readable writable) (feed_seat l.port l.cutter l.readable writable);
       some : 0 < length l.buffer;
+      quiet : IsQuiet l.fn.brought l.brought l.fn.server l.server;
       short : length l.buffer ≤ 512;
     }
 

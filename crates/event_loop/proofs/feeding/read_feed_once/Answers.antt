@@ -2,6 +2,7 @@ use Rattle.std.proofs.Common.{rules, ◌≤◌, length, take, ap, ◌∙◌, sub
 use Rattle.ports.specs.Calls.{Tells, given}
 use Rattle.ports.specs.Calls.Call.{Read}
 use Rattle.event_loop.proofs.FeedStepLemmas.{feed-refused, feed-piece, feed-later, feed-closed, feed-failed}
+use Rattle.event_loop.proofs.LeaveLemmas.{quiet_none}
 use Rattle.event_loop.proofs.feeding.read_feed_once.Goals as goal
 
 pub returns-then-not-readable : goal.returns-then-not-readable
@@ -9,6 +10,7 @@ returns-then-not-readable g c = record {
   goes = λ writable happenings config w stands.
       feed-refused config w happenings c.args.dropped.now c.args.port c.args.cutter.now c.args.readable.now writable
       (g.P.Ports.calls c.args.ports.now) c.args.server.now stands c.if-not-readable.true;
+  quiet = quiet_none c.args.brought.now c.args.server.now;
 }
 
 pub returns-in-Ok-Bytes : goal.returns-in-Ok-Bytes
@@ -24,6 +26,7 @@ returns-in-Ok-Bytes g c = record {
       (subst (λ r. Tells a b (Read c.args.port (length c.read.new.buffer) (given r c.read.new.buffer) ∷ []))
       (c.in-Ok-Bytes.is ∙ ap Ok c.in-Ok-Bytes.field-0-is) c.read.ensures.call)
       (c.take_records.ensures.arrives config w stands) c.take_records.ensures.rest;
+  quiet = c.take_records.ensures.quiet;
 }
 
 pub returns-in-Ok-Later : goal.returns-in-Ok-Later
@@ -36,6 +39,7 @@ returns-in-Ok-Later g c = record {
       c.if-not-readable.false (length c.read.new.buffer) short a b c.args.server.now stands
       (subst (λ r. Tells a b (Read c.args.port (length c.read.new.buffer) (given r c.read.new.buffer) ∷ []))
       (c.in-Ok-Later.is ∙ ap Ok c.in-Ok-Later.field-0-is) c.read.ensures.call);
+  quiet = quiet_none c.args.brought.now c.args.server.now;
 }
 
 pub returns-in-Ok-Closed : goal.returns-in-Ok-Closed
@@ -50,6 +54,7 @@ returns-in-Ok-Closed g c = record {
       (subst (λ r. Tells a b (Read c.args.port (length c.read.new.buffer) (given r c.read.new.buffer) ∷ []))
       (c.in-Ok-Closed.is ∙ ap Ok c.in-Ok-Closed.field-0-is) c.read.ensures.call)
       c.shut.ensures.call;
+  quiet = quiet_none c.args.brought.now c.args.server.now;
 }
 
 pub returns-in-Err : goal.returns-in-Err
@@ -64,4 +69,5 @@ returns-in-Err g c = record {
       (subst (λ r. Tells a b (Read c.args.port (length c.read.new.buffer) (given r c.read.new.buffer) ∷ [])) c.in-Err.is
       c.read.ensures.call)
       c.shut-in-Err.ensures.call;
+  quiet = quiet_none c.args.brought.now c.args.server.now;
 }

@@ -2,10 +2,11 @@ use Rattle.std.proofs.Common.{◌≡◌, ◌∙◌, ap, sym, if◌then◌else◌
 use Rattle.std.specs.Result.{is_err}
 use Rattle.event_loop.specs.Deeds.{refused_more}
 use Rattle.event_loop.proofs.FeedLemmas.{arrives-one, on-ok}
+use Rattle.event_loop.proofs.LeaveLemmas.{quiet_brought, quiet_refused}
 use Rattle.event_loop.proofs.feeding.take_record.Goals as goal
 
-pub returns-then-is_err : goal.returns-then-is_err
-returns-then-is_err c = λ config w stands.
+pub returns-then-is_err-clause-arrives : goal.returns-then-is_err-clause-arrives
+returns-then-is_err-clause-arrives c = λ config w stands.
     let arrive = c.arrive.ensures in
     let refused : true ≡ is_err c.arrive.result = sym c.if-is_err.true ∙ c.is_err.ensures.value in
     let one : c.saturating_add.result ≡ refused_more c.args.dropped.now 1 = omega arith in
@@ -20,8 +21,8 @@ returns-then-is_err c = λ config w stands.
     })
     stands (one ∙ ap (λ (b : Bool). refused_more c.args.dropped.now (if b then 1 else 0)) refused)
 
-pub returns-else-is_err : goal.returns-else-is_err
-returns-else-is_err c = λ config w stands.
+pub returns-else-is_err-clause-arrives : goal.returns-else-is_err-clause-arrives
+returns-else-is_err-clause-arrives c = λ config w stands.
     let arrive = c.arrive.ensures in
     let taken : false ≡ is_err c.arrive.result = sym c.if-is_err.false ∙ c.is_err.ensures.value in
     let none : c.args.dropped.now ≡ refused_more c.args.dropped.now 0 = omega arith in
@@ -35,3 +36,12 @@ returns-else-is_err c = λ config w stands.
       unchanged = arrive.unchanged;
     })
     stands (none ∙ ap (λ (b : Bool). refused_more c.args.dropped.now (if b then 1 else 0)) taken)
+
+pub returns-then-is_err-clause-quiet : goal.returns-then-is_err-clause-quiet
+returns-then-is_err-clause-quiet c =
+    quiet_refused c.arrive.result c.args.brought.now c.args.server.now c.arrive.new.self
+    (sym c.is_err.ensures.value ∙ c.if-is_err.true) c.arrive.ensures.unchanged
+
+pub returns-else-is_err-clause-quiet : goal.returns-else-is_err-clause-quiet
+returns-else-is_err-clause-quiet c =
+    quiet_brought c.args.brought.now c.args.server.now c.arrive.new.self c.arrive.ensures.count c.arrive.ensures.kept

@@ -9,6 +9,8 @@ use Rattle.server_core.specs.ServerValues.{StandsAt}
 use Rattle.feeder.specs.Feedings.{lent_records, left_over}
 use Rattle.event_loop.specs.Feeding.{fed, world_fed, Arrives}
 use Rattle.event_loop.proofs.FeedLemmas.{arrives-none, arrives-then, fed-in-two}
+use Rattle.event_loop.proofs.LeaveLemmas.{quiet_then, quiet_none}
+use Rattle.event_loop.specs.Sleeping.{IsQuiet}
 use Rattle.event_loop.proofs.feeding.take_records.Goals as goal
 use Rattle.event_loop.proofs.feeding.take_records.Goals.{in-Some, in-None}
 
@@ -27,12 +29,17 @@ records-preserved c =
         w.in-Some.is,
         w.server-is,
         w.dropped-is,
-      ) (w.take_record.ensures config v stands)
+      ) (w.take_record.ensures.arrives config v stands)
       | in-None w ↦ λ config v stands. rw (
         w.in-None.is,
         w.server-is,
         w.dropped-is,
       ) (arrives-none config v c.records.server c.records.dropped stands)
+    ] in
+    let quiet : IsQuiet c.records.brought c.match-whole.brought c.records.server c.match-whole.server =
+    elim c.match-whole.branch [
+      | in-Some w ↦ rw (w.server-is, w.brought-is) w.take_record.ensures.quiet
+      | in-None w ↦ rw (w.server-is, w.brought-is) (quiet_none c.records.brought c.records.server)
     ] in
     let rest = take_rest c.records.left.now c.feed.result.used in
     let parts = fed-in-two c.records.cutter c.records.left.now c.match-whole.cutter _ c.feed.result.used whole
@@ -46,6 +53,8 @@ records-preserved c =
                 c.records.dropped c.match-whole.dropped x.2 (one config (world_fed config w x.0) x.2.stands),
           );
       rest = ap (λ (f : FeedRead). f.rest) (sym parts) ∙ h.rest;
+      quiet = quiet_then c.args.brought.now c.records.brought c.match-whole.brought c.args.server.now c.records.server
+          c.match-whole.server h.quiet quiet;
     }
 
 pub returns-clause-arrives : goal.returns-clause-arrives

@@ -4,6 +4,7 @@ use Rattle.protocol.specs.Catalog.{Config}
 use Rattle.protocol.specs.World.{World}
 use Rattle.server_core.specs.ServerValues.{StandsAt}
 use Rattle.event_loop.specs.Feeding.{fed, Arrives}
+use Rattle.event_loop.specs.Sleeping.{IsQuiet}
 use Rattle.event_loop.proofs.feeding.take_records.Given as goal
 
 abbrev pub invariant-records : goal.invariant-records
@@ -12,6 +13,7 @@ invariant-records l = record {
       (done : List (List ℕ)) × (done ++ (fed l.cutter l.left).records ≡ (fed l.fn.cutter l.piece).records)
       × Arrives config w done l.server l.fn.dropped l.dropped;
   rest : (fed l.cutter l.left).rest ≡ (fed l.fn.cutter l.piece).rest;
+  quiet : IsQuiet l.fn.brought l.brought l.fn.server l.server;
 }
 
 abbrev pub decreases-records : goal.decreases-records

@@ -1,4 +1,4 @@
-use Rattle.std.proofs.Common.{◌∙◌, [], ◌∷◌, refl, sym, ap, subst, Ok}
+use Rattle.std.proofs.Common.{length, ◌∙◌, [], ◌∷◌, refl, sym, ap, subst, Ok}
 use Rattle.ports.specs.declared.answers.Happening.TheVariants.{Readable, Writable}
 use Rattle.ports.specs.Calls.{Tells}
 use Rattle.ports.specs.Calls.Call.{Next}
@@ -6,33 +6,36 @@ use Rattle.event_loop.specs.Tables.{IsTable}
 use Rattle.event_loop.specs.Hearing.{readable_at, writable_at}
 use Rattle.event_loop.proofs.TableLemmas.{table-map, readable-same, writable-same}
 use Rattle.event_loop.proofs.HearLemmas.{hears-old, hears-quiet, hears-fault}
+use Rattle.event_loop.proofs.AwakeLemmas.{known-told, length-told, seated-told}
+use Rattle.event_loop.specs.Sleeping.{AreSeated}
+use Rattle.event_loop.proofs.AwakeLemmas.{role-readable, role-writable}
 use Rattle.event_loop.proofs.hearing.hear_once.Goals as goal
 
 pub returns-in-Ok-Readable-clause-table : goal.returns-in-Ok-Readable-clause-table
 returns-in-Ok-Readable-clause-table g c =
-    subst (IsTable c.args.most) (sym c.mark_readable.ensures)
+    subst (IsTable c.args.most) (sym c.mark_readable.ensures.marks)
     (table-map (readable_at c.in-Ok-Readable.port)
-    (readable-same c.in-Ok-Readable.port) c.args.most c.args.seats.now.items c.requires)
+    (readable-same c.in-Ok-Readable.port) c.args.most c.args.seats.now.items c.requires.table)
 
 pub returns-in-Ok-Readable-clause-goes : goal.returns-in-Ok-Readable-clause-goes
 returns-in-Ok-Readable-clause-goes g c = λ t config w stands.
     hears-old config c.args.most w (g.P.Ports.calls c.args.ports.now)
     (g.P.Ports.calls c.next.new.self) c.args.server.now t c.args.seats.now.items
-    c.mark_readable.new.seats.items (Readable c.in-Ok-Readable.port) refl refl c.mark_readable.ensures
+    c.mark_readable.new.seats.items (Readable c.in-Ok-Readable.port) refl refl c.mark_readable.ensures.marks
     (subst (λ r. Tells (g.P.Ports.calls c.args.ports.now) (g.P.Ports.calls c.next.new.self) (Next r ∷ []))
     (c.in-Ok-Readable.is ∙ ap Ok c.in-Ok-Readable.field-0-is) c.next.ensures.call) stands
 
 pub returns-in-Ok-Writable-clause-table : goal.returns-in-Ok-Writable-clause-table
 returns-in-Ok-Writable-clause-table g c =
-    subst (IsTable c.args.most) (sym c.mark_writable.ensures)
+    subst (IsTable c.args.most) (sym c.mark_writable.ensures.marks)
     (table-map (writable_at c.in-Ok-Writable.port)
-    (writable-same c.in-Ok-Writable.port) c.args.most c.args.seats.now.items c.requires)
+    (writable-same c.in-Ok-Writable.port) c.args.most c.args.seats.now.items c.requires.table)
 
 pub returns-in-Ok-Writable-clause-goes : goal.returns-in-Ok-Writable-clause-goes
 returns-in-Ok-Writable-clause-goes g c = λ t config w stands.
     hears-old config c.args.most w (g.P.Ports.calls c.args.ports.now)
     (g.P.Ports.calls c.next.new.self) c.args.server.now t c.args.seats.now.items
-    c.mark_writable.new.seats.items (Writable c.in-Ok-Writable.port) refl refl c.mark_writable.ensures
+    c.mark_writable.new.seats.items (Writable c.in-Ok-Writable.port) refl refl c.mark_writable.ensures.marks
     (subst (λ r. Tells (g.P.Ports.calls c.args.ports.now) (g.P.Ports.calls c.next.new.self) (Next r ∷ []))
     (c.in-Ok-Writable.is ∙ ap Ok c.in-Ok-Writable.field-0-is) c.next.ensures.call) stands
 
@@ -49,3 +52,29 @@ returns-in-Err-clause-goes g c = λ t config w stands.
     (g.P.Ports.calls c.next.new.self) c.args.server.now t c.args.seats.now.items _
     (subst (λ r. Tells (g.P.Ports.calls c.args.ports.now) (g.P.Ports.calls c.next.new.self) (Next r ∷ [])) c.in-Err.is
     c.next.ensures.call) stands
+
+pub returns-in-Ok-Readable-clause-known : goal.returns-in-Ok-Readable-clause-known
+returns-in-Ok-Readable-clause-known g c =
+    known-told c.args.server.now c.args.seats.now.items c.mark_readable.new.seats.items c.args.awake.now.items
+    c.mark_readable.new.awake.items (ap length c.mark_readable.ensures.marks
+    ∙ length-told (readable_at c.in-Ok-Readable.port) c.args.seats.now.items) c.mark_readable.ensures.count
+    c.mark_readable.ensures.others c.requires.known
+
+pub returns-in-Ok-Readable-clause-seated : goal.returns-in-Ok-Readable-clause-seated
+returns-in-Ok-Readable-clause-seated g c =
+    subst (AreSeated c.args.server.now) (sym c.mark_readable.ensures.marks)
+    (seated-told c.args.server.now (readable_at c.in-Ok-Readable.port) c.args.seats.now.items
+    (role-readable c.in-Ok-Readable.port) c.requires.seated)
+
+pub returns-in-Ok-Writable-clause-known : goal.returns-in-Ok-Writable-clause-known
+returns-in-Ok-Writable-clause-known g c =
+    known-told c.args.server.now c.args.seats.now.items c.mark_writable.new.seats.items c.args.awake.now.items
+    c.mark_writable.new.awake.items (ap length c.mark_writable.ensures.marks
+    ∙ length-told (writable_at c.in-Ok-Writable.port) c.args.seats.now.items) c.mark_writable.ensures.count
+    c.mark_writable.ensures.others c.requires.known
+
+pub returns-in-Ok-Writable-clause-seated : goal.returns-in-Ok-Writable-clause-seated
+returns-in-Ok-Writable-clause-seated g c =
+    subst (AreSeated c.args.server.now) (sym c.mark_writable.ensures.marks)
+    (seated-told c.args.server.now (writable_at c.in-Ok-Writable.port) c.args.seats.now.items
+    (role-writable c.in-Ok-Writable.port) c.requires.seated)

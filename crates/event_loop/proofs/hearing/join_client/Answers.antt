@@ -11,9 +11,12 @@ use Rattle.event_loop.specs.Tables.{IsTable, IsSeatOf, IsGapFor, HearsOnce}
 use Rattle.event_loop.specs.declared.hearing.Hark.TheVariants.{Happened}
 use Rattle.event_loop.proofs.TableLemmas.{is-seated, is-unseated, inserted, table-client}
 use Rattle.event_loop.proofs.HearLemmas.{hears-old, hears-away, hears-open}
+use Rattle.std.proofs.Common.{List, ℕ}
+use Rattle.event_loop.specs.Sleeping.{AreKnown, AreSeated}
+use Rattle.event_loop.proofs.AwakeLemmas.{known-more, seated-more, some-number}
 use Rattle.event_loop.proofs.hearing.join_client.Goals as goal
 use Rattle.event_loop.proofs.hearing.join_client.Goals.{then-clients-most-via-then-clients-most}
-use Rattle.event_loop.proofs.hearing.join_client.Goals.{then-clients-most-via-else-clients-most+then-is_err}
+use Rattle.event_loop.proofs.hearing.join_client.Goals.{then-clients-most-via-else-clients-most+then-not-has_room}
 
 pub returns-in_default-clause-goes : goal.returns-in_default-clause-goes
 returns-in_default-clause-goes g c = λ t calls config w tells stands.
@@ -29,7 +32,7 @@ returns-then-clients-most-clause-goes g c = λ t calls config w tells stands.
     let gap : IsGapFor ss c.args.port c.in-Err.at = search rules in
     let same : c.then-clients-most.seats.items ≡ ss = elim c.then-clients-most.branch [
       | then-clients-most-via-then-clients-most x ↦ ap (λ v. v.items) x.seats-is
-      | then-clients-most-via-else-clients-most+then-is_err x ↦ ap (λ v. v.items) x.seats-is ∙ x.reserve.ensures.items
+      | then-clients-most-via-else-clients-most+then-not-has_room x ↦ ap (λ v. v.items) x.seats-is ∙ x.has_room.ensures.seats
     ] in
     subst (λ xs. HearsOnce config c.args.most w calls
     (g.P.Ports.calls c.shut.new.self) c.args.server.now t ss xs Happened) (sym same)
@@ -42,18 +45,18 @@ returns-in-Ok-clause-table g c =
     let ss = c.args.seats.now.items in
     let new : Seat = joining c.args.port (ClientRole c.in-Ok.client) in
     let gap : IsGapFor ss c.args.port c.in-Err.at = search rules in
-    let room : vec_len c.reserve.new.self < vec_capacity c.reserve.new.self = search rules in
+    let room : vec_len c.has_room.new.seats < vec_capacity c.has_room.new.seats = search rules in
     let ok : IsOk c.insert-kept.result = c.insert-kept.ensures.succeeds room in
     let kept : c.insert-kept.new.self.items ≡ insert ss c.in-Err.at new = grind (arith, common_steps) in
     let few : clients_in ss < c.args.most = grind (arith, common_steps) in
-    subst (IsTable c.args.most) (sym kept) (table-client c.args.most ss new c.in-Err.at refl gap few c.requires)
+    subst (IsTable c.args.most) (sym kept) (table-client c.args.most ss new c.in-Err.at refl gap few c.requires.table)
 
 pub returns-in-Ok-clause-goes : goal.returns-in-Ok-clause-goes
 returns-in-Ok-clause-goes g c = λ t calls config w tells stands.
     let ss = c.args.seats.now.items in
     let new : Seat = joining c.args.port (ClientRole c.in-Ok.client) in
     let gap : IsGapFor ss c.args.port c.in-Err.at = search rules in
-    let room : vec_len c.reserve.new.self < vec_capacity c.reserve.new.self = search rules in
+    let room : vec_len c.has_room.new.seats < vec_capacity c.has_room.new.seats = search rules in
     let ok : IsOk c.insert-kept.result = c.insert-kept.ensures.succeeds room in
     let kept : c.insert-kept.new.self.items ≡ insert ss c.in-Err.at new = grind (arith, common_steps) in
     let few : clients_in ss < c.args.most = grind (arith, common_steps) in
@@ -69,8 +72,42 @@ returns-in-Err-open-clause-goes g c = λ t calls config w tells stands.
     let ss = c.args.seats.now.items in
     let gap : IsGapFor ss c.args.port c.in-Err.at = search rules in
     subst (λ xs. HearsOnce config c.args.most w calls
-    (g.P.Ports.calls c.shut-in-Err-open.new.self) c.open.new.self t ss xs Happened) (sym c.reserve.ensures.items)
+    (g.P.Ports.calls c.shut-in-Err-open.new.self) c.open.new.self t ss xs Happened) (sym c.has_room.ensures.seats)
     (hears-away config c.args.most w calls (g.P.Ports.calls c.args.ports.now) c.open.new.self t ss
     (g.P.Ports.calls c.shut-in-Err-open.new.self)
     c.args.port c.args.address (is-unseated ss c.args.port c.in-Err.at gap) tells c.shut-in-Err-open.ensures.call
     (rw c.in-Err-open.ensures.err stands))
+
+pub returns-in-Ok-clause-known : goal.returns-in-Ok-clause-known
+returns-in-Ok-clause-known g c =
+    let ss = c.args.seats.now.items in
+    let new : Seat = joining c.args.port (ClientRole c.in-Ok.client) in
+    let gap : IsGapFor ss c.args.port c.in-Err.at = search rules in
+    let room : vec_len c.has_room.new.seats < vec_capacity c.has_room.new.seats = search rules in
+    let ok : IsOk c.insert-kept.result = c.insert-kept.ensures.succeeds room in
+    let kept : c.insert-kept.new.self.items ≡ insert ss c.in-Err.at new = grind (arith, common_steps) in
+    let byte : vec_len c.has_room.new.awake < vec_capacity c.has_room.new.awake = search rules in
+    let put : IsOk c.insert-woken.result = c.insert-woken.ensures.succeeds byte in
+    let woken : c.insert-woken.new.self.items ≡ insert c.args.awake.now.items c.in-Err.at 1 = grind (arith, common_steps)
+    in
+    let others = c.in-Ok.ensures.others in
+    subst (λ xs. AreKnown c.open.new.self xs c.insert-woken.new.self.items) (sym kept)
+    (subst (AreKnown c.open.new.self (insert ss c.in-Err.at new)) (sym woken)
+    (known-more c.args.server.now c.open.new.self ss c.args.awake.now.items c.in-Err.at new gap.inside
+    c.requires.seated c.requires.known (λ k lt. others.marks k (λ e. omega (arith, e, lt)))))
+
+pub returns-in-Ok-clause-seated : goal.returns-in-Ok-clause-seated
+returns-in-Ok-clause-seated g c =
+    let ss = c.args.seats.now.items in
+    let new : Seat = joining c.args.port (ClientRole c.in-Ok.client) in
+    let gap : IsGapFor ss c.args.port c.in-Err.at = search rules in
+    let room : vec_len c.has_room.new.seats < vec_capacity c.has_room.new.seats = search rules in
+    let ok : IsOk c.insert-kept.result = c.insert-kept.ensures.succeeds room in
+    let kept : c.insert-kept.new.self.items ≡ insert ss c.in-Err.at new = grind (arith, common_steps) in
+    let others = c.in-Ok.ensures.others in
+    let count = others.count in
+    let number = c.in-Ok.ensures.number in
+    subst (AreSeated c.open.new.self) (sym kept)
+    (seated-more c.args.server.now c.open.new.self ss c.args.awake.now.items c.in-Err.at new gap.inside
+    c.requires.seated (omega (arith, count))
+    (λ k is. let e = some-number c.in-Ok.client k is in (omega (arith, e, number), omega (arith, e, number, count))))

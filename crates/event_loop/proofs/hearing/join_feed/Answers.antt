@@ -11,9 +11,11 @@ use Rattle.event_loop.specs.Tables.{IsTable, IsSeatOf, IsGapFor, HearsOnce}
 use Rattle.event_loop.specs.declared.hearing.Hark.TheVariants.{Happened}
 use Rattle.event_loop.proofs.TableLemmas.{is-seated, is-unseated, inserted, table-feed}
 use Rattle.event_loop.proofs.HearLemmas.{hears-old, hears-away-feed, hears-feed}
+use Rattle.event_loop.specs.Sleeping.{AreKnown, AreSeated}
+use Rattle.event_loop.proofs.AwakeLemmas.{known-more, seated-more}
 use Rattle.event_loop.proofs.hearing.join_feed.Goals as goal
 use Rattle.event_loop.proofs.hearing.join_feed.Goals.{then-feeds-ge-FEEDS-via-then-feeds-ge-FEEDS}
-use Rattle.event_loop.proofs.hearing.join_feed.Goals.{then-feeds-ge-FEEDS-via-else-feeds-ge-FEEDS+then-is_err}
+use Rattle.event_loop.proofs.hearing.join_feed.Goals.{then-feeds-ge-FEEDS-via-else-feeds-ge-FEEDS+then-not-has_room}
 
 pub returns-in_default-clause-goes : goal.returns-in_default-clause-goes
 returns-in_default-clause-goes g c = λ t calls config w tells stands.
@@ -29,8 +31,8 @@ returns-then-feeds-ge-FEEDS-clause-goes g c = λ t calls config w tells stands.
     let gap : IsGapFor ss c.args.port c.in-Err.at = search rules in
     let same : c.then-feeds-ge-FEEDS.seats.items ≡ ss = elim c.then-feeds-ge-FEEDS.branch [
       | then-feeds-ge-FEEDS-via-then-feeds-ge-FEEDS x ↦ ap (λ v. v.items) x.seats-is
-      | then-feeds-ge-FEEDS-via-else-feeds-ge-FEEDS+then-is_err x ↦ ap (λ v. v.items) x.seats-is
-          ∙ x.reserve.ensures.items
+      | then-feeds-ge-FEEDS-via-else-feeds-ge-FEEDS+then-not-has_room x ↦ ap (λ v. v.items) x.seats-is
+          ∙ x.has_room.ensures.seats
     ] in
     subst (λ xs. HearsOnce config c.args.most w calls
     (g.P.Ports.calls c.shut.new.self) c.args.server.now t ss xs Happened) (sym same)
@@ -43,18 +45,18 @@ returns-in-Ok-clause-table g c =
     let ss = c.args.seats.now.items in
     let new : Seat = joining c.args.port (FeedRole []) in
     let gap : IsGapFor ss c.args.port c.in-Err.at = search rules in
-    let room : vec_len c.reserve.new.self < vec_capacity c.reserve.new.self = search rules in
+    let room : vec_len c.has_room.new.seats < vec_capacity c.has_room.new.seats = search rules in
     let ok : IsOk c.insert-kept.result = c.insert-kept.ensures.succeeds room in
     let kept : c.insert-kept.new.self.items ≡ insert ss c.in-Err.at new = grind (arith, common_steps) in
     let few : feeds_in ss < 16 = grind (arith, common_steps) in
-    subst (IsTable c.args.most) (sym kept) (table-feed c.args.most ss new c.in-Err.at refl gap few c.requires)
+    subst (IsTable c.args.most) (sym kept) (table-feed c.args.most ss new c.in-Err.at refl gap few c.requires.table)
 
 pub returns-in-Ok-clause-goes : goal.returns-in-Ok-clause-goes
 returns-in-Ok-clause-goes g c = λ t calls config w tells stands.
     let ss = c.args.seats.now.items in
     let new : Seat = joining c.args.port (FeedRole []) in
     let gap : IsGapFor ss c.args.port c.in-Err.at = search rules in
-    let room : vec_len c.reserve.new.self < vec_capacity c.reserve.new.self = search rules in
+    let room : vec_len c.has_room.new.seats < vec_capacity c.has_room.new.seats = search rules in
     let ok : IsOk c.insert-kept.result = c.insert-kept.ensures.succeeds room in
     let kept : c.insert-kept.new.self.items ≡ insert ss c.in-Err.at new = grind (arith, common_steps) in
     let few : feeds_in ss < 16 = grind (arith, common_steps) in
@@ -68,7 +70,36 @@ returns-in-Err-new-clause-goes g c = λ t calls config w tells stands.
     let gap : IsGapFor ss c.args.port c.in-Err.at = search rules in
     subst (λ xs. HearsOnce config c.args.most w calls
     (g.P.Ports.calls c.shut-in-Err-new.new.self) c.args.server.now t ss xs
-    Happened) (sym c.reserve.ensures.items)
+    Happened) (sym c.has_room.ensures.seats)
     (hears-away-feed config c.args.most w calls (g.P.Ports.calls c.args.ports.now) c.args.server.now t ss
     (g.P.Ports.calls c.shut-in-Err-new.new.self) c.args.port (is-unseated ss c.args.port c.in-Err.at gap) tells
     c.shut-in-Err-new.ensures.call stands)
+
+pub returns-in-Ok-clause-known : goal.returns-in-Ok-clause-known
+returns-in-Ok-clause-known g c =
+    let ss = c.args.seats.now.items in
+    let new : Seat = joining c.args.port (FeedRole []) in
+    let gap : IsGapFor ss c.args.port c.in-Err.at = search rules in
+    let room : vec_len c.has_room.new.seats < vec_capacity c.has_room.new.seats = search rules in
+    let ok : IsOk c.insert-kept.result = c.insert-kept.ensures.succeeds room in
+    let kept : c.insert-kept.new.self.items ≡ insert ss c.in-Err.at new = grind (arith, common_steps) in
+    let byte : vec_len c.has_room.new.awake < vec_capacity c.has_room.new.awake = search rules in
+    let put : IsOk c.insert-woken.result = c.insert-woken.ensures.succeeds byte in
+    let woken : c.insert-woken.new.self.items ≡ insert c.args.awake.now.items c.in-Err.at 1 = grind (arith, common_steps)
+    in
+    subst (λ xs. AreKnown c.args.server.now xs c.insert-woken.new.self.items) (sym kept)
+    (subst (AreKnown c.args.server.now (insert ss c.in-Err.at new)) (sym woken)
+    (known-more c.args.server.now c.args.server.now ss c.args.awake.now.items c.in-Err.at new gap.inside
+    c.requires.seated c.requires.known (λ k lt. refl)))
+
+pub returns-in-Ok-clause-seated : goal.returns-in-Ok-clause-seated
+returns-in-Ok-clause-seated g c =
+    let ss = c.args.seats.now.items in
+    let new : Seat = joining c.args.port (FeedRole []) in
+    let gap : IsGapFor ss c.args.port c.in-Err.at = search rules in
+    let room : vec_len c.has_room.new.seats < vec_capacity c.has_room.new.seats = search rules in
+    let ok : IsOk c.insert-kept.result = c.insert-kept.ensures.succeeds room in
+    let kept : c.insert-kept.new.self.items ≡ insert ss c.in-Err.at new = grind (arith, common_steps) in
+    subst (AreSeated c.args.server.now) (sym kept)
+    (seated-more c.args.server.now c.args.server.now ss c.args.awake.now.items c.in-Err.at new gap.inside
+    c.requires.seated (omega arith) (λ k is. absurd cc))

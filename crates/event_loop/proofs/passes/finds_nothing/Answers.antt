@@ -1,17 +1,15 @@
-use Rattle.std.proofs.Common.{◌∙◌, Ok, ap, sym}
-use Rattle.std.specs.Result.{result_ok}
-use Rattle.event_loop.proofs.WriteLemmas.{not-set, unready-found}
+use Rattle.std.proofs.Common.{◌∙◌, Ok, ap, is_ok, sym}
+use Rattle.event_loop.proofs.WriteLemmas.{not-set, spared-found}
 use Rattle.event_loop.proofs.passes.finds_nothing.Goals as goal
 
-pub returns-in-Ok-clause-stands : goal.returns-in-Ok-clause-stands
-returns-in-Ok-clause-stands c = c.ready.ensures.stands
-
 pub returns-in-Ok-clause-idle : goal.returns-in-Ok-clause-idle
-returns-in-Ok-clause-idle c = λ unready config w stands.
-    unready-found w c.args.client c.in-Ok.ready (sym (ap result_ok c.in-Ok.is)
-    ∙ c.ready.ensures.answer config w stands) unready
+returns-in-Ok-clause-idle c = λ unmarked config w stands.
+    let says = c.marked.ensures.open config w stands in
+    spared-found config w c.args.client
+    (c.marked.ensures.spared (c.in-Ok.is ∙ ap Ok (not-set c.in-Ok.marked unmarked)) config w stands)
+    (sym says ∙ ap (λ r. is_ok r) c.in-Ok.is)
 
 pub returns-in-Ok-clause-nothing : goal.returns-in-Ok-clause-nothing
-returns-in-Ok-clause-nothing c = λ unready config w stands.
-    let spared = c.ready.ensures.spared (c.in-Ok.is ∙ ap Ok (not-set c.in-Ok.ready unready)) config w stands in
+returns-in-Ok-clause-nothing c = λ unmarked config w stands.
+    let spared = c.marked.ensures.spared (c.in-Ok.is ∙ ap Ok (not-set c.in-Ok.marked unmarked)) config w stands in
     spared.nothing

@@ -3,6 +3,7 @@ use Rattle.event_loop.specs.Passes.ClientReads.{enough}
 use Rattle.event_loop.specs.Passes.{ClientReads}
 use Rattle.event_loop.proofs.DeedLemmas.{goes-on-from, ends-from, runs-out-at}
 use Rattle.event_loop.proofs.StepLemmas.{once-on, once-stops, once-over}
+use Rattle.event_loop.proofs.LeaveLemmas.{leaves_then}
 use Rattle.event_loop.proofs.passes.read_client.Goals as goal
 
 pub reads-preserved : goal.reads-preserved
@@ -11,6 +12,8 @@ reads-preserved g c =
     record {
       role = c.read_once.ensures.role;
       port = c.read_once.ensures.port ∙ c.reads.invariant.port;
+      others = leaves_then c.args.client c.args.server.now c.reads.server c.read_once.new.server c.reads.invariant.others
+          c.read_once.ensures.others;
       goes = λ t config w stands.
           goes-on-from (ClientReads config c.args.client) c.args.limit c.reads.left
           (omega (arith, c.reads-test.true)) config w (calls c.args.ports.now) (calls c.reads.ports)
@@ -50,3 +53,13 @@ returns-clause-goes g c = λ t config w stands.
     (omega (arith, c.reads-test.false)) config w (calls c.args.ports.now)
     (calls c.reads.ports) c.reads.server t t c.args.seat.now c.reads.seat (Some c.reads.seat) (λ v. enough)
     (c.reads.invariant.goes t config w stands)
+
+pub returns-in-Stop-clause-others : goal.returns-in-Stop-clause-others
+returns-in-Stop-clause-others g c =
+    leaves_then c.args.client c.args.server.now c.reads.server c.read_once.new.server c.reads.invariant.others
+    c.read_once.ensures.others
+
+pub returns-in-Over-clause-others : goal.returns-in-Over-clause-others
+returns-in-Over-clause-others g c =
+    leaves_then c.args.client c.args.server.now c.reads.server c.read_once.new.server c.reads.invariant.others
+    c.read_once.ensures.others

@@ -6,6 +6,7 @@ use Rattle.event_loop.specs.declared.seat.Role.TheVariants.{Client}
 use Rattle.event_loop.specs.Deeds.{Tally}
 use Rattle.event_loop.specs.Passes.{ClientReads}
 use Rattle.event_loop.specs.Going.{SoFar}
+use Rattle.server_core.specs.Marks.{LeavesOthers}
 use Rattle.event_loop.proofs.passes.read_client.Given as goal
 
 abbrev pub invariant-reads : goal.invariant-reads
@@ -14,6 +15,7 @@ invariant-reads g l =
     record {
       role : l.seat.role ≡ Client l.client;
       port : l.seat.port ≡ l.fn.seat.port;
+      others : LeavesOthers l.client l.fn.server l.server;
       goes : (t : Tally) (config : Config) (w : World) → StandsAt l.fn.server config w
           → SoFar (ClientReads config l.client) l.limit l.left config w (calls l.fn.ports)
           (calls l.ports) l.server t t l.fn.seat l.seat;

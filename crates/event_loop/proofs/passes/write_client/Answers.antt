@@ -4,6 +4,8 @@ use Rattle.event_loop.specs.Passes.{ClientWrites}
 use Rattle.event_loop.proofs.DeedLemmas.{Tells-nil, goes-on-from, ends-from, runs-out-at}
 use Rattle.event_loop.proofs.StepLemmas.{once-on, once-stops, once-over}
 use Rattle.event_loop.proofs.WriteLemmas.{write-spared, write-unwritable}
+use Rattle.event_loop.proofs.LeaveLemmas.{leaves_then}
+use Rattle.event_loop.proofs.LeaveLemmas.{leaves_none}
 use Rattle.event_loop.proofs.passes.write_client.Goals as goal
 
 pub writes-preserved : goal.writes-preserved
@@ -12,6 +14,8 @@ writes-preserved g c =
     record {
       role = c.write_once.ensures.role;
       port = c.write_once.ensures.port ∙ c.writes.invariant.port;
+      others = leaves_then c.args.client c.args.server.now c.writes.server c.write_once.new.server
+          c.writes.invariant.others c.write_once.ensures.others;
       goes = λ t config w stands.
           goes-on-from (ClientWrites config c.args.client) c.args.limit c.writes.left
           (omega (arith, c.writes-test.true)) config w (calls c.args.ports.now) (calls c.writes.ports)
@@ -62,10 +66,10 @@ pub returns-then-finds_nothing-clause-goes : goal.returns-then-finds_nothing-cla
 returns-then-finds_nothing-clause-goes g c = λ t config w stands.
     let calls = g.P.Ports.calls in
     write-spared config w c.args.client c.args.limit
-    (calls c.args.ports.now) c.finds_nothing.new.server t c.args.seat.now c.if-not-seat.false
+    (calls c.args.ports.now) c.args.server.now t c.args.seat.now c.if-not-seat.false
     (c.finds_nothing.ensures.idle c.if-finds_nothing.true config w stands)
     (c.finds_nothing.ensures.nothing c.if-finds_nothing.true config w stands)
-    (c.finds_nothing.ensures.stands config w stands)
+    stands
 
 pub writes-init : goal.writes-init
 writes-init g c =
@@ -73,15 +77,32 @@ writes-init g c =
     record {
       role = c.requires.role;
       port = refl;
+      others = leaves_none c.args.client c.args.server.now;
       goes = λ t config w stands. record {
         deeds = [];
         does =
             record {
               tells = Tells-nil (calls c.args.ports.now);
-              stands = c.finds_nothing.ensures.stands config w stands;
+              stands = stands;
               counted = refl;
               faithful = tt;
             };
         how = λ ds w' o rest. rest;
       };
     }
+
+pub returns-in-Stop-clause-others : goal.returns-in-Stop-clause-others
+returns-in-Stop-clause-others g c =
+    leaves_then c.args.client c.args.server.now c.writes.server c.write_once.new.server c.writes.invariant.others
+    c.write_once.ensures.others
+
+pub returns-in-Over-clause-others : goal.returns-in-Over-clause-others
+returns-in-Over-clause-others g c =
+    leaves_then c.args.client c.args.server.now c.writes.server c.write_once.new.server c.writes.invariant.others
+    c.write_once.ensures.others
+
+pub returns-then-not-seat-clause-others : goal.returns-then-not-seat-clause-others
+returns-then-not-seat-clause-others g c = leaves_none c.args.client c.args.server.now
+
+pub returns-then-finds_nothing-clause-others : goal.returns-then-finds_nothing-clause-others
+returns-then-finds_nothing-clause-others g c = leaves_none c.args.client c.args.server.now

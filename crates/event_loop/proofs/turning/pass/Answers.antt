@@ -5,6 +5,7 @@ use Rattle.event_loop.specs.Going.{Whole, if_open}
 use Rattle.event_loop.specs.Passes.{ClientReads}
 use Rattle.event_loop.specs.Turns.{SeatPass}
 use Rattle.event_loop.proofs.SeatPassLemmas.{pass-both, pass-shut, pass-feed}
+use Rattle.event_loop.proofs.LeaveLemmas.{leaves_then, rest_client, rest_feed}
 use Rattle.event_loop.proofs.turning.pass.Goals as goal
 
 pub returns-then-read_client-clause-goes : goal.returns-then-read_client-clause-goes
@@ -44,3 +45,29 @@ returns-in-Feed-clause-goes g c = λ happenings config w stands.
     c.read_feed.new.server (feed_tally happenings c.args.dropped.now) (feed_tally happenings c.read_feed.new.dropped) _
     (c.in-Feed.is ∙ ap FeedRole same)
     (c.read_feed.ensures.goes c.args.seat.now.writable happenings config w stands)
+
+pub returns-then-read_client-clause-whose : goal.returns-then-read_client-clause-whose
+returns-then-read_client-clause-whose g c = λ k is. c.in-Client.is ∙ sym c.write_client.ensures.role ∙ is
+
+pub returns-else-read_client-clause-whose : goal.returns-else-read_client-clause-whose
+returns-else-read_client-clause-whose g c = λ k is. c.in-Client.is ∙ sym c.read_client.ensures.role ∙ is
+
+pub returns-then-read_client-clause-leaves : goal.returns-then-read_client-clause-leaves
+returns-then-read_client-clause-leaves g c =
+    rest_client c.args.seat.now c.in-Client.client c.args.brought.now c.args.server.now c.write_client.new.server
+    c.in-Client.is
+    (leaves_then c.in-Client.client c.args.server.now c.read_client.new.server c.write_client.new.server
+    c.read_client.ensures.others c.write_client.ensures.others)
+
+pub returns-else-read_client-clause-leaves : goal.returns-else-read_client-clause-leaves
+returns-else-read_client-clause-leaves g c =
+    rest_client c.args.seat.now c.in-Client.client c.args.brought.now c.args.server.now c.read_client.new.server
+    c.in-Client.is c.read_client.ensures.others
+
+pub returns-in-Feed-clause-leaves : goal.returns-in-Feed-clause-leaves
+returns-in-Feed-clause-leaves g c =
+    rest_feed c.args.seat.now c.args.brought.now c.read_feed.new.brought c.args.server.now c.read_feed.new.server
+    c.read_feed.ensures.quiet
+
+pub returns-in-Feed-clause-whose : goal.returns-in-Feed-clause-whose
+returns-in-Feed-clause-whose g c = λ k is. absurd cc

@@ -3,6 +3,7 @@ use Rattle.protocol.specs.Catalog.{Config}
 use Rattle.protocol.specs.World.{World}
 use Rattle.server_core.specs.ServerValues.{StandsAt}
 use Rattle.event_loop.specs.Feeding.{feed_tally}
+use Rattle.event_loop.specs.Sleeping.{AreKnown, AreSeated}
 use Rattle.event_loop.specs.Tables.{IsTable, PassesSoFar}
 use Rattle.event_loop.proofs.turning.pass_all.Given as goal
 
@@ -10,6 +11,8 @@ abbrev pub invariant-passes : goal.invariant-passes
 invariant-passes g l =
     let calls = g.P.Ports.calls in
     record {
+      known : AreKnown l.server l.seats.items l.awake.items;
+      seated : AreSeated l.server l.seats.items;
       goes : (happenings : ℕ) (config : Config) (w : World) → StandsAt l.fn.server config w →
           PassesSoFar l.limit config w (calls l.fn.ports) (calls l.ports) l.server
           (feed_tally happenings l.fn.dropped) (feed_tally happenings l.dropped)

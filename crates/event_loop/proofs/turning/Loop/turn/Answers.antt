@@ -1,25 +1,50 @@
-use Rattle.std.proofs.Common.{rules}
-use Rattle.event_loop.proofs.TurnLemmas.{turn-made, turn-failed}
+use Rattle.std.proofs.Common.{rules, subst}
+use Rattle.protocol.specs.Catalog.{Config}
+use Rattle.protocol.specs.World.{World}
+use Rattle.server_core.specs.ServerValues.{StandsAt}
+use Rattle.event_loop.specs.Loops.{LoopValue}
+use Rattle.event_loop.specs.Turns.{Turns, Fails}
+use Rattle.event_loop.proofs.TurnLemmas.{turn-made, turn-failed, turned_by}
 use Rattle.event_loop.proofs.turning.Loop.turn.Goals as goal
 
 pub returns-in_default-clause-failed : goal.returns-in_default-clause-failed
-returns-in_default-clause-failed g c = λ config w stands.
+returns-in_default-clause-failed g c =
     let calls = g.P.Ports.calls in
+    let old = c.self.inside in
+    subst (λ (x : LoopValue). (config : Config) (w : World) → StandsAt x.server config w →
+    Fails config x.most c.args.limit w x.calls (calls c.hear.new.ports) c.hear.new.server x.seats c.hear.new.seats.items)
+    c.self.view_is
+    (λ config w stands.
     let x = c.in_default.ensures.failed config w stands in
-    turn-failed config c.args.self.now.most c.args.limit w (calls c.args.self.now.ports)
-    (calls c.hear.new.ports) c.hear.new.server c.args.self.now.seats.items c.hear.new.seats.items x.0 x.1
+    turn-failed config old.most c.args.limit w (calls old.ports) (calls c.hear.new.ports) c.hear.new.server
+    old.seats.items c.hear.new.seats.items x.0 x.1)
 
 pub invariant_of-self-2 : goal.invariant_of-self-2
-invariant_of-self-2 g c = record { table = c.pass_all.ensures.table c.args.self.now.most c.hear.ensures.table }
+invariant_of-self-2 g c = record {
+  table = c.pass_all.ensures.table _ c.hear.ensures.table;
+  known = c.pass_all.ensures.known;
+  seated = c.pass_all.ensures.seated;
+}
 
 pub returns-clause-ok : goal.returns-clause-ok
-returns-clause-ok g c = λ config w stands.
+returns-clause-ok g c =
     let calls = g.P.Ports.calls in
-    turn-made config c.args.self.now.most c.args.limit w (calls c.args.self.now.ports)
-    (calls c.hear.new.ports) c.hear.new.server c.args.self.now.seats.items c.hear.new.seats.items
-    (calls c.pass_all.new.ports) c.pass_all.new.server c.pass_all.new.seats.items c.in-Ok.heard
-    c.pass_all.new.dropped
-    (c.in-Ok.ensures.ok config w stands) (λ v there. c.pass_all.ensures.goes c.in-Ok.heard.happenings config v there)
+    let old = c.self.inside in
+    subst (λ (x : LoopValue). (config : Config) (w : World) → StandsAt x.server config w →
+    Turns config x.most c.args.limit w x.calls (calls c.pass_all.new.ports) c.pass_all.new.server x.seats
+    c.pass_all.new.seats.items (turned_by c.in-Ok.heard c.pass_all.new.dropped))
+    c.self.view_is
+    (λ config w stands.
+    turn-made config old.most c.args.limit w (calls old.ports) (calls c.hear.new.ports) c.hear.new.server
+    old.seats.items c.hear.new.seats.items (calls c.pass_all.new.ports) c.pass_all.new.server
+    c.pass_all.new.seats.items c.in-Ok.heard c.pass_all.new.dropped
+    (c.in-Ok.ensures.ok config w stands) (λ v there. c.pass_all.ensures.goes c.in-Ok.heard.happenings config v there))
+
+pub returns-clause-few_clients : goal.returns-clause-few_clients
+returns-clause-few_clients g c = (c.pass_all.ensures.table _ c.hear.ensures.table).few_clients
+
+pub returns-clause-few_feeds : goal.returns-clause-few_feeds
+returns-clause-few_feeds g c = (c.pass_all.ensures.table _ c.hear.ensures.table).few_feeds
 
 -- The search finds this by itself. It is written down since the prover takes a minute to offer an answer where there is
 -- none, which a wrong body would wait for.

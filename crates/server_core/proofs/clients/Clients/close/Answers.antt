@@ -4,6 +4,8 @@ use Rattle.server_core.specs.Clients.{IsNumberAt, in_slot, slot_in}
 use Rattle.server_core.proofs.NumberLemmas.{its-slot-at}
 use Rattle.server_core.proofs.SlotLemmas.{closes-addresses, closes-no-address, closes-nothing, closes-sessions}
 use Rattle.server_core.proofs.SlotLemmas.{closes-table, settled-leaves}
+use Rattle.std.proofs.Common.{◌∙◌}
+use Rattle.server_core.proofs.NumberLemmas.{slot_in-less}
 use Rattle.server_core.proofs.clients.Clients.close.Goals as goal
 
 pub returns-in_err-at-clause-closed : goal.returns-in_err-at-clause-closed
@@ -78,3 +80,17 @@ returns-clause-left c =
       slots = c.try_remove-session.new.self;
     })
     c.args.number c.in_ok-at.at c.requires found refl c.remove-gone.ensures.items
+
+pub returns-clause-slot : goal.returns-clause-slot
+returns-clause-slot c =
+    let os = c.args.self.now.opened.items in
+    let found : IsNumberAt os c.args.number c.in_ok-at.at = search rules in
+    sym (its-slot-at os c.args.number c.in_ok-at.at c.remove-gone.result c.requires.rising found
+    c.remove-gone.ensures.value)
+
+pub returns-clause-others : goal.returns-clause-others
+returns-clause-others c = λ other apart.
+    let os = c.args.self.now.opened.items in
+    let found : IsNumberAt os c.args.number c.in_ok-at.at = search rules in
+    ap (λ xs. slot_in xs other) c.remove-gone.ensures.items
+    ∙ slot_in-less os c.args.number c.in_ok-at.at other apart found

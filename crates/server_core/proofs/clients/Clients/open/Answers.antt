@@ -5,6 +5,8 @@ use Rattle.session_state.specs.Sessions.{SessionValue}
 use Rattle.server_core.specs.declared.clients.Clients.{Clients}
 use Rattle.server_core.proofs.SlotLemmas.{opens-addresses, opens-sessions, opens-table, room-sessions, room-table}
 use Rattle.server_core.proofs.SlotLemmas.{settled-goes}
+use Rattle.server_core.proofs.NumberLemmas.{slot_in-more}
+use Rattle.server_core.specs.Clients.{slot_in}
 use Rattle.server_core.proofs.clients.Clients.open.Goals as goal
 
 pub returns-in_err-reserve-clause-err : goal.returns-in_err-reserve-clause-err
@@ -90,3 +92,10 @@ returns-clause-came c =
       slots = c.insert_reserved-slot.new.self;
     }) c.vacant_key-slot.result c.args.address
     c.requires refl c.in_ok-push.ensures.items
+
+pub returns-clause-others : goal.returns-clause-others
+returns-clause-others c = λ other apart.
+    ap (λ xs. slot_in xs other) c.in_ok-push.ensures.items
+    ∙ slot_in-more c.args.self.now.opened.items
+    (record { number = c.args.self.now.opens; slot = c.vacant_key-slot.result; address = c.args.address }) other
+    (λ e. apart (sym e))

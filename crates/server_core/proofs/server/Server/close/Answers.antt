@@ -7,6 +7,8 @@ use Rattle.server_core.proofs.SessionLemmas.{found, seen-session, serving, with-
 use Rattle.server_core.proofs.MarkLemmas.{marked-leaves}
 use Rattle.server_core.proofs.StandsLemmas.{close-stands}
 use Rattle.server_core.proofs.CurrentLemmas.{current-closed as closed}
+use Rattle.server_core.proofs.SpareLemmas.{bits-elsewhere, leaves-others, serving-with}
+use Rattle.server_core.specs.Marks.{LeavesOthers}
 use Rattle.server_core.proofs.server.Server.close.Goals as goal
 
 pub invariant_of-self : goal.invariant_of-self
@@ -73,3 +75,24 @@ returns-in-None-clause-answer c = λ config w stands.
     (sym (ap is_some c.in-None.is) ∙ c.close.ensures.answer
     ∙ seen-session c.self.inside.config c.self.inside.rings c.self.inside.clients c.number.result config w
     c.self.invariant.0 here)
+
+pub returns-in-Some-clause-others : goal.returns-in-Some-clause-others
+returns-in-Some-clause-others c =
+    let there = sym c.close.ensures.slot ∙ c.in-Some.is in
+    rw (← c.number.ensures)
+    (subst (λ s. LeavesOthers c.number.result s (serving-with c.self.inside.config c.self.inside.rings c.close.new.self
+    c.leave.new.self)) c.self.view_is
+    (leaves-others c.self.inside.config c.self.inside.rings c.self.inside.clients c.close.new.self c.self.inside.marks
+    c.leave.new.self c.number.result c.self.invariant.0 c.close.ensures.table c.close.ensures.opens
+    c.close.ensures.others
+    (bits-elsewhere c.self.inside.clients c.self.inside.marks c.leave.new.self c.number.result c.in-Some.slot
+    c.self.invariant.0 there c.leave.ensures.kept)))
+
+pub returns-in-None-clause-others : goal.returns-in-None-clause-others
+returns-in-None-clause-others c =
+    rw (← c.number.ensures)
+    (subst (λ s. LeavesOthers c.number.result s (serving-with c.self.inside.config c.self.inside.rings c.close.new.self
+    c.self.inside.marks)) c.self.view_is
+    (leaves-others c.self.inside.config c.self.inside.rings c.self.inside.clients c.close.new.self c.self.inside.marks
+    c.self.inside.marks c.number.result c.self.invariant.0 c.close.ensures.table c.close.ensures.opens
+    c.close.ensures.others (λ other slot apart e. refl)))

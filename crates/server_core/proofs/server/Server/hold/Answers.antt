@@ -2,11 +2,11 @@ use Rattle.std.proofs.Common.{◌∙◌, ◌<◌, [], ap, arith, refl, sym, subs
 use Rattle.held_records.specs.Rings.{holdings_of}
 use Rattle.protocol.specs.Catalog.{Config}
 use Rattle.server_core.specs.Arrivals.{IsPlaced}
-use Rattle.server_core.specs.ServerValues.{ServerValue, StandsAt}
+use Rattle.server_core.specs.ServerValues.{ServerValue, StandsAt, mark_at}
 use Rattle.server_core.specs.Marks.{MarksThose, marks_of}
 use Rattle.server_core.proofs.SessionLemmas.{serving, with-marks}
 use Rattle.server_core.proofs.MarkLemmas.{marked-arrives}
-use Rattle.server_core.proofs.SpareLemmas.{marks-those, serving-with}
+use Rattle.server_core.proofs.SpareLemmas.{kept-open, marks-those, serving-with}
 use Rattle.server_core.proofs.SlotLemmas.{sessions-settled}
 use Rattle.server_core.proofs.ArriveLemmas.{accepted-there, answers-number, arrive-settled, arrive-stands, place-there}
 use Rattle.server_core.proofs.CurrentLemmas.{history-arrives}
@@ -85,3 +85,9 @@ returns-clause-marks c =
     (marks-those c.self.inside.config c.self.inside.rings c.arrive-number.new.self c.self.inside.clients
     c.self.inside.marks c.arrived.new.self c.args.placing.place c.self.invariant.0 c.self.invariant.3
     (inside c) c.arrived.ensures.marked)
+
+pub returns-clause-kept : goal.returns-clause-kept
+returns-clause-kept c = λ k.
+    kept-open c.self.inside.config c.self.inside.rings c.arrive-number.new.self c.self.inside.clients
+    c.self.inside.marks c.arrived.new.self k
+    ∙ ap (λ s. is_some (mark_at s k)) c.self.view_is

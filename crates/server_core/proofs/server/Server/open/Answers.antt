@@ -15,6 +15,8 @@ use Rattle.server_core.proofs.SlotLemmas.{addresses-counted, same-addresses, ses
 use Rattle.server_core.proofs.SpareLemmas.{marks-same}
 use Rattle.server_core.proofs.StandsLemmas.{open-stands}
 use Rattle.server_core.proofs.CurrentLemmas.{current-new, current-opens, current-same}
+use Rattle.server_core.proofs.SpareLemmas.{opens-next, serving-with}
+use Rattle.server_core.specs.Marks.{OpensNext}
 use Rattle.server_core.proofs.server.Server.open.Goals as goal
 
 pub invariant_of-self : goal.invariant_of-self
@@ -141,3 +143,11 @@ pub returns-clause-number : goal.returns-clause-number
 returns-clause-number c =
     c.new-2.ensures ∙ c.in_ok-number.ensures.number ∙ sym (sessions-counted c.self.inside.clients)
     ∙ ap (λ (s : ServerValue). length s.sessions) c.self.view_is
+
+pub returns-clause-others : goal.returns-clause-others
+returns-clause-others c =
+    subst (λ s. OpensNext s (serving-with c.self.inside.config c.self.inside.rings c.open.new.self
+    c.reserve.new.self)) c.self.view_is
+    (opens-next c.self.inside.config c.self.inside.rings c.self.inside.clients c.open.new.self c.self.inside.marks
+    c.reserve.new.self c.self.invariant.0 c.open.ensures.table c.in_ok-number.ensures.opens
+    c.in_ok-number.ensures.others (λ slot. c.reserve.ensures.kept.marked slot tt))

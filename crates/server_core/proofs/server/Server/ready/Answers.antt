@@ -11,6 +11,9 @@ use Rattle.server_core.proofs.SlotLemmas.{written-table}
 use Rattle.server_core.proofs.SpareLemmas.{marks-same, spared-by}
 use Rattle.server_core.proofs.CurrentLemmas.{current-goes, current-same, looked-over}
 use Rattle.server_core.specs.Clients.{addresses_of, sessions_of}
+use Rattle.server_core.proofs.SpareLemmas.{leaves-others, serving-with}
+use Rattle.server_core.specs.Marks.{LeavesOthers}
+use Rattle.server_core.specs.Clients.{slot_in}
 use Rattle.server_core.proofs.server.Server.ready.Goals as goal
 
 pub is_ready_in-requires-clause-settled : goal.is_ready_in-requires-clause-settled
@@ -121,3 +124,25 @@ returns-in-None-clause-marks c =
     marks-same c.self.inside.clients c.seek.new.self c.self.inside.marks c.self.inside.marks c.seek.ensures.numbers.0
     c.seek.ensures.numbers.1 (λ slot. refl)
     ∙ ap (λ (s : ServerValue). s.marks) c.self.view_is
+
+pub returns-in-Some-clause-others : goal.returns-in-Some-clause-others
+returns-in-Some-clause-others c =
+    rw (← c.number.ensures)
+    (subst (λ s. LeavesOthers c.number.result s (serving-with c.self.inside.config c.self.inside.rings
+    (record c.seek.new.self { slots = c.is_ready_in.new.slots }) c.self.inside.marks)) c.self.view_is
+    (leaves-others c.self.inside.config c.self.inside.rings c.self.inside.clients
+    (record c.seek.new.self { slots = c.is_ready_in.new.slots }) c.self.inside.marks c.self.inside.marks c.number.result
+    c.self.invariant.0
+    (written-table c.seek.new.self c.is_ready_in.new.slots c.seek.ensures.table c.is_ready_in.ensures.kept)
+    c.seek.ensures.numbers.0 (λ other apart. ap (λ os. slot_in os other) c.seek.ensures.numbers.1)
+    (λ other slot apart e. refl)))
+
+pub returns-in-None-clause-others : goal.returns-in-None-clause-others
+returns-in-None-clause-others c =
+    rw (← c.number.ensures)
+    (subst (λ s. LeavesOthers c.number.result s (serving-with c.self.inside.config c.self.inside.rings c.seek.new.self
+    c.self.inside.marks)) c.self.view_is
+    (leaves-others c.self.inside.config c.self.inside.rings c.self.inside.clients c.seek.new.self c.self.inside.marks
+    c.self.inside.marks c.number.result c.self.invariant.0 c.seek.ensures.table
+    c.seek.ensures.numbers.0 (λ other apart. ap (λ os. slot_in os other) c.seek.ensures.numbers.1)
+    (λ other slot apart e. refl)))

@@ -8,6 +8,8 @@ use Rattle.server_core.proofs.SessionLemmas.{found, with-marks}
 use Rattle.server_core.proofs.ReloadLemmas.{marked-under, refused-reload, reload-stands, same_count, settled-under}
 use Rattle.server_core.proofs.SlotLemmas.{written-table}
 use Rattle.server_core.proofs.CurrentLemmas.{current-after, current-in-slots, history-under}
+use Rattle.std.proofs.Common.{length}
+use Rattle.server_core.proofs.SlotLemmas.{sessions-counted}
 use Rattle.server_core.proofs.server.Server.reload.Goals as goal
 
 pub review_all-requires-clause-settled : goal.review_all-requires-clause-settled
@@ -58,3 +60,8 @@ returns-clause-stands c = λ config w stands.
     (sym c.if-not-is_same_but_for_access.ensures) c.self.invariant.0 c.review_all.ensures.kept
     (subst (λ (os : List Opened). AreReviewed c.args.config os c.self.inside.clients.slots c.review_all.new.slots)
     c.as_slice.ensures.value c.review_all.ensures.each) config w here)
+
+pub returns-clause-count : goal.returns-clause-count
+returns-clause-count c =
+    sessions-counted (record c.self.inside.clients { slots = c.review_all.new.slots })
+    ∙ sym (sessions-counted c.self.inside.clients) ∙ ap (λ (s : ServerValue). length s.sessions) c.self.view_is

@@ -1,4 +1,4 @@
-use Rattle.std.proofs.Common.{◌∙◌, ap, sym, subst, List, Option, Some, is_some, slice_get}
+use Rattle.std.proofs.Common.{refl, ◌∙◌, ap, sym, subst, List, Option, Some, is_some, slice_get}
 use Rattle.session_state.specs.Sessions.{SessionValue}
 use Rattle.slab.specs.Slab.{Slab}
 use Rattle.server_core.specs.ServerValues.{AreSettled}
@@ -9,6 +9,9 @@ use Rattle.server_core.proofs.SessionLemmas.{found, seen-nowhere, seen-there, to
 use Rattle.server_core.proofs.SlotLemmas.{session-there, written-table}
 use Rattle.server_core.proofs.CurrentLemmas.{current-goes, current-same, taken-over}
 use Rattle.server_core.specs.ServerValues.{taking}
+use Rattle.server_core.proofs.SpareLemmas.{bits-elsewhere, leaves-others, serving-with}
+use Rattle.server_core.specs.Marks.{LeavesOthers}
+use Rattle.server_core.specs.Clients.{slot_in}
 use Rattle.server_core.proofs.server.Server.took.Goals as goal
 
 pub took_in-requires-clause-settled : goal.took_in-requires-clause-settled
@@ -101,3 +104,27 @@ returns-in-None-clause-answer c = λ config w stands.
     rw (← c.number.ensures)
     (ap is_some (seen-nowhere c.self.inside.config c.self.inside.rings c.seek.new.self c.number.result config w
     (sym c.in-None.ensures.slot) here))
+
+pub returns-in-Some-clause-others : goal.returns-in-Some-clause-others
+returns-in-Some-clause-others c =
+    let there = ap (λ os. slot_in os c.number.result) (sym c.seek.ensures.numbers.1) ∙ sym c.in-Some.ensures.slot in
+    rw (← c.number.ensures)
+    (subst (λ s. LeavesOthers c.number.result s (serving-with c.self.inside.config c.self.inside.rings
+    (record c.seek.new.self { slots = c.took_in.new.slots }) c.took_in.new.marks)) c.self.view_is
+    (leaves-others c.self.inside.config c.self.inside.rings c.self.inside.clients
+    (record c.seek.new.self { slots = c.took_in.new.slots }) c.self.inside.marks c.took_in.new.marks c.number.result
+    c.self.invariant.0
+    (written-table c.seek.new.self c.took_in.new.slots c.seek.ensures.table c.took_in.ensures.kept)
+    c.seek.ensures.numbers.0 (λ other apart. ap (λ os. slot_in os other) c.seek.ensures.numbers.1)
+    (bits-elsewhere c.self.inside.clients c.self.inside.marks c.took_in.new.marks c.number.result c.in-Some.slot
+    c.self.invariant.0 there c.took_in.ensures.others)))
+
+pub returns-in-None-clause-others : goal.returns-in-None-clause-others
+returns-in-None-clause-others c =
+    rw (← c.number.ensures)
+    (subst (λ s. LeavesOthers c.number.result s (serving-with c.self.inside.config c.self.inside.rings c.seek.new.self
+    c.self.inside.marks)) c.self.view_is
+    (leaves-others c.self.inside.config c.self.inside.rings c.self.inside.clients c.seek.new.self c.self.inside.marks
+    c.self.inside.marks c.number.result c.self.invariant.0 c.seek.ensures.table
+    c.seek.ensures.numbers.0 (λ other apart. ap (λ os. slot_in os other) c.seek.ensures.numbers.1)
+    (λ other slot apart e. refl)))
