@@ -4,6 +4,7 @@ use Rattle.catalog.specs.Faults.{fault_number, fault_name}
 use Rattle.feeder.specs.Sending.{send_fault_number, send_fault_name}
 use Rattle.slreader.specs.Faults.{reader_fault_number, reader_fault_name}
 use Rattle.packet_listing.specs.Faults.{listing_fault_number, listing_fault_name}
+use Rattle.serving.specs.Faults.{serve_fault_number, serve_fault_name}
 use Rattle.socket_ports.specs.Faults.{listen_fault_number, listen_fault_name}
 use Rattle.sl_io.specs.Faults.{stream_fault_number, stream_fault_name}
 use Rattle.record_listing.specs.Listing.{file_fault_number, file_fault_name}
@@ -11,8 +12,6 @@ use Rattle.jobs.specs.declared.failure.Failure.{Failure}
 use Rattle.jobs.specs.declared.failure.Failure.TheVariants as failure
 use Rattle.jobs.specs.declared.faults.ReplayFault.{ReplayFault}
 use Rattle.jobs.specs.declared.faults.ReplayFault.TheVariants as replay
-use Rattle.jobs.specs.declared.serving.ServeFault.{ServeFault}
-use Rattle.jobs.specs.declared.serving.ServeFault.TheVariants as serve
 
 -- the number of a replay that failed
 abbrev pub replay_fault_number : ReplayFault → ℕ
@@ -23,16 +22,6 @@ replay_fault_number (replay.Script line) = 45
 abbrev pub replay_fault_name : ReplayFault → List ℕ
 replay_fault_name (replay.Stream fault) = stream_fault_name fault
 replay_fault_name (replay.Script line) = codes "Script"
-
--- the number of a server that ended before its turns were done
-abbrev pub serve_fault_number : ServeFault → ℕ
-serve_fault_number serve.OutOfMemory = 25
-serve_fault_number serve.Poll = 40
-
--- its name
-abbrev pub serve_fault_name : ServeFault → List ℕ
-serve_fault_name serve.OutOfMemory = codes "OutOfMemory"
-serve_fault_name serve.Poll = codes "Poll"
 
 -- the number of a failure of the program
 abbrev pub failure_number : Failure → ℕ

@@ -3,7 +3,6 @@ pub mod Faults
 pub mod Feeding
 pub mod Output
 pub mod Replaying
-pub mod Serves
+pub mod Serving
 pub mod SettingTexts
 pub mod Sites
-pub mod Timetables

@@ -1,20 +1,15 @@
 //! Why the program ends with status 1.
 ghost use Rattle.std.specs.Prelude.{◌≡◌};
 ghost use Rattle.jobs.specs.Faults.{failure_number, failure_name};
-ghost use Rattle.jobs.specs.declared.failure.Failure.TheVariants.{Config as ConfigFailure, Replay as ReplayFailure};
-ghost use Rattle.jobs.specs.declared.failure.Failure.TheVariants.{Check as CheckFailure, Records as RecordsFailure};
-ghost use Rattle.jobs.specs.declared.failure.Failure.TheVariants.{Listen as ListenFailure, Reload as ReloadFailure};
-ghost use Rattle.jobs.specs.declared.failure.Failure.TheVariants.{Serve as ServeFailure, Send as SendFailure};
-ghost use Rattle.jobs.specs.declared.failure.Failure.TheVariants.{Want as WantFailure, Packets as PacketsFailure};
 
 use crate::faults::ReplayFault;
-use crate::serving::ServeFault;
 use catalog::ConfigFault;
 use feeder::SendFault;
 use packet_listing::ListingFault;
 use protocol::report::Report;
 use record_listing::FileFault;
 use server_core::ReloadFault;
+use serving::ServeFault;
 use sl_io::StreamFault;
 use slreader::ReaderFault;
 use socket_ports::ListenFault;
@@ -93,85 +88,5 @@ impl Failure {
             Failure::Want(fault) => fault.report(),
             Failure::Packets(fault) => fault.report(),
         }
-    }
-}
-
-impl From<ConfigFault> for Failure {
-    ghost from_gives = { λ fault failure. failure ≡ ConfigFailure fault };
-
-    fn from(fault: ConfigFault) -> Failure {
-        Failure::Config(fault)
-    }
-}
-
-impl From<ReplayFault> for Failure {
-    ghost from_gives = { λ fault failure. failure ≡ ReplayFailure fault };
-
-    fn from(fault: ReplayFault) -> Failure {
-        Failure::Replay(fault)
-    }
-}
-
-impl From<StreamFault> for Failure {
-    ghost from_gives = { λ fault failure. failure ≡ CheckFailure fault };
-
-    fn from(fault: StreamFault) -> Failure {
-        Failure::Check(fault)
-    }
-}
-
-impl From<FileFault> for Failure {
-    ghost from_gives = { λ fault failure. failure ≡ RecordsFailure fault };
-
-    fn from(fault: FileFault) -> Failure {
-        Failure::Records(fault)
-    }
-}
-
-impl From<ListenFault> for Failure {
-    ghost from_gives = { λ fault failure. failure ≡ ListenFailure fault };
-
-    fn from(fault: ListenFault) -> Failure {
-        Failure::Listen(fault)
-    }
-}
-
-impl From<ReloadFault> for Failure {
-    ghost from_gives = { λ fault failure. failure ≡ ReloadFailure fault };
-
-    fn from(fault: ReloadFault) -> Failure {
-        Failure::Reload(fault)
-    }
-}
-
-impl From<ServeFault> for Failure {
-    ghost from_gives = { λ fault failure. failure ≡ ServeFailure fault };
-
-    fn from(fault: ServeFault) -> Failure {
-        Failure::Serve(fault)
-    }
-}
-
-impl From<SendFault> for Failure {
-    ghost from_gives = { λ fault failure. failure ≡ SendFailure fault };
-
-    fn from(fault: SendFault) -> Failure {
-        Failure::Send(fault)
-    }
-}
-
-impl From<ReaderFault> for Failure {
-    ghost from_gives = { λ fault failure. failure ≡ WantFailure fault };
-
-    fn from(fault: ReaderFault) -> Failure {
-        Failure::Want(fault)
-    }
-}
-
-impl From<ListingFault> for Failure {
-    ghost from_gives = { λ fault failure. failure ≡ PacketsFailure fault };
-
-    fn from(fault: ListingFault) -> Failure {
-        Failure::Packets(fault)
     }
 }

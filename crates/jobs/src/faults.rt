@@ -1,7 +1,6 @@
 //! Why a script was not replayed.
 ghost use Rattle.std.specs.Prelude.{◌≡◌};
 ghost use Rattle.jobs.specs.Faults.{replay_fault_number, replay_fault_name};
-ghost use Rattle.jobs.specs.declared.faults.ReplayFault.TheVariants.{Stream};
 
 use protocol::report::Report;
 use sl_io::StreamFault;
@@ -29,13 +28,5 @@ impl ReplayFault {
             ReplayFault::Stream(fault) => fault.report(),
             ReplayFault::Script(_) => Report::new(45, "Script"),
         }
-    }
-}
-
-impl From<StreamFault> for ReplayFault {
-    ghost from_gives = { λ fault replay. replay ≡ Stream fault };
-
-    fn from(fault: StreamFault) -> ReplayFault {
-        ReplayFault::Stream(fault)
     }
 }

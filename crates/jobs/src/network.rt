@@ -4,8 +4,9 @@ use crate::failure::Failure;
 use crate::feeding::feed_over;
 use crate::files::{config_at, open, unopened};
 use crate::incident::{Incident, Site};
-use crate::running::{ServeOptions, serve_by};
-use crate::standard_error::StandardError;
+use crate::operator::{ServeOptions, serve_by};
+use crate::standard_error::StandardError as Eprinted;
+use error_lines::StandardError;
 use packet_listing::{Nowhere, read_over};
 use sl_io::{Outer, Sink};
 use slreader::{Plan, Want};
@@ -14,6 +15,7 @@ use std::alloc::Global;
 use std::fs::OpenOptions;
 use std::io;
 use std::net::{Net, OpenStream, SocketAddr, TcpStream};
+use std::os::fd::AsRawFd;
 use std::rt::Files;
 
 /// A server that a word names.
@@ -67,17 +69,21 @@ fn listen_at<'a, R: Net + AllocGlobal>(
 }
 
 /// Serves clients and feeds as the options say, and then sends what was not sent yet.
-pub fn serve_sockets<'a, R: Files + Eprint + Net + AllocGlobal>(
-    rt: &R,
+pub fn serve_sockets<'a, R: Files + Net + AllocGlobal>(
+    rt: &'a R,
     listen: &'a str,
     feed: &'a str,
     options: ServeOptions<'a>,
-) -> Result<(), Incident<'a>> {
+) -> Result<(), Incident<'a>>
+where
+    R::File: AsRawFd,
+{
     let clients = server_of(listen)?;
     let feeds = server_of(feed)?;
     let config = config_at(rt, options.path)?;
     let ports = listen_at(rt, clients, feeds)?;
-    match serve_by(rt, config, ports, &options) {
+    let errors = StandardError::open(rt);
+    match serve_by(rt, config, ports, options, errors) {
         Ok(mut ports) => {
             ports.finish();
             Ok(())
@@ -176,7 +182,7 @@ fn list_records<'a, R: Print + Eprint + Net + AllocGlobal>(
     server: Server<'a>,
     plan: Plan<'_>,
 ) -> Result<(), Incident<'a>> {
-    let mut lines = Outer::new(StandardError::new(rt));
+    let mut lines = Outer::new(Eprinted::new(rt));
     let mut records = Outer::new(io::writer(rt));
     list(rt, server, plan, &mut lines, &mut records)
 }

@@ -1,6 +1,6 @@
 //! What the user is told, and the exit status: 0 where the job was done or help was asked for, 1 at a fault of input or
 //! of a device, and 2 where the words are none that the program takes.
-ghost use Rattle.std.specs.Prelude.{◌≡◌, ◌≢◌, false, true, map, string_bytes};
+ghost use Rattle.std.specs.Prelude.{◌≡◌, ◌≢◌, ◌⊎◌, false, true, map, string_bytes, OnErr, OnOk};
 ghost use Rattle.std.specs.Process.{exit_status};
 ghost use Rattle.command_line.specs.Jobs.{IsJob, IsMistake};
 
@@ -10,6 +10,7 @@ use crate::telling::tell_incident;
 use crate::work::run_job;
 use command_line::{Request, WordsFault, read_words};
 use std::net::Net;
+use std::os::fd::AsRawFd;
 use std::process::ExitCode;
 use std::rt::Files;
 
@@ -31,6 +32,21 @@ fn failed_at<R: Eprint>(rt: &R, incident: Incident<'_>, is_verbose: bool) -> Exi
     ExitCode::FAILURE
 }
 
+/// The status of a job: 0 if it was done, and 1 at a fault, which is reported, and on request explained.
+fn status_of<R: Eprint>(
+    rt: &R,
+    outcome: Result<(), Incident<'_>>,
+    is_verbose: bool,
+) -> ExitCode
+    ensures done { OnOk outcome.entry (exit_status result ≡ 0) }
+    ensures fault { OnErr outcome.entry (exit_status result ≡ 1) }
+{
+    match outcome {
+        Ok(()) => ExitCode::SUCCESS,
+        Err(incident) => failed_at(rt, incident, is_verbose),
+    }
+}
+
 /// Tells the user how words are taken: help on the standard output, or a mistake on the standard error. The status is 2
 /// for a mistake. For help it is 0, or 1 where that could not be written.
 pub fn told<R: Print + Eprint>(rt: &R, text: &str, is_help: bool) -> ExitCode
@@ -47,17 +63,19 @@ pub fn told<R: Print + Eprint>(rt: &R, text: &str, is_help: bool) -> ExitCode
     }
 }
 
-/// Does the job that the words of a command line ask, of which the first is the program's name. The status is never 2
-/// where they are a job, and never 0 where they are a mistake.
+/// Does the job that the words of a command line ask, of which the first is the program's name. If they are a job, the
+/// status is 0 or 1, as `status_of` has it, or 1 if memory for the words ran out. It is never 0 if they are a mistake.
 pub fn obey<R: Files + Print + Eprint + Net + AllocGlobal>(rt: &R, words: &[String]) -> ExitCode
-    ensures job { IsJob (map string_bytes words.now) → exit_status result ≢ 2 }
+where
+    R::File: AsRawFd,
+    ensures job { IsJob (map string_bytes words.now) → (exit_status result ≡ 0) ⊎ (exit_status result ≡ 1) }
     ensures mistake { IsMistake (map string_bytes words.now) → exit_status result ≢ 0 }
 {
     match read_words(rt.alloc(), words) {
-        Ok(Request { job, is_verbose }) => match run_job(rt, job, is_verbose) {
-            Ok(()) => ExitCode::SUCCESS,
-            Err(incident) => failed_at(rt, incident, is_verbose),
-        },
+        Ok(Request { job, is_verbose }) => {
+            let outcome = run_job(rt, job, is_verbose);
+            status_of(rt, outcome, is_verbose)
+        }
         Err(WordsFault::Refused { text, is_help }) => told(rt, text.as_str(), is_help),
         Err(WordsFault::OutOfMemory) => failed(rt, Failure::OutOfMemory),
     }

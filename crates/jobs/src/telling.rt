@@ -1,5 +1,4 @@
 //! Lines on the standard error.
-use crate::activity::Activity;
 use crate::failure::Failure;
 use crate::incident::Incident;
 use protocol::report::Report;
@@ -16,9 +15,4 @@ pub fn tell_incident<R: Eprint>(rt: &R, incident: Incident<'_>, is_verbose: bool
     if is_verbose {
         let _ = eprint!(rt; "{incident}");
     }
-}
-
-/// Tells what a server has done, in the line `seedlinkd: clients 3, feeds 1, records 1200, refused 2`.
-pub fn tell_activity<R: Eprint>(rt: &R, activity: Activity) {
-    let _ = eprintln!(rt; "seedlinkd: {activity}");
 }

@@ -2,18 +2,22 @@
 use crate::files::{check_file, replay_files};
 use crate::incident::Incident;
 use crate::network::{feed_file, read_server, serve_sockets};
-use crate::running::ServeOptions;
-use crate::timetable::Timetable;
+use crate::operator::ServeOptions;
 use command_line::Job;
+use serving::Timetable;
 use std::net::Net;
+use std::os::fd::AsRawFd;
 use std::rt::Files;
 
 /// Does what a job asks. With `is_verbose` faults that don't end it are explained.
 pub fn run_job<'a, R: Files + Print + Eprint + Net + AllocGlobal>(
-    rt: &R,
+    rt: &'a R,
     job: Job<'a>,
     is_verbose: bool,
-) -> Result<(), Incident<'a>> {
+) -> Result<(), Incident<'a>>
+where
+    R::File: AsRawFd,
+{
     match job {
         Job::Check { file } => check_file(rt, file),
         Job::Replay { config, script } => replay_files(rt, config, script),

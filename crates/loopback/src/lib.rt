@@ -5,7 +5,11 @@
 
 mod centre;
 mod records;
+mod stage;
+mod visitor;
 
 pub use centre::{CENTRE, Centre, any_port, at_centre, connect};
 pub use records::{packet, record};
+pub use stage::{Actor, Stage};
 pub use test_centre::GREETING;
+pub use visitor::{Visitor, connect_from};

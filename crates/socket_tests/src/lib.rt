@@ -9,6 +9,8 @@ mod crowd;
 #[cfg(test)]
 mod ends;
 #[cfg(test)]
+mod failing_jobs;
+#[cfg(test)]
 mod feeds;
 #[cfg(test)]
 mod hostile;
@@ -24,3 +26,5 @@ mod serving;
 mod slow;
 #[cfg(test)]
 mod transfers;
+#[cfg(test)]
+mod words;

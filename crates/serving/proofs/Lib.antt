@@ -1,0 +1,4 @@
+pub mod ActLemmas
+pub mod StopLemmas
+pub mod RunLemmas
+pub mod CountLemmas

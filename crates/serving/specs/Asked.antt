@@ -1,0 +1,17 @@
+-- What a server asks and tells between its turns, with the answers.
+use Rattle.std.specs.Prelude.{◌≡◌, List, ◌++◌, Option, Some, None, Result}
+use Rattle.protocol.specs.Catalog.{Config}
+use Rattle.serving.specs.declared.activity.Activity.{Activity}
+use Rattle.serving.specs.declared.between.Refusal.{Refusal}
+
+-- a call with its answer
+pub data Asked (F : Type 0) : Type 0 where
+  Configuration : Result Config F → Asked F
+  Refuses : Refusal F → Asked F
+  Reports : Activity → Asked F
+
+-- Those calls were made between the two, where they are told after it.
+abbrev pub Tells : {F : Type 0} → Option (List (Asked F)) → Option (List (Asked F)) → List (Asked F) → Type 0
+Tells old None calls = Unit {0}
+Tells (Some before) (Some after) calls = after ≡ before ++ calls
+Tells None (Some after) calls = ⊥

@@ -1,0 +1,30 @@
+-- How often a configuration is asked for.
+use Rattle.std.specs.Prelude.{◌≡◌, ℕ, zero, suc, ◌+◌, Bool, true, false, if◌then◌else◌, List, count_by, Option, Some}
+use Rattle.protocol.specs.Catalog.{Config}
+use Rattle.protocol.specs.World.{World}
+use Rattle.event_loop.specs.Loops.{LoopValue}
+use Rattle.serving.specs.declared.timetable.Timetable.{Timetable}
+use Rattle.serving.specs.Timetables.{is_due, turns_of}
+use Rattle.serving.specs.Asked.{Asked}
+use Rattle.serving.specs.Asked.Asked.{Configuration, Refuses, Reports}
+use Rattle.serving.specs.Runs.{Ran}
+
+-- A call asks for the configuration.
+abbrev pub is_ask : {F : Type 0} → Asked F → Bool
+is_ask (Configuration answer) = true
+is_ask (Refuses refusal) = false
+is_ask (Reports activity) = false
+
+-- how many calls do
+abbrev pub asks : {F : Type 0} → List (Asked F) → ℕ
+asks calls = count_by is_ask calls
+
+-- after how many of the first so many turns something is due
+abbrev pub due_in : Option ℕ → ℕ → ℕ
+due_in every zero = 0
+due_in every (suc done) = due_in every done + (if is_due every (suc done) then 1 else 0)
+
+-- In a run of all its turns the configuration is asked for as often as the timetable says.
+abbrev pub AsksAsDue : Type 0 → Type 0
+AsksAsDue F = (t : Timetable) (config : Config) (w : World) (first last : LoopValue) (asked asked' : List (Asked F)) →
+    Ran t config w first (Some asked) last (Some asked') → asks asked' ≡ asks asked + due_in t.reread (turns_of t)

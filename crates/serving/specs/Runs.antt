@@ -1,0 +1,162 @@
+-- What a run of a server is: its turns, and what is asked and told between them.
+-- Runs are this project's own. Left out: time.
+use Rattle.std.specs.Prelude.{◌≡◌, ℕ, suc, ◌<◌, ◌-◌, ◌^◌, Bool, true, false, if◌then◌else◌, List, [], ◌∷◌, ◌++◌}
+use Rattle.std.specs.Prelude.{length, Option, Some, None, Result, Ok, Err}
+use Rattle.protocol.specs.Catalog.{Config, is_same_but_for_access}
+use Rattle.protocol.specs.World.{World}
+use Rattle.server_core.specs.ServerValues.{StandsAt}
+use Rattle.ports.specs.Calls.{Tells as TellsCalls}
+use Rattle.event_loop.specs.declared.turning.Turned.{Turned}
+use Rattle.event_loop.specs.Deeds.{refused_more}
+use Rattle.event_loop.specs.Hearing.{clients_in, feeds_in}
+use Rattle.event_loop.specs.Loops.{LoopValue, TurnMade, TurnFailed}
+use Rattle.serving.specs.declared.activity.Activity.{Activity}
+use Rattle.serving.specs.declared.between.Refusal.TheVariants.{Unread, Different}
+use Rattle.serving.specs.declared.timetable.Timetable.{Timetable}
+use Rattle.serving.specs.Timetables.{is_due, failures_kept, turns_of}
+use Rattle.serving.specs.declared.between.NoConfiguration.{NoConfiguration}
+use Rattle.serving.specs.Asked.{Asked, Tells}
+use Rattle.serving.specs.Asked.Asked.{Configuration, Refuses, Reports}
+use Rattle.serving.specs.Acts.{Act, all_calls, config_then, world_then, HandsThroughout}
+use Rattle.serving.specs.Acts.Act.{Turning, Reloading}
+
+-- ---- between two turns
+
+-- what is told of a configuration that was asked for
+abbrev pub refusals : {F : Type 0} → Config → Result Config F → List (Asked F)
+refusals config (Err fault) = Refuses (Unread fault) ∷ []
+refusals config (Ok new) = if is_same_but_for_access config new then [] else Refuses Different ∷ []
+
+-- what comes of it: it is given to the server, where there is one
+abbrev pub reloads : {F : Type 0} → Result Config F → List Act
+reloads (Err fault) = []
+reloads (Ok new) = Reloading new ∷ []
+
+-- The configuration was asked for once, and its answer was done.
+pub record Rereads {F : Type 0} (config : Config) (w : World) (v : LoopValue) (asked : Option (List (Asked F)))
+    (acts : List Act) (v' : LoopValue) (asked' : Option (List (Asked F))) : Type 0 where
+  pub answer : Result Config F
+  pub tells : Tells asked asked' (Configuration answer ∷ refusals config answer)
+  pub comes : acts ≡ reloads answer
+  pub stands : StandsAt v'.server (config_then config acts) (world_then config w acts)
+  pub only : v' ≡ record v { server = v'.server }
+
+-- The same, where it is due.
+abbrev pub RereadsIf : {F : Type 0} → Bool → Config → World → LoopValue → Option (List (Asked F)) → List Act
+    → LoopValue → Option (List (Asked F)) → Type 0
+RereadsIf true config w v asked acts v' asked' = Rereads config w v asked acts v' asked'
+RereadsIf false config w v asked acts v' asked' = (acts ≡ []) × (v' ≡ v) × (asked' ≡ asked)
+
+-- With whatever acts, it stands for the world after them.
+pub record SomeReread {F : Type 0} (due : Bool) (config : Config) (w : World) (v : LoopValue)
+    (asked : Option (List (Asked F))) (v' : LoopValue) (asked' : Option (List (Asked F))) : Type 0 where
+  pub acts : List Act
+  pub rereads : RereadsIf due config w v asked acts v' asked'
+  pub stands : StandsAt v'.server (config_then config acts) (world_then config w acts)
+
+-- what a server has done so far
+abbrev pub activity_of : World → LoopValue → Activity
+activity_of w v = record {
+  clients = clients_in v.seats;
+  feeds = feeds_in v.seats;
+  records = length w.history;
+  refused = v.refused;
+}
+
+-- what is told of it, where that is due
+abbrev pub reports_if : {F : Type 0} → Bool → World → LoopValue → List (Asked F)
+reports_if due w v = if due then Reports (activity_of w v) ∷ [] else []
+
+-- What the timetable says was done after so many turns.
+pub record Stops {F : Type 0} (t : Timetable) (done : ℕ) (config : Config) (w : World) (v : LoopValue)
+    (asked : Option (List (Asked F))) (acts : List Act) (v' : LoopValue) (asked' : Option (List (Asked F)))
+    : Type 0 where
+  pub between : Option (List (Asked F))
+  pub reread : RereadsIf (is_due t.reread done) config w v asked acts v' between
+  pub report : Tells between asked' (reports_if (is_due t.report done) (world_then config w acts) v')
+
+pub record SomeStop {F : Type 0} (t : Timetable) (done : ℕ) (config : Config) (w : World) (v : LoopValue)
+    (asked : Option (List (Asked F))) (v' : LoopValue) (asked' : Option (List (Asked F))) : Type 0 where
+  pub acts : List Act
+  pub stops : Stops t done config w v asked acts v' asked'
+  pub stands : StandsAt v'.server (config_then config acts) (world_then config w acts)
+
+-- ---- turns
+
+-- A turn was made, and then none has failed in a row; or it failed, and one more has.
+pub data OneTurn (failures failures' : ℕ) (config : Config) (w : World) (v v' : LoopValue) : Type 0 where
+  made : (turned : Turned) → failures' ≡ 0 → TurnMade config 64 w v v' turned →
+      v'.refused ≡ refused_more v.refused turned.dropped → OneTurn failures failures' config w v v'
+  not_made : failures' ≡ suc failures → TurnFailed config 64 w v v' → v'.refused ≡ v.refused →
+      OneTurn failures failures' config w v v'
+
+-- ---- runs
+
+-- So many turns were made, of which the last so many failed in a row since the configuration was last read again, never
+-- sixteen; and after each of them what the timetable says.
+pub data Runs {F : Type 0} (t : Timetable) (config : Config) (w : World) (first : LoopValue)
+    (first_asked : Option (List (Asked F)))
+    : (done failures : ℕ) → List Act → LoopValue → Option (List (Asked F)) → Type 0 where
+  begins : Runs t config w first first_asked 0 0 [] first first_asked
+  turned : {done failures : ℕ} {acts : List Act} {v v'' : LoopValue} {asked asked'' : Option (List (Asked F))}
+      (v' : LoopValue) (turned : Turned) (stop : List Act) →
+      Runs t config w first first_asked done failures acts v asked →
+      (x : TurnMade (config_then config acts) 64 (world_then config w acts) v v' turned) →
+      v'.refused ≡ refused_more v.refused turned.dropped →
+      Stops t (suc done) (config_then config (acts ++ Turning x.deeds ∷ []))
+      (world_then config w (acts ++ Turning x.deeds ∷ [])) v' asked stop v'' asked'' →
+      Runs t config w first first_asked (suc done) 0 ((acts ++ Turning x.deeds ∷ []) ++ stop) v'' asked''
+  failed : {done failures : ℕ} {acts : List Act} {v v'' : LoopValue} {asked asked'' : Option (List (Asked F))}
+      (v' : LoopValue) (stop : List Act) →
+      Runs t config w first first_asked done failures acts v asked →
+      (x : TurnFailed (config_then config acts) 64 (world_then config w acts) v v') →
+      v'.refused ≡ v.refused → suc failures < 16 →
+      Stops t (suc done) (config_then config (acts ++ Turning x.deeds ∷ []))
+      (world_then config w (acts ++ Turning x.deeds ∷ [])) v' asked stop v'' asked'' →
+      Runs t config w first first_asked (suc done) (failures_kept t (suc done) (suc failures))
+      ((acts ++ Turning x.deeds ∷ []) ++ stop) v'' asked''
+
+-- A run so far: the calls on ports are its acts', the server stands for the world after it, and each client's port took
+-- what a client alone is handed.
+pub record RanSo {F : Type 0} (t : Timetable) (config : Config) (w : World) (first : LoopValue)
+    (first_asked : Option (List (Asked F))) (done failures : ℕ) (v : LoopValue) (asked : Option (List (Asked F)))
+    : Type 0 where
+  pub acts : List Act
+  pub runs : Runs t config w first first_asked done failures acts v asked
+  pub tells : TellsCalls first.calls v.calls (all_calls acts)
+  pub stands : StandsAt v.server (config_then config acts) (world_then config w acts)
+  pub isolation : HandsThroughout config w acts
+
+-- All turns were made.
+pub record Ran {F : Type 0} (t : Timetable) (config : Config) (w : World) (first : LoopValue)
+    (first_asked : Option (List (Asked F))) (v : LoopValue) (asked : Option (List (Asked F))) : Type 0 where
+  pub failures : ℕ
+  pub ran : RanSo t config w first first_asked (turns_of t) failures v asked
+
+-- Turns were left, and the last of those that were made was the sixteenth in a row that failed.
+pub record GaveUp {F : Type 0} (t : Timetable) (config : Config) (w : World) (first : LoopValue)
+    (first_asked : Option (List (Asked F))) (v : LoopValue) (asked : Option (List (Asked F))) : Type 0 where
+  pub done : ℕ
+  pub some_left : done < turns_of t
+  pub before : LoopValue
+  pub ran : RanSo t config w first first_asked done 15 before asked
+  pub last : TurnFailed (config_then config ran.acts) 64 (world_then config w ran.acts) before v
+  pub refused : v.refused ≡ before.refused
+  pub tells : TellsCalls first.calls v.calls (all_calls (ran.acts ++ Turning last.deeds ∷ []))
+  pub stands : StandsAt v.server (config_then config (ran.acts ++ Turning last.deeds ∷ []))
+      (world_then config w (ran.acts ++ Turning last.deeds ∷ []))
+  pub isolation : HandsThroughout config w (ran.acts ++ Turning last.deeds ∷ [])
+
+-- ---- with nothing between the turns
+
+-- so many turns, with no stop between them
+abbrev pub block_of : ℕ → Timetable
+block_of turns = record { turns = Some turns; reread = None; report = None }
+
+-- All turns of a block were made.
+abbrev pub RanBlock : ℕ → Config → World → LoopValue → LoopValue → Type 0
+RanBlock turns config w first last = Ran {F = NoConfiguration} (block_of turns) config w first None last None
+
+-- Its turns were not all made, and the last sixteen failed.
+abbrev pub GaveUpBlock : ℕ → Config → World → LoopValue → LoopValue → Type 0
+GaveUpBlock turns config w first last = GaveUp {F = NoConfiguration} (block_of turns) config w first None last None

@@ -1,0 +1,18 @@
+-- When a server stops between its turns. Timetables are this project's own. Left out: time.
+use Rattle.std.specs.Prelude.{ℕ, zero, suc, ◌-◌, ◌%◌, ◌^◌, ◌==◌, Bool, false, if◌then◌else◌, Option, Some, None, unwrap_or}
+use Rattle.serving.specs.declared.timetable.Timetable.{Timetable}
+
+-- after how many turns a run ends
+abbrev pub turns_of : Timetable → ℕ
+turns_of t = unwrap_or t.turns (2 ^ 64 - 1)
+
+-- so many turns are a multiple of a number
+abbrev pub is_due : Option ℕ → ℕ → Bool
+is_due None done = false
+is_due (Some zero) done = false
+is_due (Some (suc n)) done = done % suc n == 0
+
+-- how many failed turns in a row still count after so many turns: they are counted anew once the configuration was read
+-- again
+abbrev pub failures_kept : Timetable → ℕ → ℕ → ℕ
+failures_kept t done failures = if is_due t.reread done then 0 else failures

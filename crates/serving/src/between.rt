@@ -1,0 +1,62 @@
+//! What a server asks and reports between its turns.
+ghost use Rattle.std.specs.Prelude.{List, [], ◌∷◌, None};
+ghost use Rattle.std.specs.declared.option.Option.{Option};
+ghost use Rattle.serving.specs.Asked.{Asked, Tells};
+ghost use Rattle.serving.specs.Asked.Asked.{Configuration, Refuses, Reports};
+
+use crate::activity::Activity;
+use catalog::Config;
+
+/// Why a configuration did not come into force.
+#[derive(Drop)]
+pub enum Refusal<F> {
+    /// It could not be read.
+    Unread(F),
+    /// It differs from the present one in more than the lists of addresses.
+    Different,
+}
+
+/// Whoever answers a server between its turns. It may tell all calls that were made, with their answers.
+pub trait Between {
+    /// Why there is no configuration.
+    type Fault: Drop;
+
+    // All calls and their answers, if they are told.
+    ghost asked: { Self → Option (List (Asked Self.Fault)) };
+
+    /// The configuration as it is now.
+    fn configuration(&mut self) -> Result<Config, Self::Fault>
+        ensures call { Tells (asked self.old) (asked self.new) (Configuration result ∷ []) };
+
+    /// A configuration did not come into force.
+    fn refused(&mut self, refusal: Refusal<Self::Fault>)
+        ensures call { Tells (asked self.old) (asked self.new) (Refuses refusal ∷ []) };
+
+    /// What the server has done so far.
+    fn report(&mut self, activity: Activity)
+        ensures call { Tells (asked self.old) (asked self.new) (Reports activity ∷ []) };
+}
+
+/// There is no other configuration.
+#[derive(Clone, Copy, Debug, PartialEq, Eq, Drop)]
+pub struct NoConfiguration;
+
+/// Nothing between turns: there is never another configuration, and reports go nowhere.
+#[derive(Clone, Copy, Debug, PartialEq, Eq, Drop)]
+pub struct NothingBetween;
+
+impl Between for NothingBetween {
+    type Fault = NoConfiguration;
+
+    ghost asked = { λ _. None };
+
+    fn configuration(&mut self) -> Result<Config, NoConfiguration> {
+        Err(NoConfiguration)
+    }
+
+    fn refused(&mut self, _refusal: Refusal<NoConfiguration>)
+        ensures call { Tells None None (Refuses _refusal ∷ []) }
+    {}
+
+    fn report(&mut self, _activity: Activity) {}
+}

@@ -1,0 +1,40 @@
+//! Why a server ends early.
+ghost use Rattle.std.specs.Prelude.{◌≡◌};
+ghost use Rattle.serving.specs.Faults.{serve_fault_number, serve_fault_name};
+ghost use Rattle.serving.specs.declared.faults.ServeFault.TheVariants.{Poll};
+
+use event_loop::LoopFault;
+use protocol::report::Report;
+use thiserror::Error;
+
+/// Why a server ended before its turns were done.
+#[derive(Clone, Copy, Debug, PartialEq, Eq, Drop, Error)]
+pub enum ServeFault {
+    /// Out of memory for the server.
+    #[error("out of memory")]
+    OutOfMemory,
+    /// The ports could not say what happened, sixteen turns in a row.
+    #[error("the ports can't say what happened")]
+    Poll,
+}
+
+impl ServeFault {
+    /// The number and the name by which the program reports it: 25 or 40.
+    pub fn report(self) -> Report
+        ensures number { result.number ≡ serve_fault_number self }
+        ensures name { result.name.now ≡ serve_fault_name self }
+    {
+        match self {
+            ServeFault::OutOfMemory => Report::new(25, "OutOfMemory"),
+            ServeFault::Poll => Report::new(40, "Poll"),
+        }
+    }
+}
+
+impl From<LoopFault> for ServeFault {
+    ghost from_gives = { λ fault serve. serve ≡ Poll };
+
+    fn from(_fault: LoopFault) -> ServeFault {
+        ServeFault::Poll
+    }
+}

@@ -1,0 +1,20 @@
+//! A server that runs turn after turn, and what it asks and reports between its turns. `run` is the one function that
+//! does this: the program, `serve` and `serve_block` all call it.
+#![tactic(auto)]
+
+mod activity;
+pub mod between;
+mod faults;
+pub mod laws;
+mod memory_between;
+mod new_server;
+mod running;
+mod timetable;
+
+pub use activity::Activity;
+pub use between::{Between, NoConfiguration, NothingBetween, Refusal};
+pub use faults::ServeFault;
+pub use memory_between::{Made, MemoryBetween};
+pub use new_server::{serve, serve_between};
+pub use running::{run, serve_block};
+pub use timetable::Timetable;

@@ -1,0 +1,126 @@
+//! A server over ports, turn after turn.
+ghost use Rattle.std.specs.Prelude.{◌≡◌, ◌≤◌, ◌+◌, ◌<◌, OnErr, OnOk};
+ghost use Rattle.protocol.specs.Catalog.{Config as ProtocolConfig};
+ghost use Rattle.protocol.specs.World.{World};
+ghost use Rattle.server_core.specs.ServerValues.{StandsAt};
+ghost use Rattle.event_loop.specs.Hearing.{clients_in, feeds_in};
+ghost use Rattle.serving.specs.Runs.{Ran, GaveUp, RanBlock, GaveUpBlock, OneTurn, SomeReread, SomeStop};
+ghost use Rattle.serving.specs.Timetables.{turns_of};
+
+use crate::activity::Activity;
+use crate::between::{Between, NothingBetween, Refusal};
+use crate::timetable::Timetable;
+use event_loop::{Loop, LoopFault};
+use ports::Ports;
+
+/// How many happenings, and how many reads and writes of a port, a turn has at most.
+const LIMIT: usize = 64;
+
+/// How many turns in a row may fail.
+const FAILURES: u8 = 16;
+
+/// Has a server go on for a turn, after so many that failed in a row. Answers how many have failed in a row by then.
+fn one_turn<P: Ports>(server: &mut Loop<P>, failures: u8) -> u8
+    requires { failures < 16 }
+    ensures turn { (config : ProtocolConfig) (w : World) → StandsAt server.old.server config w →
+        OneTurn failures result config w server.old server.new }
+    ensures most { server.new.most ≡ server.old.most }
+    ensures few_clients { clients_in server.new.seats ≤ server.new.most }
+    ensures few_feeds { feeds_in server.new.seats ≤ 16 }
+    ensures count { result ≤ failures + 1 }
+{
+    match server.turn(LIMIT) {
+        Ok(_) => 0,
+        Err(_) => failures + 1,
+    }
+}
+
+/// Asks for the configuration, if that is due, and gives it to the server. A refusal is handed on.
+fn reread<P: Ports, B: Between>(server: &mut Loop<P>, between: &mut B, due: bool)
+    ensures rereads { (config : ProtocolConfig) (w : World) → StandsAt server.old.server config w →
+        SomeReread due config w server.old (B.asked between.old) server.new
+        (B.asked between.new) }
+    ensures seats { server.new.seats ≡ server.old.seats }
+    ensures most { server.new.most ≡ server.old.most }
+{
+    if !due {
+        return;
+    }
+    match between.configuration() {
+        Ok(config) => match server.reload(config) {
+            Ok(()) => {}
+            Err(_) => between.refused(Refusal::Different),
+        },
+        Err(fault) => between.refused(Refusal::Unread(fault)),
+    }
+}
+
+/// Does what is to be done after so many turns.
+fn stop<P: Ports, B: Between>(
+    server: &mut Loop<P>,
+    between: &mut B,
+    timetable: &Timetable,
+    done: u64,
+)
+    ensures stops { (config : ProtocolConfig) (w : World) → StandsAt server.old.server config w →
+        SomeStop timetable.now done config w server.old (B.asked between.old) server.new
+        (B.asked between.new) }
+    ensures seats { server.new.seats ≡ server.old.seats }
+    ensures most { server.new.most ≡ server.old.most }
+{
+    reread(server, between, timetable.rereads(done));
+    if timetable.reports(done) {
+        between.report(Activity::of(server));
+    }
+}
+
+/// Has a server go on until the turns of its timetable are done, and does between them what the timetable says. A turn
+/// that fails is passed over; it ends early, with 40, only if sixteen turns in a row fail, which are counted anew once
+/// the configuration was read again. What was done until then stands, and a further run goes on. Nothing is allocated
+/// but if a port joins, and by what is asked between turns.
+pub fn run<P: Ports, B: Between>(
+    server: &mut Loop<P>,
+    between: &mut B,
+    timetable: Timetable,
+) -> Result<(), LoopFault>
+    ensures ran { OnOk result ((config : ProtocolConfig) (w : World) → StandsAt server.old.server config w →
+        Ran timetable config w server.old (B.asked between.old) server.new
+        (B.asked between.new)) }
+    ensures gave_up { OnErr result ((config : ProtocolConfig) (w : World) → StandsAt server.old.server config w →
+        GaveUp timetable config w server.old (B.asked between.old) server.new
+        (B.asked between.new)) }
+    ensures sixteen { OnErr result (16 ≤ turns_of timetable) }
+    ensures few_clients { clients_in server.old.seats ≤ server.old.most →
+        clients_in server.new.seats ≤ server.new.most }
+    ensures few_feeds { feeds_in server.old.seats ≤ 16 → feeds_in server.new.seats ≤ 16 }
+    ensures most { server.new.most ≡ server.old.most }
+{
+    let turns = timetable.total();
+    let mut done = 0u64;
+    let mut failures = 0u8;
+    'going: while done < turns {
+        let failed = one_turn(server, failures);
+        if failed >= FAILURES {
+            return Err(LoopFault);
+        }
+        done += 1;
+        stop(server, between, &timetable, done);
+        failures = timetable.failures_kept(done, failed);
+    }
+    Ok(())
+}
+
+/// Has a server go on for so many turns, with nothing between them, as `run` does.
+pub fn serve_block<P: Ports>(server: &mut Loop<P>, turns: u64) -> Result<(), LoopFault>
+    ensures ran { OnOk result ((config : ProtocolConfig) (w : World) → StandsAt server.old.server config w →
+        RanBlock turns config w server.old server.new) }
+    ensures gave_up { OnErr result ((config : ProtocolConfig) (w : World) → StandsAt server.old.server config w →
+        GaveUpBlock turns config w server.old server.new) }
+    ensures sixteen { OnErr result (16 ≤ turns) }
+    ensures few_clients { clients_in server.old.seats ≤ server.old.most →
+        clients_in server.new.seats ≤ server.new.most }
+    ensures few_feeds { feeds_in server.old.seats ≤ 16 → feeds_in server.new.seats ≤ 16 }
+    ensures most { server.new.most ≡ server.old.most }
+{
+    run(server, &mut NothingBetween, Timetable::of_turns(turns))
+}

@@ -1,0 +1,68 @@
+//! When a server stops between its turns.
+ghost use Rattle.std.specs.Prelude.{◌≡◌, ◌≤◌, Some, None};
+ghost use Rattle.serving.specs.Timetables.{is_due, failures_kept, turns_of};
+
+/// After how many turns a server ends, and at which multiples of a number of turns it reads its configuration again and
+/// reports what it has done. Without a number of turns it ends after 2^64 - 1; without another number, or if that is 0,
+/// it never stops for it.
+#[derive(Clone, Copy, Debug, PartialEq, Eq, Drop)]
+pub struct Timetable {
+    pub turns: Option<usize>,
+    pub reread: Option<usize>,
+    pub report: Option<usize>,
+}
+
+impl Timetable {
+    /// So many turns, with no stop between them.
+    pub fn of_turns(turns: u64) -> Timetable
+        ensures { result ≡ record { turns = Some turns; reread = None; report = None } }
+    {
+        Timetable {
+            turns: Some(turns as usize),
+            reread: None,
+            report: None,
+        }
+    }
+
+    /// After how many turns a server ends.
+    pub fn total(&self) -> u64
+        ensures { result ≡ turns_of self.now }
+    {
+        match self.turns {
+            None => u64::MAX,
+            Some(turns) => turns as u64,
+        }
+    }
+
+    /// Whether the configuration is to be read again after so many turns.
+    pub fn rereads(&self, done: u64) -> bool
+        ensures { result ≡ is_due self.now.reread done }
+    {
+        is_due(self.reread, done)
+    }
+
+    /// Whether it is to be reported, after so many turns, what was done.
+    pub fn reports(&self, done: u64) -> bool
+        ensures { result ≡ is_due self.now.report done }
+    {
+        is_due(self.report, done)
+    }
+
+    /// How many failed turns in a row still count after so many turns: none if the configuration was read again then.
+    pub fn failures_kept(&self, done: u64, failures: u8) -> u8
+        ensures value { result ≡ failures_kept self.now done failures }
+        ensures few { result ≤ failures }
+    {
+        if self.rereads(done) { 0 } else { failures }
+    }
+}
+
+/// Whether so many turns are a multiple of a number.
+fn is_due(every: Option<usize>, done: u64) -> bool
+    ensures { result ≡ is_due every done }
+{
+    match every {
+        None | Some(0) => false,
+        Some(every) => done % (every as u64) == 0,
+    }
+}

@@ -1,0 +1,216 @@
+//! Jobs as the words of a command line start them, over sockets: while a server runs, its visitors act whenever it reads
+//! its configuration again, which is after each turn.
+use jobs::obey;
+use loopback::{Actor, GREETING, Stage, Visitor, any_port, packet, record};
+use socket_ports::MioPorts;
+use std::alloc::Global;
+use std::fs;
+use std::net::{Ipv4Addr, Net};
+use std::os::fd::AsRawFd;
+use std::process::ExitCode;
+use std::rt::Files;
+use std::test::Fail;
+
+/// A second address of this machine.
+const OTHER: Ipv4Addr = Ipv4Addr::new(127, 0, 0, 2);
+
+/// Before which reading of the configuration a record comes, the configuration's file changes, and another record comes.
+const FIRST: u32 = 8;
+const CHANGE: u32 = 14;
+const SECOND: u32 = 18;
+
+/// How many turns a server has.
+const TURNS: u32 = 26;
+
+/// One station that is open to everybody.
+static OPEN: &str = "title = \"Centre\"\nmax_connections = 9\n[[station]]\nnetwork = \"GE\"\ncode = \"APE\"\ndescription = \
+    \"Island\"\ncapacity = 9\n";
+
+/// The same, open to 127.0.0.1 alone.
+static CLOSED: &str = "title = \"Centre\"\nmax_connections = 9\naccess = \"127.0.0.1\"\n[[station]]\nnetwork = \
+    \"GE\"\ncode = \"APE\"\ndescription = \"Island\"\ncapacity = 9\n";
+
+/// What CAT is answered.
+static ISLAND: &[u8] = b"GE APE   Island\r\nEND\r\n";
+
+/// Who visits a server, and what its configuration's file holds once it changes.
+#[derive(Drop)]
+struct Visits {
+    clients: u16,
+    feeds: u16,
+    later: &'static str,
+    /// Clients at 127.0.0.1 and at 127.0.0.2.
+    near: Option<Visitor>,
+    far: Option<Visitor>,
+    /// Feeds of one record each, before and after the change.
+    first: Option<Visitor>,
+    second: Option<Visitor>,
+}
+
+impl Visits {
+    /// Visits at ports that the system chose, which are free again.
+    fn at_free_ports<R: Net + AllocGlobal>(rt: &R, later: &'static str) -> Result<Visits, Fail> {
+        let ports = MioPorts::listen(rt, rt.alloc(), any_port(), any_port())?;
+        let (clients, feeds) = ports.bound();
+        Ok(Visits {
+            clients,
+            feeds,
+            later,
+            near: None,
+            far: None,
+            first: None,
+            second: None,
+        })
+    }
+
+    /// A record comes on a feed.
+    fn feed<R: Net + AllocGlobal>(&self, rt: &R, samples: u16) -> Option<Visitor> {
+        match record(b"APE", b"BHZ", samples) {
+            Ok(record) => Visitor::connect(rt, Ipv4Addr::LOCALHOST, self.feeds, &record).ok(),
+            Err(_) => None,
+        }
+    }
+
+    /// Clients come, or look at what has come for them.
+    fn look<R: Net + AllocGlobal>(&mut self, rt: &R) {
+        self.near = seen(rt, self.near.take(), Ipv4Addr::LOCALHOST, self.clients);
+        self.far = seen(rt, self.far.take(), OTHER, self.clients);
+    }
+}
+
+/// A client that has come and looked by now.
+fn seen<R: Net + AllocGlobal>(
+    rt: &R,
+    visitor: Option<Visitor>,
+    from: Ipv4Addr,
+    port: u16,
+) -> Option<Visitor> {
+    match visitor {
+        Some(mut visitor) => {
+            visitor.look();
+            Some(visitor)
+        }
+        None => Visitor::connect(rt, from, port, b"HELLO\rCAT\rDATA\r").ok(),
+    }
+}
+
+impl<R: Files + Net + AllocGlobal> Actor<R> for Visits {
+    fn act(&mut self, rt: &R, opened: u32) {
+        // The first reading is before the server listens.
+        if opened == 0 {
+            return;
+        }
+        if opened == FIRST {
+            self.first = self.feed(rt, 1);
+        }
+        if opened == CHANGE {
+            let _ = fs::write(rt, "centre.toml", self.later.as_bytes());
+        }
+        if opened == SECOND {
+            self.second = self.feed(rt, 2);
+        }
+        self.look(rt);
+    }
+}
+
+/// What comes of a server whose configuration's file changes while it runs.
+#[derive(Drop)]
+struct Run {
+    status: ExitCode,
+    visits: Visits,
+    errors: String,
+}
+
+/// Runs a server that reads its configuration again after each turn, as the words of a command line start it.
+fn run<R>(rt: &R, later: &'static str) -> Result<Run, Fail>
+where
+    R: Files + Net + AllocGlobal,
+    R::File: AsRawFd,
+{
+    fs::write(rt, "centre.toml", OPEN.as_bytes())?;
+    fs::write(rt, "errors.txt", b"")?;
+    let visits = Visits::at_free_ports(rt, later)?;
+    let line = format!(in rt.alloc();
+        "seedlinkd serve centre.toml --listen 127.0.0.1:{} --feed 127.0.0.1:{} --reread 1 --turns {TURNS}",
+        visits.clients, visits.feeds)?;
+    let words = words_of(rt.alloc(), line.as_str())?;
+    let stage = Stage::new(rt, visits);
+    let status = obey(&stage, words.as_slice());
+    let (visits, _, _) = stage.into_parts();
+    let errors = fs::read_to_string(rt, "errors.txt")?;
+    Ok(Run {
+        status,
+        visits,
+        errors,
+    })
+}
+
+/// The words of a line.
+fn words_of(alloc: Global, line: &str) -> Result<Vec<String>, Fail> {
+    let mut words = Vec::new(alloc);
+    for word in line.split(' ') {
+        words.push(String::from_str(alloc, word)?)?;
+    }
+    Ok(words)
+}
+
+/// Whether that client was sent the greeting, the list of stations and the first so many packets, and nothing else.
+fn was_sent(visitor: &Option<Visitor>, packets: u16) -> Result<bool, Fail> {
+    let Some(visitor) = visitor else {
+        return Ok(false);
+    };
+    let mut left = visitor.came();
+    for part in [GREETING, ISLAND] {
+        left = match left.strip_prefix(part) {
+            Some(rest) => rest,
+            None => return Ok(false),
+        };
+    }
+    has_packets(left, packets)
+}
+
+/// Whether these bytes are the packets of the first so many records.
+fn has_packets(bytes: &[u8], packets: u16) -> Result<bool, Fail> {
+    let first = packet(b"SL000000", &record(b"APE", b"BHZ", 1)?);
+    let second = packet(b"SL000001", &record(b"APE", b"BHZ", 2)?);
+    let Some(rest) = bytes.strip_prefix(first.as_slice()) else {
+        return Ok(false);
+    };
+    Ok(if packets == 1 {
+        rest.is_empty()
+    } else {
+        rest == second.as_slice()
+    })
+}
+
+#[test]
+fn serve_answers_clients_and_takes_feeds(rt: HostRuntime) -> Result<(), Fail> {
+    let run = run(&rt, OPEN)?;
+    assert!(rt; run.status == ExitCode::SUCCESS);
+    assert!(rt; was_sent(&run.visits.near, 2)?);
+    assert!(rt; was_sent(&run.visits.far, 2)?);
+    assert_eq!(rt; run.errors.as_str(), "");
+    Ok(())
+}
+
+#[test]
+fn reread_cuts_those_to_whom_a_station_is_closed_and_no_one_else(
+    rt: HostRuntime,
+) -> Result<(), Fail> {
+    let run = run(&rt, CLOSED)?;
+    assert!(rt; run.status == ExitCode::SUCCESS);
+    assert!(rt; was_sent(&run.visits.near, 2)?);
+    assert!(rt; was_sent(&run.visits.far, 1)?);
+    assert!(rt; matches!(&run.visits.far, Some(far) if far.is_over()));
+    Ok(())
+}
+
+#[test]
+fn a_configuration_that_is_no_toml_leaves_all_as_it_is(rt: HostRuntime) -> Result<(), Fail> {
+    let run = run(&rt, "title =")?;
+    assert!(rt; run.status == ExitCode::SUCCESS);
+    assert!(rt; was_sent(&run.visits.near, 2)?);
+    assert!(rt; was_sent(&run.visits.far, 2)?);
+    assert!(rt; run.errors.as_str().starts_with("seedlinkd: 20 Toml\n"));
+    Ok(())
+}
