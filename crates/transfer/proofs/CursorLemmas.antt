@@ -17,6 +17,7 @@ use Rattle.transfer.specs.declared.wanting.Found.TheVariants.{Wanted, AfterEnd, 
 use Rattle.transfer.specs.Wanting.{wants_held}
 use Rattle.transfer.specs.Cursors.{HasPassed, RestsAt, is_after_end}
 use Rattle.transfer.specs.Founds.{found_of}
+use Rattle.transfer.specs.Searches.{at_place}
 use Rattle.transfer.proofs.ScanLemmas.{Scans, scans-found, scans-none, there-at}
 
 -- ---- what is held where
@@ -73,9 +74,6 @@ abbrev pub Finds : RingValue → ℕ → Choice → ℕ → Found → Type 0
 Finds r place c next found = (x : Held) → held_at r place ≡ Some x → found ≡ found_of c next x
 
 -- ---- a cursor that moves on
-
-abbrev pub at_place : ℕ → ℕ → Cursor
-at_place place ended = record { place = place; ended = ended; seen = 0; stamp = 0 }
 
 -- What lies before the oldest record is passed.
 pub passed-raised : (r : RingValue) (next : ℕ) (c : Choice) (start oldest : ℕ) → IsRing r → Some oldest ≡ oldest_place r

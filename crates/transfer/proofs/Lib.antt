@@ -14,3 +14,5 @@ pub mod RequestLemmas
 pub mod SleepLemmas
 pub mod EntryLemmas
 pub mod BestLemmas
+pub mod FilterLemmas
+pub mod SearchLemmas

@@ -4,3 +4,5 @@ pub mod Cursors
 pub mod Founds
 pub mod Firsts
 pub mod Sleeping
+pub mod Filters
+pub mod Searches

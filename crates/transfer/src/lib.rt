@@ -4,6 +4,8 @@
 
 mod choosing;
 mod cursors;
+mod filters;
+mod searching;
 mod sleeping;
 mod starting;
 mod wanting;

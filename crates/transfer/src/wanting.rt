@@ -10,6 +10,7 @@ ghost use Rattle.transfer.specs.Wanting.{facts_of, is_in_window_of, wants_held};
 ghost use Rattle.transfer.specs.Cursors.{is_after_end, HasPassed, RestsAt};
 ghost use Rattle.transfer.specs.Founds.{found_of};
 
+use crate::searching::{Reached, search};
 use session_state::{Action, Cursor, Entry, Session};
 use sl_time::Tick;
 use station_ring::{Held, Ring, Summary};
@@ -115,7 +116,7 @@ fn is_after_end(entry: &Entry, summary: &Summary) -> bool
 
 /// What a request finds at a place of its ring.
 #[derive(Clone, Copy, Debug, PartialEq, Eq)]
-enum Found {
+pub(crate) enum Found {
     /// A record that it wants, with its stamp.
     Wanted(u64),
     /// A record that it doesn't want, and that starts after the end of TIME.
@@ -124,7 +125,14 @@ enum Found {
     Unwanted,
 }
 
-fn found_at(ring: &Ring, place: u64, session: &Session, i: usize, entry: &Entry, next: u64) -> Found
+pub(crate) fn found_at(
+    ring: &Ring,
+    place: u64,
+    session: &Session,
+    i: usize,
+    entry: &Entry,
+    next: u64,
+) -> Found
     requires { i < length (chosen_of session.now.mode) }
     ensures { (c : Choice) (x : HeldValue) → slice_get (chosen_of session.now.mode) i ≡ Some c
         → entry_of c ≡ entry.now → held_at ring.now place ≡ Some x → result ≡ found_of c next x }
@@ -142,7 +150,8 @@ fn found_at(ring: &Ring, place: u64, session: &Session, i: usize, entry: &Entry,
 }
 
 /// How far the request for the i-th named station comes that passes what it doesn't want: to the first record from its
-/// cursor on that it wants, else to the end. A cursor that was overrun goes on at the oldest record.
+/// cursor on that it wants, else to the end. A cursor that was overrun goes on at the oldest record. Mostly the first
+/// record is wanted, so that one is looked at itself, and only those after it by their briefs.
 pub fn cursor_in(ring: &Ring, session: &Session, i: usize, next: u64) -> Cursor
     requires { i < length (chosen_of session.now.mode) }
     ensures { (c : Choice) → slice_get (chosen_of session.now.mode) i ≡ Some c → HasPassed ring.now next c c.cursor
@@ -153,16 +162,34 @@ pub fn cursor_in(ring: &Ring, session: &Session, i: usize, next: u64) -> Cursor
     let Some(oldest) = ring.oldest() else {
         return at_end(ring, entry.cursor.ended);
     };
-    let mut ended = entry.cursor.ended;
     let start = entry.cursor.place.max(oldest);
-    for place in start..ring.pushes() {
-        match found_at(ring, place, session, i, entry, next) {
-            Found::Wanted(stamp) => return at_record(ring, place, ended, stamp),
-            Found::AfterEnd => ended = place + 1,
-            Found::Unwanted => {}
-        }
+    let ended = entry.cursor.ended;
+    if start >= ring.pushes() {
+        return at_end(ring, ended);
     }
-    at_end(ring, ended)
+    match found_at(ring, start, session, i, entry, next) {
+        Found::Wanted(stamp) => at_record(ring, start, ended, stamp),
+        Found::AfterEnd => search(
+            ring,
+            session,
+            i,
+            next,
+            Reached {
+                place: start + 1,
+                ended: start + 1,
+            },
+        ),
+        Found::Unwanted => search(
+            ring,
+            session,
+            i,
+            next,
+            Reached {
+                place: start + 1,
+                ended,
+            },
+        ),
+    }
 }
 
 /// The cursor of a named station that is asked for nothing.
@@ -178,7 +205,7 @@ pub fn unasked() -> Cursor
 }
 
 /// The cursor of a request that has passed all.
-fn at_end(ring: &Ring, ended: u64) -> Cursor
+pub(crate) fn at_end(ring: &Ring, ended: u64) -> Cursor
     ensures { result ≡ record { place = ring.now.pushes; ended = ended; seen = ring.now.pushes; stamp = 0 } }
 {
     Cursor {
@@ -190,7 +217,7 @@ fn at_end(ring: &Ring, ended: u64) -> Cursor
 }
 
 /// The cursor of a request at a place of its ring, by the stamp of the record there.
-fn at_record(ring: &Ring, place: u64, ended: u64, stamp: u64) -> Cursor
+pub(crate) fn at_record(ring: &Ring, place: u64, ended: u64, stamp: u64) -> Cursor
     ensures { result ≡ record { place = place; ended = ended; seen = ring.now.pushes; stamp = stamp } }
 {
     Cursor {

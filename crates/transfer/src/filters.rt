@@ -1,0 +1,148 @@
+//! What a request makes of records by their briefs alone.
+ghost use Rattle.std.specs.Prelude.{◌≡◌, ◌<◌, ℕ, List, Some, None, IfSome, length, slice_get, slice_set, true, false};
+ghost use Rattle.session_state.specs.Choices.{chosen_of};
+ghost use Rattle.session_state.specs.NamedValues.{Choice, entry_of};
+ghost use Rattle.station_ring.specs.declared.held.Held.{Held as HeldValue};
+ghost use Rattle.station_ring.specs.declared.held.Stream.{Stream as StreamValue};
+ghost use Rattle.station_ring.specs.Briefs.{Tells, stream_of};
+ghost use Rattle.transfer.specs.Filters.{IsFilter, IsSight, IsWindow, Refuses, is_early, is_late};
+
+use session_state::{Action, Entry, Session};
+use sl_time::Tick;
+use station_ring::{Brief, Summary};
+
+/// When a record has to lie to be wanted.
+#[derive(Clone, Copy, Debug, PartialEq, Eq)]
+pub(crate) struct Window {
+    /// It must not end before this moment.
+    begin: Option<Tick>,
+    /// For TIME with an end: it must not start after this moment.
+    last: Option<Tick>,
+}
+
+/// The window of a named station.
+#[tactic(auto, using(crate::proofs::FilterLemmas::window_lemmas))]
+fn window_of(entry: &Entry) -> Window
+    ensures { IsWindow result entry.now.action }
+{
+    match entry.action.to_option() {
+        None => Window {
+            begin: None,
+            last: None,
+        },
+        Some(
+            Action::Data {
+                number: _number,
+                begin,
+            },
+        ) => Window { begin, last: None },
+        Some(
+            Action::Fetch {
+                number: _number,
+                begin,
+            },
+        ) => Window { begin, last: None },
+        Some(Action::Time { begin, last }) => Window { begin, last },
+    }
+}
+
+/// What is seen of a record by its brief.
+#[derive(Clone, Copy, Debug, PartialEq, Eq)]
+pub(crate) enum Sight {
+    /// It is not wanted, and it starts after the end of TIME.
+    AfterEnd,
+    /// It is not wanted for another reason.
+    Unwanted,
+    /// It may be wanted.
+    Open,
+}
+
+/// Whether a record starts after a moment, if one is given.
+fn is_late(last: Option<Tick>, start: Tick) -> bool
+    ensures { result ≡ is_late last start }
+{
+    match last {
+        Some(last) => last.value() < start.value(),
+        None => false,
+    }
+}
+
+/// Whether a record ends before a moment, if one is given.
+fn is_early(begin: Option<Tick>, stop: Tick) -> bool
+    ensures { result ≡ is_early begin stop }
+{
+    match begin {
+        Some(begin) => stop.value() < begin.value(),
+        None => false,
+    }
+}
+
+/// What a request asks of a record's brief: its window, and the streams of which it is known already that its patterns
+/// refuse them. So the patterns are asked once a stream, and not once a record.
+#[derive(Drop)]
+pub(crate) struct Filter {
+    window: Window,
+    /// By the stream's number.
+    refused: [bool; 256],
+}
+
+impl Filter {
+    /// The filter of a named station, which knows of no stream yet.
+    pub fn of(entry: &Entry) -> Filter
+        ensures { (streams : List StreamValue) (c : Choice) → entry_of c ≡ entry.now → IsFilter result streams c }
+    {
+        Filter {
+            window: window_of(entry),
+            refused: [false; 256],
+        }
+    }
+
+    /// Whether it is known that a stream is refused.
+    fn is_refused(&self, stream: Option<u8>) -> bool
+        ensures some { IfSome stream (λ k. slice_get self.now.refused k ≡ Some result) }
+        ensures none { stream ≡ None → result ≡ false }
+    {
+        match stream {
+            Some(number) => self.refused[usize::from(number)],
+            None => false,
+        }
+    }
+
+    /// What is seen of a record by its brief.
+    #[inline]
+    pub fn sight(&self, brief: &Brief) -> Sight
+        ensures { (streams : List StreamValue) (c : Choice) (x : HeldValue) → IsFilter self.now streams c
+            → Tells streams x brief.now → IsSight c x result }
+    {
+        if is_late(self.window.last, brief.start) {
+            Sight::AfterEnd
+        } else if is_early(self.window.begin, brief.stop) {
+            Sight::Unwanted
+        } else if self.is_refused(brief.stream) {
+            Sight::Unwanted
+        } else {
+            Sight::Open
+        }
+    }
+
+    /// The patterns refuse a stream.
+    fn refuse(&mut self, number: u8)
+        ensures { self.new ≡ record self.old { refused = slice_set self.old.refused number true } }
+    {
+        self.refused[usize::from(number)] = true;
+    }
+
+    /// Asks the patterns of the i-th named station of a stream that a record has, if it has a number.
+    pub fn ask(&mut self, session: &Session, i: usize, summary: &Summary, stream: Option<u8>)
+        requires { i < length (chosen_of session.now.mode) }
+        ensures { (streams : List StreamValue) (c : Choice) → slice_get (chosen_of session.now.mode) i ≡ Some c
+            → ((k : ℕ) → stream ≡ Some k → slice_get streams k ≡ Some (stream_of summary.now))
+            → IsFilter self.old streams c → IsFilter self.new streams c }
+    {
+        if let Some(number) = stream {
+            if !session.passes(i, &summary.location, &summary.channel, summary.kind) {
+                self.refuse(number);
+            }
+        }
+    }
+}
