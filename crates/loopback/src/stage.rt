@@ -59,16 +59,18 @@ impl<'a, R: AllocGlobal, A> Stage<'a, R, A> {
     /// Writes to the standard output.
     fn keep_output(&self, bytes: &[u8]) -> io::Result<()> {
         match self.output.try_borrow_mut() {
-            Ok(mut output) if output.extend_from_slice(bytes).is_ok() => Ok(()),
-            _ => Err(io::Error::from(io::ErrorKind::Other)),
+            Ok(mut output) => output
+                .extend_from_slice(bytes)
+                .map_err(|_| out_of_memory()),
+            Err(_) => Err(io::Error::from(io::ErrorKind::Other)),
         }
     }
 
     /// Writes to the standard error.
     fn keep_error<D: Display + Drop>(&self, value: D, end: &str) -> io::Result<()> {
         match self.errors.try_borrow_mut() {
-            Ok(mut errors) if write!(errors, "{value}{end}").is_ok() => Ok(()),
-            _ => Err(io::Error::from(io::ErrorKind::Other)),
+            Ok(mut errors) => write!(errors, "{value}{end}").map_err(|_| out_of_memory()),
+            Err(_) => Err(io::Error::from(io::ErrorKind::Other)),
         }
     }
 }

@@ -7,6 +7,7 @@ use socket_ports::MioPorts;
 use std::alloc::Global;
 use std::fs;
 use std::net::{Ipv4Addr, Net};
+use std::os::fd::AsRawFd;
 use std::rt::Files;
 use std::test::Fail;
 
@@ -75,7 +76,10 @@ fn a_feed_that_ends_inside_a_record_is_fault_41_and_its_whole_records_arrive(
 fn fed_by_the_job<R: Files + Print + Eprint + Net + AllocGlobal>(
     rt: &R,
     centre: &mut Centre,
-) -> Result<bool, Fail> {
+) -> Result<bool, Fail>
+where
+    R::File: AsRawFd,
+{
     let bytes = two_records(rt.alloc(), b"")?;
     fs::write(rt, "two.mseed", bytes.as_slice())?;
     let server = format!(in rt.alloc(); "127.0.0.1:{}", centre.ports().1)?;

@@ -11,9 +11,6 @@ use std::process::ExitCode;
 use std::rt::Files;
 use std::test::Fail;
 
-/// A second address of this machine.
-const OTHER: Ipv4Addr = Ipv4Addr::new(127, 0, 0, 2);
-
 /// Before which reading of the configuration a record comes, the configuration's file changes, and another record comes.
 const FIRST: u32 = 8;
 const CHANGE: u32 = 14;
@@ -74,8 +71,13 @@ impl Visits {
     /// Clients come, or look at what has come for them.
     fn look<R: Net + AllocGlobal>(&mut self, rt: &R) {
         self.near = seen(rt, self.near.take(), Ipv4Addr::LOCALHOST, self.clients);
-        self.far = seen(rt, self.far.take(), OTHER, self.clients);
+        self.far = seen(rt, self.far.take(), other_address(), self.clients);
     }
+}
+
+/// A second address of this machine.
+fn other_address() -> Ipv4Addr {
+    Ipv4Addr::new(127, 0, 0, 2)
 }
 
 /// A client that has come and looked by now.
