@@ -283,6 +283,73 @@ table-feed most ss new at kind gap few table = record {
       ap (λ (b : Bool). if (if b then false else true) then 1 else 0) kind in omega (arith, h, e, few);
 }
 
+-- ---- how many feeds there are
+
+-- a seat's count by whose it is
+as-client : (s : Seat) (b : Bool) → is_client s.role ≡ b → ◌≡◌ {A = ℕ} (if is_client s.role then 1 else 0) (if b then 1 else 0)
+as-client s b e = ap (λ (x : Bool). if x then 1 else 0) e
+
+as-feed : (s : Seat) (b : Bool) → is_client s.role ≡ b
+    → ◌≡◌ {A = ℕ} (if (if is_client s.role then false else true) then 1 else 0) (if b then 0 else 1)
+as-feed s b e = ap (λ (x : Bool). if (if x then false else true) then 1 else 0) e ∙ by b
+  where
+    by : (x : Bool) → ◌≡◌ {A = ℕ} (if (if x then false else true) then 1 else 0) (if x then 0 else 1)
+    by true = refl
+    by false = refl
+
+-- Each port is a client's or a feed's.
+pub kinds-in : (ss : List Seat) → clients_in ss + feeds_in ss ≡ length ss
+kinds-in [] = refl
+kinds-in (s ∷ ss) =
+    let h = kinds-in ss in
+    let c = sum_by-cons (weight (λ x. is_client x.role)) s ss in
+    let d = sum_by-cons (weight (λ x. if is_client x.role then false else true)) s ss in
+    both (is_client s.role)
+    (λ y. let e = as-client s true y in let f = as-feed s true y in omega (arith, h, c, d, e, f))
+    (λ n. let e = as-client s false n in let f = as-feed s false n in omega (arith, h, c, d, e, f))
+
+count-removed : (p : Seat → Bool) (ss : List Seat) (i : ℕ) → i < length ss
+    → count_by p (remove ss i) + (if p (get_or ss i no_seat) then 1 else 0) ≡ count_by p ss
+count-removed p [] i inside = absurd (omega (arith, inside))
+count-removed p (s ∷ ss) zero inside = let c = sum_by-cons (weight p) s ss in omega (arith, c)
+count-removed p (s ∷ ss) (suc i) inside =
+    let h = count-removed p ss i (omega (arith, inside)) in let c = sum_by-cons (weight p) s ss in let d = sum_by-cons
+    (weight p) s (remove ss i) in omega (arith, h, c, d)
+
+-- one port gone: a client's or a feed's
+pub client-gone : (ss : List Seat) (i : ℕ) → i < length ss → (x : Seat) → x ≡ get_or ss i no_seat
+    → is_client x.role ≡ true → feeds_in (remove ss i) ≡ feeds_in ss
+client-gone ss i inside x is kind =
+    let h = count-removed (λ s. if is_client s.role then false else true) ss i inside in
+    let e = as-feed (get_or ss i no_seat) true (ap (λ (s : Seat). is_client s.role) (sym is) ∙ kind) in
+    omega (arith, h, e)
+
+pub feed-gone : (ss : List Seat) (i : ℕ) → i < length ss → (x : Seat) → x ≡ get_or ss i no_seat
+    → is_client x.role ≡ false → feeds_in (remove ss i) + 1 ≡ feeds_in ss
+feed-gone ss i inside x is kind =
+    let h = count-removed (λ s. if is_client s.role then false else true) ss i inside in
+    let e = as-feed (get_or ss i no_seat) false (ap (λ (s : Seat). is_client s.role) (sym is) ∙ kind) in
+    omega (arith, h, e)
+
+-- one more
+pub client-more : (ss : List Seat) (new : Seat) (at : ℕ) → is_client new.role ≡ true
+    → feeds_in (insert ss at new) ≡ feeds_in ss
+client-more ss new at kind =
+    let h = count-insert (λ s. if is_client s.role then false else true) ss new at in
+    let e = as-feed new true kind in omega (arith, h, e)
+
+pub feed-more : (ss : List Seat) (new : Seat) (at : ℕ) → is_client new.role ≡ false
+    → feeds_in (insert ss at new) ≡ feeds_in ss + 1
+feed-more ss new at kind =
+    let h = count-insert (λ s. if is_client s.role then false else true) ss new at in
+    let e = as-feed new false kind in omega (arith, h, e)
+
+-- a seat that stays whose it is
+pub feeds-set : (ss : List Seat) (i : ℕ) (x : Seat) → IsSameSeat (get_or ss i no_seat) x
+    → feeds_in (set ss i x) ≡ feeds_in ss
+feeds-set ss i x same =
+    count-set (λ s. if is_client s.role then false else true) ss i x (ap (λ b. if b then false else true) same.kind)
+
 -- ---- marks
 
 mark-same : (s : Seat) (port : ℕ) (f : Seat → Seat) → (f s).port ≡ s.port → (f s).role ≡ s.role →
@@ -309,6 +376,9 @@ module _ (g : Seat → Seat) (same : (s : Seat) → IsSameSeat s (g s)) where
       sum_by-cons (weight (λ x. p (is_client x.role))) (g s) (map g ss)
       ∙ ap₂ (λ (b : Bool) (n : ℕ). (if p b then 1 else 0) + n) (same s).kind (count-map p ss)
       ∙ sym (sum_by-cons (weight (λ x. p (is_client x.role))) s ss)
+
+  pub feeds-map : (ss : List Seat) → feeds_in (map g ss) ≡ feeds_in ss
+  feeds-map ss = count-map (λ b. if b then false else true) ss
 
   pub table-map : (most : ℕ) (ss : List Seat) → IsTable most ss → IsTable most (map g ss)
   table-map most ss table = record {

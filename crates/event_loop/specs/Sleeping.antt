@@ -5,6 +5,7 @@ use Rattle.server_core.specs.ServerValues.{ServerValue, mark_at}
 use Rattle.event_loop.specs.declared.seat.Role.{Role}
 use Rattle.event_loop.specs.declared.seat.Role.TheVariants.{Client as ClientRole}
 use Rattle.event_loop.specs.declared.seat.Seat.{Seat}
+use Rattle.event_loop.specs.Hearing.{feeds_in}
 use Rattle.event_loop.specs.Tables.{IsTable, no_seat}
 
 -- A seat sleeps: its port may not be read, and it is not a client's that may be written to and is marked.
@@ -61,8 +62,10 @@ pub record IsSeatOfClient (ss : List Seat) (k at : ℕ) : Type 0 where
   pub inside : at < length ss
   pub role : role_at ss at ≡ ClientRole k
 
--- What a loop keeps true of its seats: they rise by port, those of sleeping ports are known, and no client has two.
-pub record IsLoop (most : ℕ) (server : ServerValue) (ss : List Seat) (awake : List ℕ) : Type 0 where
+-- What a loop keeps true of its seats: they rise by port, those of sleeping ports are known, no client has two, and so
+-- many are feeds'.
+pub record IsLoop (most : ℕ) (server : ServerValue) (ss : List Seat) (awake : List ℕ) (feeds : ℕ) : Type 0 where
   pub table : IsTable most ss
   pub known : AreKnown server ss awake
   pub seated : AreSeated server ss
+  pub count : feeds ≡ feeds_in ss

@@ -10,7 +10,7 @@ ghost use Rattle.ports.specs.Calls.Call.{Next};
 ghost use Rattle.ports.specs.declared.answers.Happening.TheVariants.{Joined, JoinedFeed};
 ghost use Rattle.event_loop.specs.Deeds.{Tally, no_tally};
 ghost use Rattle.event_loop.specs.Going.{Whole};
-ghost use Rattle.event_loop.specs.Hearing.{heard};
+ghost use Rattle.event_loop.specs.Hearing.{feeds_in, heard};
 ghost use Rattle.event_loop.specs.Hearing.End.{Faulted};
 ghost use Rattle.event_loop.specs.Tables.{IsTable, HearsOnce, HeardBy, WholeHearing, CountsFault, tally_heard_by};
 ghost use Rattle.event_loop.specs.Sleeping.{AreKnown, AreSeated};
@@ -19,7 +19,7 @@ ghost use Rattle.std.specs.Prelude.{◌<◌, true, vec_len};
 ghost use Rattle.std.specs.Vec.{vec_capacity};
 
 use crate::seat::{Role, Seat, Unfinished};
-use crate::table::{clients, feeds, mark_readable, mark_writable, place_of};
+use crate::table::{clients, mark_readable, mark_writable, place_of};
 use ports::{Happening, PortFault, Ports};
 use server_core::Server;
 use std::alloc::Global;
@@ -68,15 +68,18 @@ fn join_client<P: Ports>(
     ports: &mut P,
     seats: &mut Vec<Seat>,
     awake: &mut Vec<u8>,
+    feeds: usize,
     alloc: Global,
     most: usize,
     port: u64,
     address: Ipv4Addr,
 )
     requires table { IsTable most seats.old.items }
+    requires feeds { feeds ≡ feeds_in seats.old.items }
     requires known { AreKnown server.old seats.old.items awake.old.items }
     requires seated { AreSeated server.old seats.old.items }
     ensures table { IsTable most seats.new.items }
+    ensures feeds { feeds ≡ feeds_in seats.new.items }
     ensures known { AreKnown server.new seats.new.items awake.new.items }
     ensures seated { AreSeated server.new seats.new.items }
     ensures failures { P.failures ports.new ≡ P.failures ports.old }
@@ -87,7 +90,7 @@ fn join_client<P: Ports>(
     let Err(at) = place_of(seats.as_slice(), port) else {
         return;
     };
-    if clients(seats.as_slice()) >= most || !has_room(seats, awake) {
+    if clients(seats.as_slice(), feeds) >= most || !has_room(seats, awake) {
         ports.shut(port);
         return;
     }
@@ -106,14 +109,17 @@ fn join_feed<P: Ports>(
     ports: &mut P,
     seats: &mut Vec<Seat>,
     awake: &mut Vec<u8>,
+    feeds: &mut usize,
     alloc: Global,
     most: usize,
     port: u64,
 )
     requires table { IsTable most seats.old.items }
+    requires feeds { feeds.old ≡ feeds_in seats.old.items }
     requires known { AreKnown server.now seats.old.items awake.old.items }
     requires seated { AreSeated server.now seats.old.items }
     ensures table { IsTable most seats.new.items }
+    ensures feeds { feeds.new ≡ feeds_in seats.new.items }
     ensures known { AreKnown server.now seats.new.items awake.new.items }
     ensures seated { AreSeated server.now seats.new.items }
     ensures failures { P.failures ports.new ≡ P.failures ports.old }
@@ -124,7 +130,7 @@ fn join_feed<P: Ports>(
     let Err(at) = place_of(seats.as_slice(), port) else {
         return;
     };
-    if feeds(seats.as_slice()) >= FEEDS || !has_room(seats, awake) {
+    if *feeds >= FEEDS || !has_room(seats, awake) {
         ports.shut(port);
         return;
     }
@@ -132,6 +138,7 @@ fn join_feed<P: Ports>(
         Ok(unfinished) => {
             let _kept = seats.insert(at, Seat::joining(port, Role::Feed(unfinished)));
             let _woken = awake.insert(at, 1);
+            *feeds += 1;
         }
         Err(_) => ports.shut(port),
     }
@@ -143,13 +150,16 @@ fn hear_once<P: Ports>(
     ports: &mut P,
     seats: &mut Vec<Seat>,
     awake: &mut Vec<u8>,
+    feeds: &mut usize,
     alloc: Global,
     most: usize,
 ) -> Hark
     requires table { IsTable most seats.old.items }
+    requires feeds { feeds.old ≡ feeds_in seats.old.items }
     requires known { AreKnown server.old seats.old.items awake.old.items }
     requires seated { AreSeated server.old seats.old.items }
     ensures table { IsTable most seats.new.items }
+    ensures feeds { feeds.new ≡ feeds_in seats.new.items }
     ensures known { AreKnown server.new seats.new.items awake.new.items }
     ensures seated { AreSeated server.new seats.new.items }
     ensures failures { CountsFault (P.failures ports.old) (P.failures ports.new) result }
@@ -159,11 +169,13 @@ fn hear_once<P: Ports>(
 {
     match ports.next() {
         Ok(Happening::Joined(port, address)) => {
-            join_client(server, ports, seats, awake, alloc, most, port, address);
+            join_client(
+                server, ports, seats, awake, *feeds, alloc, most, port, address,
+            );
             Hark::Happened
         }
         Ok(Happening::JoinedFeed(port)) => {
-            join_feed(server, ports, seats, awake, alloc, most, port);
+            join_feed(server, ports, seats, awake, feeds, alloc, most, port);
             Hark::Happened
         }
         Ok(Happening::Readable(port)) => {
@@ -185,14 +197,17 @@ pub fn hear<P: Ports>(
     ports: &mut P,
     seats: &mut Vec<Seat>,
     awake: &mut Vec<u8>,
+    feeds: &mut usize,
     alloc: Global,
     most: usize,
     limit: usize,
 ) -> Result<Report, PortFault>
     requires table { IsTable most seats.old.items }
+    requires feeds { feeds.old ≡ feeds_in seats.old.items }
     requires known { AreKnown server.old seats.old.items awake.old.items }
     requires seated { AreSeated server.old seats.old.items }
     ensures table { IsTable most seats.new.items }
+    ensures feeds { feeds.new ≡ feeds_in seats.new.items }
     ensures known { AreKnown server.new seats.new.items awake.new.items }
     ensures seated { AreSeated server.new seats.new.items }
     ensures ok { IfOk result (λ report. (config : Config) (w : World) → StandsAt server.old config w →
@@ -205,7 +220,7 @@ pub fn hear<P: Ports>(
 {
     let mut left = limit;
     'hearing: while left > 0 {
-        match hear_once(server, ports, seats, awake, alloc, most) {
+        match hear_once(server, ports, seats, awake, feeds, alloc, most) {
             Hark::Happened => left -= 1,
             Hark::Quiet => {
                 return Ok(Report {

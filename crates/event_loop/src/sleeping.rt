@@ -6,6 +6,7 @@ ghost use Rattle.protocol.specs.Catalog.{Config};
 ghost use Rattle.protocol.specs.World.{World};
 ghost use Rattle.ports.specs.Calls.{Call};
 ghost use Rattle.event_loop.specs.Deeds.{Tally};
+ghost use Rattle.event_loop.specs.Hearing.{feeds_in};
 ghost use Rattle.event_loop.specs.Sleeping.{AreKnown, AreSeated, AreWoken, IsAsleep, IsSeatOfClient, IsWoken};
 ghost use Rattle.event_loop.specs.Sleeping.{OnlyWakes, seat_at};
 ghost use Rattle.server_core.specs.Marks.{IsAmong};
@@ -80,13 +81,15 @@ pub fn settle(server: &Server, seats: &[Seat], awake: &mut Vec<u8>, at: usize)
 }
 
 /// The seat at a place is gone.
-pub fn go(seats: &mut Vec<Seat>, awake: &mut Vec<u8>, at: usize)
+pub fn go(seats: &mut Vec<Seat>, awake: &mut Vec<u8>, feeds: &mut usize, at: usize)
     requires inside { at < length seats.old.items }
     requires count { length awake.old.items ≡ length seats.old.items }
+    requires feeds { feeds.old ≡ feeds_in seats.old.items }
     ensures seats { seats.new.items ≡ remove seats.old.items at }
     ensures awake { awake.new.items ≡ remove awake.old.items at }
+    ensures feeds { feeds.new ≡ feeds_in seats.new.items }
 {
-    table::remove(seats, at);
+    table::remove(seats, feeds, at);
     let _gone = awake.remove(at);
 }
 

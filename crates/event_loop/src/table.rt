@@ -47,24 +47,23 @@ pub fn mark_writable(seats: &mut Vec<Seat>, awake: &mut Vec<u8>, port: u64)
     }
 }
 
-/// The seat at a place is gone.
-pub fn remove(seats: &mut Vec<Seat>, at: usize)
-    requires { at < length seats.old.items }
-    ensures { seats.new.items ≡ remove seats.old.items at }
+/// The seat at a place is gone, and counted no more.
+pub fn remove(seats: &mut Vec<Seat>, feeds: &mut usize, at: usize)
+    requires inside { at < length seats.old.items }
+    requires feeds { feeds.old ≡ feeds_in seats.old.items }
+    ensures seats { seats.new.items ≡ remove seats.old.items at }
+    ensures feeds { feeds.new ≡ feeds_in seats.new.items }
 {
-    let _gone = seats.remove(at);
+    let gone = seats.remove(at);
+    if !gone.role.is_client() {
+        *feeds -= 1;
+    }
 }
 
-/// How many clients' ports are open.
-pub fn clients(seats: &[Seat]) -> usize
+/// How many clients' ports are open, by how many feeds' ports are.
+pub fn clients(seats: &[Seat], feeds: usize) -> usize
+    requires { feeds ≡ feeds_in seats.now }
     ensures { result ≡ clients_in seats.now }
 {
-    seats.iter().filter(|seat| seat.role.is_client()).count()
-}
-
-/// How many feeds' ports are open.
-pub fn feeds(seats: &[Seat]) -> usize
-    ensures { result ≡ feeds_in seats.now }
-{
-    seats.iter().filter(|seat| !seat.role.is_client()).count()
+    seats.len() - feeds
 }

@@ -23,6 +23,7 @@ use crate::hearing::hear;
 use crate::passes::{read_client, write_client};
 use crate::seat::{Role, Seat};
 use crate::sleeping::{go, settle, skip, wake_after, wake_if};
+use crate::table::clients;
 use catalog::Config;
 use ports::Ports;
 use protocol::report::Report;
@@ -108,6 +109,7 @@ fn pass_at<P: Ports>(
     seats: &mut Vec<Seat>,
     awake: &mut Vec<u8>,
     marked: &mut Vec<Client>,
+    feeds: &mut usize,
     at: usize,
     buffer: &mut [u8; CLIENT_READ],
     limit: usize,
@@ -116,8 +118,10 @@ fn pass_at<P: Ports>(
     requires inside { at < length seats.old.items }
     requires known { AreKnown server.old seats.old.items awake.old.items }
     requires seated { AreSeated server.old seats.old.items }
+    requires feeds { feeds.old ≡ feeds_in seats.old.items }
     ensures known { AreKnown server.new seats.new.items awake.new.items }
     ensures seated { AreSeated server.new seats.new.items }
+    ensures feeds { feeds.new ≡ feeds_in seats.new.items }
     ensures within { result ≤ length seats.new.items }
     ensures fewer { length seats.new.items + at < length seats.old.items + result }
     ensures goes { (happenings : ℕ) (config : ProtocolConfig) (w : World) (calls : Option (List Call)) (t : Tally)
@@ -142,7 +146,7 @@ fn pass_at<P: Ports>(
         settle(server, seats.as_slice(), awake, at);
         at + 1
     } else {
-        go(seats, awake, at);
+        go(seats, awake, feeds, at);
         at
     }
 }
@@ -154,13 +158,16 @@ fn pass_all<P: Ports>(
     seats: &mut Vec<Seat>,
     awake: &mut Vec<u8>,
     marked: &mut Vec<Client>,
+    feeds: &mut usize,
     limit: usize,
     dropped: &mut u64,
 )
     requires known { AreKnown server.old seats.old.items awake.old.items }
     requires seated { AreSeated server.old seats.old.items }
+    requires feeds { feeds.old ≡ feeds_in seats.old.items }
     ensures known { AreKnown server.new seats.new.items awake.new.items }
     ensures seated { AreSeated server.new seats.new.items }
+    ensures feeds { feeds.new ≡ feeds_in seats.new.items }
     ensures goes { (happenings : ℕ) (config : ProtocolConfig) (w : World) → StandsAt server.old config w →
         PassesAll limit config w (P.calls ports.old) (P.calls ports.new) server.new
         (feed_tally happenings dropped.old) (feed_tally happenings dropped.new) seats.old.items seats.new.items }
@@ -175,6 +182,7 @@ fn pass_all<P: Ports>(
             seats,
             awake,
             marked,
+            feeds,
             at,
             &mut buffer,
             limit,
@@ -195,6 +203,8 @@ pub struct Loop<P: Ports> {
     awake: Vec<u8>,
     /// Room for the clients that are marked.
     marked: Vec<Client>,
+    /// How many of the open ports are feeds'.
+    feeds: usize,
     alloc: Global,
     most: usize,
     refused: u64,
@@ -215,7 +225,7 @@ impl<P: Ports> Model for Loop<P> {
       refused = l.refused;
     } };
 
-    ghost invariant = { λ l. IsLoop l.most l.server l.seats.items l.awake.items };
+    ghost invariant = { λ l. IsLoop l.most l.server l.seats.items l.awake.items l.feeds };
 }
 
 impl<P: Ports + Drop> Loop<P> {
@@ -236,6 +246,7 @@ impl<P: Ports + Drop> Loop<P> {
             seats: Vec::new(alloc),
             awake: Vec::new(alloc),
             marked: Vec::new(alloc),
+            feeds: 0,
             alloc,
             most,
             refused: 0,
@@ -267,6 +278,7 @@ impl<P: Ports> Loop<P> {
             &mut self.ports,
             &mut self.seats,
             &mut self.awake,
+            &mut self.feeds,
             self.alloc,
             self.most,
             limit,
@@ -280,6 +292,7 @@ impl<P: Ports> Loop<P> {
             &mut self.seats,
             &mut self.awake,
             &mut self.marked,
+            &mut self.feeds,
             limit,
             &mut dropped,
         );
@@ -328,14 +341,15 @@ impl<P: Ports> Loop<P> {
     pub fn clients(&self) -> usize
         ensures { result ≡ clients_in self.now.seats }
     {
-        crate::table::clients(self.seats.as_slice())
+        clients(self.seats.as_slice(), self.feeds)
     }
 
     /// How many feeds' ports are open.
     pub fn feeds(&self) -> usize
         ensures { result ≡ feeds_in self.now.seats }
     {
-        crate::table::feeds(self.seats.as_slice())
+        let _ = &self.seats;
+        self.feeds
     }
 
     /// How many records arrived, from all feeds: those that the server accepted.

@@ -20,6 +20,7 @@ hearing-preserved g c =
       table = c.hear_once.ensures.table;
       known = c.hear_once.ensures.known;
       seated = c.hear_once.ensures.seated;
+      count = c.hear_once.ensures.feeds;
       failures = c.in-Happened.ensures.failures ∙ c.hearing.invariant.failures;
       goes = λ config w stands.
           subst (λ n. SoFar (HeardBy config c.args.most) c.args.limit (c.hearing.left - 1) config w

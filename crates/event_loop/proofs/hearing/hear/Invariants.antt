@@ -5,6 +5,7 @@ use Rattle.server_core.specs.ServerValues.{StandsAt}
 use Rattle.event_loop.specs.Deeds.{no_tally}
 use Rattle.event_loop.specs.Going.{SoFar}
 use Rattle.event_loop.specs.Tables.{IsTable, HeardBy, heard_so_far}
+use Rattle.event_loop.specs.Hearing.{feeds_in}
 use Rattle.event_loop.specs.Sleeping.{AreKnown, AreSeated}
 use Rattle.event_loop.proofs.hearing.hear.Given as goal
 
@@ -16,6 +17,7 @@ invariant-hearing g l =
       table : IsTable l.most l.seats.items;
       known : AreKnown l.server l.seats.items l.awake.items;
       seated : AreSeated l.server l.seats.items;
+      count : l.feeds ≡ feeds_in l.seats.items;
       failures : g.P.Ports.failures l.ports ≡ g.P.Ports.failures l.fn.ports;
       goes : (config : Config) (w : World) → StandsAt l.fn.server config w
           → SoFar (HeardBy config l.most) l.limit l.left config w (calls l.fn.ports) (calls l.ports) l.server no_tally

@@ -3,8 +3,8 @@ use Rattle.ports.specs.declared.answers.Happening.TheVariants.{Readable, Writabl
 use Rattle.ports.specs.Calls.{Tells}
 use Rattle.ports.specs.Calls.Call.{Next}
 use Rattle.event_loop.specs.Tables.{IsTable}
-use Rattle.event_loop.specs.Hearing.{readable_at, writable_at}
-use Rattle.event_loop.proofs.TableLemmas.{table-map, readable-same, writable-same}
+use Rattle.event_loop.specs.Hearing.{feeds_in, readable_at, writable_at}
+use Rattle.event_loop.proofs.TableLemmas.{table-map, feeds-map, readable-same, writable-same}
 use Rattle.event_loop.proofs.HearLemmas.{hears-old, hears-quiet, hears-fault}
 use Rattle.event_loop.proofs.AwakeLemmas.{known-told, length-told, seated-told}
 use Rattle.event_loop.specs.Sleeping.{AreSeated}
@@ -78,3 +78,13 @@ returns-in-Ok-Writable-clause-seated g c =
     subst (AreSeated c.args.server.now) (sym c.mark_writable.ensures.marks)
     (seated-told c.args.server.now (writable_at c.in-Ok-Writable.port) c.args.seats.now.items
     (role-writable c.in-Ok-Writable.port) c.requires.seated)
+
+pub returns-in-Ok-Readable-clause-feeds : goal.returns-in-Ok-Readable-clause-feeds
+returns-in-Ok-Readable-clause-feeds g c =
+    c.requires.feeds ∙ sym (ap feeds_in c.mark_readable.ensures.marks
+    ∙ feeds-map (readable_at c.in-Ok-Readable.port) (readable-same c.in-Ok-Readable.port) c.args.seats.now.items)
+
+pub returns-in-Ok-Writable-clause-feeds : goal.returns-in-Ok-Writable-clause-feeds
+returns-in-Ok-Writable-clause-feeds g c =
+    c.requires.feeds ∙ sym (ap feeds_in c.mark_writable.ensures.marks
+    ∙ feeds-map (writable_at c.in-Ok-Writable.port) (writable-same c.in-Ok-Writable.port) c.args.seats.now.items)

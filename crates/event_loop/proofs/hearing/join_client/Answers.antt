@@ -6,10 +6,10 @@ use Rattle.std.proofs.lemmas.Grind.{common_steps}
 use Rattle.event_loop.specs.declared.seat.Seat.{Seat}
 use Rattle.event_loop.specs.declared.seat.Role.TheVariants.{Client as ClientRole}
 use Rattle.ports.specs.declared.answers.Happening.TheVariants.{Joined}
-use Rattle.event_loop.specs.Hearing.{joining, clients_in}
+use Rattle.event_loop.specs.Hearing.{joining, clients_in, feeds_in}
 use Rattle.event_loop.specs.Tables.{IsTable, IsSeatOf, IsGapFor, HearsOnce}
 use Rattle.event_loop.specs.declared.hearing.Hark.TheVariants.{Happened}
-use Rattle.event_loop.proofs.TableLemmas.{is-seated, is-unseated, inserted, table-client}
+use Rattle.event_loop.proofs.TableLemmas.{client-more, is-seated, is-unseated, inserted, table-client}
 use Rattle.event_loop.proofs.HearLemmas.{hears-old, hears-away, hears-open}
 use Rattle.std.proofs.Common.{List, ℕ}
 use Rattle.event_loop.specs.Sleeping.{AreKnown, AreSeated}
@@ -111,3 +111,13 @@ returns-in-Ok-clause-seated g c =
     (seated-more c.args.server.now c.open.new.self ss c.args.awake.now.items c.in-Err.at new gap.inside
     c.requires.seated (omega (arith, count))
     (λ k is. let e = some-number c.in-Ok.client k is in (omega (arith, e, number), omega (arith, e, number, count))))
+
+pub returns-in-Ok-clause-feeds : goal.returns-in-Ok-clause-feeds
+returns-in-Ok-clause-feeds g c =
+    let ss = c.args.seats.now.items in
+    let new : Seat = joining c.args.port (ClientRole c.in-Ok.client) in
+    let gap : IsGapFor ss c.args.port c.in-Err.at = search rules in
+    let room : vec_len c.has_room.new.seats < vec_capacity c.has_room.new.seats = search rules in
+    let ok : IsOk c.insert-kept.result = c.insert-kept.ensures.succeeds room in
+    let kept : c.insert-kept.new.self.items ≡ insert ss c.in-Err.at new = grind (arith, common_steps) in
+    c.requires.feeds ∙ sym (ap feeds_in kept ∙ client-more ss new c.in-Err.at refl)

@@ -1,4 +1,4 @@
-use Rattle.std.proofs.Common.{rules, ◌≡◌, ◌<◌, ◌∙◌, [], vec_len, refl, sym, ap, subst, arith}
+use Rattle.std.proofs.Common.{rules, ◌≡◌, ◌+◌, ◌<◌, ◌∙◌, [], vec_len, refl, sym, ap, subst, arith}
 use Rattle.std.specs.List.{insert}
 use Rattle.std.specs.Vec.{vec_capacity}
 use Rattle.std.specs.Result.{IsOk}
@@ -9,7 +9,7 @@ use Rattle.ports.specs.declared.answers.Happening.TheVariants.{JoinedFeed}
 use Rattle.event_loop.specs.Hearing.{joining, feeds_in}
 use Rattle.event_loop.specs.Tables.{IsTable, IsSeatOf, IsGapFor, HearsOnce}
 use Rattle.event_loop.specs.declared.hearing.Hark.TheVariants.{Happened}
-use Rattle.event_loop.proofs.TableLemmas.{is-seated, is-unseated, inserted, table-feed}
+use Rattle.event_loop.proofs.TableLemmas.{feed-more, is-seated, is-unseated, inserted, table-feed}
 use Rattle.event_loop.proofs.HearLemmas.{hears-old, hears-away-feed, hears-feed}
 use Rattle.event_loop.specs.Sleeping.{AreKnown, AreSeated}
 use Rattle.event_loop.proofs.AwakeLemmas.{known-more, seated-more}
@@ -103,3 +103,13 @@ returns-in-Ok-clause-seated g c =
     subst (AreSeated c.args.server.now) (sym kept)
     (seated-more c.args.server.now c.args.server.now ss c.args.awake.now.items c.in-Err.at new gap.inside
     c.requires.seated (omega arith) (λ k is. absurd cc))
+
+pub returns-in-Ok-clause-feeds : goal.returns-in-Ok-clause-feeds
+returns-in-Ok-clause-feeds g c =
+    let ss = c.args.seats.now.items in
+    let new : Seat = joining c.args.port (FeedRole []) in
+    let gap : IsGapFor ss c.args.port c.in-Err.at = search rules in
+    let room : vec_len c.has_room.new.seats < vec_capacity c.has_room.new.seats = search rules in
+    let ok : IsOk c.insert-kept.result = c.insert-kept.ensures.succeeds room in
+    let kept : c.insert-kept.new.self.items ≡ insert ss c.in-Err.at new = grind (arith, common_steps) in
+    ap (λ n. n + 1) c.requires.feeds ∙ sym (ap feeds_in kept ∙ feed-more ss new c.in-Err.at refl)

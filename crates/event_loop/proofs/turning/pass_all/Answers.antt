@@ -25,6 +25,7 @@ passes-preserved g c =
     record {
       known = c.pass_at-next.ensures.known;
       seated = c.pass_at-next.ensures.seated;
+      count = c.pass_at-next.ensures.feeds;
       goes = λ happenings config w stands.
           subst (λ (xs : List Seat). PassesSoFar c.args.limit config w (all c.args.ports.now)
           (all c.pass_at-next.new.ports) c.pass_at-next.new.server (feed_tally happenings c.args.dropped.now)

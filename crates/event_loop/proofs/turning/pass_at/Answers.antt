@@ -9,7 +9,7 @@ use Rattle.event_loop.specs.Going.{Whole, if_open}
 use Rattle.event_loop.specs.Sleeping.{AreKnown, AreSeated, AreWoken, IsAsleep, LeavesRest, role_at, seat_at}
 use Rattle.event_loop.specs.Turns.{SeatPass}
 use Rattle.event_loop.specs.Tables.{no_seat, IsTable, IsSameSeat, PassesSoFar}
-use Rattle.event_loop.proofs.TableLemmas.{table-set, table-remove}
+use Rattle.event_loop.proofs.TableLemmas.{feeds-set, table-set, table-remove}
 use Rattle.event_loop.proofs.PassesLemmas.{passes-stay, passes-go}
 use Rattle.event_loop.proofs.AwakeLemmas.{known-gone, known-stays, seated-remove, seated-set, inside-set}
 use Rattle.event_loop.proofs.turning.pass_at.Goals as goal
@@ -140,3 +140,19 @@ returns-else-stays-clause-table g c = λ most table.
     (table-remove most (set ss c.args.at c.pass-stays.new.seat) c.args.at
     (table-set most ss c.args.at c.pass-stays.new.seat
     (subst (λ s. IsSameSeat s c.pass-stays.new.seat) here c.pass-stays.ensures.same) table))
+
+pub go-requires-clause-feeds : goal.go-requires-clause-feeds
+go-requires-clause-feeds g c =
+    let ss = c.args.seats.now.items in
+    let here : c.index_mut.result.now ≡ get_or ss c.args.at no_seat = c.index_mut.ensures.value
+    ∙ get_or_default ss c.args.at c.index_mut.result.now no_seat c.requires.inside in
+    c.requires.feeds ∙ sym (feeds-set ss c.args.at c.pass-stays.new.seat
+    (subst (λ s. IsSameSeat s c.pass-stays.new.seat) here c.pass-stays.ensures.same))
+
+pub returns-then-stays-clause-feeds : goal.returns-then-stays-clause-feeds
+returns-then-stays-clause-feeds g c =
+    let ss = c.args.seats.now.items in
+    let here : c.index_mut.result.now ≡ get_or ss c.args.at no_seat = c.index_mut.ensures.value
+    ∙ get_or_default ss c.args.at c.index_mut.result.now no_seat c.requires.inside in
+    c.requires.feeds ∙ sym (feeds-set ss c.args.at c.pass-stays.new.seat
+    (subst (λ s. IsSameSeat s c.pass-stays.new.seat) here c.pass-stays.ensures.same))

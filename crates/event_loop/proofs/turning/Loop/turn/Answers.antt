@@ -24,6 +24,7 @@ invariant_of-self-2 g c = record {
   table = c.pass_all.ensures.table _ c.hear.ensures.table;
   known = c.pass_all.ensures.known;
   seated = c.pass_all.ensures.seated;
+  count = c.pass_all.ensures.feeds;
 }
 
 pub returns-clause-ok : goal.returns-clause-ok
