@@ -20,11 +20,11 @@ const SECOND: u32 = 18;
 const TURNS: u32 = 26;
 
 /// One station that is open to everybody.
-static OPEN: &str = "title = \"Centre\"\nmax_connections = 9\n[[station]]\nnetwork = \"GE\"\ncode = \"APE\"\ndescription = \
+static OPEN: &str = "title = \"Test Centre\"\nmax_connections = 9\n[[station]]\nnetwork = \"GE\"\ncode = \"APE\"\ndescription = \
     \"Island\"\ncapacity = 9\n";
 
 /// The same, open to 127.0.0.1 alone.
-static CLOSED: &str = "title = \"Centre\"\nmax_connections = 9\naccess = \"127.0.0.1\"\n[[station]]\nnetwork = \
+static CLOSED: &str = "title = \"Test Centre\"\nmax_connections = 9\naccess = \"127.0.0.1\"\n[[station]]\nnetwork = \
     \"GE\"\ncode = \"APE\"\ndescription = \"Island\"\ncapacity = 9\n";
 
 /// What CAT is answered.
@@ -117,14 +117,14 @@ impl<R: Files + Net + AllocGlobal> Actor<R> for Visits {
 
 /// What comes of a server whose configuration's file changes while it runs.
 #[derive(Drop)]
-struct Run {
+struct ServerRun {
     status: ExitCode,
     visits: Visits,
     errors: String,
 }
 
 /// Runs a server that reads its configuration again after each turn, as the words of a command line start it.
-fn run<R>(rt: &R, later: &'static str) -> Result<Run, Fail>
+fn run_server<R>(rt: &R, later: &'static str) -> Result<ServerRun, Fail>
 where
     R: Files + Net + AllocGlobal,
     R::File: AsRawFd,
@@ -140,7 +140,7 @@ where
     let status = obey(&stage, words.as_slice());
     let (visits, _, _) = stage.into_parts();
     let errors = fs::read_to_string(rt, "errors.txt")?;
-    Ok(Run {
+    Ok(ServerRun {
         status,
         visits,
         errors,
@@ -187,7 +187,7 @@ fn has_packets(bytes: &[u8], packets: u16) -> Result<bool, Fail> {
 
 #[test]
 fn serve_answers_clients_and_takes_feeds(rt: HostRuntime) -> Result<(), Fail> {
-    let run = run(&rt, OPEN)?;
+    let run = run_server(&rt, OPEN)?;
     assert!(rt; run.status == ExitCode::SUCCESS);
     assert!(rt; was_sent(&run.visits.near, 2)?);
     assert!(rt; was_sent(&run.visits.far, 2)?);
@@ -199,7 +199,7 @@ fn serve_answers_clients_and_takes_feeds(rt: HostRuntime) -> Result<(), Fail> {
 fn reread_cuts_those_to_whom_a_station_is_closed_and_no_one_else(
     rt: HostRuntime,
 ) -> Result<(), Fail> {
-    let run = run(&rt, CLOSED)?;
+    let run = run_server(&rt, CLOSED)?;
     assert!(rt; run.status == ExitCode::SUCCESS);
     assert!(rt; was_sent(&run.visits.near, 2)?);
     assert!(rt; was_sent(&run.visits.far, 1)?);
@@ -209,7 +209,7 @@ fn reread_cuts_those_to_whom_a_station_is_closed_and_no_one_else(
 
 #[test]
 fn a_configuration_that_is_no_toml_leaves_all_as_it_is(rt: HostRuntime) -> Result<(), Fail> {
-    let run = run(&rt, "title =")?;
+    let run = run_server(&rt, "title =")?;
     assert!(rt; run.status == ExitCode::SUCCESS);
     assert!(rt; was_sent(&run.visits.near, 2)?);
     assert!(rt; was_sent(&run.visits.far, 2)?);
