@@ -1,42 +1,30 @@
 -- An index of stations' codes, one station after the other.
 use Rattle.std.proofs.Common.{◌≡◌, ℕ, ◌+◌, ◌<◌, ◌≤◌, suc, inl, inr, Bool, ◌&&◌, true, false, List, [], ◌∷◌, ◌++◌}
-use Rattle.std.proofs.Common.{length, take, get_or, All, Option, Some, None, refl, sym, ap, ap₂, ◌∙◌, subst, arith}
+use Rattle.std.proofs.Common.{length, take, get_or, All, Option, Some, None, refl, sym, ap, ◌∙◌, subst, arith}
 use Rattle.std.specs.Prelude.{cond}
 use Rattle.std.specs.List.{position, position_from}
-use Rattle.std.specs.Cmp.Lexicographic.{slice_cmp}
-use Rattle.std.specs.Ordering.{nat_cmp, is_eq, ordering_then}
 use Rattle.std.specs.Str.{bytes_eq}
-use Rattle.std.specs.BTreeMap.{BTreeMap, IsEmpty, Updates}
+use Rattle.std.specs.HashMap.{IsEmpty, Updates}
 use Rattle.std.specs.Map.{lookup}
-use Rattle.std.specs.declared.cmp.Ordering.{Ordering}
-use Rattle.std.specs.declared.cmp.Ordering.TheVariants.{Less, Equal, Greater}
 use Rattle.std.proofs.lemmas.Bool.{false≢true}
 use Rattle.std.proofs.lemmas.Bool.Decides.{leb_tells}
 use Rattle.std.proofs.lemmas.List.{get_or-take, length-take-le, take_more}
 use Rattle.std.proofs.lemmas.List.Elements.{All-get_or}
 use Rattle.std.proofs.lemmas.Iterator.Adapters.{position_from-zero}
-use Rattle.std.proofs.lemmas.Map.Text.{is_eq-slice_cmp}
 use Rattle.std.proofs.lemmas.Slice.Eq.{bytes_eq-Decides}
 use Rattle.protocol.specs.Catalog.{Entry, Station, has_codes}
 use Rattle.protocol.specs.Reading.{Not}
-use Rattle.catalog.specs.Indexing.{codes_cmp, key, place_in, first_place, AreShort, Finds, HasShortCodes}
+use Rattle.catalog.specs.Indexing.{Places, codes_eq, key, place_in, first_place, AreShort, Finds, HasShortCodes}
 use Rattle.catalog.specs.Places.{station_at, HasDistinctCodes, SameCodes}
 use Rattle.catalog.specs.declared.index.Codes.{Codes}
 use Rattle.catalog.proofs.DistinctLemmas.{at_place}
 
 -- ---- keys
 
-both_equal : (x y : Ordering) → is_eq (ordering_then x y) ≡ (is_eq x && is_eq y)
-both_equal Less y = refl
-both_equal Equal y = refl
-both_equal Greater y = refl
-
 -- keys are equal where their codes are
 equal_codes : (s : Station) (network code : List ℕ)
-    → is_eq (codes_cmp (key s.network s.code) (key network code)) ≡ has_codes network code s
-equal_codes s network code =
-    both_equal (slice_cmp nat_cmp s.network network) (slice_cmp nat_cmp s.code code)
-    ∙ ap₂ (λ a b. a && b) (is_eq-slice_cmp s.network network) (is_eq-slice_cmp s.code code)
+    → codes_eq (key s.network s.code) (key network code) ≡ has_codes network code s
+equal_codes s network code = refl
 
 -- two tests that both pass
 both_pass : (a b : Bool) → (a && b) ≡ true → (a ≡ true) × (b ≡ true)
@@ -133,9 +121,9 @@ apart es i d distinct within =
     earlier k x lt = rw (get_or-take i es k x lt) (by k x (p (get_or es k x)) lt refl)
 
 -- an index of stations with one more
-indexed : (m n : BTreeMap Codes ℕ) (es : List Entry) (e : Entry) → Finds m es
+indexed : (m n : Places) (es : List Entry) (e : Entry) → Finds m es
     → first_place es e.station.network e.station.code ≡ None
-    → Updates codes_cmp m n (key e.station.network e.station.code) (Some (length es)) → Finds n (es ++ e ∷ [])
+    → Updates codes_eq m n (key e.station.network e.station.code) (Some (length es)) → Finds n (es ++ e ∷ [])
 indexed m n es e finds none updates network code =
     updates.0 (key network code)
     ∙ ap (λ b. cond b (Some (length es)) (place_in m network code)) (equal_codes e.station network code)
@@ -158,24 +146,24 @@ indexed m n es e finds none updates network code =
     by false is = finds network code ∙ first_of p es ∙ sym (or_none (position_from p 0 es))
 
 -- an index of the first stations of a list
-pub index_more : (m n : BTreeMap Codes ℕ) (es : List Entry) (i : ℕ) (d : Entry) → HasDistinctCodes es → i < length es
+pub index_more : (m n : Places) (es : List Entry) (i : ℕ) (d : Entry) → HasDistinctCodes es → i < length es
     → Finds m (take i es)
-    → Updates codes_cmp m n (key (get_or es i d).station.network (get_or es i d).station.code) (Some i)
+    → Updates codes_eq m n (key (get_or es i d).station.network (get_or es i d).station.code) (Some i)
     → Finds n (take (i + 1) es)
 index_more m n es i d distinct within finds updates =
     let here : length (take i es) ≡ i = length-take-le i es (omega (arith, within)) in
     subst (Finds n) (sym (take_more es i d within))
     (indexed m n (take i es) (get_or es i d) finds (apart es i d distinct within)
-    (subst (λ k. Updates codes_cmp m n (key (get_or es i d).station.network (get_or es i d).station.code) (Some k))
+    (subst (λ k. Updates codes_eq m n (key (get_or es i d).station.network (get_or es i d).station.code) (Some k))
     (sym here) updates))
 
 -- nothing is found in an empty map
-pub found_nowhere : (m : BTreeMap Codes ℕ) → IsEmpty m → Finds m []
+pub found_nowhere : (m : Places) → IsEmpty m → Finds m []
 found_nowhere m empty network code =
-    ap (λ (es : List (Codes × ℕ)). lookup (λ k. is_eq (codes_cmp (key network code) k)) es) empty
+    ap (λ (es : List (Codes × ℕ)). lookup (codes_eq (key network code)) es) empty
 
 -- codes that are short are found in the index, and no station has others
-pub place_found : (m : BTreeMap Codes ℕ) (es : List Entry) (network code : List ℕ) (r : Option ℕ) → All HasShortCodes es
+pub place_found : (m : Places) (es : List Entry) (network code : List ℕ) (r : Option ℕ) → All HasShortCodes es
     → Finds m es
     → (AreShort network code → r ≡ place_in m network code) → (Not (AreShort network code) → r ≡ None)
     → r ≡ first_place es network code

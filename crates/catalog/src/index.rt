@@ -7,10 +7,10 @@ ghost use Rattle.catalog.specs.Indexing.{key, place_in, AreShort, Finds, HasShor
 use crate::station::Station;
 use arrayvec::ArrayVec;
 use std::alloc::{AllocError, Global};
-use std::collections::BTreeMap;
+use std::collections::HashMap;
 
-/// The codes of a network and of a station in it, in the order of their bytes.
-#[derive(PartialEq, Eq, PartialOrd, Ord, Drop)]
+/// The codes of a network and of a station in it.
+#[derive(PartialEq, Eq, Hash, Drop)]
 pub(crate) struct Codes {
     network: ArrayVec<u8, 2>,
     code: ArrayVec<u8, 5>,
@@ -28,10 +28,10 @@ impl Codes {
     }
 }
 
-/// The places of stations, in the order of their codes.
+/// The places of stations, by their codes.
 #[derive(Drop)]
 pub(crate) struct Index {
-    places: BTreeMap<Codes, usize>,
+    places: HashMap<Codes, usize>,
 }
 
 impl Index {
@@ -41,7 +41,7 @@ impl Index {
         ensures finds { IfOk result (λ index. Finds index.places stations.now) }
         ensures short { IfOk result (λ index. All HasShortCodes stations.now) }
     {
-        let mut places = BTreeMap::new(alloc);
+        let mut places = HashMap::new(alloc);
         for (place, station) in stations.iter().enumerate() {
             if let Some(codes) = Codes::of(station.network(), station.code()) {
                 places.insert(codes, place)?;

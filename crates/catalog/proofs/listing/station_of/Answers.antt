@@ -1,5 +1,4 @@
-use Rattle.std.proofs.Common.{◌≡◌, ◌∙◌, length, subst, sym}
-use Rattle.toml.specs.View.{table_view, view}
+use Rattle.std.proofs.Common.{◌∙◌, length, subst, sym}
 use Rattle.catalog.specs.Failing.{FailsWithin}
 use Rattle.catalog.proofs.FailingLemmas.{repeated_first}
 use Rattle.catalog.proofs.listing.station_of.Goals as goal

@@ -1,9 +1,9 @@
-use Rattle.std.proofs.Common.{◌≡◌, ◌∙◌, ℕ, ◌+◌, ◌<◌, length, take, get_or, All, Some, sym, ap, ap₂, subst, arith}
-use Rattle.std.specs.BTreeMap.{BTreeMap, Updates}
+use Rattle.std.proofs.Common.{◌≡◌, ◌∙◌, ◌+◌, ◌<◌, length, take, get_or, All, Some, sym, ap, ap₂, subst, arith}
+use Rattle.std.specs.HashMap.{Updates}
 use Rattle.std.proofs.lemmas.List.{take_all}
 use Rattle.std.proofs.lemmas.List.Elements.{All-more}
 use Rattle.protocol.specs.Catalog.{Entry}
-use Rattle.catalog.specs.Indexing.{key, codes_cmp, AreShort, Finds, HasShortCodes}
+use Rattle.catalog.specs.Indexing.{Places, key, codes_eq, AreShort, Finds, HasShortCodes}
 use Rattle.catalog.specs.declared.index.Codes.{Codes}
 use Rattle.catalog.proofs.IndexLemmas.{found_nowhere, index_more}
 use Rattle.catalog.proofs.index.Index.of.Goals as goal
@@ -31,12 +31,12 @@ loop-place-preserved c =
       | in-Some+in_ok-insert w ↦
           let the_key : w.in-Some.codes ≡ key (get_or es i e).station.network
           (get_or es i e).station.code = w.in-Some.ensures.some ∙ ap₂ key network code in
-          let updates : Updates codes_cmp c.loop-place.places w.insert.new.self
+          let updates : Updates codes_eq c.loop-place.places w.insert.new.self
           (key (get_or es i e).station.network (get_or es i e).station.code) (Some i) =
-          subst (λ (k : Codes). Updates codes_cmp c.loop-place.places w.insert.new.self k (Some i)) the_key
+          subst (λ (k : Codes). Updates codes_eq c.loop-place.places w.insert.new.self k (Some i)) the_key
           w.in_ok-insert.ensures.updates in
           record {
-            finds = subst (λ (m : BTreeMap Codes ℕ). Finds m (take (i + 1) es)) (sym w.places-is)
+            finds = subst (λ (m : Places). Finds m (take (i + 1) es)) (sym w.places-is)
                 (index_more c.loop-place.places w.insert.new.self es i e c.requires within c.loop-place.invariant.finds
                 updates);
             short = All-more HasShortCodes es i e within c.loop-place.invariant.short
