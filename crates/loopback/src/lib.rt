@@ -10,6 +10,6 @@ mod visitor;
 
 pub use centre::{CENTRE, Centre, any_port, at_centre, connect};
 pub use records::{packet, record};
-pub use stage::{Actor, Stage};
+pub use stage::{Actor, Stage, StageListener, StageStream};
 pub use test_centre::GREETING;
 pub use visitor::{Visitor, connect_from};

@@ -1,15 +1,19 @@
-//! A runtime for jobs that don't return while others act: whenever a job opens a file, an actor has its turn first. A
-//! server that reads its configuration again after each turn so gives its visitors a turn of their own.
+//! A runtime for jobs that don't return while others act: an actor has a turn whenever a job opens a file, or waits for
+//! what its connection brings. So a server that reads its configuration again after each turn has visitors, and a reader
+//! or a feeder has a server, in one thread.
 use std::alloc::{Allocator, Global};
 use std::cell::{Cell, RefCell};
 use std::fmt::{Display, Write};
 use std::fs::{Metadata, OpenOptions};
 use std::io;
-use std::net::{Net, SocketAddr};
+use std::io::{ErrorKind, Read};
+use std::net::{Net, OpenListener, OpenStream, Shutdown, SocketAddr};
+use std::os::fd::{AsRawFd, RawFd};
 use std::rt::Files;
 
 /// The path by which a server opens its standard error a second time, and the file that it finds there.
 const STANDARD_ERROR: &str = "/proc/self/fd/2";
+
 const ERRORS: &str = "errors.txt";
 
 /// The fault of a write for which there is no memory.
@@ -17,10 +21,16 @@ fn out_of_memory() -> io::Error {
     io::Error::from(io::ErrorKind::OutOfMemory)
 }
 
-/// Somebody who acts whenever a job opens a file.
+/// How often an actor acts at most while a job waits for a connection.
+const PATIENCE: u32 = 100;
+
+/// Somebody who acts whenever a job opens a file or waits for a connection.
 pub trait Actor<R> {
     /// Before a job opens a file, after so many earlier ones.
     fn act(&mut self, rt: &R, opened: u32);
+
+    /// While a job waits for what its connection brings.
+    fn serve(&mut self, rt: &R);
 }
 
 /// A runtime with an actor, which keeps what is written to the standard output and the standard error. Lines of a server
@@ -29,7 +39,7 @@ pub trait Actor<R> {
 #[derive(Drop)]
 pub struct Stage<'a, R, A> {
     rt: &'a R,
-    actor: RefCell<A>,
+    actor: &'a RefCell<A>,
     opened: Cell<u32>,
     output: RefCell<Vec<u8>>,
     errors: RefCell<String>,
@@ -37,31 +47,25 @@ pub struct Stage<'a, R, A> {
 
 impl<'a, R: AllocGlobal, A> Stage<'a, R, A> {
     /// A runtime with an actor.
-    pub fn new(rt: &'a R, actor: A) -> Stage<'a, R, A> {
+    pub fn new(rt: &'a R, actor: &'a RefCell<A>) -> Stage<'a, R, A> {
         Stage {
             rt,
-            actor: RefCell::new(actor),
+            actor,
             opened: Cell::new(0),
             output: RefCell::new(Vec::new(rt.alloc())),
             errors: RefCell::new(String::new(rt.alloc())),
         }
     }
 
-    /// The actor, the standard output and the standard error, once all is over.
-    pub fn into_parts(self) -> (A, Vec<u8>, String) {
-        (
-            self.actor.into_inner(),
-            self.output.into_inner(),
-            self.errors.into_inner(),
-        )
+    /// The standard output and the standard error, once all is over.
+    pub fn into_parts(self) -> (Vec<u8>, String) {
+        (self.output.into_inner(), self.errors.into_inner())
     }
 
     /// Writes to the standard output.
     fn keep_output(&self, bytes: &[u8]) -> io::Result<()> {
         match self.output.try_borrow_mut() {
-            Ok(mut output) => output
-                .extend_from_slice(bytes)
-                .map_err(|_| out_of_memory()),
+            Ok(mut output) => output.extend_from_slice(bytes).map_err(|_| out_of_memory()),
             Err(_) => Err(io::Error::from(io::ErrorKind::Other)),
         }
     }
@@ -166,16 +170,124 @@ impl<'a, R: Files, A: Actor<R>> Files for Stage<'a, R, A> {
     }
 }
 
-impl<'a, R: Net, A> Net for Stage<'a, R, A> {
-    type Stream = R::Stream;
+/// A connection of a job: while it brings nothing, the actor acts.
+#[derive(Drop)]
+pub struct StageStream<'a, S, R, A> {
+    stream: S,
+    rt: &'a R,
+    actor: &'a RefCell<A>,
+}
 
-    type Listener = R::Listener;
+impl<'a, S: Read, R, A: Actor<R>> Read for StageStream<'a, S, R, A> {
+    fn read(&mut self, buffer: &mut [u8]) -> io::Result<usize> {
+        for _ in 0..PATIENCE {
+            match self.stream.read(buffer) {
+                Err(error) if error.kind() == ErrorKind::WouldBlock => {}
+                answer => return answer,
+            }
+            if let Ok(mut actor) = self.actor.try_borrow_mut() {
+                actor.serve(self.rt);
+            }
+        }
+        Err(io::Error::from(ErrorKind::TimedOut))
+    }
+}
 
-    fn bind(&self, addr: SocketAddr) -> io::Result<R::Listener> {
-        self.rt.bind(addr)
+impl<'a, S: io::Write, R, A> io::Write for StageStream<'a, S, R, A> {
+    fn write(&mut self, bytes: &[u8]) -> io::Result<usize> {
+        self.stream.write(bytes)
     }
 
-    fn connect(&self, addr: SocketAddr) -> io::Result<R::Stream> {
-        self.rt.connect(addr)
+    fn flush(&mut self) -> io::Result<()> {
+        self.stream.flush()
+    }
+}
+
+impl<'a, S: AsRawFd, R, A> AsRawFd for StageStream<'a, S, R, A> {
+    fn as_raw_fd(&self) -> RawFd {
+        self.stream.as_raw_fd()
+    }
+}
+
+impl<'a, S: OpenStream, R, A> OpenStream for StageStream<'a, S, R, A> {
+    fn peer_addr(&self) -> io::Result<SocketAddr> {
+        self.stream.peer_addr()
+    }
+
+    fn shutdown(&self, how: Shutdown) -> io::Result<()> {
+        self.stream.shutdown(how)
+    }
+
+    /// Calls on the connection below never wait.
+    fn set_nonblocking(&self, _nonblocking: bool) -> io::Result<()> {
+        Ok(())
+    }
+
+    fn take_error(&self) -> io::Result<Option<io::Error>> {
+        self.stream.take_error()
+    }
+
+    fn peek(&self, buffer: &mut [u8]) -> io::Result<usize> {
+        self.stream.peek(buffer)
+    }
+
+    fn try_clone(&self) -> io::Result<StageStream<'a, S, R, A>> {
+        Ok(StageStream {
+            stream: self.stream.try_clone()?,
+            rt: self.rt,
+            actor: self.actor,
+        })
+    }
+}
+
+/// Where a job listens.
+#[derive(Drop)]
+pub struct StageListener<'a, L, R, A> {
+    listener: L,
+    rt: &'a R,
+    actor: &'a RefCell<A>,
+}
+
+impl<'a, L: AsRawFd, R, A> AsRawFd for StageListener<'a, L, R, A> {
+    fn as_raw_fd(&self) -> RawFd {
+        self.listener.as_raw_fd()
+    }
+}
+
+impl<'a, L: OpenListener, R, A> OpenListener for StageListener<'a, L, R, A> {
+    type Stream = StageStream<'a, L::Stream, R, A>;
+
+    fn accept(&self) -> io::Result<(StageStream<'a, L::Stream, R, A>, SocketAddr)> {
+        let (stream, address) = self.listener.accept()?;
+        let stream = StageStream {
+            stream,
+            rt: self.rt,
+            actor: self.actor,
+        };
+        Ok((stream, address))
+    }
+}
+
+impl<'a, R: Net, A: Actor<R>> Net for Stage<'a, R, A> {
+    type Stream = StageStream<'a, R::Stream, R, A>;
+
+    type Listener = StageListener<'a, R::Listener, R, A>;
+
+    fn bind(&self, addr: SocketAddr) -> io::Result<StageListener<'a, R::Listener, R, A>> {
+        Ok(StageListener {
+            listener: self.rt.bind(addr)?,
+            rt: self.rt,
+            actor: self.actor,
+        })
+    }
+
+    fn connect(&self, addr: SocketAddr) -> io::Result<StageStream<'a, R::Stream, R, A>> {
+        let stream = self.rt.connect(addr)?;
+        stream.set_nonblocking(true)?;
+        Ok(StageStream {
+            stream,
+            rt: self.rt,
+            actor: self.actor,
+        })
     }
 }

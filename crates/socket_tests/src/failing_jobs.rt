@@ -4,6 +4,7 @@ use jobs::obey;
 use loopback::{Actor, Stage, any_port};
 use socket_ports::MioPorts;
 use std::alloc::Global;
+use std::cell::RefCell;
 use std::fs;
 use std::net::Net;
 use std::os::fd::AsRawFd;
@@ -17,6 +18,8 @@ struct Nobody;
 
 impl<R> Actor<R> for Nobody {
     fn act(&mut self, _rt: &R, _opened: u32) {}
+
+    fn serve(&mut self, _rt: &R) {}
 }
 
 /// A command line, in which TAKEN is a port that is taken and FREE one at which nobody listens; the first line that is
@@ -127,7 +130,8 @@ static ROWS: [Row; 18] = [
 ];
 
 /// A configuration of one station.
-static CENTRE: &str = "title = \"Centre\"\nmax_connections = 9\n[[station]]\nnetwork = \"GE\"\ncode = \"APE\"\n\
+static CENTRE: &str =
+    "title = \"Centre\"\nmax_connections = 9\n[[station]]\nnetwork = \"GE\"\ncode = \"APE\"\n\
     description = \"Island\"\ncapacity = 9\n";
 
 /// The text with the two ports in it.
@@ -150,13 +154,16 @@ where
     for word in line.as_str().split(' ') {
         words.push(String::from_str(rt.alloc(), word)?)?;
     }
-    let stage = Stage::new(rt, Nobody);
+    let nobody = RefCell::new(Nobody);
+    let stage = Stage::new(rt, &nobody);
     let status = obey(&stage, words.as_slice());
-    let (_, output, errors) = stage.into_parts();
-    Ok(status == ExitCode::FAILURE
-        && output.is_empty()
-        && errors.as_str().starts_with(row.line)
-        && errors.as_str().contains(names.as_str()))
+    let (output, errors) = stage.into_parts();
+    Ok(
+        status == ExitCode::FAILURE
+            && output.is_empty()
+            && errors.as_str().starts_with(row.line)
+            && errors.as_str().contains(names.as_str()),
+    )
 }
 
 /// The files that the rows name.
@@ -183,10 +190,14 @@ fn the_first_of_several_faults_is_reported_with_status_1(rt: HostRuntime) -> Res
 
 #[test]
 fn words_that_are_no_job_end_with_status_2(rt: HostRuntime) -> Result<(), Fail> {
-    let stage = Stage::new(&rt, Nobody);
-    let words = vec![in rt.alloc(); String::from_str(rt.alloc(), "seedlinkd")?, String::from_str(rt.alloc(), "sing")?]?;
+    let nobody = RefCell::new(Nobody);
+    let stage = Stage::new(&rt, &nobody);
+    let words = vec![in rt.alloc();
+        String::from_str(rt.alloc(), "seedlinkd")?,
+        String::from_str(rt.alloc(), "sing")?,
+    ]?;
     let status = obey(&stage, words.as_slice());
-    let (_, output, errors) = stage.into_parts();
+    let (output, errors) = stage.into_parts();
     assert!(rt; status == ExitCode::from(2));
     assert!(rt; output.is_empty());
     assert!(rt; errors.as_str().contains("sing"));

@@ -5,6 +5,8 @@
 #![tactic(auto)]
 
 #[cfg(test)]
+mod clients_by_words;
+#[cfg(test)]
 mod crowd;
 #[cfg(test)]
 mod ends;

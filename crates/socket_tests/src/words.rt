@@ -4,6 +4,7 @@ use jobs::obey;
 use loopback::{Actor, GREETING, Stage, Visitor, any_port, packet, record};
 use socket_ports::MioPorts;
 use std::alloc::Global;
+use std::cell::RefCell;
 use std::fs;
 use std::net::{Ipv4Addr, Net};
 use std::os::fd::AsRawFd;
@@ -13,18 +14,22 @@ use std::test::Fail;
 
 /// Before which reading of the configuration a record comes, the configuration's file changes, and another record comes.
 const FIRST: u32 = 8;
+
 const CHANGE: u32 = 14;
+
 const SECOND: u32 = 18;
 
 /// How many turns a server has.
 const TURNS: u32 = 26;
 
 /// One station that is open to everybody.
-static OPEN: &str = "title = \"Test Centre\"\nmax_connections = 9\n[[station]]\nnetwork = \"GE\"\ncode = \"APE\"\ndescription = \
+static OPEN: &str =
+    "title = \"Test Centre\"\nmax_connections = 9\n[[station]]\nnetwork = \"GE\"\ncode = \"APE\"\ndescription = \
     \"Island\"\ncapacity = 9\n";
 
 /// The same, open to 127.0.0.1 alone.
-static CLOSED: &str = "title = \"Test Centre\"\nmax_connections = 9\naccess = \"127.0.0.1\"\n[[station]]\nnetwork = \
+static CLOSED: &str =
+    "title = \"Test Centre\"\nmax_connections = 9\naccess = \"127.0.0.1\"\n[[station]]\nnetwork = \
     \"GE\"\ncode = \"APE\"\ndescription = \"Island\"\ncapacity = 9\n";
 
 /// What CAT is answered.
@@ -113,6 +118,8 @@ impl<R: Files + Net + AllocGlobal> Actor<R> for Visits {
         }
         self.look(rt);
     }
+
+    fn serve(&mut self, _rt: &R) {}
 }
 
 /// What comes of a server whose configuration's file changes while it runs.
@@ -134,11 +141,12 @@ where
     let visits = Visits::at_free_ports(rt, later)?;
     let line = format!(in rt.alloc();
         "seedlinkd serve centre.toml --listen 127.0.0.1:{} --feed 127.0.0.1:{} --reread 1 --turns {TURNS}",
-        visits.clients, visits.feeds)?;
+        visits.clients, visits.feeds
+    )?;
     let words = words_of(rt.alloc(), line.as_str())?;
-    let stage = Stage::new(rt, visits);
-    let status = obey(&stage, words.as_slice());
-    let (visits, _, _) = stage.into_parts();
+    let visits = RefCell::new(visits);
+    let status = obey(&Stage::new(rt, &visits), words.as_slice());
+    let visits = visits.into_inner();
     let errors = fs::read_to_string(rt, "errors.txt")?;
     Ok(ServerRun {
         status,
