@@ -11,6 +11,8 @@ mod failures;
 #[cfg(test)]
 mod largest_plan;
 #[cfg(test)]
+mod order;
+#[cfg(test)]
 mod packets;
 #[cfg(test)]
 mod words;
