@@ -38,6 +38,7 @@ failure_number failure.Connect = 47
 failure_number (failure.Reload fault) = 34
 failure_number (failure.Serve fault) = serve_fault_number fault
 failure_number (failure.Send fault) = send_fault_number fault
+failure_number failure.Untaken = 43
 failure_number (failure.Want fault) = reader_fault_number fault
 failure_number (failure.Packets fault) = listing_fault_number fault
 
@@ -56,5 +57,6 @@ failure_name failure.Connect = codes "Connect"
 failure_name (failure.Reload fault) = codes "Different"
 failure_name (failure.Serve fault) = serve_fault_name fault
 failure_name (failure.Send fault) = send_fault_name fault
+failure_name failure.Untaken = codes "Write"
 failure_name (failure.Want fault) = reader_fault_name fault
 failure_name (failure.Packets fault) = listing_fault_name fault

@@ -1,10 +1,11 @@
 -- Where a failure happened, by its number: it is not the place's if memory was refused, or an output took no more.
-use Rattle.std.specs.Prelude.{ℕ, ◌==◌, ◌||◌, Bool, if◌then◌else◌, List}
+use Rattle.std.specs.Prelude.{ℕ, ◌==◌, ◌||◌, Bool, if◌then◌else◌, List, Option, Some, None}
 use Rattle.std.specs.Borrow.{Bor}
+use Rattle.std.specs.declared.io.Error.{Error}
 use Rattle.jobs.specs.Faults.{failure_number}
 use Rattle.jobs.specs.declared.failure.Failure.{Failure}
 use Rattle.jobs.specs.declared.incident.Site.{Site}
-use Rattle.jobs.specs.declared.incident.Site.TheVariants.{Unnamed, File, Setting, Word, Server, Socket}
+use Rattle.jobs.specs.declared.incident.Site.TheVariants.{Unnamed, File, Setting, Unwritten, Word, Server, Socket}
 use Rattle.socket_ports.specs.declared.fault.ListenError.{ListenError}
 use Rattle.socket_ports.specs.declared.fault.ListenError.TheVariants as error
 use Rattle.catalog.specs.declared.error.ConfigError.{ConfigError}
@@ -30,6 +31,11 @@ word_site failure word = if is_memory failure then Unnamed else Word word
 -- of a job that reads from a server
 abbrev pub server_site : Failure → Bor (List ℕ) → Site
 server_site failure address = if is_memory failure || is_output failure then Unnamed else Server address
+
+-- of a job that also writes to a file: that file, if it took no more for that reason, or else another place
+abbrev pub output_site : Bor (List ℕ) → Option Error → Site → Site
+output_site path None other = other
+output_site path (Some reason) other = Unwritten path reason
 
 -- of a job that reads a file and writes to a server
 abbrev pub feed_site : Failure → (path address : Bor (List ℕ)) → Site

@@ -57,6 +57,9 @@ pub enum Failure {
     /// Not all of a feed was sent.
     #[error("{0}")]
     Send(SendFault),
+    /// The server ended a feed before it had read everything.
+    #[error("the server ended the connection before it had read everything; perhaps it has 16 feeds already")]
+    Untaken,
     /// A word is no want, or the plan is outside the reader's limits.
     #[error("{0}")]
     Want(ReaderFault),
@@ -85,6 +88,7 @@ impl Failure {
             Failure::Reload(fault) => fault.report(),
             Failure::Serve(fault) => fault.report(),
             Failure::Send(fault) => fault.report(),
+            Failure::Untaken => Report::new(43, "Write"),
             Failure::Want(fault) => fault.report(),
             Failure::Packets(fault) => fault.report(),
         }

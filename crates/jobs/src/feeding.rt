@@ -1,19 +1,25 @@
 //! The records of a reader go to a server's feed port.
 ghost use Rattle.std.specs.Prelude.{◌≡◌, ◌<◌, [], length, IfErr, IfOk, IfSome, MatchResult, OnErr, OnOk};
-ghost use Rattle.std.specs.Io.KnownBytes.{Appends};
-ghost use Rattle.sl_io.specs.Known.{AppendsBeginning};
+ghost use Rattle.std.specs.Io.KnownBytes.{Appends, IsAtEnd};
+ghost use Rattle.sl_io.specs.Counts.{StopsReading};
+ghost use Rattle.sl_io.specs.Known.{AppendsBeginning, ConsumesSome};
+ghost use Rattle.sl_io.specs.declared.faults.ReadFault.TheVariants.{Read as ReadingFailed};
 ghost use Rattle.protocol.specs.Streams.{feed_of};
 ghost use Rattle.feeder.specs.Sending.{capped, whole_part};
 ghost use Rattle.jobs.specs.Faults.{failure_number};
 ghost use Rattle.jobs.specs.Feeding.{StopsFeeding};
+ghost use Rattle.jobs.specs.declared.failure.Failure.TheVariants.{Untaken};
 
 use crate::endpoint::Endpoint;
 use crate::failure::Failure;
 use crate::network::connect;
 use feeder::send;
 use sl_io::{Outer, Sink, Source};
-use std::io::Write;
+use std::io::{ErrorKind, Read, Write};
 use std::net::{Net, OpenStream, Shutdown};
+
+/// How many bytes of a server are read at most by one call.
+const BLOCK: usize = 512;
 
 /// Sends the whole records that are left of a reader, and answers how many they are (2^64 - 1 if there are more).
 ///
@@ -43,23 +49,94 @@ pub fn feed_records<R: Source, W: Sink>(records: &mut R, server: &mut W) -> Resu
     }
 }
 
-/// Connects to a server's feed port, and sends the whole records that are left of a reader. Answers how many they
-/// are.
-pub fn feed<R: Net, S: Source>(rt: &R, server: Endpoint, records: &mut S) -> Result<u64, Failure> {
-    match connect(rt, server) {
-        Ok(stream) => feed_over(stream, records),
-        Err(_) => Err(Failure::Connect),
+/// Waits until a server ends its half of a connection: reads, and drops what comes, until nothing is left.
+///
+/// It fails with 43 only if a read failed, as when the server resets the connection, or if 2^64 - 1 reads were made.
+pub fn await_end<R: Source>(server: &mut R) -> Result<(), Failure>
+    ensures end { OnOk result (IsAtEnd (R.left server.new)) }
+    ensures dropped { ConsumesSome (R.left server.old) (R.left server.new) }
+    ensures same { OnOk result (R.failures server.new ≡ R.failures server.old) }
+    ensures fault { IfErr result (λ failure. failure ≡ Untaken) }
+    ensures stopped { OnErr result (StopsReading ReadingFailed (R.failures server.old) (R.failures server.new)
+        (R.calls server.old) (R.calls server.new)) }
+{
+    let mut block = [0; BLOCK];
+    'reads: for _ in 0..u64::MAX {
+        match server.read(&mut block) {
+            Ok(0) => return Ok(()),
+            Ok(_) => {}
+            Err(_) => return Err(Failure::Untaken),
+        }
+    }
+    Err(Failure::Untaken)
+}
+
+/// Whether a connection is over before this side has ended it: the server has ended its half, or the connection has
+/// failed.
+fn is_over<T: OpenStream>(stream: &T) -> bool {
+    if stream.set_nonblocking(true).is_err() {
+        return true;
+    }
+    let is_open = match stream.peek(&mut [0; 1]) {
+        Ok(count) => count > 0,
+        Err(error) => error.kind() == ErrorKind::WouldBlock,
+    };
+    !is_open || stream.set_nonblocking(false).is_err()
+}
+
+/// Whether a connection of which both sides have ended their halves was closed in order: nothing that was sent was
+/// refused, and this side's end had come to the server before the server ended its own. Then the system has no peer of
+/// it any more.
+fn is_closed<T: OpenStream>(stream: &T) -> bool {
+    matches!(stream.take_error(), Ok(None)) && stream.peer_addr().is_err()
+}
+
+/// A feed of which all records were sent, and whose sending half is shut.
+#[derive(Drop)]
+pub struct SentFeed<T> {
+    stream: T,
+    count: u64,
+}
+
+impl<T: OpenStream + Read + Drop> SentFeed<T> {
+    /// Waits for the server's end. If it comes in order, the server has read everything: then the answer is how many
+    /// records were sent. It fails with 43 if the connection was reset, or if the server ended it before it had read
+    /// to the end.
+    pub fn wait(self) -> Result<u64, Failure> {
+        let SentFeed { stream, count } = self;
+        let mut server = Outer::new(stream);
+        await_end(&mut server)?;
+        if is_closed(&server.into_inner()) {
+            Ok(count)
+        } else {
+            Err(Failure::Untaken)
+        }
     }
 }
 
-/// Sends the whole records that are left of a reader over a connection. Answers how many they are.
-pub fn feed_over<T: OpenStream + Write + Drop, S: Source>(
+/// Sends the whole records that are left of a reader over a connection, and shuts its sending half. It fails as
+/// `feed_records` does, and with 43 if the server ended the connection before.
+pub fn send_feed<T: OpenStream + Write + Drop, S: Source>(
     stream: T,
     records: &mut S,
-) -> Result<u64, Failure> {
-    let mut stream = Outer::new(stream);
-    let count = feed_records(records, &mut stream)?;
-    // The peer sees the end all the same once the connection is dropped.
-    let _ = stream.into_inner().shutdown(Shutdown::Write);
-    Ok(count)
+) -> Result<SentFeed<T>, Failure> {
+    let mut server = Outer::new(stream);
+    let count = feed_records(records, &mut server)?;
+    let stream = server.into_inner();
+    if is_over(&stream) || stream.shutdown(Shutdown::Write).is_err() {
+        return Err(Failure::Untaken);
+    }
+    Ok(SentFeed { stream, count })
+}
+
+/// Connects to a server's feed port, sends the whole records that are left of a reader, and shuts the sending half.
+pub fn begin_feed<R: Net, S: Source>(
+    rt: &R,
+    server: Endpoint,
+    records: &mut S,
+) -> Result<SentFeed<R::Stream>, Failure> {
+    match connect(rt, server) {
+        Ok(stream) => send_feed(stream, records),
+        Err(_) => Err(Failure::Connect),
+    }
 }

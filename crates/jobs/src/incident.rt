@@ -1,7 +1,7 @@
 //! A failure, and where it happened.
 ghost use Rattle.std.specs.Prelude.{◌≡◌};
 ghost use Rattle.jobs.specs.Sites.{config_site, feed_site, file_site, is_memory, is_output, listening_site};
-ghost use Rattle.jobs.specs.Sites.{server_site, word_site};
+ghost use Rattle.jobs.specs.Sites.{output_site, server_site, word_site};
 ghost use Rattle.socket_ports.specs.Faults.{fault_of};
 ghost use Rattle.jobs.specs.declared.failure.Failure.TheVariants.{Config, Listen, Records};
 ghost use Rattle.jobs.specs.declared.incident.Site.TheVariants.{Record};
@@ -28,6 +28,8 @@ pub enum Site<'a> {
     Record(&'a str, Finding),
     /// A file that could not be opened, for the system's reason.
     Unopened(&'a str, io::Error),
+    /// A file that took no more, for the system's reason.
+    Unwritten(&'a str, io::Error),
     /// A word of the command line: an address or a want.
     Word(&'a str),
     /// The server with that address.
@@ -153,6 +155,21 @@ impl<'a> Incident<'a> {
         Incident { failure, site }
     }
 
+    /// It, in a job that also writes to a file: at the file, if that took no more for a reason of the system's.
+    pub fn at_output(self, path: &'a str, reason: Option<io::Error>) -> Incident<'a>
+        ensures failure { result.failure ≡ self.entry.failure }
+        ensures site { result.site ≡ output_site path.entry reason self.entry.site }
+    {
+        let Incident { failure, site } = self;
+        match reason {
+            Some(reason) => Incident {
+                failure,
+                site: Site::Unwritten(path, reason),
+            },
+            None => Incident { failure, site },
+        }
+    }
+
     /// A file of records in which something is wrong.
     pub fn of_records(path: &'a str, finding: Finding) -> Incident<'a>
         ensures failure { result.failure ≡ Records finding.fault }
@@ -201,7 +218,9 @@ impl Display for Site<'_> {
                 writeln!(f, "  record: {}", finding.number)?;
                 writeln!(f, "  offset: {}", finding.offset)
             }
-            Site::Unopened(path, reason) => writeln!(f, "  file: {path}\n  reason: {reason}"),
+            Site::Unopened(path, reason) | Site::Unwritten(path, reason) => {
+                writeln!(f, "  file: {path}\n  reason: {reason}")
+            }
             Site::Word(word) => writeln!(f, "  word: {word}"),
             Site::Server(address) => writeln!(f, "  address: {address}"),
             Site::Socket(address, reason) => writeln!(

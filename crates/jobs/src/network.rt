@@ -1,10 +1,11 @@
 //! Jobs over sockets.
 use crate::endpoint::Endpoint;
 use crate::failure::Failure;
-use crate::feeding::feed_over;
+use crate::feeding::{SentFeed, send_feed};
 use crate::files::{config_at, open, unopened};
 use crate::incident::{Incident, Site};
 use crate::operator::{ServeOptions, serve_by};
+use crate::output_file::ReasonKeeper;
 use crate::standard_error::StandardError as Eprinted;
 use error_lines::StandardError;
 use packet_listing::{Nowhere, read_over};
@@ -92,18 +93,38 @@ where
     }
 }
 
-/// Sends the records of a file to a server.
-pub fn feed_file<'a, R: Files + Net>(
+/// Sends the records of a file to a server, and shuts the sending half of the connection.
+pub fn send_file<'a, R: Files + Net>(
     rt: &R,
     server: &'a str,
     path: &'a str,
-) -> Result<(), Incident<'a>> {
+) -> Result<SentFeed<R::Stream>, Incident<'a>> {
     let server = server_of(server)?;
     let mut file = Outer::new(open(rt, path)?);
     let stream = connection(rt, server)?;
-    match feed_over(stream, &mut file) {
-        Ok(_) => Ok(()),
+    match send_feed(stream, &mut file) {
+        Ok(feed) => Ok(feed),
         Err(failure) => Err(failure.in_feed(path, server.word)),
+    }
+}
+
+/// Sends the records of a file to a server, and waits until it has read them. With `is_verbose` the last line of the
+/// standard error says how many they were.
+pub fn feed_file<'a, R: Files + Eprint + Net>(
+    rt: &R,
+    server: &'a str,
+    path: &'a str,
+    is_verbose: bool,
+) -> Result<(), Incident<'a>> {
+    let feed = send_file(rt, server, path)?;
+    match feed.wait() {
+        Ok(count) => {
+            if is_verbose {
+                let _ = eprintln!(rt; "sent {count} records");
+            }
+            Ok(())
+        }
+        Err(failure) => Err(failure.in_feed(path, server)),
     }
 }
 
@@ -195,8 +216,11 @@ fn list_and_add<'a, R: Files + Print + Net + AllocGlobal>(
     path: &'a str,
 ) -> Result<(), Incident<'a>> {
     let mut lines = Outer::new(io::writer(rt));
-    let mut records = Outer::new(opened_to_add(rt, path)?);
-    list(rt, server, plan, &mut lines, &mut records)
+    let mut records = Outer::new(ReasonKeeper::new(opened_to_add(rt, path)?));
+    match list(rt, server, plan, &mut lines, &mut records) {
+        Ok(()) => Ok(()),
+        Err(incident) => Err(incident.at_output(path, records.into_inner().into_reason())),
+    }
 }
 
 /// Asks a server for records, and writes a line for each packet to the standard output. With an output each record is

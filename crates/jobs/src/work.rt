@@ -41,7 +41,7 @@ where
             };
             serve_sockets(rt, listen, feed, options)
         }
-        Job::Feed { server, file } => feed_file(rt, server, file),
+        Job::Feed { server, file } => feed_file(rt, server, file, is_verbose),
         Job::Read {
             server,
             wants,

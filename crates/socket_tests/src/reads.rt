@@ -1,4 +1,5 @@
 //! What `read` does over sockets.
+use jobs::Failure;
 use loopback::{Centre, at_centre, record};
 use packet_listing::{ListingFault, read_over};
 use sl_io::{MemorySink, Outer};
@@ -130,5 +131,30 @@ fn fault_of_the_refused<R: Net + AllocGlobal>(rt: &R, centre: &mut Centre) -> Re
 #[test]
 fn a_reader_that_is_refused_everything_is_fault_51(rt: HostRuntime) -> Result<(), Fail> {
     assert_eq!(rt; at_centre(&rt, fault_of_the_refused)?, 51);
+    Ok(())
+}
+
+/// The lines that explain why records could not be written to a file, for the system's reason if it gave one.
+fn explained(alloc: Global, reason: Option<io::Error>) -> Result<String, Fail> {
+    let failure = Failure::Packets(ListingFault::Write);
+    let incident = failure
+        .at_server("127.0.0.1:18000")
+        .at_output("ape.mseed", reason);
+    Ok(format!(in alloc; "{incident}")?)
+}
+
+#[test]
+fn a_full_output_is_explained_with_its_file(rt: HostRuntime) -> Result<(), Fail> {
+    let full = explained(rt.alloc(), Some(io::Error::from_raw_os_error(28)))?;
+    assert_eq!(rt;
+        full.as_str(),
+        "  cause: not everything could be written\n  file: ape.mseed\n  \
+            reason: No space left on device (os error 28)\n"
+    );
+    let other = explained(rt.alloc(), None)?;
+    assert_eq!(rt;
+        other.as_str(),
+        "  cause: not everything could be written\n"
+    );
     Ok(())
 }
