@@ -1,0 +1,28 @@
+# Completion of the commands of seedlinkd for bash.
+_seedlinkd() {
+    local current=${COMP_WORDS[COMP_CWORD]} previous=${COMP_WORDS[COMP_CWORD - 1]} word command= count=0
+    for word in "${COMP_WORDS[@]:1:COMP_CWORD-1}"; do
+        case $word in
+            -*) ;;
+            *) if [ -z "$command" ]; then command=$word; else count=$((count + 1)); fi ;;
+        esac
+    done
+    COMPREPLY=()
+    if [[ $current == -* ]]; then
+        local options="--verbose --help"
+        case $command in
+            "") options+=" --version" ;;
+            serve) options+=" --listen --feed --turns --reread --report" ;;
+            read) options+=" --fetch --output" ;;
+        esac
+        mapfile -t COMPREPLY < <(compgen -W "$options" -- "$current")
+    elif [ -z "$command" ]; then
+        mapfile -t COMPREPLY < <(compgen -W "serve feed read check replay" -- "$current")
+    else
+        case $command,$previous,$count in
+            *,--output,* | serve,serve,0 | check,* | replay,* | feed,*,[1-9]*)
+                mapfile -t COMPREPLY < <(compgen -f -- "$current") ;;
+        esac
+    fi
+}
+complete -o filenames -F _seedlinkd seedlinkd

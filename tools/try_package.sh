@@ -1,0 +1,97 @@
+#!/bin/sh
+# Tries the package in a bare Debian: installs it there, runs the server as its user with the configuration that it ships,
+# feeds and reads records through it, shows the manual page, upgrades, removes and purges it, and says what is left.
+#
+#     tools/try_package.sh [SUITE]
+#
+# It needs root, debootstrap, lintian and Debian's packages (SUITE is bookworm if left out), and 600 MB in $TMPDIR.
+set -eu
+export LC_ALL=C DEBIAN_FRONTEND=noninteractive
+top=$(cd "$(dirname "$(readlink -f "$0")")/.." && pwd)
+suite=${1:-bookworm}
+"$top/tools/package.sh"
+package=$(ls -t "$top"/out/seedlinkd_*_amd64.deb | head -n 1)
+
+bare=$(mktemp -d)
+chmod 755 "$bare" # it is the root folder of the user of the package too
+server=
+end() {
+    [ -z "$server" ] || kill "$server" 2>/dev/null || true
+    mountpoint -q "$bare/proc" && umount "$bare/proc"
+    rm -rf --one-file-system "$bare"
+}
+trap end EXIT
+trap 'exit 130' HUP INT TERM
+step() { echo "== $1"; }
+inside() { chroot "$bare" "$@"; }
+fail() {
+    echo "try_package: $1" >&2
+    exit 1
+}
+# All that stands in the bare Debian but what every package's coming and going changes.
+files() { (cd "$bare" && find . -xdev \( -path ./proc -o -path ./tmp -o -path ./var/cache -o -path ./var/log -o -path ./var/lib/apt -o -path ./var/lib/dpkg \) -prune -o -print | sort); }
+
+step "lintian"
+lintian --allow-root --fail-on error,warning --info "$package"
+lintian --allow-root --show-overrides "$package" | sed -n 's/^O: /overridden: /p'
+
+step "a bare Debian ($suite)"
+debootstrap --variant=minbase --include=man-db,systemd "$suite" "$bare" >/dev/null
+mount -t proc proc "$bare/proc"
+printf '#!/bin/sh\nexit 101\n' >"$bare/usr/sbin/policy-rc.d" && chmod 755 "$bare/usr/sbin/policy-rc.d"
+files >"$bare/tmp/before"
+
+step "install"
+cp "$package" "$bare/tmp/seedlinkd.deb"
+inside apt-get install -y --no-install-recommends /tmp/seedlinkd.deb >/dev/null 2>&1 || fail "apt-get install"
+inside seedlinkd --version
+inside getent passwd seedlinkd
+
+step "serve as seedlinkd, feed and read"
+port=18400
+until inside setpriv --reuid=seedlinkd --regid=seedlinkd --clear-groups seedlinkd serve /etc/seedlinkd/seedlinkd.toml \
+    --listen "127.0.0.1:$port" --feed "127.0.0.1:$((port + 1))" --turns 1 2>/dev/null; do
+    port=$((port + 2))
+    [ "$port" -lt 18500 ] || fail "no server with the configuration of the package"
+done
+# By its own words, and not by `inside`, so that the process is the server itself.
+chroot "$bare" setpriv --reuid=seedlinkd --regid=seedlinkd --clear-groups seedlinkd serve /etc/seedlinkd/seedlinkd.toml \
+    --listen "127.0.0.1:$port" --feed "127.0.0.1:$((port + 1))" &
+server=$!
+sleep 2
+echo "as $(inside getent passwd "$(stat -c %u "/proc/$server")" | cut -d: -f1)"
+inside seedlinkd -v feed "127.0.0.1:$((port + 1))" /usr/share/doc/seedlinkd/examples/records/records.mseed
+inside seedlinkd read "127.0.0.1:$port" GE_APE --fetch --output /tmp/ape.mseed >"$bare/tmp/lines"
+lines=$(wc -l <"$bare/tmp/lines")
+[ "$lines" -gt 0 ] && [ "$(stat -c %s "$bare/tmp/ape.mseed")" -eq $((lines * 512)) ] || fail "the records were not read"
+echo "$lines records were read"
+kill "$server"
+wait "$server" 2>/dev/null || true
+server=
+inside /usr/share/doc/seedlinkd/examples/demo | tail -n 1
+
+step "man -l"
+inside man -l /usr/share/man/man1/seedlinkd.1.gz >"$bare/tmp/page" || fail "man -l"
+head -n 1 "$bare/tmp/page"
+tail -n 1 "$bare/tmp/page"
+
+step "upgrade, with a configuration that was changed"
+inside sed -i 's/^title = .*/title = "Changed here"/' /etc/seedlinkd/seedlinkd.toml
+dpkg-deb -R "$package" "$bare/tmp/newer"
+sed -i 's/^Version: .*/&+next/' "$bare/tmp/newer/DEBIAN/control"
+dpkg-deb --root-owner-group --build "$bare/tmp/newer" "$bare/tmp/newer.deb" >/dev/null
+inside apt-get install -y --no-install-recommends /tmp/newer.deb >/dev/null 2>&1 || fail "the upgrade"
+inside dpkg-query -W -f '${Package} ${Version} ${Status}\n' seedlinkd
+inside grep -n '^title' /etc/seedlinkd/seedlinkd.toml
+
+step "remove"
+inside apt-get remove -y seedlinkd >/dev/null 2>&1 || fail "remove"
+inside dpkg-query -W -f '${Package} ${Status}\n' seedlinkd
+inside ls /etc/seedlinkd
+
+step "purge"
+inside apt-get purge -y seedlinkd >/dev/null 2>&1 || fail "purge"
+files >"$bare/tmp/after"
+diff "$bare/tmp/before" "$bare/tmp/after" >"$bare/tmp/left" && echo "no file is left" || sed -n 's/^> /left: /p' "$bare/tmp/left"
+echo "the user is left, as Debian leaves them: $(inside getent passwd seedlinkd)"
+step "done"
