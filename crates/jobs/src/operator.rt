@@ -88,9 +88,9 @@ pub fn serve_by<'a, R: Files + AllocGlobal, P: Ports + Drop, D: Device + Drop>(
     device: D,
 ) -> Result<P, ServeFault>
     ensures served { IfOk result (λ left.
-        ServedByFile options.timetable config (P.calls ports) (P.calls left)) }
+        ServedByFile options.entry.timetable config (P.calls ports) (P.calls left)) }
     ensures ended { IfErr result (λ fault. fault ≡ Poll →
-        EndedByFile options.timetable config (P.calls ports)) }
+        EndedByFile options.entry.timetable config (P.calls ports)) }
 {
     let mut operator = Operator {
         rt,
