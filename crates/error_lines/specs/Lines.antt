@@ -1,6 +1,6 @@
 -- Lines to a device that may take none of one, or a part.
 -- Standard error is outside the standard. Left out: when it takes something again.
-use Rattle.std.specs.Prelude.{◌≡◌, ◌==◌, ℕ, ◌+◌, ◌-◌, ◌^◌, ◌≤◌, Bool, true, false, not, if◌then◌else◌, List, [], ◌∷◌}
+use Rattle.std.specs.Prelude.{◌≡◌, ◌==◌, ℕ, ◌+◌, ◌-◌, ◌^◌, ◌≤◌, Bool, false, not, if◌then◌else◌, List, [], ◌∷◌}
 use Rattle.std.specs.Prelude.{◌++◌, codes, decimal, length, min, nat_le, slice_index, take, Option}
 use Rattle.error_lines.specs.Devices.{Takes}
 
@@ -22,8 +22,8 @@ head_of v = (if v.is_cut then 10 ∷ [] else []) ++ notice_of v.dropped
 abbrev pub text_of : LinesValue → List ℕ → List ℕ
 text_of v line = head_of v ++ line ++ 10 ∷ []
 
--- how many are dropped, if the first `count` bytes of a text were taken and not all: the line alone once the `head` bytes
--- before it were, and else it with those before it
+-- how many are dropped, if the first `count` bytes of a text were taken and not all: the line alone once the `head`
+-- bytes before it were, and else it with those before it
 abbrev pub dropped_after : (dropped head count : ℕ) → ℕ
 dropped_after dropped head count = if nat_le head count then 1 else min (dropped + 1) (2 ^ 64 - 1)
 
@@ -41,8 +41,8 @@ noted v text head count =
 abbrev pub value_after : LinesValue → List ℕ → ℕ → LinesValue
 value_after v line count = noted v (text_of v line) (length (head_of v)) count
 
--- A line was written, or dropped: the device took a beginning of what is written for it, which is all of that if the line
--- was written, and what is kept is by how much it took.
+-- A line was written, or dropped: the device took a beginning of what is written for it, which is all of that if the
+-- line was written, and what is kept is by how much it took.
 pub record WritesLine
     (before after : LinesValue) (old new : Option (List ℕ)) (line : List ℕ) (is_written : Bool) : Type 0 where
   pub count : ℕ

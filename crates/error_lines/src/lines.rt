@@ -98,8 +98,8 @@ impl<D> ErrorLines<D> {
 
 impl<D: Device> ErrorLines<D> {
     /// Writes a line, with its end after it, and before it how many were dropped, if any were: in one piece, without
-    /// waiting. If the device takes less than all of that, the line is dropped, and `false` is answered. What it took of
-    /// it stays, and the next line begins with the end of that one.
+    /// waiting. If the device takes less than all of that, the line is dropped, and `false` is answered. What it took
+    /// stays, and the next line begins with the end of that one.
     pub fn write_line(&mut self, line: &Line) -> bool
         ensures { WritesLine (lines_value self.old) (lines_value self.new) (D.taken self.old.device)
             (D.taken self.new.device) line.now.bytes result }

@@ -5,8 +5,8 @@ ghost use Rattle.error_lines.specs.Devices.{Takes};
 use crate::Device;
 use std::alloc::Global;
 
-/// A device in memory, that tells its bytes. At each call it takes at most as many as the next number of a list says, and
-/// all of them once the list is over. It takes none for which there is no memory.
+/// A device in memory, that tells its bytes. At each call it takes at most as many as the next number of a list says,
+/// and all of them once the list is over. It takes none for which there is no memory.
 #[derive(Drop)]
 pub struct MemoryDevice<'a> {
     bytes: Vec<u8>,

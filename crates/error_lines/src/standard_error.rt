@@ -11,8 +11,8 @@ use std::fs::OpenOptions;
 use std::os::fd::{AsRawFd, RawFd};
 use std::rt::Files;
 
-/// How many bytes are written at most to what can't be made not to wait, once it has room: a terminal or a pipe takes so
-/// many then.
+/// How many bytes are written at most to what can't be made not to wait, once it has room: a terminal or a pipe takes
+/// so many then.
 const PIECE: usize = 512;
 
 /// How lines go to standard error.
@@ -31,8 +31,8 @@ enum Way<F> {
 /// Standard error. No call waits, whoever reads it: a pipe, a terminal or a socket that takes no more for now takes
 /// nothing.
 ///
-/// Something that is neither of them, or that can't be opened again, is asked whether it has room, and given at most 512
-/// bytes then. It can make the program wait if somebody else fills it in between.
+/// Something that is none of them, or that can't be opened again, is asked whether it has room, and given at most 512
+/// bytes then. It can make the program wait only if somebody else fills it in between.
 #[derive(Drop)]
 pub struct StandardError<F> {
     descriptor: RawFd,

@@ -62,7 +62,8 @@ impl Ports for MioPorts {
     ghost failures = { λ s. s.failures };
 
     /// What happened next. A new port has a number that no port had before: the count of those that joined, which no
-    /// other call changes. Readable and Writable are told of open ports alone. At most sixteen ports join between two polls.
+    /// other call changes. Readable and Writable are told of open ports alone. At most sixteen ports join between two
+    /// polls.
     fn next(&mut self) -> Result<Happening, PortFault>
         ensures call { Tells None None (Next result ∷ []) }
         ensures failure { CountsFailure self.old.failures self.new.failures result }

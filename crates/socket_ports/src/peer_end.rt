@@ -2,8 +2,8 @@
 ghost use Rattle.std.specs.Prelude.{◌≡◌, ◌↔◌, IsTrue, Some, is_some};
 ghost use Rattle.socket_ports.specs.Ends.{IsBefore, IsPast, first_found};
 
-/// The end of what a client sends. It may have ended that alone and still wait for answers, so its end is told only once
-/// from one poll to the next nothing moved to it.
+/// The end of what a client sends. It may have ended that alone and still wait for answers, so its end is told only
+/// once from one poll to the next nothing moved to it.
 #[derive(Clone, Copy, Drop)]
 pub struct PeerEnd {
     /// After how many polls the end was found.

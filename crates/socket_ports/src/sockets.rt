@@ -134,8 +134,9 @@ impl Sockets {
         self.listeners.bound()
     }
 
-    /// What happened next: the happenings of one poll one after the other, up to sixteen ports that join, and then Quiet. A
-    /// poll waits at most 100 ms, and not at all if bytes went, a port joined or one is to be told since the last one.
+    /// What happened next: the happenings of one poll one after the other, up to sixteen ports that join, and then
+    /// Quiet. A poll waits at most 100 ms, and not at all if bytes went, a port joined or one is to be told since the
+    /// last one.
     pub fn next(&mut self) -> Result<Happening, PortFault>
         ensures numbers { TellsOpenPorts self.old.joined self.new.joined (numbers self.new.connections.items) result }
         ensures rationed { RationsJoins self.old.polls self.old.joins.count self.new.polls self.new.joins.count result }
