@@ -132,7 +132,7 @@ fn visits<R: Net>(rt: &R, centre: &mut Centre) -> Result<(), Fail> {
             client.write_all(b"HELLO\r")?;
         }
         if visit % 100 == 99 {
-            centre.turns(2);
+            centre.turns(8);
         }
     }
     centre.turns(20);
