@@ -166,6 +166,23 @@ pub fn asking(
     Ok(client)
 }
 
+/// A client that asks for the first station by an action, with so many selectors that no record passes.
+pub fn asking_in_vain(
+    alloc: Global,
+    server: &mut Server,
+    selectors: u32,
+    action: &[u8],
+) -> anyhow::Result<Client> {
+    let client = server.open(alloc, Ipv4Addr::LOCALHOST)?;
+    say(server, client, b"STATION 00000 GE\r");
+    for _ in 0..selectors {
+        say(server, client, b"SELECT LH?\r");
+    }
+    say(server, client, action);
+    let _ = server.receive(client, b"END\r");
+    Ok(client)
+}
+
 /// A client that asks for 255 stations, with 1,024 selectors together.
 pub fn asking_all(alloc: Global, server: &mut Server) -> anyhow::Result<Client> {
     let client = server.open(alloc, Ipv4Addr::LOCALHOST)?;

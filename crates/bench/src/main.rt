@@ -10,7 +10,10 @@
 //! and is full. `packets REQUESTS CAPACITY ROUNDS`: a client that asks by FETCH for so many stations, whose rings are
 //! full, is offered a packet and takes it. `idle REQUESTS CAPACITY ROUNDS`: a client that asks for them by DATA is
 //! offered something, and nothing arrived. `passed OFFERS ROUNDS`: 1,000 records arrive that no pattern of a client
-//! lets pass, and the client is offered something so many times. `visits ROUNDS`: clients come and go, one after the
+//! lets pass, and the client is offered something so many times. `unwanted SELECTORS CAPACITY ROUNDS`: a client asks
+//! for a full ring of three channels with so many selectors that no record passes, or for a time to come if there are
+//! none. `garbage ROUNDS`: a client sends 1,024 bytes without an end of line. `found ROUNDS`: a station of 1,024 is
+//! found by its codes. `visits ROUNDS`: clients come and go, one after the
 //! other. `crowd CLIENTS`: so many are open at the end. `largest CLIENTS`: the same, each of which asks for 255
 //! stations with 1,024 selectors together. `ready ROUNDS`: a client that waits is asked whether it is ready. `apart
 //! CLIENTS ROUNDS`: a record arrives while so many clients wait at another station. `reload CLIENTS CHANGED ROUNDS`: a
@@ -86,6 +89,11 @@ fn sum_of_serving(alloc: Global, work: &str, numbers: &[u32]) -> Option<anyhow::
             alloc, *requests, *capacity, *rounds,
         ),
         ("passed", [offers, rounds]) => serving::passed(alloc, *offers, *rounds),
+        ("unwanted", [selectors, capacity, rounds]) => serving::unwanted(
+            alloc, *selectors, *capacity, *rounds,
+        ),
+        ("garbage", [rounds]) => serving::garbage(alloc, *rounds),
+        ("found", [rounds]) => serving::found(alloc, *rounds),
         ("visits", [rounds]) => serving::visits(alloc, *rounds),
         ("largest", [clients]) => serving::largest(alloc, *clients),
         ("crowd", [clients]) => serving::crowd(alloc, *clients),

@@ -1,6 +1,7 @@
 //! Calls of a server. Each work answers a sum of what it was answered.
 use crate::centre::{
-    arrive_by_turns, asking, asking_all, at_full_server, listed_config, record_of, take_one,
+    arrive_by_turns, asking, asking_all, asking_in_vain, at_full_server, config_of, listed_config,
+    record_of, take_one,
 };
 use catalog::Config;
 use server_core::{Client, Offer, Server};
@@ -83,6 +84,74 @@ pub fn passed(alloc: Global, each: u32, rounds: u32) -> anyhow::Result<u64> {
         let client = asking(alloc, server, 1, b"DATA\r")?;
         Ok(offer_between(server, client, &[record], each, rounds))
     })
+}
+
+/// So many clients come one after the other, ask for the first station by an action, with selectors that no record
+/// passes, are offered what there is, and go. Answers how many bytes they took.
+fn ask_in_vain(
+    alloc: Global,
+    server: &mut Server,
+    selectors: u32,
+    action: &[u8],
+    rounds: u32,
+) -> anyhow::Result<u64> {
+    let mut sum: u64 = 0;
+    for _ in 0..rounds {
+        let client = asking_in_vain(alloc, server, selectors, action)?;
+        sum = sum.wrapping_add(take_one(server, client));
+        let _ = server.close(client);
+    }
+    Ok(sum)
+}
+
+/// Clients ask for a full ring of a station with three channels, of which nothing is wanted: by 64 selectors that no
+/// record passes, or by a time that is still to come.
+pub fn unwanted(alloc: Global, selectors: u32, capacity: u32, rounds: u32) -> anyhow::Result<u64> {
+    let records = [
+        record_of(alloc, 0, b"BHE")?,
+        record_of(alloc, 0, b"BHN")?,
+        record_of(alloc, 0, b"BHZ")?,
+    ];
+    at_full_server(alloc, 0, 1, capacity, |server| {
+        arrive_by_turns(server, &records, capacity);
+        let action: &[u8] = if selectors == 0 {
+            b"TIME 2030,1,1,0,0,0 2031,1,1,0,0,0\r"
+        } else {
+            b"FETCH\r"
+        };
+        ask_in_vain(alloc, server, selectors, action, rounds)
+    })
+}
+
+/// A client sends the same bytes again and again. Answers how often they were taken.
+fn send_often(server: &mut Server, client: Client, bytes: &[u8], rounds: u32) -> u64 {
+    let mut sum: u64 = 0;
+    for _ in 0..rounds {
+        if server.receive(client, bytes).is_ok() {
+            sum = sum.wrapping_add(1);
+        }
+    }
+    sum
+}
+
+/// A client sends 1,024 bytes again and again, of which none ends a line.
+pub fn garbage(alloc: Global, rounds: u32) -> anyhow::Result<u64> {
+    at_full_server(alloc, 1, 0, 1, |server| {
+        let client = server.open(alloc, Ipv4Addr::LOCALHOST)?;
+        Ok(send_often(server, client, &[b'x'; 1024], rounds))
+    })
+}
+
+/// The last of 1,024 stations is found by its codes. Answers a sum of its places.
+pub fn found(alloc: Global, rounds: u32) -> anyhow::Result<u64> {
+    let config = config_of(alloc, 1024, 0, 1)?;
+    let mut sum: u64 = 0;
+    for _ in 0..rounds {
+        if let Some(place) = config.place_of(b"GE", b"01023") {
+            sum = sum.wrapping_add(place as u64);
+        }
+    }
+    Ok(sum)
 }
 
 /// Opens and closes a client, once a round. Answers the number of the last one.

@@ -87,6 +87,23 @@ fn drawn_second(draws: &mut Draws) -> u8 {
     }
 }
 
+/// Channels of which a station has many.
+static MANY_CHANNELS: [&[u8]; 26] = [
+    b"BHA", b"BHB", b"BHC", b"BHD", b"BHE", b"BHF", b"BHG", b"BHH", b"BHI", b"BHJ", b"BHK", b"BHL",
+    b"BHM", b"LHA", b"LHB", b"LHC", b"LHD", b"LHE", b"LHF", b"LHG", b"LHI", b"LHJ", b"LHK", b"LHL",
+    b"LHM", b"LHN",
+];
+
+/// The channel of a record. One in three is of many, so that the stations of a long list have more streams than get a
+/// number.
+fn channel(draws: &mut Draws) -> &'static [u8] {
+    if draws.is_one_of(3) {
+        draws.text(&MANY_CHANNELS)
+    } else {
+        draws.text(&[b"BHZ", b"BHN", b"LHZ", b"HH"])
+    }
+}
+
 /// What a record says, but for its end, and how it is made.
 #[derive(Drop)]
 struct Plan {
@@ -109,7 +126,7 @@ fn drawn_plan(draws: &mut Draws, sites: &'static [Site]) -> Plan {
         network,
         code,
         location: draws.text(&[b"", b"", b"00", b"1"]),
-        channel: draws.text(&[b"BHZ", b"BHN", b"LHZ", b"HH"]),
+        channel: channel(draws),
         kind: sort.kind,
         start,
         end: start.saturating_add(length(sort)),
