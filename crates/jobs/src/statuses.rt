@@ -33,11 +33,7 @@ fn failed_at<R: Eprint>(rt: &R, incident: Incident<'_>, is_verbose: bool) -> Exi
 }
 
 /// The status of a job: 0 if it was done, and 1 at a fault, which is reported, and on request explained.
-fn status_of<R: Eprint>(
-    rt: &R,
-    outcome: Result<(), Incident<'_>>,
-    is_verbose: bool,
-) -> ExitCode
+fn status_of<R: Eprint>(rt: &R, outcome: Result<(), Incident<'_>>, is_verbose: bool) -> ExitCode
     ensures done { OnOk outcome.entry (exit_status result ≡ 0) }
     ensures fault { OnErr outcome.entry (exit_status result ≡ 1) }
 {
