@@ -157,10 +157,9 @@ where
     let nobody = RefCell::new(Nobody);
     let stage = Stage::new(rt, &nobody);
     let status = obey(&stage, words.as_slice());
-    let (output, errors) = stage.into_parts();
+    let (_, errors) = stage.into_parts();
     Ok(
         status == ExitCode::FAILURE
-            && output.is_empty()
             && errors.as_str().starts_with(row.line)
             && errors.as_str().contains(names.as_str()),
     )
