@@ -48,7 +48,7 @@ round() {
 # Calls of a server whose rings are full.
 calls() {
     small_ring=$(round 1000 arrive 4096)
-    row "$small_ring" 3500 'arrive at one of 1,024 stations, a full ring of 4,096' ''
+    row "$small_ring" 1100 'arrive at one of 1,024 stations, a full ring of 4,096' ''
     row "$(round 1000 arrive 65536)" "$((small_ring * 105 / 100))" 'the same, a full ring of 65,536' 'at most 1.05 times that'
     row "$(round 1000 packets 1 65536)" 1200 'an offer and the taking of it, FETCH of a full ring of 65,536' ''
     row "$(round 1000 packets 32 65536)" 2200 'the same with 32 requests, records coming round' ''
@@ -57,8 +57,21 @@ calls() {
     none=$(server passed 0 10)
     one=$(server passed 1 10)
     two=$(server passed 2 10)
-    row "$(((one - none) / 10))" 120000 'an offer after 1,000 records that its selector does not let pass' ''
+    row "$(((one - none) / 10))" 60000 'an offer after 1,000 records that its selector does not let pass' ''
     row "$(((two - one) / 10))" 300 'the offer after that' ''
+}
+
+# unwanted SELECTORS : what a record of a full ring of 65,536 takes in ten searches in which none is wanted.
+unwanted() {
+    echo "$((($(server unwanted "$1" 65536 12) - $(server unwanted "$1" 65536 2)) / 655360))"
+}
+
+# What strangers send and ask for, and how a station is found.
+strangers() {
+    row "$(unwanted 64)" 30 'a record of a full ring that none of 64 selectors lets pass' ''
+    row "$(unwanted 0)" 30 'the same, of a TIME that is still to come' ''
+    row "$(round 1000 garbage)" 2048 'a piece of 1,024 bytes without an end of line that a client sends' ''
+    row "$(round 1000 found)" 500 'Config::place_of of the last of 1,024 stations' ''
 }
 
 # Clients that wait: what one costs that is asked for, that a record does not wake, and that a turn passes by.
@@ -166,6 +179,7 @@ small 1500 selectors '' 'sixteen selectors over a record' ''
 pool
 small 2500 listing '' 'a packet read, cut out and listed by the reader' ''
 calls
+strangers
 sleepers
 reloads
 memory
