@@ -71,7 +71,7 @@ fn listen_at<'a, R: Net + AllocGlobal>(
 
 /// Serves clients and feeds as the options say, and then sends what was not sent yet.
 pub fn serve_sockets<'a, R: Files + Net + AllocGlobal>(
-    rt: &'a R,
+    rt: &R,
     listen: &'a str,
     feed: &'a str,
     options: ServeOptions<'a>,

@@ -29,8 +29,8 @@ pub struct ServeOptions<'a> {
 
 /// The file of a configuration, and lines to a device that never waits: whoever reads them can't stop the server.
 #[derive(Drop)]
-pub struct Operator<'a, R, D> {
-    rt: &'a R,
+pub struct Operator<'r, 'a, R, D> {
+    rt: &'r R,
     path: &'a str,
     is_verbose: bool,
     errors: ErrorLines<D>,
@@ -50,7 +50,7 @@ fn line_of(incident: &Incident<'_>, is_verbose: bool) -> Line {
     line
 }
 
-impl<'a, R: Files + AllocGlobal, D: Device> Between for Operator<'a, R, D> {
+impl<'r, 'a, R: Files + AllocGlobal, D: Device> Between for Operator<'r, 'a, R, D> {
     type Fault = Incident<'a>;
 
     // What a file holds, and what the standard error takes, no contract can say.
@@ -81,7 +81,7 @@ impl<'a, R: Files + AllocGlobal, D: Device> Between for Operator<'a, R, D> {
 /// Runs a new server with the configuration that was read from a file over ports, as the options say, with lines to a
 /// device, and gives the ports back.
 pub fn serve_by<'a, R: Files + AllocGlobal, P: Ports + Drop, D: Device + Drop>(
-    rt: &'a R,
+    rt: &R,
     config: Config,
     ports: P,
     options: ServeOptions<'a>,

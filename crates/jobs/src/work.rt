@@ -11,7 +11,7 @@ use std::rt::Files;
 
 /// Does what a job asks. With `is_verbose` faults that don't end it are explained.
 pub fn run_job<'a, R: Files + Print + Eprint + Net + AllocGlobal>(
-    rt: &'a R,
+    rt: &R,
     job: Job<'a>,
     is_verbose: bool,
 ) -> Result<(), Incident<'a>>
