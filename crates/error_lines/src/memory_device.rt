@@ -1,6 +1,6 @@
 //! A device in memory.
-ghost use Rattle.std.specs.Prelude.{◌≡◌, ◌≤◌, Some, [], drop, length, take};
-ghost use Rattle.error_lines.specs.Devices.{Takes};
+ghost use Rattle.std.specs.Prelude.{◌≡◌, ◌≤◌, ◌⊎◌, Some, [], drop, length, min, take};
+ghost use Rattle.error_lines.specs.Devices.{Takes, room_in};
 
 use crate::Device;
 use std::alloc::Global;
@@ -34,6 +34,7 @@ impl<'a> MemoryDevice<'a> {
 
     /// For how many bytes there is room at the next call.
     fn next_room(&mut self) -> usize
+        ensures room { result ≡ room_in self.old.rooms.now }
         ensures bytes { self.new.bytes ≡ self.old.bytes }
         ensures rooms { self.new.rooms.now ≡ drop 1 self.old.rooms.now }
     {
@@ -53,6 +54,8 @@ impl Device for MemoryDevice<'_> {
     fn take(&mut self, bytes: &[u8]) -> usize
         ensures bound { result ≤ length bytes.now }
         ensures bytes { Takes (Some self.old.bytes.items) (Some self.new.bytes.items) (take result bytes.now) }
+        ensures count { (result ≡ 0) ⊎ (result ≡ min (length bytes.now) (room_in self.old.rooms.now)) }
+        ensures rooms { self.new.rooms.now ≡ drop 1 self.old.rooms.now }
     {
         let count = bytes.len().min(self.next_room());
         if self.bytes.extend_from_slice(&bytes[..count]).is_err() {
