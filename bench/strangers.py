@@ -248,8 +248,10 @@ def play_scan(listen, feed, count):
 
 
 def play_hoard(listen, feed, count):
-    """So many followers never read."""
+    """So many followers never read. What the system keeps on their side, which would be another machine, is kept small."""
     clients = [load.reader(listen) for _ in range(int(count))]
+    for client in clients:
+        client.setsockopt(socket.SOL_SOCKET, socket.SO_RCVBUF, 4_096)
     begun()
     time.sleep(120)
     return clients
