@@ -85,8 +85,13 @@ def run(words, folder):
         started[process.pid] = process
         if is_ending.is_set():
             end_started()
-        said = process.communicate()[0]
-        del started[process.pid]
+        try:
+            said = process.communicate()[0]
+        except Ended:
+            end_started()
+            raise
+        finally:
+            del started[process.pid]
     return said if process.returncode else None
 
 
