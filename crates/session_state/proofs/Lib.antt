@@ -7,3 +7,4 @@ pub mod SettleLemmas
 pub mod ReceiveLemmas
 pub mod TookLemmas
 pub mod CursorLemmas
+pub mod SameLemmas

@@ -37,11 +37,17 @@ fn codes_at(config: &Config, place: usize) -> (&[u8], &[u8])
     }
 }
 
-/// Whether the station at a place has the codes of that at another.
+/// Whether the station at a place has the codes of that at another. No two stations of a configuration have the same,
+/// so that the places of two that are there tell it.
+#[tactic(auto, using(crate::proofs::SameLemmas::same_lemmas))]
 fn is_same_station(config: &Config, named: usize, place: usize) -> bool
     ensures { result ≡ has_codes (station_at config.now.entries place).network
         (station_at config.now.entries place).code (station_at config.now.entries named) }
 {
+    if place < config.stations().len() {
+        config.codes_are_distinct();
+        return named == place;
+    }
     let (network, code) = codes_at(config, place);
     let (other_network, other_code) = codes_at(config, named);
     other_network == network && other_code == code
