@@ -1,5 +1,6 @@
 -- What a session does, step by step, is what its client does.
-use Rattle.std.proofs.Common.{◌≡◌, ◌≢◌, ℕ, true, false, zero, suc, List, [], ◌∷◌, length, take, drop, refl, sym, ap, ◌∙◌, arith}
+use Rattle.std.proofs.Common.{◌≡◌, ◌≢◌, ℕ, true, false, zero, suc, List, [], ◌∷◌, length, take, drop, refl, sym, ap}
+use Rattle.std.proofs.Common.{◌∙◌, arith}
 use Rattle.std.proofs.Common.{nat_lt}
 use Rattle.std.specs.List.{list_any, before_first, position_or_len}
 use Rattle.std.proofs.lemmas.Bool.{or_parts}

@@ -1,6 +1,8 @@
 -- Records and their briefs, side by side.
-use Rattle.std.proofs.Common.{◌≡◌, ℕ, ◌+◌, ◌-◌, ◌<◌, ◌≤◌, zero, suc, inl, inr, ◌⊎◌, List, [], ◌∷◌, ◌++◌, length, take, drop}
-use Rattle.std.proofs.Common.{refl, sym, ap, ◌∙◌, subst, arith, Some, None, Option, slice_get, length-append, length-drop}
+use Rattle.std.proofs.Common.{◌≡◌, ℕ, ◌+◌, ◌-◌, ◌<◌, ◌≤◌, zero, suc, inl, inr, ◌⊎◌, List, [], ◌∷◌, ◌++◌, length, take}
+use Rattle.std.proofs.Common.{drop}
+use Rattle.std.proofs.Common.{refl, sym, ap, ◌∙◌, subst, arith, Some, None, Option, slice_get, length-append}
+use Rattle.std.proofs.Common.{length-drop}
 use Rattle.std.proofs.lemmas.List.{drop-append-le, drop-drop, take_all}
 use Rattle.std.specs.Prelude.{IfSome}
 use Rattle.circular_buffer.specs.Buffer.{Buffer, buffer, keep_last}
@@ -54,7 +56,8 @@ keep_last-push n xs x some =
     let count : gone + more ≡ length (xs ++ x ∷ []) - n = simp (length-append, length-drop) (omega arith) in
     ap (drop more) joined ∙ drop-drop more gone (xs ++ x ∷ []) ∙ ap (λ k. drop k (xs ++ x ∷ [])) count
 
-pub put-held : (b m n : Buffer Held) (x : Held) → 1 ≤ b.capacity → m ≡ buffer (keep_last (b.capacity - 1) b.items) b.capacity
+pub put-held : (b m n : Buffer Held) (x : Held) → 1 ≤ b.capacity
+    → m ≡ buffer (keep_last (b.capacity - 1) b.items) b.capacity
     → n ≡ buffer (keep_last m.capacity (m.items ++ x ∷ [])) m.capacity
     → n ≡ buffer (keep_last b.capacity (b.items ++ x ∷ [])) b.capacity
 put-held b m n x some first then =
@@ -96,7 +99,9 @@ briefs-more streams held briefs x b told are = record {
           | inr last ↦ absurd (let low = get-within held k y before in let c = are.count in omega (arith, low, last.0))
         ]
         | inr here ↦ elim (get-more briefs b d k at) [
-          | inl early ↦ absurd (let low = get-within briefs k d early in let c = are.count in omega (arith, low, here.0))
+          | inl early ↦ absurd (
+              let low = get-within briefs k d early in
+              let c = are.count in omega (arith, low, here.0))
           | inr last ↦ subst (λ (z : Held). Tells streams z d) here.1
               (subst (λ (e : Brief). Tells streams x e) last.1 told)
         ]

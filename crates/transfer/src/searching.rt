@@ -88,8 +88,8 @@ enum Passed {
     All(u64),
 }
 
-/// Passes the records that the request for the i-th named station doesn't want, by their briefs, up to the first that it
-/// wants.
+/// Passes the records that the request for the i-th named station doesn't want, by their briefs, up to the first that
+/// it wants.
 fn pass_briefs(
     ring: &Ring,
     briefs: &[Brief],

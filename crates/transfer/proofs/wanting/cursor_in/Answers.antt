@@ -51,7 +51,8 @@ returns-in-Unwanted c = λ x at passed.
     let same = c.choice-entry.ensures x at in
     let high : c.max-start.result < c.args.ring.now.pushes = omega arith in
     c.search-in-Unwanted.ensures x at
-    (subst (λ (e : Entry). HasPassed c.args.ring.now c.args.next x (at_place (c.max-start.result + 1) e.cursor.ended)) (sym same)
+    (subst (λ (e : Entry). HasPassed c.args.ring.now c.args.next x (at_place (c.max-start.result + 1) e.cursor.ended))
+    (sym same)
     (passed-unwanted c.args.ring.now c.args.next x c.max-start.result x.cursor.ended c.found_at.result high
     (λ y. c.found_at.ensures x y at (sym same)) c.in-Unwanted.is
     (passed-raised c.args.ring.now c.args.next x c.max-start.result c.in-Some.oldest c.holds_its_last.ensures
