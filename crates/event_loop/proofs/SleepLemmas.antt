@@ -1,5 +1,6 @@
 -- The pass over a seat that sleeps makes no call.
-use Rattle.std.proofs.Common.{◌≡◌, ℕ, zero, suc, true, false, Bool, List, [], ◌∷◌, refl, sym, ap, subst, ◌∙◌, Option, Some, None}
+use Rattle.std.proofs.Common.{◌≡◌, ℕ, zero, suc, true, false, Bool, List, [], ◌∷◌, refl, sym, ap, subst, ◌∙◌, Option}
+use Rattle.std.proofs.Common.{Some, None}
 use Rattle.std.proofs.Common.{option_map}
 use Rattle.std.specs.Prelude.{is_some, slice_get}
 use Rattle.protocol.specs.Catalog.{Config}
@@ -95,5 +96,6 @@ asleep-pass config limit w calls server t s spares asleep stands = by s.role ref
         record {
           deeds = none.deeds;
           does = none.does;
-          how = subst (λ r. PassOf r config limit w s none.deeds (world_beyond config w none.deeds) (Some s)) (sym e) none.how;
+          how = subst (λ r. PassOf r config limit w s none.deeds (world_beyond config w none.deeds) (Some s)) (sym e)
+              none.how;
         }

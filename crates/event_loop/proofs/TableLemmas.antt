@@ -286,7 +286,8 @@ table-feed most ss new at kind gap few table = record {
 -- ---- how many feeds there are
 
 -- a seat's count by whose it is
-as-client : (s : Seat) (b : Bool) → is_client s.role ≡ b → ◌≡◌ {A = ℕ} (if is_client s.role then 1 else 0) (if b then 1 else 0)
+as-client : (s : Seat) (b : Bool) → is_client s.role ≡ b → ◌≡◌ {A = ℕ} (if is_client s.role then 1 else 0)
+    (if b then 1 else 0)
 as-client s b e = ap (λ (x : Bool). if x then 1 else 0) e
 
 as-feed : (s : Seat) (b : Bool) → is_client s.role ≡ b

@@ -1,6 +1,7 @@
 -- One write to a client's port.
 use Rattle.std.proofs.Common.{◌≡◌, ℕ, zero, suc, ◌<◌, ◌≤◌, true, false, not, Bool, ◌&&◌, List, [], ◌∷◌, length, refl}
-use Rattle.std.proofs.Common.{sym, ap, ap₂, subst, ◌∙◌, is_some, Option, Some, None, Ok, Err, option_map, unwrap_or, arith}
+use Rattle.std.proofs.Common.{sym, ap, ap₂, subst, ◌∙◌, is_some, Option, Some, None, Ok, Err, option_map, unwrap_or}
+use Rattle.std.proofs.Common.{arith}
 use Rattle.protocol.specs.Catalog.{Config}
 use Rattle.protocol.specs.Client.{Client, offered, is_nothing}
 use Rattle.protocol.specs.World.{World, step, taken_by}

@@ -1,5 +1,6 @@
 //! Which ports sleep: for each seat there is a byte, and a seat whose byte is not 1 has a pass that makes no call.
-ghost use Rattle.std.specs.Prelude.{◌≡◌, ◌≢◌, ◌<◌, ◌≤◌, EachIndex, ℕ, List, true, false, drop, length, take, slice_index};
+ghost use Rattle.std.specs.Prelude.{◌≡◌, ◌≢◌, ◌<◌, ◌≤◌, EachIndex, ℕ, List, true, false, drop, length, take};
+ghost use Rattle.std.specs.Prelude.{slice_index};
 ghost use Rattle.std.specs.List.{remove};
 ghost use Rattle.std.specs.declared.option.Option.{Option};
 ghost use Rattle.protocol.specs.Catalog.{Config};

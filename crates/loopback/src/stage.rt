@@ -1,6 +1,6 @@
 //! A runtime for jobs that don't return while others act: an actor has a turn whenever a job opens a file, or waits for
-//! what its connection brings. So a server that reads its configuration again after each turn has visitors, and a reader
-//! or a feeder has a server, in one thread.
+//! what its connection brings. So a server that reads its configuration again after each turn has visitors, and a
+//! reader or a feeder has a server, in one thread.
 use std::alloc::{Allocator, Global};
 use std::cell::{Cell, RefCell};
 use std::fmt::{Display, Write};
@@ -33,9 +33,9 @@ pub trait Actor<R> {
     fn serve(&mut self, rt: &R);
 }
 
-/// A runtime with an actor, which keeps what is written to the standard output and the standard error. Lines of a server
-/// that opens its standard error a second time go to the file `errors.txt`, which has to be there. All else is the
-/// runtime's.
+/// A runtime with an actor, which keeps what is written to the standard output and the standard error. Lines of a
+/// server that opens its standard error a second time go to the file `errors.txt`, which has to be there. All else is
+/// the runtime's.
 #[derive(Drop)]
 pub struct Stage<'a, R, A> {
     rt: &'a R,

@@ -1,5 +1,6 @@
 //! The open clients of a server: their numbers, and the slots in which their sessions are.
-ghost use Rattle.std.specs.Prelude.{◌≡◌, ◌≢◌, ◌+◌, ℕ, ◌∷◌, ◌++◌, [], IfOk, OnOk, OnErr, IfSome, Some, None, true, is_some};
+ghost use Rattle.std.specs.Prelude.{◌≡◌, ◌≢◌, ◌+◌, ℕ, ◌∷◌, ◌++◌, [], IfOk, OnOk, OnErr, IfSome, Some, None, true};
+ghost use Rattle.std.specs.Prelude.{is_some};
 ghost use Rattle.std.specs.Prelude.{slice_set};
 ghost use Rattle.std.specs.Net.Addr.{ipv4_bits};
 ghost use Rattle.slab.specs.Slab.{get, Updates};

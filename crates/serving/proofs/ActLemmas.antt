@@ -1,5 +1,6 @@
 -- What acts do, one after the other.
-use Rattle.std.proofs.Common.{◌≡◌, ℕ, List, [], ◌∷◌, ◌++◌, flat_map, sym, ap, ap₂, subst, ◌∙◌, append_assoc, append-nil, Option}
+use Rattle.std.proofs.Common.{◌≡◌, ℕ, List, [], ◌∷◌, ◌++◌, flat_map, sym, ap, ap₂, subst, ◌∙◌, append_assoc}
+use Rattle.std.proofs.Common.{append-nil, Option}
 use Rattle.std.proofs.lemmas.Grind.{flat_map-append}
 use Rattle.protocol.specs.Catalog.{Config}
 use Rattle.protocol.specs.World.{Event, World, config_after, world_from, empty_world}
@@ -12,7 +13,8 @@ use Rattle.ports.specs.Calls.{Call, Tells}
 use Rattle.event_loop.specs.Deeds.{Deed, calls_in, events_in, taken_in, world_beyond}
 use Rattle.event_loop.specs.Turns.{HandsAsAlone, bytes_alone}
 use Rattle.event_loop.proofs.DeedLemmas.{deeds-keep, Tells-trans}
-use Rattle.serving.specs.Acts.{Act, act_calls, all_calls, act_events, act_taken, all_events, all_taken, config_then, world_then, HandsThroughout}
+use Rattle.serving.specs.Acts.{Act, act_calls, all_calls, act_events, act_taken, all_events, all_taken, config_then}
+use Rattle.serving.specs.Acts.{world_then, HandsThroughout}
 use Rattle.serving.specs.Acts.Act.{Turning, Reloading}
 
 events-append : (xs ys : List Act) → all_events (xs ++ ys) ≡ all_events xs ++ all_events ys

@@ -1,5 +1,6 @@
 -- How often a configuration is asked for.
-use Rattle.std.proofs.Common.{◌≡◌, ℕ, ◌+◌, Bool, true, false, if◌then◌else◌, List, [], ◌∷◌, ◌++◌, refl, sym, ap, subst, ◌∙◌}
+use Rattle.std.proofs.Common.{◌≡◌, ℕ, ◌+◌, Bool, true, false, if◌then◌else◌, List, [], ◌∷◌, ◌++◌, refl, sym, ap}
+use Rattle.std.proofs.Common.{subst, ◌∙◌}
 use Rattle.std.proofs.Common.{Option, Some, None, Result, Ok, Err, arith, rules}
 use Rattle.std.proofs.lemmas.Grind.{common_steps}
 use Rattle.protocol.specs.Catalog.{Config, is_same_but_for_access}
@@ -40,7 +41,8 @@ module _ {F : Type 0} where
         counts = subst (λ (z : List (Asked F)). asks z ≡ asks x + asks l) q (ap asks p ∙ asks-append x l);
       }
 
-  since-since : (a b : Option (List (Asked F))) (ys : List (Asked F)) (m n : ℕ) (s : Since b ys m) → Since a s.xs n → Since a ys (n + m)
+  since-since : (a b : Option (List (Asked F))) (ys : List (Asked F)) (m n : ℕ) (s : Since b ys m) → Since a s.xs n
+      → Since a ys (n + m)
   since-since a b ys m n s r = record { xs = r.xs; was = r.was; counts = omega (arith, s.counts, r.counts) }
 
   reread-asks : (config : Config) (answer : Result Config F)
@@ -74,7 +76,8 @@ module _ {F : Type 0} where
       reread-since (is_due t.reread done) config w v v' a x.between acts s.xs x.reread s.was in
       record { xs = r.xs; was = r.was; counts = omega (arith, s.counts, r.counts) }
 
-module _ {F : Type 0} (t : Timetable) (config : Config) (w : World) (first : LoopValue) (a : Option (List (Asked F))) where
+module _ {F : Type 0} (t : Timetable) (config : Config) (w : World) (first : LoopValue)
+    (a : Option (List (Asked F))) where
   counted : {done failures : ℕ} {acts : List Act} {v : LoopValue} {b : Option (List (Asked F))}
       → Runs t config w first a done failures acts v b → (ys : List (Asked F)) → b ≡ Some ys
       → Since a ys (due_in t.reread done)

@@ -1,5 +1,6 @@
 -- Runs, turn after turn.
-use Rattle.std.proofs.Common.{◌≡◌, ℕ, suc, if◌then◌else◌, ◌<◌, ◌≤◌, arith, Bool, true, false, Result, Ok, Err, List, [], ◌∷◌, ◌++◌, refl, sym, ap, subst, ◌∙◌, Option}
+use Rattle.std.proofs.Common.{◌≡◌, ℕ, suc, if◌then◌else◌, ◌<◌, ◌≤◌, arith, Bool, true, false, Result, Ok, Err, List}
+use Rattle.std.proofs.Common.{[], ◌∷◌, ◌++◌, refl, sym, ap, subst, ◌∙◌, Option}
 use Rattle.protocol.specs.Catalog.{Config}
 use Rattle.protocol.specs.World.{World}
 use Rattle.server_core.specs.ServerValues.{ServerValue, StandsAt}
@@ -43,17 +44,20 @@ module _ (config : Config) (w : World) (acts : List Act) (deeds : List Deed) whe
   world-turned = world-append config w acts (Turning deeds ∷ []) ∙ world-turning here there deeds
 
   pub stands-turned : (server : ServerValue) → StandsAt server here (world_beyond here there deeds) →
-      StandsAt server (config_then config (acts ++ Turning deeds ∷ [])) (world_then config w (acts ++ Turning deeds ∷ []))
+      StandsAt server (config_then config (acts ++ Turning deeds ∷ []))
+      (world_then config w (acts ++ Turning deeds ∷ []))
   stands-turned server stands =
       subst (λ c. StandsAt server c (world_then config w (acts ++ Turning deeds ∷ []))) (sym config-turned)
       (subst (λ u. StandsAt server here u) (sym world-turned) stands)
 
   pub hands-turned : HandsThroughout config w acts → HandsAsAlone here there deeds →
       HandsThroughout config w (acts ++ Turning deeds ∷ [])
-  hands-turned before hands = hands-then config w acts (Turning deeds ∷ []) before (hands-turning here there deeds hands)
+  hands-turned before hands =
+      hands-then config w acts (Turning deeds ∷ []) before (hands-turning here there deeds hands)
 
 -- A stop hands no byte.
-hands-reloads : {F : Type 0} (config : Config) (w : World) (answer : Result Config F) → HandsThroughout config w (reloads answer)
+hands-reloads : {F : Type 0} (config : Config) (w : World) (answer : Result Config F)
+    → HandsThroughout config w (reloads answer)
 hands-reloads config w (Err fault) = hands-nothing config w
 hands-reloads config w (Ok new) = hands-reloading config w new
 
@@ -83,7 +87,13 @@ module _ {F : Type 0} (t : Timetable) (config : Config) (w : World) (first : Loo
     (first_asked : Option (List (Asked F))) where
   -- no turn yet
   pub ran-nothing : StandsAt first.server config w → RanSo t config w first first_asked 0 0 first first_asked
-  ran-nothing stands = record { acts = []; runs = begins; tells = Tells-nil first.calls; stands = stands; isolation = hands-nothing config w }
+  ran-nothing stands = record {
+    acts = [];
+    runs = begins;
+    tells = Tells-nil first.calls;
+    stands = stands;
+    isolation = hands-nothing config w;
+  }
 
   module _ (done failures failures' : ℕ) (v v' : LoopValue) (a : Option (List (Asked F)))
       (r : RanSo t config w first first_asked done failures v a) where
@@ -100,8 +110,10 @@ module _ {F : Type 0} (t : Timetable) (config : Config) (w : World) (first : Loo
     module _ (v'' : LoopValue) (b : Option (List (Asked F)))
         (stop : (k : Config) (u : World) → StandsAt v'.server k u → SomeStop t (suc done) k u v' a v'' b)
         (few : failures' < 16) where
-      after : (deeds : List Deed) → (s : SomeStop t (suc done) (config_then config (with deeds)) (world_then config w (with deeds)) v' a v'' b) →
-          Runs t config w first first_asked (suc done) (failures_kept t (suc done) failures') (with deeds ++ s.acts) v'' b →
+      after : (deeds : List Deed) → (s : SomeStop t (suc done) (config_then config (with deeds))
+          (world_then config w (with deeds)) v' a v'' b) →
+          Runs t config w first first_asked (suc done) (failures_kept t (suc done) failures') (with deeds ++ s.acts)
+          v'' b →
           Tells v.calls v'.calls (calls_in deeds) → HandsAsAlone now at deeds →
           RanSo t config w first first_asked (suc done) (failures_kept t (suc done) failures') v'' b
       after deeds s runs tells hands =
@@ -116,7 +128,8 @@ module _ {F : Type 0} (t : Timetable) (config : Config) (w : World) (first : Loo
                 (tells-turning first.calls v.calls v'.calls r.acts deeds r.tells tells);
             stands = subst (λ c. StandsAt v''.server c (world_then config w (with deeds ++ s.acts)))
                 (sym (config-append config (with deeds) s.acts))
-                (subst (λ x. StandsAt v''.server (config_then k s.acts) x) (sym (world-append config w (with deeds) s.acts))
+                (subst (λ x. StandsAt v''.server (config_then k s.acts) x)
+                (sym (world-append config w (with deeds) s.acts))
                 s.stands);
             isolation = hands-then config w (with deeds) s.acts (hands-turned config w r.acts deeds r.isolation hands)
                 (hands-stop (is_due t.reread (suc done)) k u v' v'' a s.stops.between s.acts s.stops.reread);
@@ -125,7 +138,8 @@ module _ {F : Type 0} (t : Timetable) (config : Config) (w : World) (first : Loo
       by-turn : OneTurn failures failures' now at v v' →
           RanSo t config w first first_asked (suc done) (failures_kept t (suc done) failures') v'' b
       by-turn (made answer e x refused) =
-          let s : SomeStop t (suc done) (config_then config (with x.deeds)) (world_then config w (with x.deeds)) v' a v'' b =
+          let s : SomeStop t (suc done) (config_then config (with x.deeds)) (world_then config w (with x.deeds))
+          v' a v'' b =
           stop _ _ (stands-turned config w r.acts x.deeds v'.server x.does.stands) in
           after x.deeds s
           (subst (λ n. Runs t config w first first_asked (suc done) n (with x.deeds ++ s.acts) v'' b)
@@ -133,7 +147,8 @@ module _ {F : Type 0} (t : Timetable) (config : Config) (w : World) (first : Loo
           (turned v' answer s.acts r.runs x refused s.stops))
           x.does.tells x.isolation
       by-turn (not_made e x refused) =
-          let s : SomeStop t (suc done) (config_then config (with x.deeds)) (world_then config w (with x.deeds)) v' a v'' b =
+          let s : SomeStop t (suc done) (config_then config (with x.deeds)) (world_then config w (with x.deeds))
+          v' a v'' b =
           stop _ _ (stands-turned config w r.acts x.deeds v'.server x.does.stands) in
           after x.deeds s
           (subst (λ n. Runs t config w first first_asked (suc done) n (with x.deeds ++ s.acts) v'' b)
@@ -182,7 +197,8 @@ module _ {F : Type 0} (t : Timetable) (config : Config) (w : World) (first : Loo
       (turn _ _ r.stands)))
 
   -- the sixteenth in a row that failed
-  pub ran-out : (done failures failures' : ℕ) (v v' : LoopValue) (a : Option (List (Asked F))) → RanSo t config w first first_asked done failures v a →
+  pub ran-out : (done failures failures' : ℕ) (v v' : LoopValue) (a : Option (List (Asked F)))
+      → RanSo t config w first first_asked done failures v a →
       ((k : Config) (u : World) → StandsAt v.server k u → OneTurn failures failures' k u v v') →
       done < turns_of t → failures < 16 → 16 ≤ failures' →
       GaveUp t config w first first_asked v' a

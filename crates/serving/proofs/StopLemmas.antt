@@ -60,7 +60,8 @@ module _ {F : Type 0} (config : Config) (w : World) (v v' : LoopValue)
     stands = goes;
   }
 
-  in_place : (same : Bool) → same ≡ is_same_but_for_access v.server.config new → is_same_but_for_access config new ≡ same
+  in_place : (same : Bool) → same ≡ is_same_but_for_access v.server.config new
+      → is_same_but_for_access config new ≡ same
   in_place same e = ap (λ c. is_same_but_for_access c new) (sym stands.config_is) ∙ sym e
 
   pub came-into-force : true ≡ is_same_but_for_access v.server.config new → Tells a b (Configuration (Ok new) ∷ []) →
@@ -74,7 +75,8 @@ module _ {F : Type 0} (config : Config) (w : World) (v v' : LoopValue)
       given (Refuses Different ∷ []) (different config new (in_place false same))
       (Tells-trans a between b (Configuration (Ok new) ∷ []) (Refuses Different ∷ []) tells more)
 
-pub was-unread : {F : Type 0} (config : Config) (w : World) (v : LoopValue) (a b c : Option (List (Asked F))) (fault : F) →
+pub was-unread : {F : Type 0} (config : Config) (w : World) (v : LoopValue) (a b c : Option (List (Asked F)))
+    (fault : F) →
     Tells a b (Configuration (Err fault) ∷ []) → Tells b c (Refuses (Unread fault) ∷ []) → StandsAt v.server config w →
     SomeReread true config w v a v c
 was-unread config w v a b c fault tells more stands =
@@ -118,7 +120,8 @@ module _ {F : Type 0} (t : Timetable) (done : ℕ) (config : Config) (w : World)
       (x : SomeReread due config w v a v' b) → (c : Option (List (Asked F))) (told : Activity) →
       Tells b c (Reports told ∷ []) →
       told.clients ≡ clients_in v'.seats → told.feeds ≡ feeds_in v'.seats →
-      ((k : Config) (u : World) → StandsAt v'.server k u → told.records ≡ length u.history) → told.refused ≡ v'.refused →
+      ((k : Config) (u : World) → StandsAt v'.server k u → told.records ≡ length u.history)
+      → told.refused ≡ v'.refused →
       SomeStop t done config w v a v' c
   stops-told due e loud x c told tells clients feeds records refused =
       let u : World = world_then config w x.acts in

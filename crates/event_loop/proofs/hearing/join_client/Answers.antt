@@ -32,7 +32,8 @@ returns-then-clients-most-clause-goes g c = λ t calls config w tells stands.
     let gap : IsGapFor ss c.args.port c.in-Err.at = search rules in
     let same : c.then-clients-most.seats.items ≡ ss = elim c.then-clients-most.branch [
       | then-clients-most-via-then-clients-most x ↦ ap (λ v. v.items) x.seats-is
-      | then-clients-most-via-else-clients-most+then-not-has_room x ↦ ap (λ v. v.items) x.seats-is ∙ x.has_room.ensures.seats
+      | then-clients-most-via-else-clients-most+then-not-has_room x ↦ ap (λ v. v.items) x.seats-is
+          ∙ x.has_room.ensures.seats
     ] in
     subst (λ xs. HearsOnce config c.args.most w calls
     (g.P.Ports.calls c.shut.new.self) c.args.server.now t ss xs Happened) (sym same)
@@ -88,7 +89,8 @@ returns-in-Ok-clause-known g c =
     let kept : c.insert-kept.new.self.items ≡ insert ss c.in-Err.at new = grind (arith, common_steps) in
     let byte : vec_len c.has_room.new.awake < vec_capacity c.has_room.new.awake = search rules in
     let put : IsOk c.insert-woken.result = c.insert-woken.ensures.succeeds byte in
-    let woken : c.insert-woken.new.self.items ≡ insert c.args.awake.now.items c.in-Err.at 1 = grind (arith, common_steps)
+    let woken : c.insert-woken.new.self.items ≡ insert c.args.awake.now.items c.in-Err.at 1 =
+    grind (arith, common_steps)
     in
     let others = c.in-Ok.ensures.others in
     subst (λ xs. AreKnown c.open.new.self xs c.insert-woken.new.self.items) (sym kept)

@@ -85,7 +85,8 @@ returns-in-Ok-clause-known g c =
     let kept : c.insert-kept.new.self.items ≡ insert ss c.in-Err.at new = grind (arith, common_steps) in
     let byte : vec_len c.has_room.new.awake < vec_capacity c.has_room.new.awake = search rules in
     let put : IsOk c.insert-woken.result = c.insert-woken.ensures.succeeds byte in
-    let woken : c.insert-woken.new.self.items ≡ insert c.args.awake.now.items c.in-Err.at 1 = grind (arith, common_steps)
+    let woken : c.insert-woken.new.self.items ≡ insert c.args.awake.now.items c.in-Err.at 1 =
+    grind (arith, common_steps)
     in
     subst (λ xs. AreKnown c.args.server.now xs c.insert-woken.new.self.items) (sym kept)
     (subst (AreKnown c.args.server.now (insert ss c.in-Err.at new)) (sym woken)

@@ -12,7 +12,8 @@ reads-preserved g c =
     record {
       role = c.read_once.ensures.role;
       port = c.read_once.ensures.port ∙ c.reads.invariant.port;
-      others = leaves_then c.args.client c.args.server.now c.reads.server c.read_once.new.server c.reads.invariant.others
+      others = leaves_then c.args.client c.args.server.now c.reads.server c.read_once.new.server
+          c.reads.invariant.others
           c.read_once.ensures.others;
       goes = λ t config w stands.
           goes-on-from (ClientReads config c.args.client) c.args.limit c.reads.left

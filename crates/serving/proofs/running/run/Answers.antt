@@ -29,7 +29,12 @@ going-preserved g c =
           c.one_turn-failed.ensures.turn c.stop.ensures.stops c.if-failed-ge-FAILURES.false
           c.failures_kept-failures.result c.failures_kept-failures.ensures.value;
       few_failures = omega (arith, c.failures_kept-failures.ensures.few, c.if-failed-ge-FAILURES.false);
-      counted = omega (arith, c.failures_kept-failures.ensures.few, c.one_turn-failed.ensures.count, c.going.invariant.counted);
+      counted = omega (
+        arith,
+        c.failures_kept-failures.ensures.few,
+        c.one_turn-failed.ensures.count,
+        c.going.invariant.counted,
+      );
       within = omega (arith, c.going-test.true);
       few_clients = λ few. rw (c.stop.ensures.seats, c.stop.ensures.most) c.one_turn-failed.ensures.few_clients;
       few_feeds = λ few. rw c.stop.ensures.seats c.one_turn-failed.ensures.few_feeds;

@@ -12,7 +12,8 @@ returns-in_default-clause-failed g c =
     let calls = g.P.Ports.calls in
     let old = c.self.inside in
     subst (λ (x : LoopValue). (config : Config) (w : World) → StandsAt x.server config w →
-    Fails config x.most c.args.limit w x.calls (calls c.hear.new.ports) c.hear.new.server x.seats c.hear.new.seats.items)
+    Fails config x.most c.args.limit w x.calls (calls c.hear.new.ports) c.hear.new.server x.seats
+    c.hear.new.seats.items)
     c.self.view_is
     (λ config w stands.
     let x = c.in_default.ensures.failed config w stands in

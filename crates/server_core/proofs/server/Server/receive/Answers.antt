@@ -105,7 +105,8 @@ returns-in-Some-clause-others c =
     (subst (λ s. LeavesOthers c.number.result s (serving-with c.self.inside.config c.self.inside.rings
     (record c.seek.new.self { slots = c.receive_in.new.slots }) c.receive_in.new.marks)) c.self.view_is
     (leaves-others c.self.inside.config c.self.inside.rings c.self.inside.clients
-    (record c.seek.new.self { slots = c.receive_in.new.slots }) c.self.inside.marks c.receive_in.new.marks c.number.result
+    (record c.seek.new.self { slots = c.receive_in.new.slots }) c.self.inside.marks c.receive_in.new.marks
+    c.number.result
     c.self.invariant.0
     (written-table c.seek.new.self c.receive_in.new.slots c.seek.ensures.table c.receive_in.ensures.kept)
     c.seek.ensures.numbers.0 (λ other apart. ap (λ os. slot_in os other) c.seek.ensures.numbers.1)
