@@ -12,7 +12,7 @@ mod centre;
 mod looping;
 mod parsing;
 mod replaying;
-mod serving;
+mod servers;
 mod trial;
 mod wires;
 
@@ -35,9 +35,9 @@ fn tried(alloc: Global, call: &str) -> Result<Trial, Fault> {
         "read" => parsing::read(alloc),
         "view" => parsing::view(alloc),
         "reader" => parsing::reader(alloc),
-        "server" => serving::server(alloc),
-        "open" => serving::open(alloc),
-        "run" => serving::run_of_events(alloc),
+        "server" => servers::server(alloc),
+        "open" => servers::open(alloc),
+        "run" => servers::run_of_events(alloc),
         "loop" => looping::new_loop(alloc),
         "turn" => looping::turn(alloc),
         "ports" => looping::ports(alloc),

@@ -23,7 +23,7 @@ mod reads;
 #[cfg(test)]
 mod reloads;
 #[cfg(test)]
-mod serving;
+mod serves;
 #[cfg(test)]
 mod slow;
 #[cfg(test)]
