@@ -57,7 +57,7 @@ calls() {
     none=$(server passed 0 10)
     one=$(server passed 1 10)
     two=$(server passed 2 10)
-    row "$(((one - none) / 10))" 60000 'an offer after 1,000 records that its selector does not let pass' ''
+    row "$(((one - none) / 10))" 20000 'an offer after 1,000 records that its selector does not let pass' ''
     row "$(((two - one) / 10))" 300 'the offer after that' ''
 }
 
@@ -68,8 +68,8 @@ unwanted() {
 
 # What strangers send and ask for, and how a station is found.
 strangers() {
-    row "$(unwanted 64)" 30 'a record of a full ring that none of 64 selectors lets pass' ''
-    row "$(unwanted 0)" 30 'the same, of a TIME that is still to come' ''
+    row "$(unwanted 64)" 20 'a record of a full ring that none of 64 selectors lets pass' ''
+    row "$(unwanted 0)" 20 'the same, of a TIME that is still to come' ''
     row "$(round 1000 garbage)" 2048 'a piece of 1,024 bytes without an end of line that a client sends' ''
     row "$(round 1000 found)" 500 'Config::place_of of the last of 1,024 stations' ''
 }

@@ -152,3 +152,47 @@ pub(crate) fn search(ring: &Ring, session: &Session, i: usize, next: u64, from: 
         }
     }
 }
+
+/// The same, of which the first record is looked at itself: mostly that one is wanted, and no filter is needed.
+pub(crate) fn search_from(
+    ring: &Ring,
+    session: &Session,
+    i: usize,
+    next: u64,
+    from: Reached,
+) -> Cursor
+    requires index { i < length (chosen_of session.now.mode) }
+    requires low { first_place ring.now ≤ from.place }
+    requires high { from.place ≤ ring.now.pushes }
+    ensures { (c : Choice) → slice_get (chosen_of session.now.mode) i ≡ Some c
+        → HasPassed ring.now next c (at_place from.place from.ended) → RestsAt ring.now next c result }
+{
+    ring.holds_its_last();
+    let place = from.place;
+    if place >= ring.pushes() {
+        return at_end(ring, from.ended);
+    }
+    match found_at(ring, place, session, i, session.choice(i), next) {
+        Found::Wanted(stamp) => at_record(ring, place, from.ended, stamp),
+        Found::AfterEnd => search(
+            ring,
+            session,
+            i,
+            next,
+            Reached {
+                place: place + 1,
+                ended: place + 1,
+            },
+        ),
+        Found::Unwanted => search(
+            ring,
+            session,
+            i,
+            next,
+            Reached {
+                place: place + 1,
+                ended: from.ended,
+            },
+        ),
+    }
+}

@@ -10,7 +10,7 @@ ghost use Rattle.transfer.specs.Wanting.{facts_of, is_in_window_of, wants_held};
 ghost use Rattle.transfer.specs.Cursors.{is_after_end, HasPassed, RestsAt};
 ghost use Rattle.transfer.specs.Founds.{found_of};
 
-use crate::searching::{Reached, search};
+use crate::searching::{Reached, search_from};
 use session_state::{Action, Cursor, Entry, Session};
 use sl_time::Tick;
 use station_ring::{Held, Ring, Summary};
@@ -150,8 +150,9 @@ pub(crate) fn found_at(
 }
 
 /// How far the request for the i-th named station comes that passes what it doesn't want: to the first record from its
-/// cursor on that it wants, else to the end. A cursor that was overrun goes on at the oldest record. Mostly the first
-/// record is wanted, so that one is looked at itself, and only those after it by their briefs.
+/// cursor on that it wants, else to the end. A cursor that was overrun goes on at the oldest record. Mostly the record
+/// at the cursor was just sent and the next one is wanted, so that these two are looked at themselves, and only those
+/// after them by their briefs.
 pub fn cursor_in(ring: &Ring, session: &Session, i: usize, next: u64) -> Cursor
     requires { i < length (chosen_of session.now.mode) }
     ensures { (c : Choice) → slice_get (chosen_of session.now.mode) i ≡ Some c → HasPassed ring.now next c c.cursor
@@ -169,7 +170,7 @@ pub fn cursor_in(ring: &Ring, session: &Session, i: usize, next: u64) -> Cursor
     }
     match found_at(ring, start, session, i, entry, next) {
         Found::Wanted(stamp) => at_record(ring, start, ended, stamp),
-        Found::AfterEnd => search(
+        Found::AfterEnd => search_from(
             ring,
             session,
             i,
@@ -179,7 +180,7 @@ pub fn cursor_in(ring: &Ring, session: &Session, i: usize, next: u64) -> Cursor
                 ended: start + 1,
             },
         ),
-        Found::Unwanted => search(
+        Found::Unwanted => search_from(
             ring,
             session,
             i,

@@ -40,7 +40,7 @@ pub returns-in-AfterEnd : goal.returns-in-AfterEnd
 returns-in-AfterEnd c = λ x at passed.
     let same = c.choice-entry.ensures x at in
     let high : c.max-start.result < c.args.ring.now.pushes = omega arith in
-    c.search.ensures x at
+    c.search_from.ensures x at
     (passed-after c.args.ring.now c.args.next x c.max-start.result x.cursor.ended c.found_at.result high
     (λ y. c.found_at.ensures x y at (sym same)) c.in-AfterEnd.is
     (passed-raised c.args.ring.now c.args.next x c.max-start.result c.in-Some.oldest c.holds_its_last.ensures
@@ -50,7 +50,7 @@ pub returns-in-Unwanted : goal.returns-in-Unwanted
 returns-in-Unwanted c = λ x at passed.
     let same = c.choice-entry.ensures x at in
     let high : c.max-start.result < c.args.ring.now.pushes = omega arith in
-    c.search-in-Unwanted.ensures x at
+    c.search_from-in-Unwanted.ensures x at
     (subst (λ (e : Entry). HasPassed c.args.ring.now c.args.next x (at_place (c.max-start.result + 1) e.cursor.ended))
     (sym same)
     (passed-unwanted c.args.ring.now c.args.next x c.max-start.result x.cursor.ended c.found_at.result high
