@@ -154,6 +154,7 @@ pub(crate) fn search(ring: &Ring, session: &Session, i: usize, next: u64, from: 
 }
 
 /// The same, of which the first record is looked at itself: mostly that one is wanted, and no filter is needed.
+#[inline(always)]
 pub(crate) fn search_from(
     ring: &Ring,
     session: &Session,

@@ -125,6 +125,7 @@ pub(crate) enum Found {
     Unwanted,
 }
 
+#[inline(always)]
 pub(crate) fn found_at(
     ring: &Ring,
     place: u64,
