@@ -1,6 +1,8 @@
-//! Tests of the loop over ports in memory. Nothing but tests.
+//! Tests of the loop over ports in memory, and of what a server asks and reports between its turns. Nothing but tests.
 #![tactic(auto)]
 
+#[cfg(test)]
+mod between_turns;
 #[cfg(test)]
 mod failures;
 #[cfg(test)]

@@ -40,6 +40,13 @@ impl MemoryBetween {
         }
     }
 
+    /// All calls that were kept, in order, with their answers.
+    pub fn made(&self) -> &[Made]
+        ensures { result.now ≡ self.now.made.items }
+    {
+        self.made.as_slice()
+    }
+
     // The next answer of the script.
     fn answer(&mut self) -> Result<Config, u8>
         ensures same { told self.new ≡ told self.old }
