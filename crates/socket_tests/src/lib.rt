@@ -1,7 +1,8 @@
 //! Tests over sockets on loopback, with both ends in one process: the system takes connections and bytes before the
 //! server's next turn. They are of the server, the feeder and the reader, and of other people's clients: what slinktool
-//! and programs that stand on libslink send, readers that are many, slow or gone, and those that misbehave or would keep
-//! others waiting. And of lines to a standard error that nobody reads. Nothing but tests.
+//! and programs that stand on libslink send, readers that are many, slow or gone, and those that misbehave or would
+//! keep others waiting; of lines to a standard error that nobody reads; and of jobs as the words of a command line
+//! start them. Nothing but tests.
 #![tactic(auto)]
 
 #[cfg(test)]

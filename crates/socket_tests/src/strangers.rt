@@ -24,8 +24,8 @@ const BABBLERS: u16 = 20;
 
 static BABBLE: [u8; 32_768] = [b'A'; 32_768];
 
-/// In how many turns a reader gets a record, whoever else is there. In the first the feed's bytes may be behind those of
-/// a crowd, in the second they are read, and in the third the packet is written.
+/// In how many turns a reader gets a record, whoever else is there. In the first the feed's bytes may be behind those
+/// of a crowd, in the second they are read, and in the third the packet is written.
 const TURNS: u8 = 3;
 
 /// So many clients connect and leave at once.

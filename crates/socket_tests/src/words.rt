@@ -1,5 +1,5 @@
-//! Jobs as the words of a command line start them, over sockets: while a server runs, its visitors act whenever it reads
-//! its configuration again, which is after each turn.
+//! A server as the words of a command line start it, over sockets: while it runs, its visitors act whenever it reads its
+//! configuration again, which is after each turn.
 use jobs::obey;
 use loopback::{Actor, GREETING, Stage, Visitor, any_port, packet, record};
 use socket_ports::MioPorts;
@@ -12,11 +12,13 @@ use std::process::ExitCode;
 use std::rt::Files;
 use std::test::Fail;
 
-/// Before which reading of the configuration a record comes, the configuration's file changes, and another record comes.
+/// Before which reading of the configuration a record comes.
 const FIRST: u32 = 8;
 
+/// Before which one its file changes.
 const CHANGE: u32 = 14;
 
+/// Before which one another record comes.
 const SECOND: u32 = 18;
 
 /// How many turns a server has.
