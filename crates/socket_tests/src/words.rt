@@ -1,5 +1,5 @@
-//! A server as the words of a command line start it, over sockets: while it runs, its visitors act whenever it reads its
-//! configuration again, which is after each turn.
+//! A server as the words of a command line start it, over sockets: while it runs, its visitors act whenever it reads
+//! its configuration again, which is after each turn.
 use jobs::obey;
 use loopback::{Actor, GREETING, Stage, Visitor, any_port, packet, record};
 use socket_ports::MioPorts;
