@@ -66,78 +66,40 @@ fn two_records(alloc: Global) -> Result<Vec<u8>, Fail> {
     Ok(bytes)
 }
 
-/// Whether the job `feed` sends a server two records from a file.
-fn is_fed<R>(rt: &R, server: &RefCell<Server>, port: u16) -> Result<bool, Fail>
+/// A server that was fed two records by the job `feed`, and the port for its clients.
+fn fed_server<R>(rt: &R) -> Result<(RefCell<Server>, u16), Fail>
 where
     R: Files + Net + AllocGlobal,
     R::File: AsRawFd,
 {
     let records = two_records(rt.alloc())?;
     fs::write(rt, "two.mseed", records.as_slice())?;
-    let fed = outcome_of(
-        rt,
-        server,
-        "seedlinkd feed 127.0.0.1:PORT two.mseed -v",
-        port,
-    )?;
-    Ok(fed.status == ExitCode::SUCCESS && fed.errors.as_str() == "sent 2 records\n")
-}
-
-/// Whether a reader finds what it should at a server that was fed two records by the job `feed`.
-fn at_fed_server<R, F>(rt: &R, look: F) -> Result<bool, Fail>
-where
-    R: Files + Net + AllocGlobal,
-    R::File: AsRawFd,
-    F: FnOnce(&R, &RefCell<Server>, u16) -> Result<bool, Fail>,
-    requires { F.IsAlwaysCallable look }
-{
     let centre = Centre::open(rt, CENTRE)?;
     let (clients, feeds) = centre.ports();
     let server = RefCell::new(Server { centre });
-    Ok(is_fed(rt, &server, feeds)? && look(rt, &server, clients)?)
-}
-
-/// Whether `read` lists the packets of GE APE and adds their records to a file.
-fn is_read_into_a_file<R>(rt: &R, server: &RefCell<Server>, port: u16) -> Result<bool, Fail>
-where
-    R: Files + Net + AllocGlobal,
-    R::File: AsRawFd,
-{
-    fs::write(rt, "ape.mseed", b"before")?;
-    let line = "seedlinkd read 127.0.0.1:PORT GE_APE --fetch --output ape.mseed";
-    let read = outcome_of(rt, server, line, port)?;
-    let kept = fs::read(rt, "ape.mseed")?;
-    let records = two_records(rt.alloc())?;
-    Ok(
-        read.status == ExitCode::SUCCESS
-            && read.output.as_slice() == LINES.as_bytes()
-            && kept.as_slice().strip_prefix(b"before".as_slice()) == Some(records.as_slice()),
-    )
-}
-
-/// Whether `read` writes the records of GE APE to the standard output and the lines to the standard error.
-fn is_read_to_the_output<R>(rt: &R, server: &RefCell<Server>, port: u16) -> Result<bool, Fail>
-where
-    R: Files + Net + AllocGlobal,
-    R::File: AsRawFd,
-{
-    let line = "seedlinkd read 127.0.0.1:PORT GE_APE --fetch --output -";
-    let read = outcome_of(rt, server, line, port)?;
-    let records = two_records(rt.alloc())?;
-    Ok(
-        read.status == ExitCode::SUCCESS
-            && read.errors.as_str() == LINES
-            && read.output.as_slice() == records.as_slice(),
-    )
+    let fed = outcome_of(
+        rt,
+        &server,
+        "seedlinkd feed 127.0.0.1:PORT two.mseed -v",
+        feeds,
+    )?;
+    if fed.status != ExitCode::SUCCESS || fed.errors.as_str() != "sent 2 records\n" {
+        return Err(Fail::from("the records were not sent"));
+    }
+    Ok((server, clients))
 }
 
 #[test]
 fn read_lists_packets_and_adds_their_records_to_a_file(rt: HostRuntime) -> Result<(), Fail> {
-    let is_right = at_fed_server(
-        &rt,
-        |rt, server, port| is_read_into_a_file(rt, server, port),
-    )?;
-    assert!(rt; is_right);
+    let (server, port) = fed_server(&rt)?;
+    fs::write(&rt, "ape.mseed", b"before")?;
+    let line = "seedlinkd read 127.0.0.1:PORT GE_APE --fetch --output ape.mseed";
+    let read = outcome_of(&rt, &server, line, port)?;
+    assert!(rt; read.status == ExitCode::SUCCESS);
+    assert!(rt; read.output.as_slice() == LINES.as_bytes());
+    let kept = fs::read(&rt, "ape.mseed")?;
+    let records = two_records(rt.alloc())?;
+    assert!(rt; kept.as_slice().strip_prefix(b"before".as_slice()) == Some(records.as_slice()));
     Ok(())
 }
 
@@ -145,10 +107,12 @@ fn read_lists_packets_and_adds_their_records_to_a_file(rt: HostRuntime) -> Resul
 fn read_writes_records_to_the_standard_output_and_lines_to_the_standard_error(
     rt: HostRuntime,
 ) -> Result<(), Fail> {
-    let is_right = at_fed_server(
-        &rt,
-        |rt, server, port| is_read_to_the_output(rt, server, port),
-    )?;
-    assert!(rt; is_right);
+    let (server, port) = fed_server(&rt)?;
+    let line = "seedlinkd read 127.0.0.1:PORT GE_APE --fetch --output -";
+    let read = outcome_of(&rt, &server, line, port)?;
+    assert!(rt; read.status == ExitCode::SUCCESS);
+    assert_eq!(rt; read.errors.as_str(), LINES);
+    let records = two_records(rt.alloc())?;
+    assert!(rt; read.output.as_slice() == records.as_slice());
     Ok(())
 }
