@@ -74,9 +74,9 @@ briefs-none streams = record { count = refl; tell = λ k x b e. absurd cc }
 
 -- Streams keep their numbers.
 pub briefs-streams : (before after : List Stream) (held : List Held) (briefs : List Brief)
-    → ((k : ℕ) (s : Stream) → slice_get before k ≡ Some s → slice_get after k ≡ Some s) → AreBriefs before held briefs
-    → AreBriefs after held briefs
-briefs-streams before after held briefs keeps are = record {
+    → ((k : ℕ) (s : Stream) → slice_get before k ≡ Some s → slice_get after k ≡ Some s)
+    → length before ≤ length after → AreBriefs before held briefs → AreBriefs after held briefs
+briefs-streams before after held briefs keeps grows are = record {
   count = are.count;
   tell = λ k x b there at.
       let told = are.tell k x b there at in
@@ -84,6 +84,7 @@ briefs-streams before after held briefs keeps are = record {
         start = told.start;
         stop = told.stop;
         stream = λ number e. keeps number _ (told.stream number e);
+        numbered = λ few none. told.numbered (omega (arith, grows, few)) none;
       };
 }
 
@@ -118,10 +119,10 @@ briefs-drop streams held briefs n are = record {
 -- one record more, and the oldest let go if there is no room for it
 pub briefs-push : (before after : List Stream) (held : List Held) (briefs : List Brief) (capacity : ℕ) (x : Held)
     (b : Brief) → ((k : ℕ) (s : Stream) → slice_get before k ≡ Some s → slice_get after k ≡ Some s)
-    → Tells after x b → AreBriefs before held briefs
+    → length before ≤ length after → Tells after x b → AreBriefs before held briefs
     → AreBriefs after (keep_last capacity (held ++ x ∷ [])) (keep_last capacity (briefs ++ b ∷ []))
-briefs-push before after held briefs capacity x b keeps told are =
-    let more = briefs-more after held briefs x b told (briefs-streams before after held briefs keeps are) in
+briefs-push before after held briefs capacity x b keeps grows told are =
+    let more = briefs-more after held briefs x b told (briefs-streams before after held briefs keeps grows are) in
     subst (λ n. AreBriefs after (keep_last capacity (held ++ x ∷ [])) (drop (n - capacity) (briefs ++ b ∷ [])))
     (sym more.count)
     (briefs-drop after (held ++ x ∷ []) (briefs ++ b ∷ []) (length (held ++ x ∷ []) - capacity) more)
@@ -130,25 +131,27 @@ briefs-push before after held briefs capacity x b keeps told are =
 pub briefs-put : (before after : List Stream) (h h' : Buffer Held) (d d' : Buffer Brief) (x : Held) (b : Brief)
     → h' ≡ buffer (keep_last h.capacity (h.items ++ x ∷ [])) h.capacity
     → d' ≡ buffer (keep_last d.capacity (d.items ++ b ∷ [])) d.capacity
-    → ((k : ℕ) (s : Stream) → slice_get before k ≡ Some s → slice_get after k ≡ Some s) → Tells after x b
-    → 1 ≤ h.capacity → d.capacity ≡ h.capacity → AreBriefs before h.items d.items
+    → ((k : ℕ) (s : Stream) → slice_get before k ≡ Some s → slice_get after k ≡ Some s)
+    → length before ≤ length after → Tells after x b → 1 ≤ h.capacity → d.capacity ≡ h.capacity → AreBriefs before h.items d.items
     → (1 ≤ h'.capacity) × (d'.capacity ≡ h'.capacity) × AreBriefs after h'.items d'.items
-briefs-put before after h h' d d' x b eh ed keeps told some same are =
+briefs-put before after h h' d d' x b eh ed keeps grows told some same are =
     rw (eh, ed) (
       some,
       same,
       subst (λ n. AreBriefs after (keep_last h.capacity (h.items ++ x ∷ [])) (keep_last n (d.items ++ b ∷ [])))
-          (sym same) (briefs-push before after h.items d.items h.capacity x b keeps told are),
+          (sym same) (briefs-push before after h.items d.items h.capacity x b keeps grows told are),
     )
 
 -- a brief that was made of a record's summary
 pub tells-made : (streams : List Stream) (x : Held) (b : Brief) (stream : Stream) → b.start ≡ x.summary.start
     → b.stop ≡ x.summary.stop → stream ≡ stream_of x.summary
-    → IfSome b.stream (λ k. slice_get streams k ≡ Some stream) → Tells streams x b
-tells-made streams x b stream start stop is there = record {
+    → IfSome b.stream (λ k. slice_get streams k ≡ Some stream) → (b.stream ≡ None → 64 ≤ length streams)
+    → Tells streams x b
+tells-made streams x b stream start stop is there full = record {
   start = start;
   stop = stop;
   stream = λ number e. by number b.stream e there;
+  numbered = λ few none. let many = full none in omega (arith, few, many);
 }
   where
     by : (number : ℕ) (o : Option ℕ) → o ≡ Some number → IfSome o (λ k. slice_get streams k ≡ Some stream)

@@ -1,5 +1,5 @@
 //! The numbers of a station's streams.
-ghost use Rattle.std.specs.Prelude.{◌≡◌, ◌≤◌, ℕ, IfOk, IfSome, Some, [], length, slice_get, true};
+ghost use Rattle.std.specs.Prelude.{◌≡◌, ◌≤◌, ℕ, IfOk, IfSome, Some, None, [], length, slice_get, true};
 ghost use Rattle.station_ring.specs.declared.held.Stream.{Stream as StreamValue};
 
 use crate::held::Stream;
@@ -48,6 +48,8 @@ impl Streams {
     pub fn number(&mut self, stream: Stream) -> Option<u8>
         ensures keeps { (k : ℕ) (s : StreamValue) → slice_get self.old k ≡ Some s → slice_get self.new k ≡ Some s }
         ensures there { IfSome result (λ k. slice_get self.new k ≡ Some stream) }
+        ensures grows { length self.old ≤ length self.new }
+        ensures full { result ≡ None → 64 ≤ length self.new }
     {
         let known = number_among(self.known.as_slice(), stream);
         if known.is_some() {

@@ -94,7 +94,7 @@ outside-unwanted : (c : Choice) (next : ℕ) (x : Held) → is_in_window_of c.ac
 outside-unwanted c next x e =
     and-none (nat_le next x.stamp) (nat_le c.first x.stamp) _ (and-last (passes c.selectors (facts_of x.summary)) _ e)
 
-refused-unwanted : (c : Choice) (next : ℕ) (x : Held) → passes c.selectors (facts_of x.summary) ≡ false
+pub refused-unwanted : (c : Choice) (next : ℕ) (x : Held) → passes c.selectors (facts_of x.summary) ≡ false
     → wants_held c next x ≡ false
 refused-unwanted c next x e =
     and-none (nat_le next x.stamp) (nat_le c.first x.stamp) _
@@ -173,19 +173,19 @@ get-set (x ∷ xs) (suc n) (suc k) v w e = elim (get-set xs n k v w e) [
   | inr other ↦ inr other
 ]
 
-pub filter-refuses : (f g : Filter) (streams : List Stream) (c : Choice) (number : ℕ) (x : Summary)
-    → g ≡ record f { refused = slice_set f.refused number true } → slice_get streams number ≡ Some (stream_of x)
-    → ((y : Summary) → stream_of y ≡ stream_of x → passes c.selectors (facts_of y) ≡ false) → IsFilter f streams c
+pub filter-refuses : (f g : Filter) (streams : List Stream) (c : Choice) (number : ℕ) (one : Stream)
+    → g ≡ record f { refused = slice_set f.refused number true } → slice_get streams number ≡ Some one
+    → ((y : Summary) → stream_of y ≡ one → passes c.selectors (facts_of y) ≡ false) → IsFilter f streams c
     → IsFilter g streams c
-filter-refuses f g streams c number x made there never is = subst (λ (h : Filter). IsFilter h streams c) (sym made)
+filter-refuses f g streams c number one made there never is = subst (λ (h : Filter). IsFilter h streams c) (sym made)
     (record {
       window = is.window;
       refused = λ k s known at. elim (get-set f.refused number k true true known) [
         | inl same ↦ record {
           refuses = λ y e.
-              let here : Some s ≡ Some (stream_of x) = sym at ∙ ap (slice_get streams) same ∙ there in
-              let one : s ≡ stream_of x = cc in
-              never y (e ∙ one);
+              let here : Some s ≡ Some one = sym at ∙ ap (slice_get streams) same ∙ there in
+              let it : s ≡ one = cc in
+              never y (e ∙ it);
         }
         | inr before ↦ is.refused k s before at
       ];

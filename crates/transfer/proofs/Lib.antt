@@ -16,3 +16,4 @@ pub mod EntryLemmas
 pub mod BestLemmas
 pub mod FilterLemmas
 pub mod SearchLemmas
+mod RefusedLemmas

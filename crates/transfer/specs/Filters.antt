@@ -1,6 +1,7 @@
 -- What a request makes of records by what a search looks at of them.
 -- SeedLink 3, SELECT, DATA, FETCH and TIME.
-use Rattle.std.specs.Prelude.{◌≡◌, ℕ, ℤ, ◌+◌, Bool, true, false, int_lt, List, slice_get, Option, Some, None}
+use Rattle.std.specs.Prelude.{◌≡◌, ℕ, ℤ, ◌+◌, ◌<◌, Bool, true, false, int_lt, List, length, slice_get, Option, Some}
+use Rattle.std.specs.Prelude.{None}
 use Rattle.protocol.specs.Pattern.{Pattern, passes}
 use Rattle.station_ring.specs.declared.held.Brief.{Brief}
 use Rattle.station_ring.specs.declared.held.Held.{Held}
@@ -45,6 +46,13 @@ pub record IsFilter (f : Filter) (streams : List Stream) (c : Choice) : Type 0 w
   pub window : IsWindow f.window c.action
   pub refused : (k : ℕ) (s : Stream) → slice_get f.refused k ≡ Some true → slice_get streams k ≡ Some s
       → Refuses c.selectors s
+
+-- No record passes the patterns of a named station: each has one of these streams, and all of them are refused. And none
+-- starts after the end of TIME.
+pub record RefusesAll (streams : List Stream) (c : Choice) : Type 0 where
+  pub few : length streams < 64
+  pub unended : (x : Held) → is_after_end c.action x ≡ false
+  pub refused : (k : ℕ) (s : Stream) → slice_get streams k ≡ Some s → Refuses c.selectors s
 
 -- What is seen of a record is so.
 pub record IsSight (c : Choice) (x : Held) (sight : Sight) : Type 0 where

@@ -5,11 +5,14 @@ ghost use Rattle.session_state.specs.NamedValues.{Choice, entry_of};
 ghost use Rattle.station_ring.specs.declared.held.Held.{Held as HeldValue};
 ghost use Rattle.station_ring.specs.declared.held.Stream.{Stream as StreamValue};
 ghost use Rattle.station_ring.specs.Briefs.{Tells, stream_of};
-ghost use Rattle.transfer.specs.Filters.{IsFilter, IsSight, IsWindow, Refuses, is_early, is_late};
+ghost use Rattle.transfer.specs.Filters.{IsFilter, IsSight, IsWindow, RefusesAll, is_early, is_late};
 
 use session_state::{Action, Entry, Session};
 use sl_time::Tick;
-use station_ring::{Brief, Summary};
+use station_ring::{Brief, Stream, Summary};
+
+/// While fewer streams of a station than these have a number, each of its records has one of them.
+const NUMBERED: usize = 64;
 
 /// When a record has to lie to be wanted.
 #[derive(Clone, Copy, Debug, PartialEq, Eq)]
@@ -130,6 +133,28 @@ impl Filter {
         ensures { self.new ≡ record self.old { refused = slice_set self.old.refused number true } }
     {
         self.refused[usize::from(number)] = true;
+    }
+
+    /// Asks the patterns of the i-th named station of its streams, up to the first that passes. Whether no record of the
+    /// station is wanted for that, and none starts after an end of TIME: all streams are refused, each record has one
+    /// of them, and no end is asked.
+    pub fn refuses_all(&mut self, session: &Session, i: usize, streams: &[Stream]) -> bool
+        requires { i < length (chosen_of session.now.mode) }
+        ensures filter { (c : Choice) → slice_get (chosen_of session.now.mode) i ≡ Some c
+            → IsFilter self.old streams.now c → IsFilter self.new streams.now c }
+        ensures all { (c : Choice) → slice_get (chosen_of session.now.mode) i ≡ Some c
+            → IsFilter self.old streams.now c → result ≡ true → RefusesAll streams.now c }
+    {
+        if self.window.last.is_some() || streams.len() >= NUMBERED {
+            return false;
+        }
+        for (number, stream) in streams.iter().enumerate() {
+            if session.passes(i, &stream.location, &stream.channel, stream.kind) {
+                return false;
+            }
+            self.refuse(number as u8);
+        }
+        true
     }
 
     /// Asks the patterns of the i-th named station of a stream that a record has, if it has a number.

@@ -138,6 +138,9 @@ pub(crate) fn search(ring: &Ring, session: &Session, i: usize, next: u64, from: 
     let _end = ring.pushes();
     let briefs = ring.briefs_from(from.place);
     let mut filter = Filter::of(session.choice(i));
+    if filter.refuses_all(session, i, briefs.streams) {
+        return at_end(ring, from.ended);
+    }
     match pass_briefs(ring, briefs.older, session, i, next, from, &mut filter) {
         Passed::Found(cursor) => cursor,
         Passed::All(ended) => {

@@ -14,5 +14,7 @@ invariant_of-self c =
     } in
     briefs-put c.self.inside.streams c.number-stream.new.self c.self.inside.held c.put_held.new.held
     c.self.inside.briefs c.put_brief.new.briefs x b c.put_held.ensures c.put_brief.ensures c.number-stream.ensures.keeps
-    (tells-made c.number-stream.new.self x b c.stream.result refl refl c.stream.ensures c.number-stream.ensures.there)
+    c.number-stream.ensures.grows
+    (tells-made c.number-stream.new.self x b c.stream.result refl refl c.stream.ensures c.number-stream.ensures.there
+    c.number-stream.ensures.full)
     c.self.invariant.0 c.self.invariant.1 c.self.invariant.2
