@@ -1,6 +1,6 @@
 -- Stations whose codes are distinct, one after the other.
 use Rattle.std.proofs.Common.{◌≡◌, ℕ, ◌+◌, ◌<◌, ◌≤◌, zero, suc, inl, inr, Bool, ◌&&◌, true, false, List, [], ◌∷◌, ◌++◌}
-use Rattle.std.proofs.Common.{length, get_or, refl, sym, ap, ◌∙◌, subst, arith, below_more, length-append}
+use Rattle.std.proofs.Common.{length, get_or, None, refl, sym, ap, ◌∙◌, subst, arith, below_more, length-append}
 use Rattle.std.specs.Str.{bytes_eq}
 use Rattle.std.proofs.Math.Seq.{get_or-append_seam}
 use Rattle.std.proofs.lemmas.Bool.{false≢true}
@@ -12,6 +12,10 @@ use Rattle.std.proofs.lemmas.Slice.Eq.{bytes_eq-Decides}
 use Rattle.protocol.specs.Catalog.{Entry, Station, has_codes}
 use Rattle.catalog.specs.Places.{station_at, nowhere, HasDistinctCodes, SameCodes}
 use Rattle.catalog.specs.Reading.{is_repeated}
+
+-- an entry where none is
+pub nothing : Entry
+nothing = record { station = nowhere; access = None }
 
 -- the station at a place that is there
 pub at_place : (es : List Entry) (i : ℕ) (d : Entry) → i < length es → station_at es i ≡ (get_or es i d).station

@@ -1,37 +1,155 @@
 -- The first of some stations that has codes.
-use Rattle.std.proofs.Common.{◌≡◌, ℕ, ◌+◌, ◌<◌, Bool, true, false, List, length, drop, get_or, map, find, slice_get}
-use Rattle.std.proofs.Common.{Option, Some, None, refl, sym, arith}
+use Rattle.std.proofs.Common.{◌≡◌, ℕ, ◌+◌, ◌<◌, ◌≤◌, zero, suc, Bool, true, false, List, [], ◌∷◌, length, drop, get_or}
+use Rattle.std.proofs.Common.{map, find, Option, Some, None, Result, Ok, Err, All, inl, inr, refl, sym, ap, ◌∙◌, subst, arith}
+use Rattle.std.specs.Prelude.{cond}
+use Rattle.std.specs.List.{position, position_or_len}
+use Rattle.std.specs.List.Sorted.{IsBinarySearchResult}
+use Rattle.std.specs.Ordering.{nat_cmp}
+use Rattle.std.proofs.lemmas.Bool.Decides.{leb_tells}
+use Rattle.std.proofs.lemmas.Grind.{common_steps}
 use Rattle.std.proofs.lemmas.List.{drop_more}
-use Rattle.std.proofs.lemmas.Option.{gets}
-use Rattle.protocol.specs.Catalog.{Entry, Station, View, find_station}
-use Rattle.catalog.specs.Places.{station_at}
-use Rattle.catalog.specs.Finding.{fits}
+use Rattle.std.proofs.lemmas.List.Elements.{All-get_or}
+use Rattle.std.proofs.lemmas.List.Quantifiers.{position-Some}
+use Rattle.std.proofs.lemmas.List.Sorted.{searched}
+use Rattle.std.proofs.lemmas.List.Sums.{fails_before_first}
+use Rattle.protocol.specs.Catalog.{Entry, Station, View, find_station, has_codes}
+use Rattle.catalog.specs.Places.{station_at, AreRising, HasDistinctCodes}
+use Rattle.catalog.specs.Finding.{has_code}
+use Rattle.catalog.proofs.DistinctLemmas.{at_place, nothing}
+use Rattle.catalog.proofs.IndexLemmas.{same_codes}
 
--- the station that a client means is the first that fits
-pub find_station_fits : (v : View) (code : List ℕ) (network : Option (List ℕ))
-    → find_station v code network ≡ find (fits code network) v.stations
-find_station_fits v code None = refl
-find_station_fits v code (Some n) = refl
+-- the station that a client means is the first that has its codes
+pub find_station_fits : (v : View) (code : List ℕ) → find_station v code None ≡ find (has_code code) v.stations
+find_station_fits v code = refl
 
 -- the station at a place that is there
-at_place : (es : List Entry) (k : ℕ) (e : Entry) → k < length es → e ≡ get_or es k e → station_at es k ≡ e.station
-at_place es k e lt is =
-    let at : get_or es k e ≡ e = sym is in
-    let some : slice_get es k ≡ Some e = grind (arith, gets) in
-    rw some refl
+station_there : (es : List Entry) (k : ℕ) (e : Entry) → k < length es → e ≡ get_or es k e
+    → station_at es k ≡ e.station
+station_there es k e lt is = at_place es k e lt ∙ sym (ap (λ (x : Entry). x.station) is)
 
 -- the places from one on
 abbrev pub from_place : (Station → Bool) → List Entry → List ℕ → ℕ → Option Station
 from_place p es ps i = find p (map (station_at es) (drop i ps))
 
--- it has the codes
+-- it has the code
 pub found-here : (p : Station → Bool) (es : List Entry) (ps : List ℕ) (i : ℕ) (e : Entry) → i < length ps
     → get_or ps i 0 < length es → e ≡ get_or es (get_or ps i 0) e → p e.station ≡ true
     → from_place p es ps i ≡ Some (station_at es (get_or ps i 0))
-found-here p es ps i e lt within is y = rw (drop_more ps i 0 lt, at_place es (get_or ps i 0) e within is, y) refl
+found-here p es ps i e lt within is y = rw (drop_more ps i 0 lt, station_there es (get_or ps i 0) e within is, y) refl
 
 -- it hasn't
 pub passed-by : (p : Station → Bool) (es : List Entry) (ps : List ℕ) (i : ℕ) (e : Entry) → i < length ps
     → get_or ps i 0 < length es → e ≡ get_or es (get_or ps i 0) e → p e.station ≡ false
     → from_place p es ps i ≡ from_place p es ps (i + 1)
-passed-by p es ps i e lt within is n = rw (drop_more ps i 0 lt, at_place es (get_or ps i 0) e within is, n) refl
+passed-by p es ps i e lt within is n = rw (drop_more ps i 0 lt, station_there es (get_or ps i 0) e within is, n) refl
+
+-- ---- stations with distinct codes
+
+-- a station that passes, or else the first of the rest
+pick : (b : Bool) (s t : Station) (rest : Option Station) → (b ≡ true → s ≡ t) → rest ≡ Some t
+    → cond b (Some s) rest ≡ Some t
+pick true s t rest same later = ap Some (same refl)
+pick false s t rest same later = later
+
+module _ (p : Station → Bool) (es : List Entry) where
+  -- no station of the places passes
+  nobody : (ps : List ℕ) → ((k : ℕ) → k < length ps → p (station_at es (get_or ps k 0)) ≡ false)
+      → find p (map (station_at es) ps) ≡ None
+  nobody [] fails = refl
+  nobody (x ∷ ps) fails = rw (fails 0 (omega arith)) (nobody ps (λ k h. fails (suc k) (omega (arith, h))))
+
+  -- that of one place does, and that of no other
+  somebody : (ps : List ℕ) (i n : ℕ) → i < length ps → get_or ps i 0 ≡ n → p (station_at es n) ≡ true
+      → ((k : ℕ) → k < length ps → p (station_at es (get_or ps k 0)) ≡ true → get_or ps k 0 ≡ n)
+      → find p (map (station_at es) ps) ≡ Some (station_at es n)
+  somebody [] i n h at holds alone = absurd (omega (arith, h))
+  somebody (x ∷ ps) zero n h at holds alone =
+      let here : p (station_at es x) ≡ true = ap (λ k. p (station_at es k)) at ∙ holds in
+      rw here (ap (λ k. Some (station_at es k)) at)
+  somebody (x ∷ ps) (suc i) n h at holds alone =
+      pick (p (station_at es x)) (station_at es x) (station_at es n) (find p (map (station_at es) ps))
+      (λ here. ap (station_at es) (alone 0 (omega arith) here))
+      (somebody ps i n (omega (arith, h)) at holds (λ k lt passes. alone (suc k) (omega (arith, lt)) passes))
+
+-- no entry passes where none is the first
+none_passes : (p : Entry → Bool) (es : List Entry) (k : ℕ) (d : Entry) → position p es ≡ None → k < length es
+    → p (get_or es k d) ≡ false
+none_passes p es k d none h =
+    let far : length es ≤ position_or_len p es = grind (arith, common_steps) in
+    fails_before_first p es k d (omega arith)
+
+-- a station has the codes where its entry does
+codes_at : (es : List Entry) (k : ℕ) (d : Entry) (network code : List ℕ) → k < length es
+    → has_codes network code (station_at es k) ≡ has_codes network code (get_or es k d).station
+codes_at es k d network code h = ap (has_codes network code) (at_place es k d h)
+
+module _ (es : List Entry) (ps : List ℕ) (network code : List ℕ) (within : All (λ k. k < length es) ps) where
+  below : (k : ℕ) → k < length ps → get_or ps k 0 < length es
+  below k h = All-get_or (λ k. k < length es) ps k 0 h within
+
+  -- no station has the codes
+  pub nowhere_found : position (λ e. has_codes network code e.station) es ≡ None
+      → find (has_codes network code) (map (station_at es) ps) ≡ None
+  nowhere_found none = nobody (has_codes network code) es ps
+      (λ k h. codes_at es (get_or ps k 0) nothing network code (below k h)
+      ∙ none_passes (λ e. has_codes network code e.station) es (get_or ps k 0) nothing none (below k h))
+
+  module _ (distinct : HasDistinctCodes es) (n : ℕ)
+      (first : position (λ e. has_codes network code e.station) es ≡ Some n) where
+    has : has_codes network code (station_at es n) ≡ true
+    has =
+        let found = position-Some (λ e. has_codes network code e.station) es n nothing first in
+        codes_at es n nothing network code found.0 ∙ found.1
+
+    -- a place whose station has them too
+    alone : (k : ℕ) → k < length es → has_codes network code (station_at es k) ≡ true → k ≡ n
+    alone k h holds =
+        let one = same_codes (station_at es k) network code holds in
+        let other = same_codes (station_at es n) network code has in
+        distinct k n h (one.0 ∙ sym other.0, one.1 ∙ sym other.1)
+
+    -- the station that has them is at one of the places
+    pub place_found : (i : ℕ) → i < length ps → get_or ps i 0 ≡ n
+        → find (has_codes network code) (map (station_at es) ps) ≡ Some (station_at es n)
+    place_found i h at =
+        somebody (has_codes network code) es ps i n h at has (λ k lt holds. alone (get_or ps k 0) (below k lt) holds)
+
+    -- it is at none of them
+    pub place_hidden : ((k : ℕ) → k < length ps → get_or ps k 0 ≡ n → ⊥)
+        → find (has_codes network code) (map (station_at es) ps) ≡ None
+    place_hidden gone = nobody (has_codes network code) es ps
+        (λ k h. by (has_codes network code (station_at es (get_or ps k 0))) k h refl)
+      where
+        by : (b : Bool) (k : ℕ) → k < length ps → has_codes network code (station_at es (get_or ps k 0)) ≡ b
+            → b ≡ false
+        by false k h is = refl
+        by true k h is = absurd (gone k h (alone (get_or ps k 0) (below k h) is))
+
+-- ---- halving
+
+-- places that rise never fall
+level : (ps : List ℕ) → AreRising ps → (i j : ℕ) → i ≤ j → j < length ps → get_or ps i 0 ≤ get_or ps j 0
+level ps rising i j le lt =
+    elim (leb_tells j i) [
+      | inl same ↦
+          let back : j ≤ i = same.1 in
+          let one : i ≡ j = omega arith in
+          subst (λ k. get_or ps i 0 ≤ get_or ps k 0) one (omega arith)
+      | inr less ↦ omega (arith, rising i j 0 less.1 lt)
+    ]
+
+-- a place that halving finds
+pub halved : (ps : List ℕ) (x i : ℕ) (r : Result ℕ ℕ) → r ≡ Ok i → AreRising ps
+    → IsBinarySearchResult (λ y. nat_cmp y x) ps r → (i < length ps) × (get_or ps i 0 ≡ x)
+halved ps x i r is rising says =
+    rw is at (searched ps x r says (level ps rising))
+
+-- a place that it doesn't
+pub unhalved : (ps : List ℕ) (x i : ℕ) (r : Result ℕ ℕ) → r ≡ Err i → AreRising ps
+    → IsBinarySearchResult (λ y. nat_cmp y x) ps r → (k : ℕ) → k < length ps → get_or ps k 0 ≡ x → ⊥
+unhalved ps x i r is rising says k lt at =
+    let found = rw is at (searched ps x r says (level ps rising)) in
+    elim (leb_tells i k) [
+      | inl after ↦ absurd (omega (arith, found.2 k after.1 lt, at))
+      | inr before ↦ absurd (omega (arith, found.1 k before.1, at))
+    ]

@@ -1,7 +1,7 @@
 -- An index of stations' codes, one station after the other.
 use Rattle.std.proofs.Common.{◌≡◌, ℕ, ◌+◌, ◌<◌, ◌≤◌, suc, inl, inr, Bool, ◌&&◌, true, false, List, [], ◌∷◌, ◌++◌}
 use Rattle.std.proofs.Common.{length, take, get_or, All, Option, Some, None, refl, sym, ap, ◌∙◌, subst, arith}
-use Rattle.std.specs.Prelude.{cond}
+use Rattle.std.specs.Prelude.{cond, IfSome}
 use Rattle.std.specs.List.{position, position_from}
 use Rattle.std.specs.Str.{bytes_eq}
 use Rattle.std.specs.HashMap.{IsEmpty, Updates}
@@ -10,6 +10,7 @@ use Rattle.std.proofs.lemmas.Bool.{false≢true}
 use Rattle.std.proofs.lemmas.Bool.Decides.{leb_tells}
 use Rattle.std.proofs.lemmas.List.{get_or-take, length-take-le, take_more}
 use Rattle.std.proofs.lemmas.List.Elements.{All-get_or}
+use Rattle.std.proofs.lemmas.List.Quantifiers.{position-Some}
 use Rattle.std.proofs.lemmas.Iterator.Adapters.{position_from-zero}
 use Rattle.std.proofs.lemmas.Slice.Eq.{bytes_eq-Decides}
 use Rattle.protocol.specs.Catalog.{Entry, Station, has_codes}
@@ -17,7 +18,7 @@ use Rattle.protocol.specs.Reading.{Not}
 use Rattle.catalog.specs.Indexing.{Places, codes_eq, key, place_in, first_place, AreShort, Finds, HasShortCodes}
 use Rattle.catalog.specs.Places.{station_at, HasDistinctCodes, SameCodes}
 use Rattle.catalog.specs.declared.index.Codes.{Codes}
-use Rattle.catalog.proofs.DistinctLemmas.{at_place}
+use Rattle.catalog.proofs.DistinctLemmas.{at_place, nothing}
 
 -- ---- keys
 
@@ -32,7 +33,7 @@ both_pass true true e = (refl, refl)
 both_pass true false e = absurd (false≢true e)
 both_pass false b e = absurd (false≢true e)
 
-same_codes : (s : Station) (network code : List ℕ) → has_codes network code s ≡ true
+pub same_codes : (s : Station) (network code : List ℕ) → has_codes network code s ≡ true
     → (s.network ≡ network) × (s.code ≡ code)
 same_codes s network code e =
     let each = both_pass (bytes_eq s.network network) (bytes_eq s.code code) e in
@@ -177,3 +178,12 @@ place_found m es network code r short finds found none =
       ]
       | inr more ↦ gone (λ both. let over = more.1 in let under = both.0 in absurd (omega (arith, over, under)))
     ]
+
+-- a place that is found is one of the stations'
+pub few_places : (es : List Entry) (network code : List ℕ) (r : Option ℕ) → r ≡ first_place es network code
+    → length es ≤ 1024 → IfSome r (λ place. place < 1024)
+few_places es network code None is few = tt
+few_places es network code (Some k) is few =
+    let found = position-Some (λ e. has_codes network code e.station) es k nothing (sym is) in
+    let there : k < length es = found.0 in
+    omega arith

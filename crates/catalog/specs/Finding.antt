@@ -1,12 +1,11 @@
--- Which station a client means by codes.
-use Rattle.std.specs.Prelude.{ℕ, ◌<◌, Bool, List, length, Option, Some, None}
+-- Which station a client means by a code alone.
+use Rattle.std.specs.Prelude.{ℕ, ◌<◌, Bool, List, length}
 use Rattle.std.specs.Str.{bytes_eq}
-use Rattle.protocol.specs.Catalog.{Entry, Station, has_codes}
+use Rattle.protocol.specs.Catalog.{Entry, Station}
 
--- a station has that code, and that network where one is named
-abbrev pub fits : List ℕ → Option (List ℕ) → Station → Bool
-fits code (Some network) s = has_codes network code s
-fits code None s = bytes_eq s.code code
+-- a station has that code
+abbrev pub has_code : List ℕ → Station → Bool
+has_code code s = bytes_eq s.code code
 
 -- a place is one of these stations'
 abbrev pub IsWithin : List Entry → ℕ → Type 0

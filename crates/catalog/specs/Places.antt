@@ -1,5 +1,6 @@
 -- Stations that are named by their places in a configuration.
 use Rattle.std.specs.Prelude.{◌≡◌, ℕ, ◌<◌, List, [], length, map, slice_get, option_map, unwrap_or}
+use Rattle.std.specs.List.{AllPairs}
 use Rattle.protocol.specs.Catalog.{Config, Entry, Station, View}
 
 -- the station of a place that is not there
@@ -13,6 +14,10 @@ station_at entries place = unwrap_or (option_map (λ e. e.station) (slice_get en
 -- the view that the places are
 abbrev pub view_in : Config → List ℕ → View
 view_in config places = record { title = config.title; stations = map (station_at config.entries) places }
+
+-- each of the places is below those after it
+abbrev pub AreRising : List ℕ → Type 0
+AreRising places = AllPairs (λ p q. p < q) places
 
 -- a place at which the configuration has a station
 abbrev pub IsPlace : Config → ℕ → Type 0

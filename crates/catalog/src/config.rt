@@ -1,6 +1,6 @@
 //! What a server is set up with.
-ghost use Rattle.std.specs.Prelude.{◌≡◌, ◌≢◌, ◌≤◌, All, length, slice_get, option_map, unwrap_or, false, IfOk, IfErr};
-ghost use Rattle.std.specs.Prelude.{OnOk, Ok, Err, Some, None};
+ghost use Rattle.std.specs.Prelude.{◌≡◌, ◌≢◌, ◌<◌, ◌≤◌, All, length, slice_get, option_map, unwrap_or, false, IfOk, IfErr};
+ghost use Rattle.std.specs.Prelude.{OnOk, Ok, Err, Some, None, IfSome};
 ghost use Rattle.std.specs.List.{position};
 ghost use Rattle.std.specs.Str.{IsUtf8};
 ghost use Rattle.std.specs.Net.Addr.{ipv4_bits};
@@ -190,9 +190,10 @@ impl Config {
         self.stations.as_slice()
     }
 
-    /// The place of the first station with these codes, byte for byte, found by halving.
+    /// The place of the first station with these codes, byte for byte, found by their hash.
     pub fn place_of(&self, network: &[u8], code: &[u8]) -> Option<usize>
-        ensures { result ≡ position (λ e. has_codes network.now code.now e.station) self.now.entries }
+        ensures value { result ≡ position (λ e. has_codes network.now code.now e.station) self.now.entries }
+        ensures few { IfSome result (λ place. place < 1024) }
     {
         self.index.place_of(network, code)
     }
