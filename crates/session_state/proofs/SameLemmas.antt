@@ -1,12 +1,15 @@
 -- Two stations of a configuration are the same where their places are.
-use Rattle.std.proofs.Common.{◌≡◌, ℕ, ◌<◌, ◌&&◌, true, false, nat_eq, List, length, refl, sym, ap, ap₂, ◌∙◌, arith}
+use Rattle.std.proofs.Common.{◌≡◌, ℕ, ◌<◌, ◌&&◌, true, false, nat_eq, Bool, List, [], ◌∷◌, length, refl, sym, ap, ap₂, ◌∙◌, arith}
+use Rattle.std.specs.List.{position, position_or_len}
 use Rattle.std.specs.Str.{bytes_eq}
 use Rattle.std.proofs.lemmas.Bool.{and_parts}
 use Rattle.std.proofs.lemmas.Bool.Decides.{nat_tests}
 use Rattle.std.proofs.lemmas.Slice.Eq.{bytes_eq-Decides}
-use Rattle.protocol.specs.Catalog.{Entry, Station, has_codes}
+use Rattle.protocol.specs.Catalog.{Config, Entry, Station, has_codes}
 use Rattle.protocol.proofs.FoundLemmas.{both}
 use Rattle.catalog.specs.Places.{station_at, HasDistinctCodes}
+use Rattle.session_state.specs.declared.choices.Entry.{Entry as NamedEntry}
+use Rattle.session_state.specs.Choices.{is_entry_of_station}
 
 has-own : (s : Station) → has_codes s.network s.code s ≡ true
 has-own s =
@@ -31,4 +34,21 @@ same-place entries place named distinct within =
     let wrong : true ≡ false = sym equal ∙ n in cc))
     (λ other. sym other))
 
-pub ruleset same_lemmas = (same-place)
+-- two tests that answer alike pass first at the same place
+alike : (p q : NamedEntry → Bool) → ((e : NamedEntry) → p e ≡ q e) → (es : List NamedEntry)
+    → position_or_len p es ≡ position_or_len q es
+alike p q same [] = refl
+alike p q same (e ∷ es) = rw (same e, alike p q same es) refl
+
+-- the first entry of that station is the first at its place
+pub same-position : (config : Config) (place : ℕ) (es : List NamedEntry) → HasDistinctCodes config.entries
+    → place < length config.entries → position (λ e. nat_eq e.place place) es
+    ≡ position (is_entry_of_station config (station_at config.entries place)) es
+same-position config place es distinct within =
+    let p : NamedEntry → Bool = λ e. nat_eq e.place place in
+    let q : NamedEntry → Bool = is_entry_of_station config (station_at config.entries place) in
+    let same : position_or_len p es ≡ position_or_len q es =
+    alike p q (λ e. same-place config.entries place e.place distinct within) es in
+    rw same refl
+
+pub ruleset same_lemmas = (same-place, same-position)

@@ -1,5 +1,5 @@
 //! The stations that a client named, with the selectors of each.
-ghost use Rattle.std.specs.Prelude.{◌≡◌, ◌<◌, ◌∷◌, [], None, Some, IfOk, IfSome, length, map, option_map, slice_get};
+ghost use Rattle.std.specs.Prelude.{◌≡◌, ◌==◌, ◌<◌, ◌∷◌, [], None, Some, IfOk, IfSome, length, map, option_map, slice_get};
 ghost use Rattle.std.specs.Prelude.{slice_set, filter_map, is_some, position};
 ghost use Rattle.std.specs.List.{list_any};
 ghost use Rattle.protocol.specs.Catalog.{Config as ProtocolConfig, has_codes};
@@ -37,26 +37,33 @@ fn codes_at(config: &Config, place: usize) -> (&[u8], &[u8])
     }
 }
 
-/// Whether the station at a place has the codes of that at another. No two stations of a configuration have the same,
-/// so that the places of two that are there tell it.
-#[tactic(auto, using(crate::proofs::SameLemmas::same_lemmas))]
+/// Whether the station at a place has the codes of that at another.
 fn is_same_station(config: &Config, named: usize, place: usize) -> bool
     ensures { result ≡ has_codes (station_at config.now.entries place).network
         (station_at config.now.entries place).code (station_at config.now.entries named) }
 {
-    if place < config.stations().len() {
-        config.codes_are_distinct();
-        return named == place;
-    }
     let (network, code) = codes_at(config, place);
     let (other_network, other_code) = codes_at(config, named);
     other_network == network && other_code == code
 }
 
-/// The place among the entries of the first that is of the station at a place of the configuration.
+/// The place among the entries of the first that is at a place of the configuration.
+fn position_at(entries: &[Entry], place: usize) -> Option<usize>
+    ensures { result ≡ position (λ e. e.place == place) entries.now }
+{
+    entries.iter().position(|entry| entry.place == place)
+}
+
+/// The place among the entries of the first that is of the station at a place of the configuration. No two stations of
+/// a configuration have the same codes, so that the place of one that is there tells it.
+#[tactic(auto, using(crate::proofs::SameLemmas::same_lemmas))]
 fn position_among(entries: &[Entry], config: &Config, place: usize) -> Option<usize>
     ensures { result ≡ position (is_entry_of_station config.now (station_at config.now.entries place)) entries.now }
 {
+    if place < config.stations().len() {
+        config.codes_are_distinct();
+        return position_at(entries, place);
+    }
     entries
         .iter()
         .position(|entry| is_same_station(config, entry.place, place))

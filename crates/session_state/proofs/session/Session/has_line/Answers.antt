@@ -10,7 +10,7 @@ pub returns-in-Listing-clause-line : goal.returns-in-Listing-clause-line
 returns-in-Listing-clause-line c = λ config made e.
     let long : length c.places-all.result.now
     ≡ length c.args.self.now.places =
-    ap length (c.places-all.ensures ∙ ap (λ (s : SessionValue). s.places) c.self.view_is) in
+    ap length (c.places-all.ensures.value ∙ ap (λ (s : SessionValue). s.places) c.self.view_is) in
     let same : c.in-Listing.made ≡ made = same-listing c.in-Listing.made made
     (sym (ap (λ (s : SessionValue). s.state) (sym c.self.view_is) ∙ c.in-Listing.is) ∙ e) in
     subst (λ m. nat_le c.in-Listing.made (length c.places-all.result.now)
