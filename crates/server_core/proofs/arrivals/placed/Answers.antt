@@ -8,7 +8,7 @@ returns-in-Some-clause-ok c = record {
   facts = c.in-Ok.header;
   is_read = sym c.in-Ok.ensures;
   at = ap₂ (λ network station. position (λ e. has_codes network station e.station) c.args.config.now.entries)
-      (sym c.network.ensures.code) (sym c.station.ensures.code) ∙ sym c.in-Some.ensures;
+      (sym c.network.ensures.code) (sym c.station.ensures.code) ∙ sym c.in-Some.ensures.value;
   kept = sym c.summary_of.ensures;
 }
 
@@ -16,4 +16,4 @@ pub returns-in-None-clause-err : goal.returns-in-None-clause-err
 returns-in-None-clause-err c =
     placed-unknown c.args.config.now c.args.bytes.now c.in-Ok.header (sym c.in-Ok.ensures)
     (ap₂ (λ network station. position (λ e. has_codes network station e.station) c.args.config.now.entries)
-    (sym c.network.ensures.code) (sym c.station.ensures.code) ∙ sym c.in-None.ensures)
+    (sym c.network.ensures.code) (sym c.station.ensures.code) ∙ sym c.in-None.ensures.value)
