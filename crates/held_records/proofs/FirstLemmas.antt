@@ -1,12 +1,14 @@
 -- Where a request for a number begins, and what a push leaves of the rings.
-use Rattle.std.proofs.Common.{◌≡◌, refl, ◌≢◌, ℕ, ◌-◌, ◌<◌, ◌≤◌, false, Bool, List, [], ◌∷◌, length, Some, None, suc}
+use Rattle.std.proofs.Common.{◌≡◌, refl, ◌≢◌, ℕ, ◌+◌, ◌-◌, ◌<◌, ◌≤◌, false, Bool, List, [], ◌∷◌, length, Some, None, suc}
 use Rattle.std.proofs.Common.{zero, arith, sym, ap, subst, ◌∙◌, unwrap_or, slice_get, slice_set, get_or, All}
 use Rattle.std.specs.Prelude.{◌==◌, if◌then◌else◌}
+use Rattle.std.proofs.lemmas.Bool.Decides.{nat_tests}
+use Rattle.protocol.proofs.FoundLemmas.{both}
 use Rattle.station_ring.specs.declared.held.Held.{Held}
 use Rattle.station_ring.specs.Rings.{RingValue, IsRing, Grows, first_place, held_at, number_at, place_with}
 use Rattle.station_ring.proofs.GrowthLemmas.{held_at-low}
 use Rattle.station_ring.proofs.NumberLemmas.{place_with_law}
-use Rattle.held_records.specs.Rings.{AllGrow, IsBefore, IsBehind, place_from}
+use Rattle.held_records.specs.Rings.{AllGrow, GrowByOne, IsBefore, IsBehind, place_from}
 use Rattle.held_records.proofs.PlaceLemmas.{is_held}
 
 -- Before the oldest place nothing is held.
@@ -97,3 +99,50 @@ grow-at (y ∷ rings) (suc place) b r there grows zero x at = record { ring = x;
 grow-at (y ∷ rings) (suc place) b r there grows (suc k) x at =
     let more = grow-at rings place b r there grows k x at in
     record { ring = more.ring; is_there = more.is_there; grows = more.grows }
+
+-- how much longer a ring is at a place once another ring is put at one
+longer-at : (rings : List RingValue) (place : ℕ) (p r : RingValue) → slice_get rings place ≡ Some p
+    → r.pushes ≡ p.pushes + 1 → (i : ℕ) (a b : RingValue) → slice_get rings i ≡ Some a
+    → slice_get (slice_set rings place r) i ≡ Some b
+    → (b.pushes ≤ a.pushes + 1) × (i ≢ place → b.pushes ≡ a.pushes)
+longer-at [] place p r there longer i a b was is = absurd cc
+longer-at (y ∷ rings) zero p r there longer zero a b was is =
+    let same : a ≡ p = ap (λ o. unwrap_or o a) (sym was ∙ there) in
+    let new : b ≡ r = ap (λ o. unwrap_or o b) (sym is) in
+    let pushes : a.pushes ≡ p.pushes = ap (λ (x : RingValue). x.pushes) same in
+    let more : b.pushes ≡ r.pushes = ap (λ (x : RingValue). x.pushes) new in
+    (omega arith, λ apart. absurd (apart refl))
+longer-at (y ∷ rings) zero p r there longer (suc i) a b was is =
+    let pushes : b.pushes ≡ a.pushes = ap (λ (x : RingValue). x.pushes) (ap (λ o. unwrap_or o b) (sym is ∙ was)) in
+    (omega arith, λ apart. pushes)
+longer-at (y ∷ rings) (suc place) p r there longer zero a b was is =
+    let pushes : b.pushes ≡ a.pushes = ap (λ (x : RingValue). x.pushes) (ap (λ o. unwrap_or o b) (sym is ∙ was)) in
+    (omega arith, λ apart. pushes)
+longer-at (y ∷ rings) (suc place) p r there longer (suc i) a b was is =
+    let step = longer-at rings place p r there longer i a b was is in
+    (step.0, λ apart. step.1 (λ e. apart (ap suc e)))
+
+-- no ring is new
+none-new : (rings : List RingValue) (place : ℕ) (r : RingValue) (i : ℕ)
+    → slice_get (slice_set rings place r) i ≡ None → slice_get rings i ≡ None
+none-new [] place r i none = refl
+none-new (y ∷ rings) zero r zero none = absurd cc
+none-new (y ∷ rings) zero r (suc i) none = none
+none-new (y ∷ rings) (suc place) r zero none = absurd cc
+none-new (y ∷ rings) (suc place) r (suc i) none = none-new rings place r i none
+
+-- A record more was pushed to one ring.
+pub grow-one : (rings : List RingValue) (place : ℕ) (p r : RingValue) → slice_get rings place ≡ Some p
+    → r.pushes ≡ p.pushes + 1 → GrowByOne rings (slice_set rings place r)
+grow-one rings place p r there longer = record {
+  two = λ i j a b x y apart was_i is_i was_j is_j.
+      let first = longer-at rings place p r there longer i a b was_i is_i in
+      let second = longer-at rings place p r there longer j x y was_j is_j in
+      both (i == place)
+      (λ e. let here : i ≡ place = grind (arith, nat_tests) in
+      let other : j ≢ place = λ f. apart (here ∙ sym f) in
+      omega (arith, first.0, second.1 other))
+      (λ e. let other : i ≢ place = λ f. absurd (grind (arith, nat_tests)) in
+      omega (arith, first.1 other, second.0));
+  nowhere = λ i none. none-new rings place r i none;
+}

@@ -1,7 +1,7 @@
 -- What a server holds of all that arrived: a ring for each station, of that station's arrivals.
 -- SeedLink 3, sequence numbers. Left out: which records are accepted.
 use Rattle.std.specs.Prelude.{◌≡◌, ℕ, ◌+◌, ◌<◌, ◌≤◌, ◌==◌, if◌then◌else◌, unwrap_or, Some, List, [], ◌∷◌, length, map}
-use Rattle.std.specs.Prelude.{slice_get, true, All}
+use Rattle.std.specs.Prelude.{◌≢◌, None, slice_get, true, All}
 use Rattle.protocol.specs.Record.{Facts}
 use Rattle.protocol.specs.Catalog.{Config, Station}
 use Rattle.protocol.specs.History.{Arrival, is_of, number_at}
@@ -83,3 +83,9 @@ pub record WasThere (before : List RingValue) (place : ℕ) (r : RingValue) : Ty
 -- the same of each ring
 abbrev pub AllGrow : List RingValue → List RingValue → Type 0
 AllGrow before after = (place : ℕ) (r : RingValue) → slice_get after place ≡ Some r → WasThere before place r
+
+-- Of no two rings together more than one record more was pushed, and no ring is new.
+pub record GrowByOne (before after : List RingValue) : Type 0 where
+  pub two : (i j : ℕ) (a b x y : RingValue) → i ≢ j → slice_get before i ≡ Some a → slice_get after i ≡ Some b
+      → slice_get before j ≡ Some x → slice_get after j ≡ Some y → b.pushes + y.pushes ≤ a.pushes + x.pushes + 1
+  pub nowhere : (i : ℕ) → slice_get after i ≡ None → slice_get before i ≡ None

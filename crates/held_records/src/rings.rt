@@ -8,8 +8,8 @@ ghost use Rattle.std.specs.List.{list_any};
 ghost use Rattle.station_ring.specs.declared.held.Held.{Held};
 ghost use Rattle.catalog.specs.Places.{station_at, HasDistinctCodes};
 ghost use Rattle.station_ring.specs.Rings.{RingValue, pushed, number_at, held_at, place_with};
-ghost use Rattle.held_records.specs.Rings.{AllGrow, AreBehind, IsBefore, IsBehind, holdings_of, place_from, ring_of};
-ghost use Rattle.held_records.specs.Rings.{summary_of};
+ghost use Rattle.held_records.specs.Rings.{AllGrow, AreBehind, GrowByOne, IsBefore, IsBehind, holdings_of, place_from};
+ghost use Rattle.held_records.specs.Rings.{ring_of, summary_of};
 
 use catalog::Config;
 use sl_packet::Seq;
@@ -23,6 +23,7 @@ use std::marker::Model;
 pub struct Rings {
     rings: Vec<Ring>,
     arrivals: u64,
+    latest: usize,
 }
 
 impl Model for Rings {
@@ -45,7 +46,11 @@ impl Rings {
         for station in config.stations() {
             rings.push(Ring::new(alloc, station.capacity(), station.first())?)?;
         }
-        Ok(Rings { rings, arrivals: 0 })
+        Ok(Rings {
+            rings,
+            arrivals: 0,
+            latest: 0,
+        })
     }
 
     /// How many records arrived.
@@ -69,6 +74,12 @@ impl Rings {
         self.rings.get(place)
     }
 
+    /// The place of the station at which the last record arrived, or 0 before the first one. No ring says which of them
+    /// it was, so that who asks looks at that ring.
+    pub fn latest(&self) -> usize {
+        self.latest
+    }
+
     /// A record of the station at a place arrives, and has that station's next number. It takes no memory.
     ///
     /// Fewer than 2^64 - 1 records arrived before.
@@ -83,6 +94,7 @@ impl Rings {
         ensures count { length self.new.rings ≡ length self.old.rings }
         ensures arrivals { self.new.arrivals ≡ self.old.arrivals + 1 }
         ensures grow { AllGrow self.old.rings self.new.rings }
+        ensures by_one { GrowByOne self.old.rings self.new.rings }
         ensures others { (other : ℕ) → other ≢ place → slice_get self.new.rings other ≡ slice_get self.old.rings other }
     {
         let number = push_at(
@@ -93,6 +105,7 @@ impl Rings {
             summary,
         );
         self.arrivals += 1;
+        self.latest = place;
         number
     }
 
@@ -151,6 +164,7 @@ fn push_at(
     ensures number { (r : RingValue) → slice_get rings.old place ≡ Some r → result ≡ number_at r r.pushes }
     ensures behind { AreBehind (arrivals + 1) rings.new }
     ensures grow { AllGrow rings.old rings.new }
+    ensures by_one { GrowByOne rings.old rings.new }
     ensures others { (other : ℕ) → other ≢ place → slice_get rings.new other ≡ slice_get rings.old other }
 {
     rings[place].push(arrivals, bytes, summary)
