@@ -1,13 +1,14 @@
 -- A session that goes on in its transfer has still passed nothing that it wants.
 use Rattle.std.proofs.Common.{◌≡◌, ◌≢◌, ℕ, ◌+◌, ◌<◌, ◌≤◌, true, false, nat_le, List, [], refl, sym, ap, subst}
-use Rattle.std.proofs.Common.{◌∙◌, arith, codes, slice_get, Some, unwrap_or}
+use Rattle.std.proofs.Common.{◌∙◌, arith, codes, slice_get, Some, None, unwrap_or}
 use Rattle.std.specs.Prelude.{◌==◌}
 use Rattle.std.proofs.lemmas.Bool.Decides.{nat_tests}
 use Rattle.protocol.proofs.FoundLemmas.{both}
 use Rattle.station_ring.specs.declared.held.Held.{Held}
 use Rattle.station_ring.specs.Rings.{RingValue}
-use Rattle.held_records.specs.Rings.{RingsValue, AllGrow}
-use Rattle.session_state.specs.NamedValues.{Choice}
+use Rattle.held_records.specs.Rings.{RingsValue, AllGrow, GrowByOne}
+use Rattle.sl_lines.specs.declared.actions.Action.{Action}
+use Rattle.session_state.specs.NamedValues.{Choice, ahead_of}
 use Rattle.session_state.specs.declared.choices.Cursor.{Cursor}
 use Rattle.session_state.specs.declared.session.State.TheVariants.{Transfer, Ending}
 use Rattle.session_state.specs.Choices.{chosen_of}
@@ -15,8 +16,8 @@ use Rattle.session_state.specs.Sessions.{SessionValue, KeepsTransfer, but_for_cu
 use Rattle.transfer.specs.declared.choosing.Chosen.{Chosen}
 use Rattle.transfer.specs.declared.choosing.Chosen.TheVariants.{Packet, Nothing, Complete}
 use Rattle.transfer.specs.Wanting.{wants_held}
-use Rattle.transfer.specs.Cursors.{ArePassed, HasLooked, HasPassed, HasPassedAll, IsLooked, IsReached, OfAll, PassedIn}
-use Rattle.transfer.specs.Cursors.{RestedAt, RestsIn}
+use Rattle.transfer.specs.Cursors.{ArePassed, HasLooked, HasPassed, HasPassedAll, HaveLookedAt, IsLooked, IsReached}
+use Rattle.transfer.specs.Cursors.{OfAll, PassedIn, RestedAt, RestsIn}
 use Rattle.transfer.proofs.RestLemmas.{Passes}
 
 pub same-next : (q next : ℕ) → Transfer q ≡ Transfer next → q ≡ next
@@ -79,6 +80,15 @@ rests-looked rings q s kept rests = record {
   seen = λ e i c at. record {
     seen = λ r action there asked. ((rests i c at).rests r action there asked).seen;
     nowhere = (rests i c at).nowhere;
+  };
+  since = λ n e. record {
+    two = λ i j c d q r a b at_i at_j apart there_i there_j asked_i asked_j.
+        let t : Some n ≡ Some rings.arrivals = sym e ∙ kept in
+        let same : n ≡ rings.arrivals = cc in
+        let one : c.cursor.seen ≡ q.pushes = ((rests i c at_i).rests q a there_i asked_i).seen in
+        let other : d.cursor.seen ≡ r.pushes = ((rests j d at_j).rests r b there_j asked_j).seen in
+        omega arith;
+    nowhere = λ i c at. (rests i c at).nowhere;
   };
 }
 
@@ -143,6 +153,7 @@ keeps-passed rings a n keeps passed = record {
         looked = record {
           late = λ k e. old.looked.late k (sym kept ∙ e);
           seen = λ e i c at. old.looked.seen (sym kept ∙ e) i c (ap (λ m. slice_get (chosen_of m) i) (sym was.1) ∙ at);
+          since = λ k e. subst (λ m. HaveLookedAt rings k (chosen_of m)) (sym was.1) (old.looked.since k (sym kept ∙ e));
         };
       };
 }
@@ -180,17 +191,34 @@ grown-one before after next c grow passed = record {
   quiet = passed.quiet;
 }
 
+-- One record more arrived since requests looked at their rings.
+grown-since : (before after : RingsValue) (n : ℕ) (cs : List Choice) → AllGrow before.rings after.rings
+    → GrowByOne before.rings after.rings → after.arrivals ≡ before.arrivals + 1 → HaveLookedAt before n cs
+    → HaveLookedAt after n cs
+grown-since before after n cs grow by_one more since = record {
+  two = λ i j c d q r a b at_i at_j apart there_i there_j asked_i asked_j.
+      let one = grow c.place q there_i in
+      let other = grow d.place r there_j in
+      let old = since.two i j c d one.ring other.ring a b at_i at_j apart one.is_there other.is_there asked_i asked_j in
+      let now = by_one.two c.place d.place one.ring q other.ring r apart one.is_there there_i other.is_there there_j in
+      omega arith;
+  nowhere = λ i c at none. since.nowhere i c at (by_one.nowhere c.place none);
+}
+
 -- What was passed stays so while records arrive: they come behind each cursor. What was kept of the last look tells of
 -- fewer arrivals now.
 pub grown-passed : (before after : RingsValue) (s : SessionValue) → AllGrow before.rings after.rings
-    → before.arrivals < after.arrivals → ArePassed before s → ArePassed after s
+    → GrowByOne before.rings after.rings → after.arrivals ≡ before.arrivals + 1 → ArePassed before s
+    → ArePassed after s
 unfolding ArePassed
-grown-passed before after s grow more passed = record {
+grown-passed before after s grow by_one more passed = record {
   all = λ next state. record {
     passed = λ i c at. grown-one before after next c grow ((passed.all next state).passed i c at);
     looked = record {
       late = λ n e. let old = (passed.all next state).looked.late n e in omega (arith, old, more);
       seen = λ e. absurd (let old = (passed.all next state).looked.late after.arrivals e in omega (arith, old, more));
+      since = λ n e. grown-since before after n (chosen_of s.mode) grow by_one more
+          ((passed.all next state).looked.since n e);
     };
   };
 }
@@ -218,6 +246,62 @@ one-more P i cursor a n c passes at true_there all j x there = both (j == i)
     (λ m. let apart : j ≢ i = λ e. absurd (grind (arith, nat_tests)) in
     all j x (sym (passes.others j apart) ∙ there))
 
+-- A named station before one of them had another cursor: it had seen no more then.
+record Was (rings : RingsValue) (a : SessionValue) (j : ℕ) (x : Choice) : Type 0 where
+  choice : Choice
+  at : slice_get (chosen_of a.mode) j ≡ Some choice
+  place : choice.place ≡ x.place
+  action : choice.action ≡ x.action
+  seen : (r : RingValue) (action : Action) → slice_get rings.rings x.place ≡ Some r → x.action ≡ Some action
+      → choice.cursor.seen ≤ x.cursor.seen
+
+was : (rings : RingsValue) (next i : ℕ) (cursor : Cursor) (a n : SessionValue) (c : Choice) → Passes i cursor a n
+    → slice_get (chosen_of a.mode) i ≡ Some c → PassedIn rings next c
+    → RestsIn rings next (record c { cursor = cursor }) → (j : ℕ) (x : Choice)
+    → slice_get (chosen_of n.mode) j ≡ Some x → Was rings a j x
+was rings next i cursor a n c passes at old rest j x there = both (j == i)
+    (λ y. let here : j ≡ i = grind (arith, nat_tests) in
+    let is : Some x ≡ Some (record c { cursor = cursor }) = sym there ∙ ap (slice_get (chosen_of n.mode)) here
+    ∙ passes.here c at in
+    let same : record c { cursor = cursor } ≡ x = ap (λ o. unwrap_or o x) (sym is) in
+    subst (Was rings a j) same (record {
+      choice = c;
+      at = ap (slice_get (chosen_of a.mode)) here ∙ at;
+      place = refl;
+      action = refl;
+      seen = λ r action ring asked.
+          let before = (old.passed r action ring asked).seen in
+          let now = (rest.rests r action ring asked).seen in
+          omega (arith, before, now);
+    }))
+    (λ m. let apart : j ≢ i = λ e. absurd (grind (arith, nat_tests)) in
+    record {
+      choice = x;
+      at = sym (passes.others j apart) ∙ there;
+      place = refl;
+      action = refl;
+      seen = λ r action ring asked. omega arith;
+    })
+
+-- What is known of the last look stays true.
+one-since : (rings : RingsValue) (next i : ℕ) (cursor : Cursor) (a n : SessionValue) (c : Choice) (k : ℕ)
+    → Passes i cursor a n → slice_get (chosen_of a.mode) i ≡ Some c → PassedIn rings next c
+    → RestsIn rings next (record c { cursor = cursor }) → HaveLookedAt rings k (chosen_of a.mode)
+    → HaveLookedAt rings k (chosen_of n.mode)
+one-since rings next i cursor a n c k passes at old rest since = record {
+  two = λ l m x y q r e f at_l at_m apart there_l there_m asked_l asked_m.
+      let one = was rings next i cursor a n c passes at old rest l x at_l in
+      let other = was rings next i cursor a n c passes at old rest m y at_m in
+      let before = since.two l m one.choice other.choice q r e f one.at other.at
+      (λ same. apart (sym one.place ∙ same ∙ other.place)) (ap (slice_get rings.rings) one.place ∙ there_l)
+      (ap (slice_get rings.rings) other.place ∙ there_m) (one.action ∙ asked_l) (other.action ∙ asked_m) in
+      let less = one.seen q e there_l asked_l in
+      let fewer = other.seen r f there_m asked_m in
+      omega arith;
+  nowhere = one-more (λ x. slice_get rings.rings x.place ≡ None → ahead_of x.cursor ≡ None) i cursor a n c passes at
+      rest.nowhere since.nowhere;
+}
+
 pub one-rests : (rings : RingsValue) (next i : ℕ) (cursor : Cursor) (a n : SessionValue) (c : Choice)
     → Passes i cursor a n → n.looked ≡ a.looked → slice_get (chosen_of a.mode) i ≡ Some c
     → (PassedIn rings next c → RestsIn rings next (record c { cursor = cursor }))
@@ -234,5 +318,7 @@ one-rests rings next i cursor a n c passes kept at rests all =
               seen = λ r action there asked. (rest.rests r action there asked).seen;
               nowhere = rest.nowhere;
             }) (all.looked.seen (sym kept ∙ e));
+        since = λ k e. one-since rings next i cursor a n c k passes at (all.passed i c at) rest
+            (all.looked.since k (sym kept ∙ e));
       };
     }

@@ -122,6 +122,7 @@ starts-passed rings s unlooked starts begins = record {
     looked = record {
       late = λ n e. absurd (let t : None ≡ Some n = sym unlooked ∙ e in cc);
       seen = λ e. absurd (let t : None ≡ Some rings.arrivals = sym unlooked ∙ e in cc);
+      since = λ n e. absurd (let t : None ≡ Some n = sym unlooked ∙ e in cc);
     };
   };
 }

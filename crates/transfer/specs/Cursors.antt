@@ -1,6 +1,6 @@
 -- How far the requests of a transfer have come in the rings of their stations. A cursor is a place before which a
 -- request wants nothing more. SeedLink 3, DATA, FETCH and TIME. Left out: how a cursor is moved.
-use Rattle.std.specs.Prelude.{◌≡◌, ℕ, ◌+◌, ◌<◌, ◌≤◌, Bool, true, false, int_lt, if◌then◌else◌, is_some, List, [], ◌∷◌}
+use Rattle.std.specs.Prelude.{◌≡◌, ◌≢◌, ℕ, ◌+◌, ◌<◌, ◌≤◌, Bool, true, false, int_lt, if◌then◌else◌, is_some, List, [], ◌∷◌}
 use Rattle.std.specs.Prelude.{Option, Some, None, option_map, slice_get}
 use Rattle.station_ring.specs.declared.held.Held.{Held}
 use Rattle.station_ring.specs.Rings.{RingValue, IsRing, first_place, held_at}
@@ -120,11 +120,21 @@ pub record HasLooked (rings : RingsValue) (c : Choice) : Type 0 where
       → c.cursor.seen ≡ r.pushes
   pub nowhere : slice_get rings.rings c.place ≡ None → ahead_of c.cursor ≡ None
 
+-- Requests looked at their rings when so many records had arrived: since then no more was pushed to the rings of two
+-- stations together than arrived, and no ring is new.
+pub record HaveLookedAt (rings : RingsValue) (n : ℕ) (cs : List Choice) : Type 0 where
+  pub two : (i j : ℕ) (c d : Choice) (q r : RingValue) (a b : Action) → slice_get cs i ≡ Some c
+      → slice_get cs j ≡ Some d → c.place ≢ d.place → slice_get rings.rings c.place ≡ Some q
+      → slice_get rings.rings d.place ≡ Some r → c.action ≡ Some a → d.action ≡ Some b
+      → q.pushes + r.pushes + n ≤ rings.arrivals + c.cursor.seen + d.cursor.seen
+  pub nowhere : OfAll (λ c. slice_get rings.rings c.place ≡ None → ahead_of c.cursor ≡ None) cs
+
 -- What a session keeps of its last look is true: no more records had arrived then than now, and if as many had,
 -- nothing was pushed to a ring since.
 pub record IsLooked (rings : RingsValue) (s : SessionValue) : Type 0 where
   pub late : (n : ℕ) → s.looked ≡ Some n → n ≤ rings.arrivals
   pub seen : s.looked ≡ Some rings.arrivals → OfAll (HasLooked rings) (chosen_of s.mode)
+  pub since : (n : ℕ) → s.looked ≡ Some n → HaveLookedAt rings n (chosen_of s.mode)
 
 -- All requests have passed nothing that may still be wanted from position `next` on.
 pub record HasPassedAll (rings : RingsValue) (next : ℕ) (s : SessionValue) : Type 0 where
