@@ -1,3 +1,4 @@
+mod EntryLemmas
 pub mod NamedLemmas
 pub mod ModeLemmas
 pub mod ChoiceLemmas

@@ -1,14 +1,16 @@
 -- Entries and the lists of selectors beside them: what a change of one or the other is to the named stations.
 use Rattle.std.proofs.Common.{◌≡◌, ◌≢◌, ◌<◌, ◌≤◌, ◌+◌, ℕ, zero, suc, true, false, nat_lt, List, [], ◌∷◌, ◌++◌, length}
 use Rattle.std.proofs.Common.{map, drop, take, replicate, slice_get, slice_set, Option, Some, None, IfSome, option_map}
-use Rattle.std.proofs.Common.{unwrap_or, is_some, refl, sym, ap, ap₂, subst, ◌∙◌, arith, length-set}
+use Rattle.std.proofs.Common.{unwrap_or, is_some, get_or, Bool, refl, sym, ap, ap₂, subst, ◌∙◌, arith, length-set}
 use Rattle.std.specs.Prelude.{◌||◌, ◌↔◌, Result, Ok, Err, IsOk, OnOk, OnErr}
 use Rattle.std.specs.List.{list_any, position, position_or_len}
 use Rattle.std.proofs.lemmas.Grind.{common_steps}
 use Rattle.std.proofs.lemmas.List.{length-map}
 use Rattle.std.proofs.lemmas.List.Sums.{sum_by-cons}
-use Rattle.std.proofs.lemmas.Option.{same_Some}
-use Rattle.protocol.specs.Catalog.{Config, Station}
+use Rattle.std.proofs.lemmas.List.Sums.{fails_before_first}
+use Rattle.std.proofs.lemmas.Option.{get_or_from_slice_get, same_Some, slice_get_within}
+use Rattle.protocol.specs.Catalog.{Config, Station, has_codes}
+use Rattle.catalog.specs.Places.{station_at}
 use Rattle.protocol.specs.Pattern.{Pattern}
 use Rattle.protocol.proofs.FoundLemmas.{both}
 use Rattle.selector.specs.Pools.{list_at, together, HasRoom}
@@ -20,6 +22,7 @@ use Rattle.session_state.specs.declared.choices.Entry.{Entry}
 use Rattle.session_state.specs.NamedValues.{Choice, NamedValue, IsNamed, choice_of, choices_with, entry_of}
 use Rattle.session_state.specs.Choices.{has_action, is_entry_of_station, is_of_station, kept_at, passed_at}
 use Rattle.session_state.specs.Changes.{all_selectors, has_room, widened, widening}
+use Rattle.session_state.proofs.SameLemmas.{has-own}
 
 -- a list and those after the first
 list-after : (lists : List (List Pattern)) (i : ℕ) → list_at (drop 1 lists) i ≡ list_at lists (suc i)
@@ -194,7 +197,7 @@ there [] i h = absurd (omega arith)
 there (x ∷ xs) zero h = (x, refl)
 there (x ∷ xs) (suc i) h = there xs i (omega arith)
 
-station-there : (es : List Entry) (lists : List (List Pattern)) (i : ℕ) (e : Entry) → slice_get es i ≡ Some e
+pub station-there : (es : List Entry) (lists : List (List Pattern)) (i : ℕ) (e : Entry) → slice_get es i ≡ Some e
     → slice_get (choices_with es lists) i ≡ Some (choice_of e (list_at lists i))
 station-there es lists i e h = with-get es lists i ∙ ap (option_map (λ x. choice_of x (list_at lists i))) h
 
@@ -422,3 +425,25 @@ pub list-widening : {A B : Type 0} (r : Result A B) (es : List Entry) (current :
 list-widening r es current lists room i n c iff is view at =
     widening-ok r lists i iff
     ∙ ap₂ widening (all-named es current lists room n is view) (sym (selectors-at es current lists i n c view at))
+
+-- ---- which are there
+
+-- the entries that named stations have
+pub naming-entries : (es : List Entry) (current : Option ℕ) (lists : List (List Pattern)) (n : NamedValue)
+    → naming es current lists ≡ n → es ≡ map entry_of n.choices
+naming-entries es current lists n view =
+    with-entries es lists ∙ ap (λ (x : NamedValue). map entry_of x.choices) view
+
+-- a station that was not found is at no named station's place
+pub not-named : (config : Config) (place : ℕ) (cs : List Choice)
+    → position (is_of_station config (station_at config.entries place)) cs ≡ None
+    → (i : ℕ) (c : Choice) → slice_get cs i ≡ Some c → c.place ≢ place
+not-named config place cs none i c at same =
+    let s : Station = station_at config.entries place in
+    let p : Choice → Bool = is_of_station config s in
+    let far : length cs ≤ position_or_len p cs = grind (arith, common_steps) in
+    let within : i < length cs = slice_get_within cs i c at in
+    let fails : p (get_or cs i c) ≡ false = fails_before_first p cs i c (omega arith) in
+    let is : p c ≡ false = ap p (sym (get_or_from_slice_get cs i c c at)) ∙ fails in
+    let own : p c ≡ true = ap (λ k. has_codes s.network s.code (station_at config.entries k)) same ∙ has-own s in
+    absurd (let wrong : true ≡ false = sym own ∙ is in cc)

@@ -11,7 +11,7 @@ use Rattle.catalog.specs.Places.{station_at, HasDistinctCodes}
 use Rattle.session_state.specs.declared.choices.Entry.{Entry as NamedEntry}
 use Rattle.session_state.specs.Choices.{is_entry_of_station}
 
-has-own : (s : Station) → has_codes s.network s.code s ≡ true
+pub has-own : (s : Station) → has_codes s.network s.code s ≡ true
 has-own s =
     ap₂ (λ a b. a && b) ((bytes_eq-Decides s.network s.network).1 refl) ((bytes_eq-Decides s.code s.code).1 refl)
 

@@ -1,6 +1,7 @@
 pub mod Wishes
 pub mod NamedValues
 pub mod Choices
+pub mod Entries
 pub mod Changes
 pub mod Asking
 pub mod Sessions

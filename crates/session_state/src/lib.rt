@@ -7,6 +7,7 @@
 
 mod asked;
 pub mod choices;
+pub mod entries;
 mod modes;
 mod named;
 mod refusals;
@@ -15,6 +16,7 @@ pub mod session;
 mod wishes;
 
 pub use choices::{Cursor, Entry};
+pub use entries::Ahead;
 pub use refusals::NoRoom;
 pub use session::{Session, Settled, State};
 pub use sl_lines::Action;

@@ -1,12 +1,15 @@
 //! What was negotiated, in uni-station or multi-station mode, and what commands change of it.
-ghost use Rattle.std.specs.Prelude.{◌≡◌, ◌<◌, [], IfOk, None, Some, length, map, option_map, slice_get};
+ghost use Rattle.std.specs.Prelude.{◌≡◌, ◌<◌, [], IfOk, IfSome, None, Some, length, map, option_map, slice_get};
 ghost use Rattle.protocol.specs.Catalog.{Config as ProtocolConfig};
 ghost use Rattle.protocol.specs.Session.{act, choices_of, choose_station, end_multi, select};
 ghost use Rattle.catalog.specs.Places.{station_at, view_in};
 ghost use Rattle.session_state.specs.Choices.{action_value, negotiated_in};
+ghost use Rattle.session_state.specs.Entries.{IsOnlyAt, TellsAhead};
+ghost use Rattle.session_state.specs.declared.entries.Ahead.TheVariants.{Nobody};
 ghost use Rattle.session_state.specs.Changes.{outcome_after, selecting};
 
 use crate::choices::{Cursor, Entry};
+use crate::entries::Ahead;
 use crate::named::Named;
 use catalog::{Config, View};
 use protocol::record::Kind;
@@ -53,12 +56,13 @@ impl Mode {
     ghost use Rattle.session_state.specs.Choices.{chosen_of, kept_in, passed_in};
 
     /// Uni-station mode without selectors. Memory is taken here alone, and only for want of it this fails.
-    pub fn new(alloc: Global) -> Result<Mode, AllocError>
+    /// Stations at places below `places` are found at once when they were named.
+    pub fn new(alloc: Global, places: usize) -> Result<Mode, AllocError>
         ensures { IfOk result (λ m. m ≡ Uni []) }
     {
         Ok(Mode {
             is_multi: false,
-            named: Named::new(alloc)?,
+            named: Named::new(alloc, places)?,
         })
     }
 
@@ -100,6 +104,38 @@ impl Mode {
     {
         if self.is_multi {
             self.named.pass(i, cursor);
+        }
+    }
+
+    /// The index of the station at a place, where it is found at once: there is no other at that place.
+    pub fn find(&self, place: usize) -> Option<usize>
+        ensures { IfSome result (λ i. IsOnlyAt (map entry_of (chosen_of self.now)) place i) }
+    {
+        if self.is_multi {
+            self.named.find(place)
+        } else {
+            None
+        }
+    }
+
+    /// Which of the stations' requests may have a record ahead.
+    pub fn ahead(&self) -> Ahead
+        ensures { TellsAhead result (map entry_of (chosen_of self.now)) }
+    {
+        if self.is_multi {
+            self.named.ahead()
+        } else {
+            Ahead::Nobody
+        }
+    }
+
+    /// Keeps that none has a record ahead.
+    pub fn keep_quiet(&mut self)
+        requires { TellsAhead Nobody (map entry_of (chosen_of self.old)) }
+        ensures { self.new ≡ self.old }
+    {
+        if self.is_multi {
+            self.named.keep_quiet();
         }
     }
 }

@@ -1,5 +1,5 @@
 //! The stations that a client named, with the selectors of each.
-ghost use Rattle.std.specs.Prelude.{◌≡◌, ◌==◌, ◌<◌, ◌∷◌, [], None, Some, IfOk, IfSome, length, map, option_map, slice_get};
+ghost use Rattle.std.specs.Prelude.{◌≡◌, ◌≢◌, ◌<◌, ◌∷◌, [], ℕ, None, Some, IfOk, IfSome, length, map, option_map, slice_get};
 ghost use Rattle.std.specs.Prelude.{slice_set, filter_map, is_some, position};
 ghost use Rattle.std.specs.List.{list_any};
 ghost use Rattle.protocol.specs.Catalog.{Config as ProtocolConfig, has_codes};
@@ -12,9 +12,12 @@ ghost use Rattle.catalog.specs.Places.{station_at};
 ghost use Rattle.session_state.specs.NamedValues.{Choice, blank, entry_of, begun, choice_of};
 ghost use Rattle.session_state.specs.Choices.{action_value, choices_in, has_action, is_of_station, is_entry_of_station};
 ghost use Rattle.session_state.specs.Choices.{kept_at, passed_at};
+ghost use Rattle.session_state.specs.Entries.{IsOnlyAt, TellsAhead};
+ghost use Rattle.session_state.specs.declared.entries.Ahead.TheVariants.{Nobody};
 ghost use Rattle.session_state.specs.Changes.{all_selectors, outcome_after, selecting_in, widened, widening};
 
-use crate::choices::{Cursor, Entry, act_at, keep_at, pass_at, put, replace};
+use crate::choices::{Cursor, Entry};
+use crate::entries::{Ahead, CAPACITY, Entries};
 use crate::modes::Effect;
 use catalog::Config;
 use protocol::record::Kind;
@@ -22,9 +25,6 @@ use selector::{Pool, Selector};
 use sl_lines::Action;
 use std::alloc::{AllocError, Global};
 use std::marker::Model;
-
-/// How many stations a client may name.
-const CAPACITY: usize = 255;
 
 /// The network and station code at a place of the configuration; both are empty where nothing is there.
 fn codes_at(config: &Config, place: usize) -> (&[u8], &[u8])
@@ -47,24 +47,19 @@ fn is_same_station(config: &Config, named: usize, place: usize) -> bool
     other_network == network && other_code == code
 }
 
-/// The place among the entries of the first that is at a place of the configuration.
-fn position_at(entries: &[Entry], place: usize) -> Option<usize>
-    ensures { result ≡ position (λ e. e.place == place) entries.now }
-{
-    entries.iter().position(|entry| entry.place == place)
-}
-
 /// The place among the entries of the first that is of the station at a place of the configuration. No two stations of
 /// a configuration have the same codes, so that the place of one that is there tells it.
 #[tactic(auto, using(crate::proofs::SameLemmas::same_lemmas))]
-fn position_among(entries: &[Entry], config: &Config, place: usize) -> Option<usize>
-    ensures { result ≡ position (is_entry_of_station config.now (station_at config.now.entries place)) entries.now }
+fn position_among(entries: &Entries, config: &Config, place: usize) -> Option<usize>
+    ensures { result
+        ≡ position (is_entry_of_station config.now (station_at config.now.entries place)) entries.now.items }
 {
     if place < config.stations().len() {
         config.codes_are_distinct();
-        return position_at(entries, place);
+        return entries.position_at(place);
     }
     entries
+        .as_slice()
         .iter()
         .position(|entry| is_same_station(config, entry.place, place))
 }
@@ -80,30 +75,30 @@ fn are_asked(entries: &[Entry]) -> bool
 /// 255, with 64 selectors each and 1,024 together. Memory for all of them is taken when it is made, and not later.
 #[derive(Drop)]
 pub struct Named {
-    entries: Vec<Entry>,
+    entries: Entries,
     current: Option<usize>,
     pool: Pool,
 }
 
 impl Model for Named {
-    ghost use Rattle.std.specs.Vec.{vec_capacity};
     ghost use Rattle.session_state.specs.NamedValues.{NamedValue, IsNamed, choices_with};
 
     ghost Value = { NamedValue };
 
     ghost view = { λ n. record { choices = choices_with n.entries.items n.pool; current = n.current } };
 
-    ghost invariant = { λ n. IsNamed n.entries.items n.current n.pool (vec_capacity n.entries) };
+    ghost invariant = { λ n. IsNamed n.entries.items n.current n.pool n.entries.room };
 }
 
 impl Named {
-    /// One station, as yet without a place, which is the current one. Only for want of memory this fails.
-    pub fn new(alloc: Global) -> Result<Named, AllocError>
+    /// One station, as yet without a place, which is the current one. Those at places below `places` are found at once.
+    /// Only for want of memory this fails.
+    pub fn new(alloc: Global, places: usize) -> Result<Named, AllocError>
         ensures { IfOk result (λ n. n ≡ record { choices = blank ∷ []; current = Some 0 }) }
     {
-        let mut entries = Vec::with_capacity(alloc, CAPACITY)?;
+        let mut entries = Entries::new(alloc, places)?;
         let pool = Pool::new(alloc)?;
-        put(&mut entries, 0, None);
+        entries.put(0, None);
         Ok(Named {
             entries,
             current: Some(0),
@@ -146,11 +141,7 @@ impl Named {
             self.new ≡ record { choices = choice_of (begun place (Some action)) c.selectors ∷ []; current = None } }
     {
         let _ = &self.pool;
-        replace(
-            self.entries.as_mut_slice(),
-            0,
-            Entry::new(place, Some(action)),
-        );
+        self.entries.replace(place, Some(action));
         self.current = None;
     }
 
@@ -193,6 +184,7 @@ impl Named {
 
     /// A station that was not named before becomes the current one, where there is room.
     fn add(&mut self, place: usize) -> Effect
+        requires { (i : ℕ) (c : Choice) → slice_get self.old.choices i ≡ Some c → c.place ≢ place }
         ensures { (config : ProtocolConfig)
             → outcome_after result (NegotiatedMulti (choices_in config self.new.choices) self.new.current)
             ≡ choose_known (station_at config.entries place) (choices_in config self.old.choices) None }
@@ -202,7 +194,7 @@ impl Named {
             self.current = None;
             return Effect::Refused;
         }
-        put(&mut self.entries, place, None);
+        self.entries.put(place, None);
         self.current = Some(i);
         Effect::Done
     }
@@ -211,7 +203,8 @@ impl Named {
     fn position_of(&self, config: &Config, place: usize) -> Option<usize>
         ensures { result ≡ position (is_of_station config.now (station_at config.now.entries place)) self.now.choices }
     {
-        position_among(self.choices(), config, place)
+        let _ = &self.pool;
+        position_among(&self.entries, config, place)
     }
 
     /// The station, where one was found, becomes the current one; else none is.
@@ -270,7 +263,7 @@ impl Named {
             self.new ≡ record self.old { choices = slice_set self.old.choices i (record c { action = Some action }) } }
     {
         let _ = &self.pool;
-        act_at(self.entries.as_mut_slice(), i, action);
+        self.entries.act(i, action);
     }
 
     /// The current station's action, in place of an earlier one.
@@ -319,7 +312,7 @@ impl Named {
         } }
     {
         let _ = &self.pool;
-        keep_at(self.entries.as_mut_slice(), i, first);
+        self.entries.keep(i, first);
     }
 
     /// Keeps how far the transfer has come in the ring of the i-th station.
@@ -331,6 +324,30 @@ impl Named {
         } }
     {
         let _ = &self.pool;
-        pass_at(self.entries.as_mut_slice(), i, cursor);
+        self.entries.pass(i, cursor);
+    }
+    /// The index of the station at a place, where it is found at once: there is no other at that place.
+    pub fn find(&self, place: usize) -> Option<usize>
+        ensures { IfSome result (λ i. IsOnlyAt (map entry_of self.now.choices) place i) }
+    {
+        let _ = &self.pool;
+        self.entries.find(place)
+    }
+
+    /// Which of the stations' requests may have a record ahead.
+    pub fn ahead(&self) -> Ahead
+        ensures { TellsAhead result (map entry_of self.now.choices) }
+    {
+        let _ = &self.pool;
+        self.entries.ahead()
+    }
+
+    /// Keeps that none has a record ahead.
+    pub fn keep_quiet(&mut self)
+        requires { TellsAhead Nobody (map entry_of self.old.choices) }
+        ensures { self.new ≡ self.old }
+    {
+        let _ = &self.pool;
+        self.entries.keep_quiet();
     }
 }

@@ -1,10 +1,13 @@
 //! One client's side of the server.
-ghost use Rattle.std.specs.Prelude.{◌≡◌, ◌≢◌, ◌≤◌, ◌<◌, ◌+◌, ◌-◌, ◌&&◌, IfOk, OnErr, List, [], ◌∷◌, ◌++◌, length, drop};
+ghost use Rattle.std.specs.Prelude.{◌≡◌, ◌≢◌, ◌≤◌, ◌<◌, ◌+◌, ◌-◌, ◌&&◌, IfOk, IfSome, OnErr, List, [], ◌∷◌, ◌++◌, length, drop};
 ghost use Rattle.std.specs.Prelude.{◌↔◌, map, nat_lt, not, is_ok, is_some, true, false, codes, ℕ, Some, slice_get};
 ghost use Rattle.protocol.specs.History.{Arrival};
+ghost use Rattle.session_state.specs.Entries.{IsOnlyAt, TellsAhead};
+ghost use Rattle.session_state.specs.declared.entries.Ahead.TheVariants.{Nobody};
 ghost use Rattle.protocol.specs.Client.{read_on, received, offered, after_take, cut, new_client, is_ending, is_nothing};
 
 use crate::choices::{Cursor, Entry};
+use crate::entries::Ahead;
 use crate::modes::Mode;
 use crate::refusals::NoRoom;
 use crate::replies::{Waiting, put_bytes, put_packet};
@@ -104,7 +107,7 @@ impl Session {
         ensures settled { IfOk result (λ s. s.state ≢ Starting) }
         ensures negotiates { IfOk result (λ s. s.state ≡ Negotiating) }
     {
-        let mode = Mode::new(alloc)?;
+        let mode = Mode::new(alloc, places_of(&view))?;
         Ok(Session {
             view,
             mode,
@@ -208,7 +211,7 @@ impl Session {
 impl Session {
     ghost use Rattle.protocol.specs.Catalog.{Config as ProtocolConfig, listing};
     ghost use Rattle.protocol.specs.Packet.{packet};
-    ghost use Rattle.session_state.specs.NamedValues.{Choice as ChoiceValue};
+    ghost use Rattle.session_state.specs.NamedValues.{Choice as ChoiceValue, entry_of};
     ghost use Rattle.session_state.specs.Choices.{chosen_of, kept_in};
     ghost use Rattle.session_state.specs.Sessions.{client_in, session_view, line_made, is_listing, HasPlaces};
     ghost use Rattle.session_state.specs.Sessions.{HasFirsts, Comes, KeepsTransfer, but_for_cursors, never_starts};
@@ -401,5 +404,45 @@ impl Session {
     {
         let _ = &self.state;
         self.looked = Some(arrivals);
+    }
+    /// The index of the named station at a place, where it is found at once: there is no other at that place.
+    pub fn find(&self, place: usize) -> Option<usize>
+        ensures { IfSome result (λ i. IsOnlyAt (map entry_of (chosen_of self.now.mode)) place i) }
+    {
+        let _ = &self.state;
+        self.mode.find(place)
+    }
+
+    /// Which of the named stations' requests may have a record ahead.
+    pub fn ahead(&self) -> Ahead
+        ensures { TellsAhead result (map entry_of (chosen_of self.now.mode)) }
+    {
+        let _ = &self.state;
+        self.mode.ahead()
+    }
+
+    /// Keeps that none has a record ahead.
+    pub fn keep_quiet(&mut self)
+        requires { TellsAhead Nobody (map entry_of (chosen_of self.old.mode)) }
+        ensures { self.new ≡ self.old }
+    {
+        let _ = &self.state;
+        self.mode.keep_quiet();
+    }
+
+    /// How many records had arrived when all requests were last found to have looked at their rings.
+    pub fn looked(&self) -> Option<u64>
+        ensures { result ≡ self.now.looked }
+    {
+        let _ = &self.state;
+        self.looked
+    }
+}
+
+/// How many places a view reaches over: one more than its last place.
+fn places_of(view: &View) -> usize {
+    match view.places().last() {
+        Some(place) => usize::from(*place) + 1,
+        None => 0,
     }
 }

@@ -1,17 +1,24 @@
-use Rattle.std.proofs.Common.{sym, subst, ◌<◌, length}
+use Rattle.session_state.specs.NamedValues.{IsNamed}
+use Rattle.session_state.specs.Entries.{EntriesValue}
+use Rattle.std.proofs.Common.{sym, subst, ap}
 use Rattle.std.specs.Prelude.{Some}
-use Rattle.session_state.specs.declared.choices.Entry.{Entry}
-use Rattle.session_state.proofs.NamedLemmas.{acted-there, below, written}
+use Rattle.session_state.proofs.NamedLemmas.{acted-there, below, there, naming-entry}
 use Rattle.session_state.proofs.named.Named.act_for.Goals as goal
 
-pub act_at-requires : goal.act_at-requires
-act_at-requires c = subst (λ xs. c.args.i < length xs) (sym c.as_mut_slice.ensures.value)
-    (below _ _ _ c.args.i _ c.self.view_is c.requires)
+pub act-requires : goal.act-requires
+act-requires c = below _ _ _ c.args.i _ c.self.view_is c.requires
+
+pub invariant_of-self : goal.invariant_of-self
+invariant_of-self c =
+    let old = c.self.inside.entries in
+    let e = there old.items c.args.i (below _ _ _ c.args.i _ c.self.view_is c.requires) in
+    subst (λ (v : EntriesValue). IsNamed v.items c.self.inside.current c.self.inside.pool v.room)
+    (sym (c.act.ensures e.0 e.1))
+    (naming-entry old.items c.self.inside.current c.self.inside.pool old.room c.args.i (record (e.0) { action = Some c.args.action })
+    c.self.invariant)
 
 pub returns : goal.returns
 returns c = λ choice there.
     acted-there c.self.inside.entries.items _ c.self.inside.current c.self.inside.pool c.args.i c.args.action _ choice
     c.self.view_is c.requires there
-    (written c.self.inside.entries.len c.self.inside.entries.items c.act_at.new.entries c.args.i
-    (λ (e : Entry). record e { action = Some c.args.action }) c.self.inside.entries.ok.0
-    (rw c.as_mut_slice.ensures.value at c.act_at.ensures))
+    (λ e at. ap (λ (v : EntriesValue). v.items) (c.act.ensures e at))

@@ -5,6 +5,6 @@ use Rattle.session_state.proofs.named.Named.choices.Goals as goal
 
 pub returns : goal.returns
 returns c =
-    c.as_slice.ensures.value
+    c.as_slice.ensures
     ∙ with-entries c.self.inside.entries.items c.self.inside.pool
     ∙ ap (λ (n : NamedValue). map entry_of n.choices) c.self.view_is

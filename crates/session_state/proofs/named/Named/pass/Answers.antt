@@ -1,16 +1,23 @@
-use Rattle.std.proofs.Common.{sym, subst, ◌<◌, length}
-use Rattle.session_state.specs.declared.choices.Entry.{Entry}
-use Rattle.session_state.proofs.NamedLemmas.{below, passed-there, written}
+use Rattle.session_state.specs.NamedValues.{IsNamed}
+use Rattle.session_state.specs.Entries.{EntriesValue}
+use Rattle.std.proofs.Common.{sym, subst, ap}
+use Rattle.session_state.proofs.NamedLemmas.{below, passed-there, there, naming-entry}
 use Rattle.session_state.proofs.named.Named.pass.Goals as goal
 
-pub pass_at-requires : goal.pass_at-requires
-pass_at-requires c = subst (λ xs. c.args.i < length xs) (sym c.as_mut_slice.ensures.value)
-    (below _ _ _ c.args.i _ c.self.view_is c.requires)
+pub pass-requires : goal.pass-requires
+pass-requires c = below _ _ _ c.args.i _ c.self.view_is c.requires
+
+pub invariant_of-self : goal.invariant_of-self
+invariant_of-self c =
+    let old = c.self.inside.entries in
+    let e = there old.items c.args.i (below _ _ _ c.args.i _ c.self.view_is c.requires) in
+    subst (λ (v : EntriesValue). IsNamed v.items c.self.inside.current c.self.inside.pool v.room)
+    (sym (c.pass.ensures e.0 e.1))
+    (naming-entry old.items c.self.inside.current c.self.inside.pool old.room c.args.i (record (e.0) { cursor = c.args.cursor })
+    c.self.invariant)
 
 pub returns : goal.returns
 returns c =
     passed-there c.self.inside.entries.items _ c.self.inside.current c.self.inside.pool c.args.i c.args.cursor _
     c.self.view_is c.requires
-    (written c.self.inside.entries.len c.self.inside.entries.items c.pass_at.new.entries c.args.i
-    (λ (e : Entry). record e { cursor = c.args.cursor }) c.self.inside.entries.ok.0
-    (rw c.as_mut_slice.ensures.value at c.pass_at.ensures))
+    (λ e at. ap (λ (v : EntriesValue). v.items) (c.pass.ensures e at))

@@ -1,0 +1,10 @@
+use Rattle.std.proofs.Common.{subst}
+use Rattle.session_state.specs.Entries.{TellsAhead}
+use Rattle.session_state.proofs.NamedLemmas.{naming-entries}
+use Rattle.session_state.proofs.named.Named.ahead.Goals as goal
+
+pub returns : goal.returns
+returns c =
+    subst (TellsAhead c.ahead.result)
+    (naming-entries c.self.inside.entries.items c.self.inside.current c.self.inside.pool c.args.self.now
+    c.self.view_is) c.ahead.ensures
