@@ -72,3 +72,7 @@ looked-rests rings next c e same unsent looked passed = by_action c.action refl
     by_action : (o : Option Action) → c.action ≡ o → RestsIn rings next c
     by_action None none = rests-nothing rings next c none (passed.quiet none)
     by_action (Some a) asked = by_ring a (slice_get rings.rings c.place) asked refl
+
+-- the named station at an index is one alone
+pub same-choice : (cs : List Choice) (i : ℕ) (c d : Choice) → slice_get cs i ≡ Some c → slice_get cs i ≡ Some d → c ≡ d
+same-choice cs i c d at there = ap (λ o. unwrap_or o c) (sym at ∙ there)

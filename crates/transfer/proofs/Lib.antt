@@ -17,3 +17,4 @@ pub mod BestLemmas
 pub mod FilterLemmas
 pub mod SearchLemmas
 mod RefusedLemmas
+pub mod AloneLemmas

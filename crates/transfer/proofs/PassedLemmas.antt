@@ -1,5 +1,5 @@
 -- A session that goes on in its transfer has still passed nothing that it wants.
-use Rattle.std.proofs.Common.{◌≡◌, ◌≢◌, ℕ, ◌+◌, ◌<◌, ◌≤◌, true, false, nat_le, List, [], refl, sym, ap, subst}
+use Rattle.std.proofs.Common.{◌≡◌, ◌≢◌, ℕ, ◌+◌, ◌≤◌, true, false, nat_le, List, [], refl, sym, ap, subst}
 use Rattle.std.proofs.Common.{◌∙◌, arith, codes, slice_get, Some, None, unwrap_or}
 use Rattle.std.specs.Prelude.{◌==◌}
 use Rattle.std.proofs.lemmas.Bool.Decides.{nat_tests}

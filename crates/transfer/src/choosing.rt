@@ -11,19 +11,22 @@ ghost use Rattle.station_ring.specs.Rings.{number_at};
 ghost use Rattle.held_records.specs.Rings.{holdings_of};
 ghost use Rattle.sl_lines.specs.declared.actions.Action.TheVariants.{Time};
 ghost use Rattle.session_state.specs.NamedValues.{Choice, entry_of};
+ghost use Rattle.session_state.specs.Entries.{TellsAhead};
+ghost use Rattle.session_state.specs.declared.entries.Ahead.TheVariants.{Nobody, Only};
 ghost use Rattle.session_state.specs.Choices.{all_at_start, chosen_of, request_in};
 ghost use Rattle.session_state.specs.Sessions.{client_in, but_for_cursors};
 ghost use Rattle.session_state.specs.declared.session.State.TheVariants.{Starting, Transfer, Ending};
 ghost use Rattle.transfer.specs.declared.choosing.Chosen.TheVariants.{Packet, Nothing, Complete};
-ghost use Rattle.transfer.specs.Cursors.{ArePassed, HasPassedAll, IsReached, OfAll, PassedIn, RestsIn};
-ghost use Rattle.transfer.specs.Firsts.{Glances, IsAhead, IsGlancedUpTo, IsOverview, LeadsSoFar, earlier, is_unsent};
+ghost use Rattle.transfer.specs.Cursors.{ArePassed, HasLooked, HasPassedAll, IsReached, OfAll, PassedIn, RestsIn};
+ghost use Rattle.transfer.specs.Firsts.{Glances, IsAhead, IsGlancedUpTo, IsOverview, LeadsSoFar, best_of, earlier};
+ghost use Rattle.transfer.specs.Firsts.{is_unsent};
 ghost use Rattle.transfer.specs.Sleeping.{HasNothing, MayCome, MoreMayCome, Sleeps, starts_after};
 ghost use Rattle.transfer.specs.Choosing.{answer_of, is_over_of, comes_before, is_transfer, HoldsThere};
 
 use crate::wanting::{Candidate, cursor_in, has_passed_its_end, unasked};
 use catalog::Config;
 use held_records::{Rings, arrivals_by_place};
-use session_state::{Action, Cursor, Entry, Session, State};
+use session_state::{Action, Ahead, Cursor, Entry, Session, State};
 
 /// What an offer in a transfer leads to.
 #[derive(Clone, Copy, Debug, PartialEq, Eq)]
@@ -168,8 +171,75 @@ fn glance(entries: &[Entry], next: u64) -> Overview
     Overview::Fresh(None)
 }
 
+/// The same where no other request than the one with an index may have a record ahead.
+fn glance_at(entries: &[Entry], next: u64, index: usize) -> Overview
+    requires { TellsAhead (Only index) entries.now }
+    ensures { (cs : List Choice) → map entry_of cs ≡ entries.now → Glances next cs result }
+{
+    if index >= entries.len() {
+        return Overview::Fresh(None);
+    }
+    let entry = &entries[index];
+    match entry.cursor.ahead() {
+        None => Overview::Fresh(None),
+        Some(stamp) => {
+            if stamp < next {
+                Overview::Stale(index, None)
+            } else {
+                Overview::Fresh(Some(First { index, stamp }))
+            }
+        }
+    }
+}
+
+/// The same of the requests of a session, where only those are looked at that may have a record ahead.
+fn look_ahead(session: &Session, next: u64) -> Overview
+    ensures { Glances next (chosen_of session.now.mode) result }
+{
+    match session.ahead() {
+        Ahead::Nobody => Overview::Fresh(None),
+        Ahead::Only(index) => glance_at(session.choices(), next, index),
+        Ahead::Several => glance(session.choices(), next),
+    }
+}
+
+/// The one request whose ring got all that arrived since all had looked at theirs, where it is known which one that is.
+fn alone(session: &Session, rings: &Rings) -> Option<usize>
+    ensures index { IfSome result (λ i. i < length (chosen_of session.now.mode)) }
+    ensures others { IfSome result (λ i. (next : ℕ) → HasPassedAll rings.now next session.now → (j : ℕ) (c : Choice)
+        → j ≢ i → slice_get (chosen_of session.now.mode) j ≡ Some c → HasLooked rings.now c) }
+{
+    let looked = session.looked()?;
+    let index = session.find(rings.latest())?;
+    let entry = session.choice(index);
+    let ring = rings.ring(entry.place)?;
+    let pushed = ring.pushes().checked_sub(entry.cursor.seen)?;
+    let arrived = rings.arrivals().checked_sub(looked)?;
+    if pushed == arrived && entry.action.is_some() {
+        Some(index)
+    } else {
+        None
+    }
+}
+
+/// Where all that arrived since all requests had looked at their rings went to the ring of one of them, that one passes
+/// what it doesn't want, and so all have looked again.
+fn catch_up(session: &mut Session, rings: &Rings, next: u64)
+    ensures same { but_for_cursors session.new ≡ but_for_cursors session.old }
+    ensures passed { HasPassedAll rings.now next session.old → HasPassedAll rings.now next session.new }
+{
+    if session.has_looked_at(rings.arrivals()) {
+        return;
+    }
+    if let Some(index) = alone(session, rings) {
+        let cursor = cursor_of(session, index, rings, next);
+        session.pass(index, cursor);
+        session.keep_look(rings.arrivals());
+    }
+}
+
 /// Each request passes what it doesn't want, and the one whose record came first is told. Where no record arrived
-/// since all of them did so, the cursors tell it, and no ring is looked at.
+/// since all of them did so, or all to one station, the cursors tell it, and no other ring is looked at.
 fn rest(session: &mut Session, rings: &Rings, next: u64) -> Option<First>
     ensures same { but_for_cursors session.new ≡ but_for_cursors session.old }
     ensures rest { HasPassedAll rings.now next session.old
@@ -177,8 +247,33 @@ fn rest(session: &mut Session, rings: &Rings, next: u64) -> Option<First>
     ensures first { LeadsSoFar rings.now (chosen_of session.new.mode) (length (chosen_of session.new.mode)) result }
     ensures looked { session.new.looked ≡ Some rings.now.arrivals }
 {
+    catch_up(session, rings, next);
+    let first = leader(session, rings, next);
+    keep_quiet(session, &first);
+    first
+}
+
+/// Keeps that no request has a record ahead, where none came first.
+fn keep_quiet(session: &mut Session, first: &Option<First>)
+    requires { first.now ≡ None → TellsAhead Nobody (map entry_of (chosen_of session.old.mode)) }
+    ensures { session.new ≡ session.old }
+{
+    if first.is_none() {
+        session.keep_quiet();
+    }
+}
+
+/// The request whose record came first. Where all have looked at their rings since the last record arrived, the cursors
+/// tell it; else each passes what it doesn't want.
+fn leader(session: &mut Session, rings: &Rings, next: u64) -> Option<First>
+    ensures same { but_for_cursors session.new ≡ but_for_cursors session.old }
+    ensures rest { HasPassedAll rings.now next session.old
+        → OfAll (RestsIn rings.now next) (chosen_of session.new.mode) }
+    ensures best { result ≡ best_of (chosen_of session.new.mode) }
+    ensures looked { session.new.looked ≡ Some rings.now.arrivals }
+{
     if session.has_looked_at(rings.arrivals()) {
-        if let Overview::Fresh(first) = glance(session.choices(), next) {
+        if let Overview::Fresh(first) = look_ahead(session, next) {
             return first;
         }
     }
@@ -193,7 +288,7 @@ fn rest_all(session: &mut Session, rings: &Rings, next: u64) -> Option<First>
     ensures same { but_for_cursors session.new ≡ but_for_cursors session.old }
     ensures rest { OfAll (PassedIn rings.now next) (chosen_of session.old.mode)
         → OfAll (RestsIn rings.now next) (chosen_of session.new.mode) }
-    ensures first { LeadsSoFar rings.now (chosen_of session.new.mode) (length (chosen_of session.new.mode)) result }
+    ensures best { result ≡ best_of (chosen_of session.new.mode) }
 {
     let count = session.choices().len();
     let mut best = None;

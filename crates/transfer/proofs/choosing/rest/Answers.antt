@@ -1,14 +1,26 @@
-use Rattle.std.proofs.Common.{sym, rules}
+use Rattle.std.proofs.Common.{◌∙◌, length, subst, sym}
 use Rattle.session_state.specs.Choices.{chosen_of}
+use Rattle.session_state.specs.Sessions.{SessionValue}
+use Rattle.transfer.specs.Cursors.{OfAll, RestsIn}
+use Rattle.transfer.specs.Firsts.{LeadsSoFar}
+use Rattle.transfer.proofs.AloneLemmas.{none-first}
 use Rattle.transfer.proofs.BestLemmas.{best-leads}
 use Rattle.transfer.proofs.choosing.rest.Goals as goal
 
-pub returns-in-Fresh-clause-rest : goal.returns-in-Fresh-clause-rest
-returns-in-Fresh-clause-rest c = λ all.
-    (c.in-Fresh.ensures (chosen_of c.args.session.now.mode) (sym c.choices.ensures)).rests c.args.rings.now
-    (all.looked.seen (search rules)) all.passed
+pub keep_quiet-requires : goal.keep_quiet-requires
+keep_quiet-requires c = λ none.
+    none-first (chosen_of c.leader-first.new.session.mode) (sym none ∙ c.leader-first.ensures.best)
 
-pub returns-in-Fresh-clause-first : goal.returns-in-Fresh-clause-first
-returns-in-Fresh-clause-first c =
-    best-leads c.args.rings.now (chosen_of c.args.session.now.mode) c.in-Fresh.first
-    (c.in-Fresh.ensures (chosen_of c.args.session.now.mode) (sym c.choices.ensures)).best
+pub returns-clause-rest : goal.returns-clause-rest
+returns-clause-rest c = λ all.
+    subst (λ (s : SessionValue). OfAll (RestsIn c.args.rings.now c.args.next) (chosen_of s.mode))
+    (sym c.keep_quiet.ensures) (c.leader-first.ensures.rest (c.catch_up.ensures.passed all))
+
+pub returns-clause-first : goal.returns-clause-first
+returns-clause-first c =
+    subst
+    (λ (s : SessionValue). LeadsSoFar c.args.rings.now (chosen_of s.mode) (length (chosen_of s.mode))
+    c.leader-first.result)
+    (sym c.keep_quiet.ensures)
+    (best-leads c.args.rings.now (chosen_of c.leader-first.new.session.mode) c.leader-first.result
+    c.leader-first.ensures.best)

@@ -2,7 +2,7 @@ use Rattle.std.proofs.Common.{◌≡◌, ◌≤◌, ◌<◌, ◌∙◌, ap, arit
 use Rattle.session_state.specs.Choices.{chosen_of}
 use Rattle.session_state.specs.NamedValues.{ahead_of}
 use Rattle.transfer.specs.Firsts.{best_of, earlier}
-use Rattle.transfer.proofs.BestLemmas.{best-leads, best-more, best-whole, moves-between, take-alike}
+use Rattle.transfer.proofs.BestLemmas.{best-more, best-whole, moves-between, take-alike}
 use Rattle.transfer.proofs.EntryLemmas.{choice-there, item-is, same-length}
 use Rattle.transfer.proofs.RestLemmas.{moves-all, moves-none, moves-on}
 use Rattle.transfer.proofs.choosing.rest_all.Goals as goal
@@ -33,11 +33,10 @@ returns-in-Fresh-clause-rest c = λ all j x at.
     (omega (arith, c.loop-i.invariant.3, c.loop-i.invariant.4, count)) over.rests c.loop-i.invariant.0 in
     moves-all _ (length cs) c.loop-i.session c.args.session.now (omega (arith, count)) moves j x at all
 
-pub returns-in-Fresh-clause-first : goal.returns-in-Fresh-clause-first
-returns-in-Fresh-clause-first c =
+pub returns-in-Fresh-clause-best : goal.returns-in-Fresh-clause-best
+returns-in-Fresh-clause-best c =
     let cs = chosen_of c.loop-i.session.mode in
-    best-leads c.args.rings.now cs c.in-Fresh.first
-    ((c.in-Fresh.ensures cs (sym c.choices.ensures)).best c.loop-i.invariant.1)
+    (c.in-Fresh.ensures cs (sym c.choices.ensures)).best c.loop-i.invariant.1
 
 pub cursor_of-cursor-requires : goal.cursor_of-cursor-requires
 cursor_of-cursor-requires c = (c.in-Stale.ensures (chosen_of c.loop-i.session.mode) (sym c.choices.ensures)).within
@@ -89,10 +88,9 @@ returns-clause-rest c = λ all j x at.
     moves-all _ c.loop-i.from c.loop-i.session c.args.session.now
     (omega (arith, c.loop-i-test.false, c.loop-i.invariant.2, c.loop-i.invariant.4)) c.loop-i.invariant.0 j x at all
 
-pub returns-clause-first : goal.returns-clause-first
-returns-clause-first c =
+pub returns-clause-best : goal.returns-clause-best
+returns-clause-best c =
     let cs = chosen_of c.loop-i.session.mode in
     let count : length cs ≡ length (chosen_of c.args.session.now.mode) = c.loop-i.invariant.0.count in
-    best-leads c.args.rings.now cs c.loop-i.best
-    (best-whole cs c.loop-i.from c.loop-i.best
-    (omega (arith, c.loop-i-test.false, c.loop-i.invariant.2, c.loop-i.invariant.4, count)) c.loop-i.invariant.1)
+    best-whole cs c.loop-i.from c.loop-i.best
+    (omega (arith, c.loop-i-test.false, c.loop-i.invariant.2, c.loop-i.invariant.4, count)) c.loop-i.invariant.1
