@@ -16,7 +16,7 @@ use Rattle.protocol.specs.World.Event.{Arrive}
 use Rattle.protocol.proofs.FoundLemmas.{both}
 use Rattle.catalog.specs.Places.{station_at, nowhere, HasDistinctCodes}
 use Rattle.station_ring.specs.declared.held.Summary.{Summary}
-use Rattle.held_records.specs.Rings.{AllGrow, RingsValue, holdings_of, summary_of}
+use Rattle.held_records.specs.Rings.{AllGrow, GrowByOne, RingsValue, holdings_of, summary_of}
 use Rattle.transfer.proofs.PassedLemmas.{grown-passed}
 use Rattle.session_state.specs.declared.session.State.{State}
 use Rattle.session_state.specs.declared.session.State.TheVariants.{Negotiating, Listing, Starting, Transfer, Ending}
@@ -181,11 +181,15 @@ placed-unknown config r x is none = ap (placed_by config) is ∙ ap place_or_unk
 
 -- What sessions have passed stays passed while a record arrives.
 pub arrive-settled : (config : Config) (before after : RingsValue) (slots : Slab SessionValue)
-    → AllGrow before.rings after.rings → before.arrivals < after.arrivals → AreSettled config before slots
-    → AreSettled config after slots
-arrive-settled config before after slots grow more settled k s at =
+    → AllGrow before.rings after.rings → GrowByOne before.rings after.rings → after.arrivals ≡ before.arrivals + 1
+    → AreSettled config before slots → AreSettled config after slots
+arrive-settled config before after slots grow by_one more settled k s at =
     let was = settled k s at in
-    record { places = was.places; started = was.started; passed = grown-passed before after s grow more was.passed }
+    record {
+      places = was.places;
+      started = was.started;
+      passed = grown-passed before after s grow by_one more was.passed;
+    }
 
 -- ---- whether a record is accepted
 

@@ -62,7 +62,8 @@ pub invariant_of-self : goal.invariant_of-self
 invariant_of-self c = (
   c.self.invariant.0,
   arrive-settled c.self.inside.config c.self.inside.rings c.arrive-number.new.self c.self.inside.clients.slots
-      c.arrive-number.ensures.grow (omega (arith, c.arrive-number.ensures.arrivals)) c.self.invariant.1,
+      c.arrive-number.ensures.grow c.arrive-number.ensures.by_one c.arrive-number.ensures.arrivals
+      c.self.invariant.1,
   omega (arith, c.arrive-number.ensures.count, c.self.invariant.2),
   marked-arrives c.self.inside.config c.self.inside.rings c.arrive-number.new.self c.self.inside.marks
       c.arrived.new.self c.args.placing.place c.self.inside.clients.slots c.arrive-number.ensures.others
