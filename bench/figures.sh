@@ -74,14 +74,28 @@ strangers() {
     row "$(round 1000 found)" 500 'Config::place_of of the last of 1,024 stations' ''
 }
 
+# What STATION takes, and that it takes as long for a station that is hidden as for one that is not there.
+naming() {
+    row "$((($(server named 200 200) - $(server named 199 200)) / 200))" 1500 'STATION of the 200th of 1,024 stations that a client names, its answer taken' ''
+    unknown=$(round 1000 refused 0)
+    hidden=$(round 1000 refused 1)
+    row "$hidden" "$((unknown + 50))" 'STATION of a station that is hidden, its answer taken' "at most 50 more than of one that is not there: $unknown"
+    row "$unknown" "$((hidden + 50))" 'STATION of a station that is not there' 'at most 50 more than that'
+}
+
+# A record that comes alone, from its arrival until its packet was taken and nothing more is found.
+lone() {
+    row "$((($(server lone 255 20) - $(server lone 255 10)) / 2550))" 2500 'a lone record at one of 255 stations that one client follows, and its packet' "at one of one: $((($(server lone 1 2000) - $(server lone 1 1000)) / 1000))"
+}
+
 # Clients that wait: what one costs that is asked for, that a record does not wake, and that a turn passes by.
 sleepers() {
     row "$(round 1000 visits)" 20000 'a client that opens and is closed' ''
     row "$(round 1000 ready)" 120 'whether a client is ready that is not marked' ''
     alone=$(round 1000 apart 0)
     row "$(($(round 1000 apart 10000) - alone))" 1500 'more for an arrival while 10,000 clients wait at another station' "than with none: $alone"
-    awake=$(round 100 sleepers 0)
-    row "$((($(round 100 sleepers 9999) - awake) / 9999))" 60 'a client that sleeps, of 9,999, in a turn that hands another one a packet' "a turn with none: $awake"
+    awake=$(round 100 sleepers 100)
+    row "$((($(round 100 sleepers 9999) - awake) / 9899))" 2 'a client that sleeps, of 9,999, in a turn that hands another one a packet' "a turn with 100: $awake"
 }
 
 # reload_of CLIENTS CHANGED : what one of the last two reloads takes of four, if the lists of so many of 1,024 stations changed.
@@ -180,6 +194,8 @@ pool
 small 2500 listing '' 'a packet read, cut out and listed by the reader' ''
 calls
 strangers
+naming
+lone
 sleepers
 reloads
 memory

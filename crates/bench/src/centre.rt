@@ -73,6 +73,21 @@ pub fn listed_config(alloc: Global, listed: u32, host: u32) -> anyhow::Result<Co
     Ok(Config::read(alloc, text.as_bytes())?)
 }
 
+/// A configuration of 1,024 stations, of which every second one is for another address alone.
+pub fn spotted_config(alloc: Global) -> anyhow::Result<Config> {
+    let mut text = format!(in alloc; "title = \"Bench\"\nmax_connections = 10000\n")?;
+    for place in 0..1024 {
+        let station = format!(in alloc;
+            "[[station]]\nnetwork = \"GE\"\ncode = \"{place:05}\"\ndescription = \"Bench\"\ncapacity = 1\n"
+        )?;
+        text.push_str(station.as_str())?;
+        if place % 2 == 1 {
+            text.push_str("access = \"192.168.0.1\"\n")?;
+        }
+    }
+    Ok(Config::read(alloc, text.as_bytes())?)
+}
+
 /// Each of some records arrives once, one after the other. Answers a sum of their numbers.
 pub fn arrive_all(server: &mut Server, records: &[[u8; 512]]) -> u64 {
     let mut sum: u64 = 0;
@@ -143,7 +158,7 @@ pub fn take_one(server: &mut Server, client: Client) -> u64 {
 }
 
 /// A client sends a line, and takes its answer.
-fn say(server: &mut Server, client: Client, line: &[u8]) {
+pub fn say(server: &mut Server, client: Client, line: &[u8]) {
     let _ = server.receive(client, line);
     take_one(server, client);
 }

@@ -18,12 +18,15 @@
 //! stations with 1,024 selectors together. `ready ROUNDS`: a client that waits is asked whether it is ready. `apart
 //! CLIENTS ROUNDS`: a record arrives while so many clients wait at another station. `reload CLIENTS CHANGED ROUNDS`: a
 //! new configuration comes into force, in which so many of 1,024 stations have lists that differ for no client's
-//! address. `sleepers CLIENTS ROUNDS`: a turn of a loop hands one client a packet while so many others wait.
+//! address. `named STATIONS CLIENTS`: so many clients name so many of 1,024 stations each. `refused KNOWN ROUNDS`: a
+//! client asks for a station that is hidden from it, or if KNOWN is 0 for one that is not there. `lone STATIONS ROUNDS`:
+//! a client follows so many stations, at which lone records arrive by turns. `sleepers CLIENTS ROUNDS`: a turn of a loop hands one client a packet while so many others wait.
 #![tactic(auto)]
 
 mod centre;
 mod headers;
 mod lines;
+mod naming;
 mod pools;
 mod reading;
 mod serving;
@@ -102,6 +105,9 @@ fn sum_of_serving(alloc: Global, work: &str, numbers: &[u32]) -> Option<anyhow::
         ("reload", [clients, changed, rounds]) => serving::reload(
             alloc, *clients, *changed, *rounds,
         ),
+        ("named", [stations, clients]) => naming::named(alloc, *stations, *clients),
+        ("refused", [known, rounds]) => naming::refused(alloc, *known, *rounds),
+        ("lone", [stations, rounds]) => naming::lone(alloc, *stations, *rounds),
         ("sleepers", [clients, rounds]) => turns::sleepers(alloc, *clients, *rounds),
         _ => return None,
     };

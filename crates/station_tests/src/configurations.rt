@@ -3,6 +3,7 @@ use catalog::{Config, ConfigFault};
 use std::alloc::{AllocError, Global};
 use test_centre::CENTRE;
 
+mod finding;
 mod kinds;
 mod limits;
 mod views;

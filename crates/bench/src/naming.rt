@@ -1,0 +1,76 @@
+//! Stations that clients name, and lone records of one of those that a client follows.
+use crate::centre::{
+    arrive_all, asking, at_full_server, records_of, say, spotted_config, take_one,
+};
+use server_core::{Client, Server};
+use std::alloc::Global;
+use std::net::Ipv4Addr;
+
+/// A client names so many stations, one after the other.
+fn name_all(alloc: Global, server: &mut Server, stations: u32) -> anyhow::Result<()> {
+    let client = server.open(alloc, Ipv4Addr::LOCALHOST)?;
+    for place in 0..stations {
+        let line = format!(in alloc; "STATION {place:05} GE\r")?;
+        say(server, client, line.as_bytes());
+    }
+    let _ = server.close(client);
+    Ok(())
+}
+
+/// So many clients come one after the other, and each names so many of 1,024 stations. Answers how many came.
+pub fn named(alloc: Global, stations: u32, clients: u32) -> anyhow::Result<u64> {
+    at_full_server(alloc, 1024, 0, 1, |server| {
+        for _ in 0..clients {
+            name_all(alloc, server, stations)?;
+        }
+        Ok(u64::from(clients))
+    })
+}
+
+/// A client says a line again and again, and takes the answers. Answers how many bytes they had.
+fn ask_often(server: &mut Server, client: Client, line: &[u8], rounds: u32) -> u64 {
+    let mut sum: u64 = 0;
+    for _ in 0..rounds {
+        let _ = server.receive(client, line);
+        sum = sum.wrapping_add(take_one(server, client));
+    }
+    sum
+}
+
+/// A client asks again and again for a station that it may not use, or, where `known` is 0, for one that is not there.
+/// Every second one of 1,024 stations is hidden from it. Answers how many bytes it was answered.
+pub fn refused(alloc: Global, known: u32, rounds: u32) -> anyhow::Result<u64> {
+    let mut server = Server::new(alloc, spotted_config(alloc)?)?;
+    let client = server.open(alloc, Ipv4Addr::LOCALHOST)?;
+    let line: &[u8] = if known == 0 {
+        b"STATION 77777 GE\r"
+    } else {
+        b"STATION 00511 GE\r"
+    };
+    Ok(ask_often(&mut server, client, line, rounds))
+}
+
+/// Records arrive by turns at stations that a client follows. Each is offered to it and taken before the next one
+/// arrives, and so is what comes after it, which is nothing.
+fn follow(server: &mut Server, client: Client, records: &[[u8; 512]], rounds: u32) -> u64 {
+    let mut sum: u64 = 0;
+    for _ in 0..rounds {
+        for record in records {
+            let _ = server.arrive(record);
+            sum = sum.wrapping_add(take_one(server, client));
+            sum = sum.wrapping_add(take_one(server, client));
+        }
+    }
+    sum
+}
+
+/// A client follows so many stations, at which lone records arrive by turns, so many times each. Answers how many bytes
+/// it was sent.
+pub fn lone(alloc: Global, stations: u32, rounds: u32) -> anyhow::Result<u64> {
+    let records = records_of(alloc, stations)?;
+    at_full_server(alloc, 0, stations, 16, |server| {
+        let client = asking(alloc, server, stations, b"DATA\r")?;
+        arrive_all(server, records.as_slice());
+        Ok(follow(server, client, records.as_slice(), rounds))
+    })
+}
