@@ -13,14 +13,15 @@
 //! lets pass, and the client is offered something so many times. `unwanted SELECTORS CAPACITY ROUNDS`: a client asks
 //! for a full ring of three channels with so many selectors that no record passes, or for a time to come if there are
 //! none. `garbage ROUNDS`: a client sends 1,024 bytes without an end of line. `found ROUNDS`: a station of 1,024 is
-//! found by its codes. `visits ROUNDS`: clients come and go, one after the
-//! other. `crowd CLIENTS`: so many are open at the end. `largest CLIENTS`: the same, each of which asks for 255
-//! stations with 1,024 selectors together. `ready ROUNDS`: a client that waits is asked whether it is ready. `apart
-//! CLIENTS ROUNDS`: a record arrives while so many clients wait at another station. `reload CLIENTS CHANGED ROUNDS`: a
-//! new configuration comes into force, in which so many of 1,024 stations have lists that differ for no client's
-//! address. `named STATIONS CLIENTS`: so many clients name so many of 1,024 stations each. `refused KNOWN ROUNDS`: a
-//! client asks for a station that is hidden from it, or if KNOWN is 0 for one that is not there. `lone STATIONS ROUNDS`:
-//! a client follows so many stations, at which lone records arrive by turns. `sleepers CLIENTS ROUNDS`: a turn of a loop hands one client a packet while so many others wait.
+//! found by its codes. `visits ROUNDS`: clients come and go, one after the other. `crowd CLIENTS`: so many are open
+//! at the end. `largest CLIENTS`: the same, each of which asks for 255 stations with 1,024 selectors together. `ready
+//! ROUNDS`: a client that waits is asked whether it is ready. `apart CLIENTS ROUNDS`: a record arrives while so many
+//! clients wait at another station. `reload CLIENTS CHANGED ROUNDS`: a new configuration comes into force, in which
+//! so many of 1,024 stations have lists that differ for no client's address. `named STATIONS CLIENTS`: so many
+//! clients name so many of 1,024 stations each. `refused KNOWN ROUNDS`: a client asks for a station that is hidden
+//! from it, or if KNOWN is 0 for one that is not there. `lone STATIONS ROUNDS`: a client follows so many stations, at
+//! which lone records arrive by turns. `sleepers CLIENTS ROUNDS`: a turn of a loop hands one client a packet while so
+//! many others wait.
 #![tactic(auto)]
 
 mod centre;

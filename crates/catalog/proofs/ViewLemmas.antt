@@ -1,5 +1,6 @@
 -- The stations that an address sees, one after the other.
-use Rattle.std.proofs.Common.{◌≡◌, ℕ, ◌+◌, ◌<◌, Bool, List, [], ◌∷◌, ◌++◌, length, take, map, filter, Some, slice_get, All}
+use Rattle.std.proofs.Common.{◌≡◌, ℕ, ◌+◌, ◌<◌, Bool, List, [], ◌∷◌, ◌++◌, length, take, map, filter, Some, slice_get}
+use Rattle.std.proofs.Common.{All}
 use Rattle.std.proofs.Common.{get_or, append-nil, true, false, sym, arith}
 use Rattle.std.proofs.lemmas.List.{take_more, map-append}
 use Rattle.std.proofs.lemmas.Option.{gets}

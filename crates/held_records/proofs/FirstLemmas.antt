@@ -1,5 +1,6 @@
 -- Where a request for a number begins, and what a push leaves of the rings.
-use Rattle.std.proofs.Common.{◌≡◌, refl, ◌≢◌, ℕ, ◌+◌, ◌-◌, ◌<◌, ◌≤◌, false, Bool, List, [], ◌∷◌, length, Some, None, suc}
+use Rattle.std.proofs.Common.{◌≡◌, refl, ◌≢◌, ℕ, ◌+◌, ◌-◌, ◌<◌, ◌≤◌, false, Bool, List, [], ◌∷◌, length, Some, None}
+use Rattle.std.proofs.Common.{suc}
 use Rattle.std.proofs.Common.{zero, arith, sym, ap, subst, ◌∙◌, unwrap_or, slice_get, slice_set, get_or, All}
 use Rattle.std.specs.Prelude.{◌==◌, if◌then◌else◌}
 use Rattle.std.proofs.lemmas.Bool.Decides.{nat_tests}

@@ -1,5 +1,6 @@
 //! The stations that a client named, with the selectors of each.
-ghost use Rattle.std.specs.Prelude.{◌≡◌, ◌≢◌, ◌<◌, ◌∷◌, [], ℕ, None, Some, IfOk, IfSome, length, map, option_map, slice_get};
+ghost use Rattle.std.specs.Prelude.{◌≡◌, ◌≢◌, ◌<◌, ◌∷◌, [], ℕ, None, Some, IfOk, IfSome, length, map, option_map};
+ghost use Rattle.std.specs.Prelude.{slice_get};
 ghost use Rattle.std.specs.Prelude.{slice_set, filter_map, is_some, position};
 ghost use Rattle.std.specs.List.{list_any};
 ghost use Rattle.protocol.specs.Catalog.{Config as ProtocolConfig, has_codes};

@@ -86,7 +86,8 @@ looked-now rings s kept all = record {
 -- The one request has looked at its ring, and the others had.
 pub caught-up : (rings : RingsValue) (next i : ℕ) (cursor : Cursor) (a n m : SessionValue) (c : Choice)
     → Passes i cursor a n → n.looked ≡ a.looked → m ≡ record n { looked = Some rings.arrivals }
-    → slice_get (chosen_of a.mode) i ≡ Some c → (PassedIn rings next c → RestsIn rings next (record c { cursor = cursor }))
+    → slice_get (chosen_of a.mode) i ≡ Some c
+    → (PassedIn rings next c → RestsIn rings next (record c { cursor = cursor }))
     → ((j : ℕ) (x : Choice) → j ≢ i → slice_get (chosen_of a.mode) j ≡ Some x → HasLooked rings x)
     → HasPassedAll rings next a → HasPassedAll rings next m
 caught-up rings next i cursor a n m c passes kept made at rests others all =
@@ -162,7 +163,8 @@ pub glance-one : (next i stamp : ℕ) (cs : List Choice) (c : Choice) → AreQui
     → IsGlance next cs (Some (record { index = i; stamp = stamp }))
 glance-one next i stamp cs c others within at is late =
     let first : Option First = Some (record { index = i; stamp = stamp }) in
-    let so_far = glanced-record next i cs c (entry_of c) None first stamp refl at within (item-is cs i c at) is late refl
+    let so_far = glanced-record next i cs c (entry_of c) None first stamp refl at within (item-is cs i c at) is late
+    refl
     (before-one next i cs others i (omega arith) (omega arith)) in
     let left : (k : ℕ) × (i + 1 + k ≡ length cs) = rest-of (i + 1) (length cs) (omega arith) in
     glanced-all next (i + 1 + left.0) cs first (let e = left.1 in omega arith)

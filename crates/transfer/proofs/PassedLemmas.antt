@@ -153,7 +153,8 @@ keeps-passed rings a n keeps passed = record {
         looked = record {
           late = λ k e. old.looked.late k (sym kept ∙ e);
           seen = λ e i c at. old.looked.seen (sym kept ∙ e) i c (ap (λ m. slice_get (chosen_of m) i) (sym was.1) ∙ at);
-          since = λ k e. subst (λ m. HaveLookedAt rings k (chosen_of m)) (sym was.1) (old.looked.since k (sym kept ∙ e));
+          since = λ k e. subst (λ m. HaveLookedAt rings k (chosen_of m)) (sym was.1)
+              (old.looked.since k (sym kept ∙ e));
         };
       };
 }

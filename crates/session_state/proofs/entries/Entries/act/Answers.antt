@@ -8,7 +8,8 @@ use Rattle.session_state.proofs.entries.Entries.act.Goals as goal
 pub invariant_of-self : goal.invariant_of-self
 invariant_of-self c =
     let es = c.self.inside.entries.items in
-    let e = there es c.args.i (subst (λ (v : EntriesValue). c.args.i < length v.items) (sym c.self.view_is) c.requires) in
+    let e = there es c.args.i
+    (subst (λ (v : EntriesValue). c.args.i < length v.items) (sym c.self.view_is) c.requires) in
     let f : Entry = record (e.0) { action = Some c.args.action } in
     let made = written c.self.inside.entries.len es c.act_at.new.entries c.args.i
     (λ (x : Entry). record x { action = Some c.args.action }) c.self.inside.entries.ok.0

@@ -8,7 +8,8 @@ use Rattle.session_state.proofs.entries.Entries.keep.Goals as goal
 pub invariant_of-self : goal.invariant_of-self
 invariant_of-self c =
     let es = c.self.inside.entries.items in
-    let e = there es c.args.i (subst (λ (v : EntriesValue). c.args.i < length v.items) (sym c.self.view_is) c.requires) in
+    let e = there es c.args.i
+    (subst (λ (v : EntriesValue). c.args.i < length v.items) (sym c.self.view_is) c.requires) in
     let f : Entry = record (e.0) { first = c.args.first } in
     let made = written c.self.inside.entries.len es c.keep_at.new.entries c.args.i
     (λ (x : Entry). record x { first = c.args.first }) c.self.inside.entries.ok.0

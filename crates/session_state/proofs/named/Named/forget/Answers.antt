@@ -9,4 +9,5 @@ invariant_of-self c =
     naming-none c.self.inside.entries.items _ c.self.inside.current c.self.inside.pool _ _ _ c.self.invariant
     (sym (with-length c.self.inside.entries.items c.self.inside.pool)
     ∙ ap (λ (x : NamedValue). length x.choices) c.self.view_is
-    ∙ c.requires) (ap (λ (v : EntriesValue). v.items) c.clear-2.ensures) c.clear.ensures (ap (λ (v : EntriesValue). v.room) c.clear-2.ensures)
+    ∙ c.requires) (ap (λ (v : EntriesValue). v.items) c.clear-2.ensures) c.clear.ensures
+    (ap (λ (v : EntriesValue). v.room) c.clear-2.ensures)

@@ -13,7 +13,8 @@ invariant_of-self c =
     let e = there old.items c.args.i (below _ _ _ c.args.i _ c.self.view_is c.requires) in
     subst (λ (v : EntriesValue). IsNamed v.items c.self.inside.current c.self.inside.pool v.room)
     (sym (c.pass.ensures e.0 e.1))
-    (naming-entry old.items c.self.inside.current c.self.inside.pool old.room c.args.i (record (e.0) { cursor = c.args.cursor })
+    (naming-entry old.items c.self.inside.current c.self.inside.pool old.room c.args.i
+    (record (e.0) { cursor = c.args.cursor })
     c.self.invariant)
 
 pub returns : goal.returns
