@@ -6,11 +6,19 @@ use server_core::{Client, Server};
 use std::alloc::Global;
 use std::net::Ipv4Addr;
 
-/// A client names so many stations, one after the other.
-fn name_all(alloc: Global, server: &mut Server, stations: u32) -> anyhow::Result<()> {
-    let client = server.open(alloc, Ipv4Addr::LOCALHOST)?;
+/// Lines that ask for the first stations.
+fn lines_of(alloc: Global, stations: u32) -> anyhow::Result<Vec<String>> {
+    let mut lines = Vec::new(alloc);
     for place in 0..stations {
-        let line = format!(in alloc; "STATION {place:05} GE\r")?;
+        lines.push(format!(in alloc; "STATION {place:05} GE\r")?)?;
+    }
+    Ok(lines)
+}
+
+/// A client comes, says some lines, one after the other, and goes.
+fn say_all(alloc: Global, server: &mut Server, lines: &[String]) -> anyhow::Result<()> {
+    let client = server.open(alloc, Ipv4Addr::LOCALHOST)?;
+    for line in lines {
         say(server, client, line.as_bytes());
     }
     let _ = server.close(client);
@@ -19,9 +27,10 @@ fn name_all(alloc: Global, server: &mut Server, stations: u32) -> anyhow::Result
 
 /// So many clients come one after the other, and each names so many of 1,024 stations. Answers how many came.
 pub fn named(alloc: Global, stations: u32, clients: u32) -> anyhow::Result<u64> {
+    let lines = lines_of(alloc, stations)?;
     at_full_server(alloc, 1024, 0, 1, |server| {
         for _ in 0..clients {
-            name_all(alloc, server, stations)?;
+            say_all(alloc, server, lines.as_slice())?;
         }
         Ok(u64::from(clients))
     })
