@@ -79,8 +79,8 @@ naming() {
     row "$((($(server named 200 200) - $(server named 199 200)) / 200))" 1500 'STATION of the 200th of 1,024 stations that a client names, its answer taken' ''
     unknown=$(round 1000 refused 0)
     hidden=$(round 1000 refused 1)
-    row "$hidden" "$((unknown + 50))" 'STATION of a station that is hidden, its answer taken' "at most 50 more than of one that is not there: $unknown"
-    row "$unknown" "$((hidden + 50))" 'STATION of a station that is not there' 'at most 50 more than that'
+    row "$hidden" "$((unknown + 64))" 'STATION of a station that is hidden, its answer taken' "at most 64 more than of one that is not there: $unknown"
+    row "$unknown" "$((hidden + 64))" 'STATION of a station that is not there' 'at most 64 more than that'
 }
 
 # A record that comes alone, from its arrival until its packet was taken and nothing more is found.
@@ -95,7 +95,7 @@ sleepers() {
     alone=$(round 1000 apart 0)
     row "$(($(round 1000 apart 10000) - alone))" 1500 'more for an arrival while 10,000 clients wait at another station' "than with none: $alone"
     awake=$(round 100 sleepers 100)
-    row "$((($(round 100 sleepers 9999) - awake) / 9899))" 2 'a client that sleeps, of 9,999, in a turn that hands another one a packet' "a turn with 100: $awake"
+    row "$((($(round 100 sleepers 9999) - awake) / 9899))" 20 'a client that sleeps, of 9,999, in a turn that hands another one a packet' "a turn with 100: $awake"
 }
 
 # reload_of CLIENTS CHANGED : what one of the last two reloads takes of four, if the lists of so many of 1,024 stations changed.
