@@ -11,7 +11,7 @@ use Rattle.slreader.specs.declared.pieces.ReplyPiece.TheVariants as reply
 use Rattle.slreader.specs.Pieces.{greeting, line_piece, reply_piece}
 use Rattle.slreader.specs.Wants.{Command}
 use Rattle.slreader.specs.Lines.{without}
-use Rattle.slreader.specs.Dialogue.{ReaderValue, Stage, after_byte, byte_at, asking, ask_next, stage_after, refuse}
+use Rattle.slreader.specs.Dialogue.{ReaderValue, Stage, after_byte, byte_at, asking, ask_next, stage_after}
 use Rattle.slreader.specs.Dialogue.{first_line, second_line, answered, transferred, read_on}
 use Rattle.slreader.specs.Dialogue.Stage.{FirstLine, SecondLine, Answer, Transfer, Over, Failed}
 

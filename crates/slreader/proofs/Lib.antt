@@ -11,3 +11,11 @@ pub mod FaultLaws
 pub mod CameLemmas
 mod WorkedDialogues
 pub mod PlanLemmas
+pub mod PartLemmas
+pub mod LineLemmas
+pub mod CourseLemmas
+pub mod AnswerLemmas
+pub mod VerdictLemmas
+pub mod HelloLemmas
+pub mod StreamLemmas
+pub mod PartLaws

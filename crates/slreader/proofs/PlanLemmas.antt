@@ -1,8 +1,8 @@
 -- Plans of one want.
-use Rattle.std.proofs.Common.{◌≡◌, ◌≤◌, ◌&&◌, Bool, true, false, nat_le, [], ◌∷◌, length, refl, arith}
+use Rattle.std.proofs.Common.{◌≡◌, ◌&&◌, Bool, true, false, nat_le, [], ◌∷◌, length, refl, arith}
 use Rattle.std.proofs.lemmas.Bool.Decides.{nat_tests}
 use Rattle.protocol.proofs.FoundLemmas.{both}
-use Rattle.slreader.specs.Wants.{PlanValue, WantValue, is_plan, is_want, has_patterns, patterns_together}
+use Rattle.slreader.specs.Wants.{WantValue, is_plan, is_want, patterns_together}
 use Rattle.slreader.specs.Wants.PlanValue.{Uni}
 
 in_the_middle : (a b c d : Bool) → (a && (b && c) && d) ≡ true → b ≡ true

@@ -11,7 +11,7 @@ use Rattle.slreader.specs.declared.pieces.ReplyPiece.TheVariants as reply
 use Rattle.slreader.specs.Pieces.{greeting, line_piece, reply_piece}
 use Rattle.slreader.specs.Wants.{Command}
 use Rattle.slreader.specs.Lines.{ended, without}
-use Rattle.slreader.specs.Dialogue.{ReaderValue, Stage, Given, after_byte, byte_at, asking, ask_next, refuse}
+use Rattle.slreader.specs.Dialogue.{ReaderValue, Stage, after_byte, byte_at, asking, ask_next, refuse}
 use Rattle.slreader.specs.Dialogue.{first_line, second_line, answered, transferred, given_by, given_from, read_on}
 use Rattle.slreader.specs.Dialogue.Stage.{FirstLine, SecondLine, Answer, Transfer, Over, Failed}
 

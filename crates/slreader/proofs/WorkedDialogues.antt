@@ -1,5 +1,9 @@
 -- Worked dialogues of readers: what is asked and given, and where they end.
 use Rattle.std.specs.Prelude.{◌≡◌, refl, ℕ, List, [], ◌∷◌, replicate, Some, None, true, false, codes}
+use Rattle.std.proofs.Common.{◌++◌, arith, inl}
+use Rattle.std.proofs.lemmas.List.Elements.{All-nil}
+use Rattle.protocol.specs.Packet.{IsSomePacket}
+use Rattle.protocol.specs.Reading.{Not}
 use Rattle.slreader.specs.declared.fault.ReaderFault.TheVariants.{AllRefused, BadReply, NotAPacket}
 use Rattle.slreader.specs.Wants.{PlanValue, WantValue, commands_of_want, is_plan, is_want}
 use Rattle.slreader.specs.Wants.PlanValue.{Uni, Multi}
@@ -7,6 +11,11 @@ use Rattle.slreader.specs.Wants.Action.{Data, Fetch, Time}
 use Rattle.slreader.specs.Dialogue.{after_byte, asked_of, begun, given_by, given_from, reader_of}
 use Rattle.slreader.specs.Dialogue.Given.{Hello, Refused, End}
 use Rattle.slreader.specs.Dialogue.Stage.{Failed, Over}
+use Rattle.slreader.specs.Parts.{Part, bytes_of, given_of, first_part, second_part, answers_from, end_parts, IsDialogue}
+use Rattle.slreader.specs.Parts.{BeginsDialogue}
+use Rattle.slreader.specs.Parts.Verdict.{Accepted, RefusedAfter}
+use Rattle.slreader.proofs.LineLemmas.{no_end_nil, no_end_behind}
+use Rattle.slreader.proofs.PartLaws.{no_dialogue_law}
 
 -- GE WLF by FETCH with two patterns, and GE NONE by FETCH
 abbrev two_wants : PlanValue
@@ -126,3 +135,52 @@ plan_of_1024_patterns = refl
 pub plan_of_1025_patterns : is_plan (Multi (want_of_size 1 ∷ replicate 16 (want_of_size 64))) ≡ false
 unfolding is_want
 plan_of_1025_patterns = refl
+
+-- ---- the same in words
+
+-- The dialogue in which one of two wants is refused: its first want is accepted, and the second is not.
+abbrev pub one_refused_parts : List Part
+one_refused_parts = first_part (codes "SeedLink v3.0\r\n") ∷ second_part (codes "Test Centre\r\n") ∷
+    (answers_from 0 (4 ∷ 2 ∷ []) (Accepted ∷ RefusedAfter 0 ∷ []) ++ end_parts true)
+
+pub one_refused_in_words : IsDialogue two_wants one_refused_parts
+one_refused_in_words = record {
+  is_some_accepted = true;
+  negotiation = first_part (codes "SeedLink v3.0\r\n") ∷ second_part (codes "Test Centre\r\n") ∷
+      answers_from 0 (4 ∷ 2 ∷ []) (Accepted ∷ RefusedAfter 0 ∷ []);
+  transfer = end_parts true;
+  negotiated = record {
+    first = codes "SeedLink v3.0\r\n";
+    second = codes "Test Centre\r\n";
+    verdicts = Accepted ∷ RefusedAfter 0 ∷ [];
+    greeted = record {
+      text = codes "SeedLink v3.0";
+      marked = (codes "3.0", refl);
+      short = omega arith;
+      one_line = no_end_behind (codes "SeedLink v3.0") [] refl no_end_nil;
+      whole = refl;
+    };
+    described = record {
+      text = codes "Test Centre";
+      marked = (codes "Test Centre", refl);
+      short = omega arith;
+      one_line = no_end_behind (codes "Test Centre") [] refl no_end_nil;
+      whole = refl;
+    };
+    each = (tt, (omega arith, tt));
+    some = refl;
+    whole = refl;
+  };
+  followed = ([], true, All-nil IsSomePacket, refl);
+  whole = refl;
+}
+
+pub one_refused_bytes : bytes_of one_refused_parts ≡ one_refused
+one_refused_bytes = refl
+
+pub one_refused_gives : given_of one_refused_parts ≡ Hello ∷ Refused 1 ∷ End ∷ []
+one_refused_gives = refl
+
+-- No dialogue begins so.
+pub no_server_in_words : Not (BeginsDialogue two_wants (codes "X"))
+no_server_in_words = (no_dialogue_law two_wants (codes "X") two_wants_asked).0 (inl no_server_failed)

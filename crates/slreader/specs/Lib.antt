@@ -12,3 +12,4 @@ pub mod Reads
 pub mod Comings
 pub mod Words
 pub mod Whats
+pub mod Parts
