@@ -19,3 +19,4 @@ pub mod VerdictLemmas
 pub mod HelloLemmas
 pub mod StreamLemmas
 pub mod PartLaws
+pub mod WordPartLemmas

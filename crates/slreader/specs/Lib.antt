@@ -13,3 +13,4 @@ pub mod Comings
 pub mod Words
 pub mod Whats
 pub mod Parts
+pub mod WordParts

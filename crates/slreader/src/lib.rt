@@ -10,6 +10,7 @@ mod fault;
 mod laws;
 mod outbox;
 mod packets;
+mod part;
 mod pieces;
 mod reader;
 mod spelling;
@@ -20,6 +21,7 @@ mod words;
 
 pub use came::{Came, What};
 pub use fault::ReaderFault;
-pub use laws::{dialogue_in_pieces, first_of_a_piece};
+pub use laws::{dialogue_decided, dialogue_in_pieces, first_of_a_piece};
+pub use part::WantPart;
 pub use reader::ReaderCore;
 pub use want::{Action, Plan, Want};

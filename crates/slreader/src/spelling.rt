@@ -13,13 +13,13 @@ use crate::want::{Action, Plan, Want};
 use selector::Selector;
 
 /// How many bytes a network's code has at most.
-const NETWORK: usize = 2;
+pub(crate) const NETWORK: usize = 2;
 
 /// How many bytes a station's code has at most.
-const STATION: usize = 5;
+pub(crate) const STATION: usize = 5;
 
 /// How many patterns a want has at most.
-const PATTERNS: usize = 64;
+pub(crate) const PATTERNS: usize = 64;
 
 /// How many patterns the wants of a plan have together at most.
 const TOGETHER: usize = 1024;
@@ -42,14 +42,14 @@ fn are_code_bytes(code: &[u8]) -> bool
 }
 
 /// 1 to `most` bytes of a code.
-fn is_code(most: usize, code: &[u8]) -> bool
+pub(crate) fn is_code(most: usize, code: &[u8]) -> bool
     ensures { result ≡ spec_is_code most code.now }
 {
     1 <= code.len() && code.len() <= most && are_code_bytes(code)
 }
 
 /// The text of a pattern.
-fn is_pattern(text: &[u8]) -> bool
+pub(crate) fn is_pattern(text: &[u8]) -> bool
     ensures { result ≡ spec_is_pattern text.now }
 {
     Selector::parse(text).is_some()

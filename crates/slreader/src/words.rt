@@ -14,13 +14,13 @@ use std::alloc::{AllocError, Global};
 
 /// A text cut at its first separator.
 #[derive(Clone, Copy)]
-struct Cut<'a> {
-    front: &'a [u8],
-    rest: Option<&'a [u8]>,
+pub(crate) struct Cut<'a> {
+    pub(crate) front: &'a [u8],
+    pub(crate) rest: Option<&'a [u8]>,
 }
 
 /// A text cut at its first separator; all of it where it has none.
-fn front_and_rest(separator: u8, text: &[u8]) -> Cut<'_>
+pub(crate) fn front_and_rest(separator: u8, text: &[u8]) -> Cut<'_>
     ensures front { result.front.now ≡ front_of separator text.now }
     ensures rest { option_copied result.rest ≡ rest_of separator text.now }
 {
@@ -61,7 +61,7 @@ fn patterns_of<'a>(alloc: Global, list: Option<&'a [u8]>) -> Result<Vec<&'a [u8]
 }
 
 /// The number behind `@`, if there is one; None where its digits are none of a number.
-fn number_behind(digits: Option<&[u8]>) -> Option<Option<Seq>>
+pub(crate) fn number_behind(digits: Option<&[u8]>) -> Option<Option<Seq>>
     ensures { result ≡ number_behind (option_copied digits.entry) }
 {
     match digits {
