@@ -225,6 +225,8 @@ fn read_blocks<R: Source, W: Sink, O: Sink, P: Sink>(
 /// Records are written before their lines: at the end and at every fault each packet that has a line, or a part of
 /// one, has its whole record written. A fault of writing records leaves no line of theirs.
 ///
+/// If the plan can't be asked for, it fails with Limit, and nothing was read or written.
+///
 /// It fails with the reader's faults; with Read where a read failed, where the input ends before the end of the
 /// transfer, or where 2^64 - 1 reads were made; and with Write where something could not be written.
 pub fn read_over<R: Source, W: Sink, O: Sink, P: Sink>(
@@ -246,6 +248,9 @@ pub fn read_over<R: Source, W: Sink, O: Sink, P: Sink>(
         (R.left reader.old) (R.left reader.new)
         (O.written out.old) (O.written out.new) (P.written records.old) (P.written records.new) }
     ensures limit { IfErr result (λ fault. fault ≡ Reader Limit → is_plan (plan_value plan.entry) ≡ false) }
+    ensures plan { OnOk result (is_plan (plan_value plan.entry) ≡ true) }
+    ensures untouched { IfErr result (λ fault. fault ≡ Reader Limit → (reader.new ≡ reader.old)
+        × (writer.new ≡ writer.old) × (out.new ≡ out.old) × (records.new ≡ records.old)) }
     ensures stopped { IfErr result (λ fault. StopsListing fault
         (EndsReads (R.failures reader.old) (R.failures reader.new)
         (R.calls reader.old) (R.calls reader.new) (R.left reader.new))
