@@ -5,9 +5,12 @@ use Rattle.std.specs.declared.io.Error.{Error}
 use Rattle.jobs.specs.Faults.{failure_number}
 use Rattle.jobs.specs.declared.failure.Failure.{Failure}
 use Rattle.jobs.specs.declared.incident.Site.{Site}
-use Rattle.jobs.specs.declared.incident.Site.TheVariants.{Unnamed, File, Setting, Unwritten, Word, Server, Socket}
+use Rattle.jobs.specs.declared.incident.Site.TheVariants.{Unnamed, File, Setting, Unwritten, Word, Want, Server, Socket}
 use Rattle.socket_ports.specs.declared.fault.ListenError.{ListenError}
 use Rattle.socket_ports.specs.declared.fault.ListenError.TheVariants as error
+use Rattle.slreader.specs.declared.fault.ReaderFault.{ReaderFault}
+use Rattle.slreader.specs.declared.fault.ReaderFault.TheVariants as reader
+use Rattle.slreader.specs.WordParts.{wrong_part}
 use Rattle.catalog.specs.declared.error.ConfigError.{ConfigError}
 use Rattle.catalog.specs.declared.fault.ConfigFault.{ConfigFault}
 use Rattle.catalog.specs.declared.fault.ConfigFault.TheVariants as config
@@ -27,6 +30,11 @@ file_site failure path = if is_memory failure || is_output failure then Unnamed 
 -- of a word that is read
 abbrev pub word_site : Failure → Bor (List ℕ) → Site
 word_site failure word = if is_memory failure then Unnamed else Word word
+
+-- of a word that spells no want
+abbrev pub want_site : ReaderFault → Bor (List ℕ) → Site
+want_site reader.OutOfMemory word = Unnamed
+want_site _ word = Want word (wrong_part word.now)
 
 -- of a job that reads from a server
 abbrev pub server_site : Failure → Bor (List ℕ) → Site

@@ -1,16 +1,18 @@
 //! A failure, and where it happened.
 ghost use Rattle.std.specs.Prelude.{◌≡◌};
 ghost use Rattle.jobs.specs.Sites.{config_site, feed_site, file_site, is_memory, is_output, listening_site};
-ghost use Rattle.jobs.specs.Sites.{output_site, server_site, word_site};
+ghost use Rattle.jobs.specs.Sites.{output_site, server_site, want_site, word_site};
 ghost use Rattle.socket_ports.specs.Faults.{fault_of};
-ghost use Rattle.jobs.specs.declared.failure.Failure.TheVariants.{Config, Listen, Records};
+ghost use Rattle.jobs.specs.declared.failure.Failure.TheVariants.{Config, Listen, Records, Want as WantFailure};
 ghost use Rattle.jobs.specs.declared.incident.Site.TheVariants.{Record};
 
 use crate::failure::Failure;
 use crate::faults::ReplayFault;
+use crate::part_texts::{allowed_in, name_of};
 use crate::setting_texts::{key_of, limit_of};
 use catalog::{ConfigError, ConfigFault, Step};
 use record_listing::Finding;
+use slreader::{ReaderFault, Want, WantPart};
 use socket_ports::ListenError;
 use std::fmt::{self, Display, Formatter, Write};
 use std::io;
@@ -30,8 +32,10 @@ pub enum Site<'a> {
     Unopened(&'a str, io::Error),
     /// A file that took no more, for the system's reason.
     Unwritten(&'a str, io::Error),
-    /// A word of the command line: an address or a want.
+    /// A word of the command line that is no address.
     Word(&'a str),
+    /// A word of the command line that is no want, and the part of it that is wrong.
+    Want(&'a str, Option<WantPart>),
     /// The server with that address.
     Server(&'a str),
     /// An address to which no connection could be made, or that can't be listened on, for the system's reason.
@@ -141,6 +145,21 @@ impl<'a> Incident<'a> {
         Incident { failure, site }
     }
 
+    /// A word of the command line that is no want.
+    pub fn of_want(word: &'a str, fault: ReaderFault) -> Incident<'a>
+        ensures failure { result.failure ≡ WantFailure fault }
+        ensures site { result.site ≡ want_site fault word.entry }
+    {
+        let site = match fault {
+            ReaderFault::OutOfMemory => Site::Unnamed,
+            _ => Site::Want(word, Want::wrong_part(word.as_bytes())),
+        };
+        Incident {
+            failure: Failure::Want(fault),
+            site,
+        }
+    }
+
     /// Two addresses, for clients and for feeds, of which one can't be listened on.
     pub fn of_listening(clients: &'a str, feeds: &'a str, error: ListenError) -> Incident<'a>
         ensures failure { result.failure ≡ Listen (fault_of error) }
@@ -222,6 +241,10 @@ impl Display for Site<'_> {
                 writeln!(f, "  file: {path}\n  reason: {reason}")
             }
             Site::Word(word) => writeln!(f, "  word: {word}"),
+            Site::Want(word, part) => {
+                writeln!(f, "  word: {word}")?;
+                put_part(f, part)
+            }
             Site::Server(address) => writeln!(f, "  address: {address}"),
             Site::Socket(address, reason) => writeln!(
                 f,
@@ -247,6 +270,19 @@ fn put_setting<W: Write>(f: &mut Formatter<W>, error: &ConfigError) -> fmt::Resu
         None => {}
     }
     writeln!(f, "  allowed: {}", limit_of(error.step))
+}
+
+/// The lines that say which part of a want is wrong, and what is allowed there.
+fn put_part<W: Write>(f: &mut Formatter<W>, part: &Option<WantPart>) -> fmt::Result {
+    match *part {
+        Some(part) => writeln!(
+            f,
+            "  part: {}\n  allowed: {}",
+            name_of(part),
+            allowed_in(part)
+        ),
+        None => Ok(()),
+    }
 }
 
 /// A space and a code, where there is one.

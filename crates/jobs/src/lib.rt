@@ -11,6 +11,7 @@ mod incident;
 mod network;
 mod operator;
 mod output_file;
+mod part_texts;
 mod replaying;
 mod setting_texts;
 mod standard_error;

@@ -148,7 +148,7 @@ fn wants_of<'a>(
 fn want_of<'a>(alloc: Global, word: &'a str, fetch: bool) -> Result<Want<'a>, Incident<'a>> {
     match Want::parse(alloc, word.as_bytes(), fetch) {
         Ok(want) => Ok(want),
-        Err(fault) => Err(Failure::Want(fault).in_word(word)),
+        Err(fault) => Err(Incident::of_want(word, fault)),
     }
 }
 

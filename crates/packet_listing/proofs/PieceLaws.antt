@@ -1,6 +1,6 @@
 -- Laws over what is told of a piece, and over pieces one after the other.
-use Rattle.std.proofs.Common.{◌≡◌, ◌≢◌, ◌≤◌, ◌-◌, ℕ, List, [], ◌∷◌, ◌++◌, take, drop, length, Some, None, true, false}
-use Rattle.std.proofs.Common.{refl, sym, ap, subst, ◌∙◌, append_assoc, append-nil, arith, take-append-drop, length-drop}
+use Rattle.std.proofs.Common.{◌≡◌, ◌≢◌, ◌-◌, ℕ, List, [], ◌∷◌, ◌++◌, take, drop, length, Some, None, true, false}
+use Rattle.std.proofs.Common.{refl, sym, ap, ◌∙◌, append_assoc, append-nil, arith, take-append-drop, length-drop}
 use Rattle.std.proofs.lemmas.List.{take_all}
 use Rattle.std.specs.Prelude.{Option}
 use Rattle.std.specs.Option.{option_to_list}
@@ -9,14 +9,13 @@ use Rattle.slreader.specs.declared.fault.ReaderFault.TheVariants.{Limit}
 use Rattle.slreader.specs.Dialogue.{ReaderValue, Stage, Given, given_from, read_on, read_first, outcome_of, outcome_in}
 use Rattle.slreader.specs.Dialogue.{outcome_at}
 use Rattle.slreader.specs.Dialogue.Stage.{FirstLine, SecondLine, Answer, Transfer, Over, Failed}
-use Rattle.slreader.specs.Dialogue.Given.{Hello, Refused, Packet, End}
+use Rattle.slreader.specs.Dialogue.Given.{End}
 use Rattle.slreader.specs.Dialogue.Outcome.{Gave, Stopped}
 use Rattle.slreader.proofs.FaultLaws.{read-no-limit}
 use Rattle.slreader.proofs.ReadingLaws.{read_on-append, given_from-append, first_reader, first_given, first_all}
 use Rattle.slreader.proofs.ReadingLaws.{gave_is, end_first}
 use Rattle.packet_listing.specs.Lines.{OutputValue, with_given, with_all, told}
 use Rattle.packet_listing.specs.Pieces.{GoesOver, Takes, FailsIn}
-use Rattle.packet_listing.specs.Whole.{line_given, lines_given, record_given, records_given}
 
 -- ---- things given one after the other
 

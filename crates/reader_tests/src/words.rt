@@ -1,29 +1,32 @@
 //! Words of wants.
-use slreader::{ReaderFault, Want};
+use slreader::{ReaderFault, Want, WantPart};
 use std::alloc::Global;
 use std::test::Fail;
 
-/// Words that spell no want that can be asked for.
-static MALFORMED: [&[u8]; 19] = [
-    b"",
-    b"GE",
-    b"GEWLF",
-    b"_WLF",
-    b"GE_",
-    b"GEO_WLF",
-    b"GE_WLFABC",
-    b"ge_WLF",
-    b"GE_wlf",
-    b"GE_WLF_",
-    b"GE_WLF:",
-    b"GE_WLF:BH",
-    b"GE_WLF:BHZ,",
-    b"GE_WLF:BHZ,,EHZ",
-    b"GE_WLF:BHZ.Q",
-    b"GE_WLF@",
-    b"GE_WLF@0000000",
-    b"GE_WLF@G",
-    b"GE_WLF@1@2",
+/// Words that spell no want that can be asked for, and the first part that is wrong.
+static MALFORMED: [(&[u8], WantPart); 22] = [
+    (b"", WantPart::Network),
+    (b"GE", WantPart::Station),
+    (b"GEWLF", WantPart::Network),
+    (b"GE.APE", WantPart::Network),
+    (b"_WLF", WantPart::Network),
+    (b"GE_", WantPart::Station),
+    (b"GEO_WLF", WantPart::Network),
+    (b"GE_WLFABC", WantPart::Station),
+    (b"ge_WLF", WantPart::Network),
+    (b"GE_wlf", WantPart::Station),
+    (b"GE_WLF_", WantPart::Station),
+    (b"GE_WLF:", WantPart::Patterns),
+    (b"GE_WLF:BH", WantPart::Patterns),
+    (b"GE_WLF:BHZ,", WantPart::Patterns),
+    (b"GE_WLF:BHZ,,EHZ", WantPart::Patterns),
+    (b"GE_WLF:BHZ.Q", WantPart::Patterns),
+    (b"GE_WLF@", WantPart::Number),
+    (b"GE_WLF@0000000", WantPart::Number),
+    (b"GE_WLF@G", WantPart::Number),
+    (b"GE_WLF@1@2", WantPart::Number),
+    (b"GE_WLF:B@G", WantPart::Patterns),
+    (b"ge_wlf:B@G", WantPart::Network),
 ];
 
 /// Words that spell a want, with the number of its patterns.
@@ -62,13 +65,16 @@ fn a_want_has_at_most_64_patterns(rt: HostRuntime) -> Result<(), Fail> {
     let alloc = rt.alloc();
     assert!(rt; patterns(alloc, &word_of(alloc, 63)?) == Ok(64));
     assert!(rt; patterns(alloc, &word_of(alloc, 64)?) == Err(ReaderFault::Limit));
+    assert!(rt; Want::wrong_part(&word_of(alloc, 63)?) == None);
+    assert!(rt; Want::wrong_part(&word_of(alloc, 64)?) == Some(WantPart::Patterns));
     Ok(())
 }
 
 #[test]
 fn malformed_words_are_refused(rt: HostRuntime) -> Result<(), Fail> {
-    for word in &MALFORMED {
+    for (word, part) in &MALFORMED {
         assert!(rt; patterns(rt.alloc(), word) == Err(ReaderFault::Limit));
+        assert!(rt; Want::wrong_part(word) == Some(*part));
     }
     assert_eq!(rt; ReaderFault::Limit.report().number, 22);
     Ok(())
@@ -78,6 +84,7 @@ fn malformed_words_are_refused(rt: HostRuntime) -> Result<(), Fail> {
 fn right_words_are_taken(rt: HostRuntime) -> Result<(), Fail> {
     for (word, count) in &RIGHT {
         assert!(rt; patterns(rt.alloc(), word) == Ok(*count));
+        assert!(rt; Want::wrong_part(word) == None);
     }
     Ok(())
 }

@@ -1,8 +1,8 @@
 -- The parts of a word are right exactly where it spells a want, and its patterns are counted one by one.
-use Rattle.std.proofs.Common.{◌≡◌, ℕ, ◌+◌, ◌<◌, ◌≤◌, Bool, true, false, ◌==◌, ◌&&◌, List, [], ◌∷◌, ◌++◌, length, nat_lt}
+use Rattle.std.proofs.Common.{◌≡◌, ℕ, ◌+◌, Bool, true, false, ◌&&◌, List, [], ◌∷◌, ◌++◌, length, nat_lt}
 use Rattle.std.proofs.Common.{refl, sym, ap, ◌∙◌, arith, append_assoc, length-append, Option, Some, None}
 use Rattle.std.proofs.lemmas.Bool.Decides.{nat_tests}
-use Rattle.std.specs.Prelude.{◌≢◌, ◌↔◌, IsSome, nat_le, is_some, if◌then◌else◌, option_and_then}
+use Rattle.std.specs.Prelude.{◌↔◌, IsSome, nat_le, is_some, if◌then◌else◌, option_and_then}
 use Rattle.std.specs.List.{list_all}
 use Rattle.std.proofs.lemmas.List.Folds.{list_all-append}
 use Rattle.protocol.proofs.FoundLemmas.{both}
@@ -10,7 +10,7 @@ use Rattle.slreader.specs.declared.part.WantPart.{WantPart}
 use Rattle.slreader.specs.declared.part.WantPart.TheVariants.{Network, Station, Patterns, Number}
 use Rattle.slreader.specs.Wants.{WantValue, is_code, is_pattern, has_patterns, is_action, is_want}
 use Rattle.slreader.specs.Words.{action_of, front_of, rest_of, patterns_of, number_behind, spellable, want_of}
-use Rattle.slreader.specs.WordParts.{codes_in, has_code, is_right, wrong_part}
+use Rattle.slreader.specs.WordParts.{codes_in, has_code, wrong_part}
 
 -- ---- patterns, one by one
 

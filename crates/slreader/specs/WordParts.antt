@@ -1,5 +1,5 @@
 -- The parts of a word that spells a want, and the first of them that is wrong. This project's own.
-use Rattle.std.specs.Prelude.{ℕ, Bool, true, false, if◌then◌else◌, List, [], ◌∷◌, Option, Some, None, is_some}
+use Rattle.std.specs.Prelude.{ℕ, Bool, false, if◌then◌else◌, List, [], ◌∷◌, Option, Some, None, is_some}
 use Rattle.slreader.specs.declared.part.WantPart.{WantPart}
 use Rattle.slreader.specs.declared.part.WantPart.TheVariants.{Network, Station, Patterns, Number}
 use Rattle.slreader.specs.Wants.{is_code, has_patterns}

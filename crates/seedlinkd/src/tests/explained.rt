@@ -225,19 +225,45 @@ fn a_word_that_is_refused(rt: HostRuntime) -> Result<(), Fail> {
         unfinished(&rt, feed)?.as_str()
             == "  cause: a word is no address with a port\n  word: localhost:18001\n"
     );
-    let mut wants = Vec::new(rt.alloc());
-    wants.push("GE_WLF")?;
-    wants.push("GE_WLF:B?")?;
-    let read = Job::Read {
-        server: "127.0.0.1:1",
-        wants,
-        fetch: true,
-        output: None,
-    };
-    assert!(rt;
-        unfinished(&rt, read)?.as_str()
-            == "  cause: this can't be asked for in SeedLink\n  word: GE_WLF:B?\n"
-    );
+    Ok(())
+}
+
+/// Words of wants that are refused, and the lines that explain it, after the cause's.
+static WANTS: [(&str, &str); 4] = [
+    (
+        "GE.APE",
+        "  word: GE.APE\n  part: network\n  allowed: 1 to 2 of A to Z and 0 to 9, before _\n",
+    ),
+    (
+        "GE_",
+        "  word: GE_\n  part: station\n  allowed: 1 to 5 of A to Z and 0 to 9, after _\n",
+    ),
+    (
+        "GE_WLF:B?",
+        "  word: GE_WLF:B?\n  part: patterns\n  \
+            allowed: 1 to 64 patterns joined by commas, as BH?, 00BHZ.D or !E, after :\n",
+    ),
+    (
+        "GE_APE@XYZ",
+        "  word: GE_APE@XYZ\n  part: number\n  allowed: 1 to 6 hexadecimal digits, after @\n",
+    ),
+];
+
+#[test]
+fn a_want_that_is_refused(rt: HostRuntime) -> Result<(), Fail> {
+    for (word, lines) in &WANTS {
+        let mut wants = Vec::new(rt.alloc());
+        wants.push("GE_WLF")?;
+        wants.push(*word)?;
+        let read = Job::Read {
+            server: "127.0.0.1:1",
+            wants,
+            fetch: true,
+            output: None,
+        };
+        let wanted = format!(in rt.alloc(); "  cause: this can't be asked for in SeedLink\n{lines}")?;
+        assert!(rt; unfinished(&rt, read)?.as_str() == wanted.as_str());
+    }
     Ok(())
 }
 

@@ -1,4 +1,4 @@
-use Rattle.std.proofs.Common.{◌≡◌, ◌++◌, List, ℕ, length}
+use Rattle.std.proofs.Common.{length}
 use Rattle.packet_listing.proofs.PieceLaws.{TakenTo}
 use Rattle.packet_listing.proofs.reading.take_piece.Given as goal
 
