@@ -1,6 +1,5 @@
 -- The answers to the commands of a plan, in words and byte by byte.
-use Rattle.std.proofs.Common.{◌≡◌, ℕ, Bool, true, false, ◌==◌, List, [], ◌∷◌, ◌++◌}
-use Rattle.std.proofs.Common.{refl, sym, ap, subst, eqb-true}
+use Rattle.std.proofs.Common.{◌≡◌, ℕ, Bool, true, false, ◌==◌, List, [], ◌∷◌, ◌++◌, refl, sym, ap, subst, eqb-true}
 use Rattle.std.specs.Prelude.{codes}
 use Rattle.protocol.specs.Lines.{line_end}
 use Rattle.protocol.proofs.FoundLemmas.{both}

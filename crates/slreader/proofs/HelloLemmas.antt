@@ -1,7 +1,6 @@
 -- The two lines that answer HELLO: what a reader makes of them, and of whatever bytes come in their place.
 use Rattle.std.proofs.Common.{◌≡◌, ℕ, ◌+◌, ◌≤◌, Bool, false, ◌==◌, List, [], ◌∷◌, ◌++◌, length, refl, sym, ap, ◌∙◌}
-use Rattle.std.proofs.Common.{subst}
-use Rattle.std.proofs.Common.{arith, append_assoc, append-nil, length-append, inl, inr, true≢false}
+use Rattle.std.proofs.Common.{subst, arith, append_assoc, append-nil, length-append, inl, inr, true≢false}
 use Rattle.std.specs.Prelude.{◌≢◌}
 use Rattle.protocol.specs.Lines.{line_end}
 use Rattle.slreader.specs.declared.pieces.LinePiece.{LinePiece}
@@ -16,8 +15,8 @@ use Rattle.slreader.proofs.CourseLemmas.{Course, course_map, course_then, Expect
 use Rattle.slreader.proofs.CourseLemmas.Course.{Fails, Within, Past}
 use Rattle.slreader.proofs.LineLemmas.{tail_piece, LineRun, next_run, line_run, HasNoEnd, Completes, no_end_behind}
 use Rattle.slreader.proofs.LineLemmas.{no_end_nil, room_completes, run_ends, run_ended, run_amid, first_after}
-use Rattle.slreader.proofs.LineLemmas.{first_read, first_gives, first_given}
-use Rattle.slreader.proofs.LineLemmas.{second_after, second_read, second_gives, second_given}
+use Rattle.slreader.proofs.LineLemmas.{first_read, first_gives, first_given, second_after, second_read, second_gives}
+use Rattle.slreader.proofs.LineLemmas.{second_given}
 use Rattle.slreader.proofs.LineLemmas.LineRun.{Ended, Amid, NoLine}
 
 -- ---- lines and what completes them

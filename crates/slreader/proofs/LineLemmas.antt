@@ -13,8 +13,7 @@ use Rattle.slreader.specs.declared.pieces.LinePiece.TheVariants as line
 use Rattle.slreader.specs.Pieces.{greeting, line_piece}
 use Rattle.slreader.specs.Wants.{Command}
 use Rattle.slreader.specs.Dialogue.{ReaderValue, Given, after_byte, given_by, given_from, read_on, at_stage, asking}
-use Rattle.slreader.specs.Dialogue.{ask_next}
-use Rattle.slreader.specs.Dialogue.{first_line, second_line, hello_given, fails}
+use Rattle.slreader.specs.Dialogue.{ask_next, first_line, second_line, hello_given, fails}
 use Rattle.slreader.specs.Dialogue.Stage.{FirstLine, SecondLine}
 use Rattle.slreader.specs.Dialogue.Given.{Hello}
 

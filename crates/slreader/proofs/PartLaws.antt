@@ -1,7 +1,7 @@
 -- The law over dialogues in words: reading byte by byte gives what their parts give, and fails where no dialogue
 -- begins.
-use Rattle.std.proofs.Common.{◌≡◌, ℕ, ◌+◌, ◌<◌, Bool, true, false, List, [], ◌∷◌, ◌++◌, length, map, refl, sym}
-use Rattle.std.proofs.Common.{ap, ◌∙◌, subst, arith, append_assoc, append-nil, length-append, inl, inr}
+use Rattle.std.proofs.Common.{◌≡◌, ℕ, ◌+◌, ◌<◌, Bool, true, false, List, [], ◌∷◌, ◌++◌, length, map, refl, sym, ap, ◌∙◌}
+use Rattle.std.proofs.Common.{subst, arith, append_assoc, append-nil, length-append, inl, inr}
 use Rattle.std.specs.Prelude.{◌≢◌, ◌⊎◌, ◌↔◌, codes, nat_le}
 use Rattle.std.specs.List.{concat, list_any}
 use Rattle.std.proofs.lemmas.Bool.Decides.{nat_tests}
@@ -20,37 +20,26 @@ use Rattle.slreader.specs.Wants.{PlanValue, WantValue, command_of, last_command,
 use Rattle.slreader.specs.Wants.{commands_of_want, commands_from, station_line, select_line, selects, action_line}
 use Rattle.slreader.specs.Wants.{is_plan}
 use Rattle.slreader.specs.Wants.PlanValue.{Uni, Multi}
-use Rattle.slreader.specs.Dialogue.{ReaderValue, Stage, begun, given_from, read_on, reader_of, at_stage, ask_next}
-use Rattle.slreader.specs.Dialogue.{asking}
+use Rattle.slreader.specs.Dialogue.{asked_of, ReaderValue, Stage, begun, given_from, read_on, reader_of, at_stage}
+use Rattle.slreader.specs.Dialogue.{ask_next, asking}
 use Rattle.slreader.specs.Dialogue.Stage.{SecondLine, Failed}
 use Rattle.slreader.specs.ReaderViews.{is_talk}
-use Rattle.slreader.specs.Parts.{Part, bytes_of, given_of, IsLine, first_part, second_part, Verdict, AreVerdicts}
-use Rattle.slreader.specs.Parts.{is_accepted, answers_from, answered_commands, IsNegotiation, MayFollow, unread_part}
-use Rattle.slreader.specs.Parts.{packet_part, end_parts, IsDialogue, BeginsDialogue, HasNegotiated}
+use Rattle.slreader.specs.Parts.{lines_of_want, lines_of, last_line, all_asked, asked_by, Part, bytes_of, given_of}
+use Rattle.slreader.specs.Parts.{IsLine, first_part, second_part, Verdict, AreVerdicts, is_accepted, answers_from}
+use Rattle.slreader.specs.Parts.{answered_commands, IsNegotiation, MayFollow, unread_part, packet_part, end_parts}
+use Rattle.slreader.specs.Parts.{IsDialogue, BeginsDialogue, HasNegotiated}
 use Rattle.slreader.proofs.ReadingLaws.{read_on-append}
 use Rattle.slreader.proofs.PartLemmas.{Reads, ReadsAll, ReadsAll-append, bytes_of-append, all_given, part_given}
-use Rattle.slreader.proofs.CourseLemmas.{Course, course_then, failed_silent, stays_failed}
+use Rattle.slreader.proofs.CourseLemmas.{failed_reads_on, Course, course_then, failed_silent, stays_failed}
 use Rattle.slreader.proofs.CourseLemmas.Course.{Fails, Within, Past}
 use Rattle.slreader.proofs.HelloLemmas.{first_leads, first_reads, first_course, second_leads, second_reads}
-use Rattle.slreader.proofs.HelloLemmas.{second_course}
-use Rattle.slreader.proofs.HelloLemmas.{empty_line}
+use Rattle.slreader.proofs.HelloLemmas.{second_course, empty_line}
 use Rattle.slreader.proofs.VerdictLemmas.{commands_in, stage_by, LeadsTo, at_wants, wants_lead, AreAnswered}
-use Rattle.slreader.proofs.VerdictLemmas.{wants_course}
-use Rattle.slreader.proofs.VerdictLemmas.{some_answered}
-use Rattle.slreader.proofs.StreamLemmas.{stage_in, stream_stage, IsTransfer, transfer_leads, transfer_bytes}
+use Rattle.slreader.proofs.VerdictLemmas.{wants_course, some_answered}
+use Rattle.slreader.proofs.StreamLemmas.{stream_asks, stage_in, stream_stage, IsTransfer, transfer_leads}
+use Rattle.slreader.proofs.StreamLemmas.{transfer_bytes}
 
 -- ---- the commands of a plan, by their lines
-
-lines_of_want : WantValue → List (List ℕ)
-lines_of_want w = station_line w ∷ (map select_line w.patterns ++ action_line w.action ∷ [])
-
-abbrev lines_of : PlanValue → List (List (List ℕ))
-lines_of (Uni w) = map select_line w.patterns ∷ []
-lines_of (Multi wants) = map lines_of_want wants
-
-abbrev last_line : PlanValue → List ℕ
-last_line (Uni w) = action_line w.action
-last_line (Multi wants) = codes "END"
 
 selects_are : (want : ℕ) (patterns : List (List ℕ))
     → selects want patterns ≡ map (command_of want) (map select_line patterns)
@@ -58,7 +47,7 @@ selects_are want [] = refl
 selects_are want (p ∷ patterns) = ap (λ l. command_of want (select_line p) ∷ l) (selects_are want patterns)
 
 want_commands : (want : ℕ) (w : WantValue) → commands_of_want want w ≡ map (command_of want) (lines_of_want w)
-unfolding commands_of_want lines_of_want
+unfolding commands_of_want
 want_commands want w =
     ap (λ l. command_of want (station_line w) ∷ (l ++ command_of want (action_line w.action) ∷ []))
     (selects_are want w.patterns)
@@ -79,7 +68,6 @@ plan_commands (Uni w) =
 plan_commands (Multi wants) = ap (λ l. l ++ last_command (codes "END") ∷ []) (all_commands 0 wants)
 
 want_count : (w : WantValue) → length (lines_of_want w) ≡ length w.patterns + 2
-unfolding lines_of_want
 want_count w = simp (length-append, length-map) (omega arith)
 
 want_counts : (wants : List WantValue) → map length (map lines_of_want wants) ≡ map (λ w. length w.patterns + 2) wants
@@ -108,25 +96,27 @@ at_first_want p = at_wants (begun p) 0 (lines_of p) (last_line p)
 asks_first : (p : PlanValue) → ask_next (begun p) ≡ at_first_want p
 asks_first p = ap (asking (begun p)) (plan_commands p)
 
+-- The answers to the wants lead to the transfer or to the end, and all is asked meanwhile.
+abbrev AnswersLead : PlanValue → List ℕ → List Verdict → ReaderValue → Type 0
+AnswersLead p counts verdicts r = LeadsTo r (answers_from 0 counts verdicts) (list_any is_accepted verdicts)
+    (begun p).asked (all_asked (lines_of p) verdicts) (last_line p)
+
 answers_lead : (p : PlanValue) (verdicts : List Verdict) → is_plan p ≡ true
-    → AreVerdicts (answered_commands p) verdicts
-    → LeadsTo (ask_next (begun p)) (answers_from 0 (answered_commands p) verdicts)
-    (stage_by (list_any is_accepted verdicts))
+    → AreVerdicts (answered_commands p) verdicts → AnswersLead p (answered_commands p) verdicts (ask_next (begun p))
 answers_lead p verdicts is each =
     let counts = plan_counts p in
     let kept = plan_wants p in
     let some = plan_some p is in
-    subst (λ r. LeadsTo r (answers_from 0 (answered_commands p) verdicts) (stage_by (list_any is_accepted verdicts)))
-    (sym (asks_first p))
-    (subst (λ ns. LeadsTo (at_first_want p) (answers_from 0 ns verdicts) (stage_by (list_any is_accepted verdicts)))
-    counts
+    subst (AnswersLead p (answered_commands p) verdicts) (sym (asks_first p))
+    (subst (λ ns. AnswersLead p ns verdicts (at_first_want p)) counts
     (wants_lead 0 (lines_of p) (last_line p) verdicts (subst (λ ns. AreVerdicts ns verdicts) (sym counts) each)
     (begun p) 0 (omega arith) (omega arith)))
 
-lines_lead : (p : PlanValue) (first second : List ℕ) (answers : List Part) (stage : Stage) → IsLine greeting first
-    → IsLine [] second → LeadsTo (ask_next (begun p)) answers stage
-    → LeadsTo (begun p) (first_part first ∷ second_part second ∷ answers) stage
-lines_lead p first second answers stage greeted described more =
+lines_lead : (p : PlanValue) (first second : List ℕ) (answers : List Part) (b : Bool) (before : List ℕ)
+    (lines : List (List ℕ)) (last : List ℕ) → IsLine greeting first → IsLine [] second
+    → LeadsTo (ask_next (begun p)) answers b before lines last
+    → LeadsTo (begun p) (first_part first ∷ second_part second ∷ answers) b before lines last
+lines_lead p first second answers b before lines last greeted described more =
     let at_second = first_leads (begun p) first greeted in
     let at_answers = second_leads (begun p) second described in
     let through : read_on (begun p) (first ++ (second ++ bytes_of answers))
@@ -144,15 +134,32 @@ lines_lead p first second answers stage greeted described more =
         ),
       );
       stage_is = ap (λ r. r.stage) through ∙ more.stage_is;
+      asks = ap (λ r. r.asked) through ∙ more.asks;
     }
 
+-- the parts of a negotiation with these verdicts
+abbrev NegotiationLeads : PlanValue → List Verdict → List Part → Type 0
+NegotiationLeads p verdicts parts = LeadsTo (begun p) parts (list_any is_accepted verdicts) (begun p).asked
+    (all_asked (lines_of p) verdicts) (last_line p)
+
+parts_lead : (p : PlanValue) (is_some_accepted : Bool) (parts : List Part) → is_plan p ≡ true
+    → (n : IsNegotiation p is_some_accepted parts) → NegotiationLeads p n.verdicts parts
+parts_lead p is_some_accepted parts is n =
+    subst (NegotiationLeads p n.verdicts) n.whole
+    (lines_lead p n.first n.second (answers_from 0 (answered_commands p) n.verdicts) (list_any is_accepted n.verdicts)
+    (begun p).asked (all_asked (lines_of p) n.verdicts) (last_line p) n.greeted n.described
+    (answers_lead p n.verdicts is n.each))
+
+-- All parts are read, and the stage is then that of the verdicts.
+record IsNegotiationRead (p : PlanValue) (is_some_accepted : Bool) (parts : List Part) : Type 0 where
+  pub all : ReadsAll (begun p) parts
+  pub stage_is : (read_on (begun p) (bytes_of parts)).stage ≡ stage_by is_some_accepted
+
 negotiation_leads : (p : PlanValue) (is_some_accepted : Bool) (parts : List Part) → is_plan p ≡ true
-    → IsNegotiation p is_some_accepted parts → LeadsTo (begun p) parts (stage_by is_some_accepted)
+    → IsNegotiation p is_some_accepted parts → IsNegotiationRead p is_some_accepted parts
 negotiation_leads p is_some_accepted parts is n =
-    subst (λ b. LeadsTo (begun p) parts (stage_by b)) n.some
-    (subst (λ l. LeadsTo (begun p) l (stage_by (list_any is_accepted n.verdicts))) n.whole
-    (lines_lead p n.first n.second (answers_from 0 (answered_commands p) n.verdicts)
-    (stage_by (list_any is_accepted n.verdicts)) n.greeted n.described (answers_lead p n.verdicts is n.each)))
+    let leads = parts_lead p is_some_accepted parts is n in
+    record { all = leads.all; stage_is = leads.stage_is ∙ ap stage_by n.some }
 
 -- ---- a dialogue
 
@@ -487,3 +494,18 @@ pub so_far_law : (p : PlanValue) (before after : List Part) (part : Part) (front
     → given_from (begun p) (bytes_of before ++ front) ≡ given_of before
 so_far_law p before after part front more is d =
     part_given (begun p) before part after front more (dialogue_reads p (before ++ part ∷ after) is d)
+
+-- ---- what is asked
+
+stays_asked : (r : ReaderValue) (is_some_accepted : Bool) (bytes : List ℕ) → r.stage ≡ stage_by is_some_accepted
+    → (read_on r bytes).asked ≡ r.asked
+stays_asked r true bytes is = stream_asks r (Going [] []) bytes is
+stays_asked r false bytes is = ap (λ s. s.asked) (failed_reads_on r AllRefused bytes is)
+
+pub asked_law : (p : PlanValue) (is_some_accepted : Bool) (parts : List Part) (more : List ℕ) → is_plan p ≡ true
+    → (n : IsNegotiation p is_some_accepted parts) → asked_of p (bytes_of parts ++ more) ≡ asked_by p n.verdicts
+asked_law p is_some_accepted parts more is n =
+    let leads = parts_lead p is_some_accepted parts is n in
+    ap (λ r. r.asked) (read_on-append (begun p) (bytes_of parts) more)
+    ∙ stays_asked (read_on (begun p) (bytes_of parts)) is_some_accepted more (leads.stage_is ∙ ap stage_by n.some)
+    ∙ leads.asks

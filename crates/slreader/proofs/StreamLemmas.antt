@@ -1,22 +1,20 @@
 -- The packets of a transfer and its end: what a reader makes of them, and of whatever bytes come in their place.
 use Rattle.std.proofs.Common.{◌≡◌, ℕ, Bool, true, false, List, [], ◌∷◌, ◌++◌, refl, sym, ap, ◌∙◌, append_assoc}
-use Rattle.std.proofs.Common.{append-nil}
-use Rattle.std.proofs.Common.{map, subst, inl, inr, true≢false}
+use Rattle.std.proofs.Common.{append-nil, map, subst, inl, inr, true≢false}
 use Rattle.std.proofs.lemmas.List.{map-append}
 use Rattle.std.proofs.lemmas.List.Elements.{All-nil, All-push, All-head, All-tail}
 use Rattle.std.specs.Prelude.{◌≢◌, All, codes}
 use Rattle.std.specs.List.{concat}
 use Rattle.protocol.specs.Packet.{IsSomePacket}
-use Rattle.protocol.specs.Streams.{end_mark, IsUnfinished, Piece, piece_of, joined_piece}
-use Rattle.protocol.specs.Streams.{StreamRead, stream_byte, stream_from, stream_of}
+use Rattle.protocol.specs.Streams.{end_mark, IsUnfinished, Piece, piece_of, joined_piece, StreamRead, stream_byte}
+use Rattle.protocol.specs.Streams.{stream_from, stream_of}
 use Rattle.protocol.specs.Streams.Piece.{WholePacket, TheEnd, Beginning, NoPiece}
 use Rattle.protocol.specs.Streams.StreamRead.{Going, Ended, NoStream}
 use Rattle.protocol.proofs.FrameLemmas.{nothing_unfinished}
 use Rattle.protocol.proofs.StreamReading.{going_law}
 use Rattle.slreader.specs.declared.fault.ReaderFault.TheVariants.{NotAPacket}
 use Rattle.slreader.specs.Dialogue.{ReaderValue, Stage, Given, after_byte, byte_at, given_by, given_at, given_from}
-use Rattle.slreader.specs.Dialogue.{read_on}
-use Rattle.slreader.specs.Dialogue.{transferred, packet_given}
+use Rattle.slreader.specs.Dialogue.{read_on, transferred, packet_given}
 use Rattle.slreader.specs.Dialogue.Stage.{Transfer, Over, Failed}
 use Rattle.slreader.specs.Dialogue.Given.{Packet, End}
 use Rattle.slreader.specs.Parts.{Part, bytes_of, packet_part, end_parts}
@@ -57,6 +55,26 @@ pub stream_stage : (r : ReaderValue) (s : StreamRead) (bytes : List ℕ) → r.s
     → (read_on r bytes).stage ≡ stage_in (stream_from s bytes)
 stream_stage r s [] is = is
 stream_stage r s (b ∷ bytes) is = stream_stage (after_byte r b) (stream_byte s b) bytes (byte_stage r s b is)
+
+-- nothing is asked any more
+transferred_asks : (r : ReaderValue) (bytes : List ℕ) (p : Piece) → (transferred r bytes p).asked ≡ r.asked
+transferred_asks r bytes WholePacket = refl
+transferred_asks r bytes TheEnd = refl
+transferred_asks r bytes Beginning = refl
+transferred_asks r bytes NoPiece = refl
+
+byte_asks : (r : ReaderValue) (s : StreamRead) (b : ℕ) → r.stage ≡ stage_in s → (after_byte r b).asked ≡ r.asked
+unfolding after_byte
+byte_asks r (Going packets rest) b is =
+    ap (λ x. (byte_at r x b).asked) is ∙ transferred_asks r (rest ++ b ∷ []) (piece_of (rest ++ b ∷ []))
+byte_asks r (Ended packets) b is = ap (λ x. (byte_at r x b).asked) is
+byte_asks r NoStream b is = ap (λ x. (byte_at r x b).asked) is
+
+pub stream_asks : (r : ReaderValue) (s : StreamRead) (bytes : List ℕ) → r.stage ≡ stage_in s
+    → (read_on r bytes).asked ≡ r.asked
+stream_asks r s [] is = refl
+stream_asks r s (b ∷ bytes) is =
+    stream_asks (after_byte r b) (stream_byte s b) bytes (byte_stage r s b is) ∙ byte_asks r s b is
 
 joined_gives : (packets : List (List ℕ)) (bytes : List ℕ) (p : Piece) → p ≢ NoPiece
     → map Packet packets ++ packet_given bytes p ≡ gives (joined_piece packets bytes p)

@@ -1,20 +1,18 @@
 -- The verdicts on the wants of a plan, in words and answer by answer.
 use Rattle.std.proofs.Common.{◌≡◌, ℕ, zero, suc, ◌+◌, ◌-◌, ◌<◌, Bool, true, false, ◌==◌, ◌||◌, nat_lt, List, [], ◌∷◌}
-use Rattle.std.proofs.Common.{◌++◌}
-use Rattle.std.proofs.Common.{length, map, replicate, refl, sym, ap, ◌∙◌, subst, arith, append_assoc, append-nil}
-use Rattle.std.proofs.Common.{eqb-true}
-use Rattle.std.proofs.Common.{ne_eqb}
+use Rattle.std.proofs.Common.{◌++◌, take, length, map, replicate, refl, sym, ap, ◌∙◌, subst, arith, append_assoc}
+use Rattle.std.proofs.Common.{append-nil, eqb-true, ne_eqb}
 use Rattle.std.specs.List.{list_any}
 use Rattle.std.proofs.lemmas.Bool.{eqb-false, lt-ltb}
 use Rattle.protocol.proofs.FoundLemmas.{both}
 use Rattle.slreader.specs.declared.fault.ReaderFault.TheVariants.{AllRefused}
 use Rattle.slreader.specs.Pieces.{reply_text}
 use Rattle.slreader.specs.Wants.{Command, command_of, last_command}
-use Rattle.slreader.specs.Lines.{begins_with, without}
+use Rattle.slreader.specs.Lines.{ended, begins_with, without}
 use Rattle.slreader.specs.Dialogue.{ReaderValue, Stage, read_on, asking, ask_next, refuse}
 use Rattle.slreader.specs.Dialogue.Stage.{Transfer, Failed}
 use Rattle.slreader.specs.Parts.{Part, bytes_of, Verdict, IsVerdict, AreVerdicts, is_accepted, ok_part, error_part}
-use Rattle.slreader.specs.Parts.{answers_of, answers_from}
+use Rattle.slreader.specs.Parts.{answers_of, answers_from, bytes_of_lines, all_asked, last_asked}
 use Rattle.slreader.specs.Parts.Verdict.{Accepted, RefusedAfter}
 use Rattle.slreader.proofs.ReadingLaws.{read_on-append}
 use Rattle.slreader.proofs.PartLemmas.{ReadsAll, ReadsAll-append, bytes_of-append}
@@ -51,18 +49,21 @@ without_want want (l ∷ lines) tail is = rw (eqb-refl want) (without_want want 
 -- ---- one want
 
 -- The parts lead to the next want.
-pub record Leads (r : ReaderValue) (parts : List Part) (kept : ℕ) (tail : List Command) : Type 0 where
+pub record Leads (r : ReaderValue) (parts : List Part) (kept : ℕ) (asked : List ℕ) (tail : List Command) : Type 0 where
   pub all : ReadsAll r parts
   pub after : ReaderValue
   pub keeps : after.kept ≡ kept
+  pub asks : after.asked ≡ asked
   pub leads : read_on r (bytes_of parts) ≡ asking after tail
 
 -- The want is refused: the parts lead to the next one, if one is left or was accepted.
-pub record Refuses (r : ReaderValue) (parts : List Part) (kept : ℕ) (tail : List Command) : Type 0 where
+pub record Refuses (r : ReaderValue) (parts : List Part) (kept : ℕ) (asked : List ℕ) (tail : List Command)
+    : Type 0 where
   pub all : ReadsAll r parts
-  pub over : (kept - 1 == 0) ≡ true → (read_on r (bytes_of parts)).stage ≡ Failed AllRefused
-  pub goes_on : (kept - 1 == 0) ≡ false
-      → (after : ReaderValue) × (after.kept ≡ kept - 1) × (read_on r (bytes_of parts) ≡ asking after tail)
+  pub over : (kept - 1 == 0) ≡ true → ((read_on r (bytes_of parts)).stage ≡ Failed AllRefused)
+      × ((read_on r (bytes_of parts)).asked ≡ asked)
+  pub goes_on : (kept - 1 == 0) ≡ false → (after : ReaderValue) × (after.kept ≡ kept - 1) × (after.asked ≡ asked)
+      × (read_on r (bytes_of parts) ≡ asking after tail)
 
 -- behind an OK
 ok_leads_on : (q : ReaderValue) (want : ℕ) (text : List ℕ) (ahead : List Command) (parts : List Part)
@@ -78,8 +79,10 @@ ok_reads_all q want text ahead parts all =
     (ok_reads q want text ahead, subst (λ s. ReadsAll s parts) (sym (ok_reads_on q want text ahead)) all)
 
 accepted_leads : (want : ℕ) (lines : List (List ℕ)) (tail : List Command) (q : ReaderValue)
-    → Leads (asking q (map (command_of want) lines ++ tail)) (replicate (length lines) ok_part) q.kept tail
-accepted_leads want [] tail q = record { all = tt; after = q; keeps = refl; leads = refl }
+    → Leads (asking q (map (command_of want) lines ++ tail)) (replicate (length lines) ok_part) q.kept
+    (q.asked ++ bytes_of_lines lines) tail
+accepted_leads want [] tail q =
+    record { all = tt; after = q; keeps = refl; asks = sym (append-nil q.asked); leads = refl }
 accepted_leads want (l ∷ lines) tail q =
     let ahead = map (command_of want) lines ++ tail in
     let inner = accepted_leads want lines tail (past_ok q want l ahead) in
@@ -87,6 +90,7 @@ accepted_leads want (l ∷ lines) tail q =
       all = ok_reads_all q want l ahead (replicate (length lines) ok_part) inner.all;
       after = inner.after;
       keeps = inner.keeps ∙ asking_keeps q (command_of want l) ahead;
+      asks = inner.asks ∙ append_assoc q.asked (ended l) (bytes_of_lines lines);
       leads = ok_leads_on q want l ahead (replicate (length lines) ok_part) ∙ inner.leads;
     }
   where
@@ -95,18 +99,24 @@ accepted_leads want (l ∷ lines) tail q =
 
 refused_here : (want : ℕ) (l : List ℕ) (lines : List (List ℕ)) (tail : List Command) (q : ReaderValue)
     → begins_with want tail ≡ false
-    → Refuses (asking q (map (command_of want) (l ∷ lines) ++ tail)) (error_part want ∷ []) q.kept tail
+    → Refuses (asking q (map (command_of want) (l ∷ lines) ++ tail)) (error_part want ∷ []) q.kept
+    (q.asked ++ (ended l ++ [])) tail
 refused_here want l lines tail q other =
     let ahead = map (command_of want) lines ++ tail in
     let before = answering q want l ahead 6 true in
     let whole : read_on (asked q want l ahead) (bytes_of (error_part want ∷ [])) ≡ refuse before want =
     ap (read_on (asked q want l ahead)) (append-nil (error_part want).bytes) ∙ error_reads_on q want l ahead in
+    let asks : q.asked ++ ended l ≡ q.asked ++ (ended l ++ []) = ap (λ x. q.asked ++ x) (sym (append-nil (ended l))) in
     record {
       all = (error_reads q want l ahead, tt);
-      over = λ y. ap (λ s. s.stage) (whole ∙ none_left before want y);
+      over = λ y. (
+        ap (λ s. s.stage) (whole ∙ none_left before want y),
+        ap (λ s. s.asked) (whole ∙ none_left before want y) ∙ asks,
+      );
       goes_on = λ n. (
         record before { ahead = without want ahead; kept = q.kept - 1 },
         refl,
+        asks,
         whole ∙ some_left before want n
             ∙ ap (asking (record before { ahead = without want ahead; kept = q.kept - 1 }))
             (without_want want lines tail other),
@@ -124,7 +134,7 @@ refused_here want l lines tail q other =
 refused_leads : (want oks : ℕ) (lines : List (List ℕ)) (tail : List Command) (q : ReaderValue)
     → begins_with want tail ≡ false → oks < length lines
     → Refuses (asking q (map (command_of want) lines ++ tail)) (replicate oks ok_part ++ error_part want ∷ []) q.kept
-    tail
+    (q.asked ++ bytes_of_lines (take (suc oks) lines)) tail
 refused_leads want oks [] tail q other fits = absurd (omega arith)
 refused_leads want zero (l ∷ lines) tail q other fits = refused_here want l lines tail q other
 refused_leads want (suc oks) (l ∷ lines) tail q other fits =
@@ -132,10 +142,12 @@ refused_leads want (suc oks) (l ∷ lines) tail q other fits =
     let parts = replicate oks ok_part ++ error_part want ∷ [] in
     let inner = refused_leads want oks lines tail (past_ok q want l ahead) other (omega arith) in
     let leads = ok_leads_on q want l ahead parts in
+    let asks = append_assoc q.asked (ended l) (bytes_of_lines (take (suc oks) lines)) in
     record {
       all = ok_reads_all q want l ahead parts inner.all;
-      over = λ y. ap (λ s. s.stage) leads ∙ inner.over y;
-      goes_on = λ n. let on = inner.goes_on n in (on.0, on.1, leads ∙ on.2);
+      over = λ y. let over = inner.over y in
+          (ap (λ s. s.stage) leads ∙ over.0, ap (λ s. s.asked) leads ∙ over.1 ∙ asks);
+      goes_on = λ n. let on = inner.goes_on n in (on.0, on.1, on.2 ∙ asks, leads ∙ on.3);
     }
 
 -- ---- all wants
@@ -145,24 +157,46 @@ abbrev pub stage_by : (is_some_accepted : Bool) → Stage
 stage_by true = Transfer []
 stage_by false = Failed AllRefused
 
--- The parts lead to that stage.
-pub record LeadsTo (r : ReaderValue) (parts : List Part) (stage : Stage) : Type 0 where
+-- The parts lead to that stage, and the lines are asked meanwhile and then the last one, if some want is accepted.
+pub record LeadsTo (r : ReaderValue) (parts : List Part) (is_some_accepted : Bool) (before : List ℕ)
+    (lines : List (List ℕ)) (last : List ℕ) : Type 0 where
   pub all : ReadsAll r parts
-  pub stage_is : (read_on r (bytes_of parts)).stage ≡ stage
+  pub stage_is : (read_on r (bytes_of parts)).stage ≡ stage_by is_some_accepted
+  pub asks : (read_on r (bytes_of parts)).asked
+      ≡ before ++ bytes_of_lines (lines ++ last_asked is_some_accepted last)
 
 -- the reader before the commands of wants
 abbrev pub at_wants : ReaderValue → ℕ → List (List (List ℕ)) → List ℕ → ReaderValue
 at_wants q want more text = asking q (commands_in want more ++ last_command text ∷ [])
 
+bytes_of_lines-append : (ks ls : List (List ℕ)) → bytes_of_lines (ks ++ ls) ≡ bytes_of_lines ks ++ bytes_of_lines ls
+bytes_of_lines-append [] ls = refl
+bytes_of_lines-append (k ∷ ks) ls = ap (λ x. ended k ++ x) (bytes_of_lines-append ks ls)
+    ∙ sym (append_assoc (ended k) (bytes_of_lines ks) (bytes_of_lines ls))
+
+-- lines behind lines
+lines_behind : (asked before middle : List ℕ) (ks ls ms : List (List ℕ)) → asked ≡ middle ++ bytes_of_lines (ls ++ ms)
+    → middle ≡ before ++ bytes_of_lines ks → asked ≡ before ++ bytes_of_lines ((ks ++ ls) ++ ms)
+lines_behind asked before middle ks ls ms is middle_is =
+    is ∙ ap (λ x. x ++ bytes_of_lines (ls ++ ms)) middle_is
+    ∙ append_assoc before (bytes_of_lines ks) (bytes_of_lines (ls ++ ms))
+    ∙ ap (λ x. before ++ x) (sym (bytes_of_lines-append ks (ls ++ ms)))
+    ∙ ap (λ x. before ++ bytes_of_lines x) (sym (append_assoc ks ls ms))
+
 -- parts behind parts
-leads_behind : (r s : ReaderValue) (ps qs : List Part) (stage : Stage) → ReadsAll r ps → read_on r (bytes_of ps) ≡ s
-    → LeadsTo s qs stage → LeadsTo r (ps ++ qs) stage
-leads_behind r s ps qs stage all is more = record {
-  all = ReadsAll-append r ps qs all (subst (λ t. ReadsAll t qs) (sym is) more.all);
-  stage_is = ap (λ l. (read_on r l).stage) (bytes_of-append ps qs)
-      ∙ ap (λ t. t.stage) (read_on-append r (bytes_of ps) (bytes_of qs))
-      ∙ ap (λ t. (read_on t (bytes_of qs)).stage) is ∙ more.stage_is;
-}
+leads_behind : (r s : ReaderValue) (ps qs : List Part) (b : Bool) (before middle : List ℕ) (ks ls : List (List ℕ))
+    (last : List ℕ) → ReadsAll r ps → read_on r (bytes_of ps) ≡ s → middle ≡ before ++ bytes_of_lines ks
+    → LeadsTo s qs b middle ls last → LeadsTo r (ps ++ qs) b before (ks ++ ls) last
+leads_behind r s ps qs b before middle ks ls last all is middle_is more =
+    let through : read_on r (bytes_of (ps ++ qs)) ≡ read_on s (bytes_of qs) =
+    ap (read_on r) (bytes_of-append ps qs) ∙ read_on-append r (bytes_of ps) (bytes_of qs)
+    ∙ ap (λ t. read_on t (bytes_of qs)) is in
+    record {
+      all = ReadsAll-append r ps qs all (subst (λ t. ReadsAll t qs) (sym is) more.all);
+      stage_is = ap (λ t. t.stage) through ∙ more.stage_is;
+      asks = lines_behind (read_on r (bytes_of (ps ++ qs))).asked before middle ks ls (last_asked b last)
+          (ap (λ t. t.asked) through ∙ more.asks) middle_is;
+    }
 
 some_or : (a : ℕ) (b : Bool) → nat_lt 0 (a + 1) || b ≡ nat_lt 0 a || (true || b)
 some_or a b = rw (lt-ltb 0 (a + 1) (omega arith)) (both (nat_lt 0 a) (λ y. rw y) (λ n. rw n))
@@ -178,21 +212,22 @@ abbrev counts : List (List (List ℕ)) → List ℕ
 counts more = map length more
 
 -- All wants from one on lead on, whatever reader asks them.
-abbrev WantsLead : ℕ → List (List (List ℕ)) → List ℕ → List Verdict → Type 0
+abbrev pub WantsLead : ℕ → List (List (List ℕ)) → List ℕ → List Verdict → Type 0
 WantsLead want more text verdicts = (q : ReaderValue) (accepted : ℕ) → q.kept ≡ accepted + length more
     → 0 < accepted + length more
     → LeadsTo (at_wants q want more text) (answers_from want (counts more) verdicts)
-    (stage_by (nat_lt 0 accepted || list_any is_accepted verdicts))
+    (nat_lt 0 accepted || list_any is_accepted verdicts) q.asked (all_asked more verdicts) text
 
-none_left : (want : ℕ) (more : List (List (List ℕ))) (verdicts : List Verdict) (accepted : ℕ)
+none_left : (want : ℕ) (more : List (List (List ℕ))) (text : List ℕ) (verdicts : List Verdict) (accepted : ℕ)
     → accepted + length more ≡ 0 → AreVerdicts (counts more) verdicts → (r : ReaderValue) → r.stage ≡ Failed AllRefused
-    → LeadsTo r (answers_from want (counts more) verdicts)
-    (stage_by (nat_lt 0 accepted || list_any is_accepted verdicts))
-none_left want [] [] accepted none fit r failed =
+    → LeadsTo r (answers_from want (counts more) verdicts) (nat_lt 0 accepted || list_any is_accepted verdicts) r.asked
+    (all_asked more verdicts) text
+none_left want [] text [] accepted none fit r failed =
     let zero_is : accepted ≡ 0 = omega arith in
-    subst (λ n. LeadsTo r [] (stage_by (nat_lt 0 n || false))) (sym zero_is) (record { all = tt; stage_is = failed })
-none_left want [] (v ∷ verdicts) accepted none fit r failed = absurd fit
-none_left want (lines ∷ more) verdicts accepted none fit r failed = absurd (omega arith)
+    subst (λ n. LeadsTo r [] (nat_lt 0 n || false) r.asked [] text) (sym zero_is)
+    (record { all = tt; stage_is = failed; asks = sym (append-nil r.asked) })
+none_left want [] text (v ∷ verdicts) accepted none fit r failed = absurd fit
+none_left want (lines ∷ more) text verdicts accepted none fit r failed = absurd (omega arith)
 
 want_leads : (want : ℕ) (lines : List (List ℕ)) (more : List (List (List ℕ))) (text : List ℕ) (v : Verdict)
     (verdicts : List Verdict) → IsVerdict (length lines) v → AreVerdicts (counts more) verdicts
@@ -201,41 +236,45 @@ want_leads want lines more text Accepted verdicts fit fits inner q accepted kept
     let tail = commands_in (want + 1) more ++ last_command text ∷ [] in
     let first = accepted_leads want lines tail q in
     let keeps = first.keeps in
+    let asked = all_asked (lines ∷ more) (Accepted ∷ verdicts) in
     subst (λ r. LeadsTo r (answers_from want (counts (lines ∷ more)) (Accepted ∷ verdicts))
-    (stage_by (nat_lt 0 accepted || list_any is_accepted (Accepted ∷ verdicts))))
+    (nat_lt 0 accepted || list_any is_accepted (Accepted ∷ verdicts)) q.asked asked text)
     (sym (first_and_more q want lines more text))
     (subst (λ b. LeadsTo (asking q (map (command_of want) lines ++ tail))
-    (answers_from want (counts (lines ∷ more)) (Accepted ∷ verdicts)) (stage_by b))
+    (answers_from want (counts (lines ∷ more)) (Accepted ∷ verdicts)) b q.asked asked text)
     (some_or accepted (list_any is_accepted verdicts))
     (leads_behind (asking q (map (command_of want) lines ++ tail)) (asking first.after tail)
     (replicate (length lines) ok_part) (answers_from (want + 1) (counts more) verdicts)
-    (stage_by (nat_lt 0 (accepted + 1) || list_any is_accepted verdicts)) first.all first.leads
-    (inner first.after (accepted + 1) (omega arith) (omega arith))))
+    (nat_lt 0 (accepted + 1) || list_any is_accepted verdicts) q.asked first.after.asked lines (all_asked more verdicts)
+    text first.all first.leads first.asks (inner first.after (accepted + 1) (omega arith) (omega arith))))
 want_leads want lines more text (RefusedAfter oks) verdicts fit fits inner q accepted kept some =
     let tail = commands_in (want + 1) more ++ last_command text ∷ [] in
     let first = refused_leads want oks lines tail q (begins_later want (want + 1) more text (omega arith)) fit in
     let parts = replicate oks ok_part ++ error_part want ∷ [] in
     let r = asking q (map (command_of want) lines ++ tail) in
-    subst (λ s. LeadsTo s (answers_from want (counts (lines ∷ more)) (RefusedAfter oks ∷ verdicts))
-    (stage_by (nat_lt 0 accepted || list_any is_accepted verdicts)))
+    let b = nat_lt 0 accepted || list_any is_accepted verdicts in
+    subst (λ s. LeadsTo s (answers_from want (counts (lines ∷ more)) (RefusedAfter oks ∷ verdicts)) b q.asked
+    (all_asked (lines ∷ more) (RefusedAfter oks ∷ verdicts)) text)
     (sym (first_and_more q want lines more text))
     (both (q.kept - 1 == 0)
     (λ y. let none : q.kept - 1 ≡ 0 = eqb-true (q.kept - 1) 0 y in
-    leads_behind r (read_on r (bytes_of parts)) parts (answers_from (want + 1) (counts more) verdicts)
-    (stage_by (nat_lt 0 accepted || list_any is_accepted verdicts)) first.all refl
-    (none_left (want + 1) more verdicts accepted (omega arith) fits (read_on r (bytes_of parts)) (first.over y)))
+    let over = first.over y in
+    leads_behind r (read_on r (bytes_of parts)) parts (answers_from (want + 1) (counts more) verdicts) b q.asked
+    (read_on r (bytes_of parts)).asked (take (suc oks) lines) (all_asked more verdicts) text first.all refl over.1
+    (none_left (want + 1) more text verdicts accepted (omega arith) fits (read_on r (bytes_of parts)) over.0))
     (λ n. let on = first.goes_on n in
     let left : q.kept - 1 ≡ 0 → ⊥ = eqb-false (q.kept - 1) 0 n in
     let keeps : on.0.kept ≡ q.kept - 1 = on.1 in
-    leads_behind r (asking on.0 tail) parts (answers_from (want + 1) (counts more) verdicts)
-    (stage_by (nat_lt 0 accepted || list_any is_accepted verdicts)) first.all on.2
+    leads_behind r (asking on.0 tail) parts (answers_from (want + 1) (counts more) verdicts) b q.asked on.0.asked
+    (take (suc oks) lines) (all_asked more verdicts) text first.all on.3 on.2
     (inner on.0 accepted (omega arith) (omega arith))))
 
 pub wants_lead : (want : ℕ) (more : List (List (List ℕ))) (text : List ℕ) (verdicts : List Verdict)
     → AreVerdicts (map length more) verdicts → WantsLead want more text verdicts
 wants_lead want [] text [] fit q accepted kept some =
-    subst (λ b. LeadsTo (at_wants q want [] text) [] (stage_by (b || false)))
-    (sym (lt-ltb 0 accepted (omega arith))) (record { all = tt; stage_is = refl })
+    subst (λ b. LeadsTo (at_wants q want [] text) [] (b || false) q.asked [] text)
+    (sym (lt-ltb 0 accepted (omega arith)))
+    (record { all = tt; stage_is = refl; asks = ap (λ x. q.asked ++ x) (sym (append-nil (ended text))) })
 wants_lead want [] text (v ∷ verdicts) fit q accepted kept some = absurd fit
 wants_lead want (lines ∷ more) text [] fit q accepted kept some = absurd fit
 wants_lead want (lines ∷ more) text (v ∷ verdicts) fit q accepted kept some =
@@ -356,7 +395,7 @@ behind_want q want lines more text accepted kept inner front rest (RefusedAfter 
     (λ n. let on = first.goes_on n in
     let left : q.kept - 1 ≡ 0 → ⊥ = eqb-false (q.kept - 1) 0 n in
     let keeps : on.0.kept ≡ q.kept - 1 = on.1 in
-    subst (λ s. Course s (AreAnswered (want + 1) (counts more)) rest) (sym (ap (read_on r) is ∙ on.2))
+    subst (λ s. Course s (AreAnswered (want + 1) (counts more)) rest) (sym (ap (read_on r) is ∙ on.3))
     (inner on.0 accepted rest (omega arith) (omega arith)))
 
 pub wants_course : (want : ℕ) (more : List (List (List ℕ))) (text : List ℕ) → WantsCourse want more text

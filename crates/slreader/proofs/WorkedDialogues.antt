@@ -12,7 +12,7 @@ use Rattle.slreader.specs.Dialogue.{after_byte, asked_of, begun, given_by, given
 use Rattle.slreader.specs.Dialogue.Given.{Hello, Refused, End}
 use Rattle.slreader.specs.Dialogue.Stage.{Failed, Over}
 use Rattle.slreader.specs.Parts.{Part, bytes_of, given_of, first_part, second_part, answers_from, end_parts, IsDialogue}
-use Rattle.slreader.specs.Parts.{BeginsDialogue}
+use Rattle.slreader.specs.Parts.{BeginsDialogue, asked_by}
 use Rattle.slreader.specs.Parts.Verdict.{Accepted, RefusedAfter}
 use Rattle.slreader.proofs.LineLemmas.{no_end_nil, no_end_behind}
 use Rattle.slreader.proofs.PartLaws.{no_dialogue_law}
@@ -180,6 +180,11 @@ one_refused_bytes = refl
 
 pub one_refused_gives : given_of one_refused_parts ≡ Hello ∷ Refused 1 ∷ End ∷ []
 one_refused_gives = refl
+
+-- What is asked of such verdicts: of the want that is refused STATION alone, and END for the other.
+pub one_refused_asks : asked_by two_wants (Accepted ∷ RefusedAfter 0 ∷ [])
+    ≡ codes "HELLO\rSTATION WLF GE\rSELECT BH?\rSELECT !E\rFETCH\rSTATION NONE GE\rEND\r"
+one_refused_asks = refl
 
 -- No dialogue begins so.
 pub no_server_in_words : Not (BeginsDialogue two_wants (codes "X"))

@@ -2,13 +2,13 @@
 -- SeedLink 3: the two lines that answer HELLO, OK and ERROR, and data packets with the end of a transfer. Left out:
 -- the answer to any other command.
 use Rattle.std.specs.Prelude.{◌≡◌, ◌≢◌, ℕ, ◌+◌, ◌<◌, ◌≤◌, Bool, true, false, List, [], ◌∷◌, ◌++◌, length, map}
-use Rattle.std.specs.Prelude.{replicate}
-use Rattle.std.specs.Prelude.{codes, All}
+use Rattle.std.specs.Prelude.{replicate, suc, take, codes, All}
 use Rattle.std.specs.List.{list_any}
 use Rattle.protocol.specs.Lines.{line_end}
 use Rattle.protocol.specs.Packet.{IsSomePacket}
 use Rattle.slreader.specs.Pieces.{greeting}
-use Rattle.slreader.specs.Wants.{PlanValue}
+use Rattle.slreader.specs.Lines.{ended}
+use Rattle.slreader.specs.Wants.{PlanValue, WantValue, station_line, select_line, action_line}
 use Rattle.slreader.specs.Wants.PlanValue.{Uni, Multi}
 use Rattle.slreader.specs.Dialogue.{Given}
 use Rattle.slreader.specs.Dialogue.Given.{Hello, Refused, Packet, End}
@@ -102,6 +102,49 @@ pub record IsNegotiation (plan : PlanValue) (is_some_accepted : Bool) (parts : L
   pub each : AreVerdicts (answered_commands plan) verdicts
   pub some : list_any is_accepted verdicts ≡ is_some_accepted
   pub whole : first_part first ∷ second_part second ∷ answers_from 0 (answered_commands plan) verdicts ≡ parts
+
+-- ---- what is asked meanwhile
+
+-- the commands of a want in a plan of several: its station, its patterns and its action
+abbrev pub lines_of_want : WantValue → List (List ℕ)
+lines_of_want w = station_line w ∷ (map select_line w.patterns ++ action_line w.action ∷ [])
+
+-- the commands of each want that are answered
+abbrev pub lines_of : PlanValue → List (List (List ℕ))
+lines_of (Uni w) = map select_line w.patterns ∷ []
+lines_of (Multi wants) = map lines_of_want wants
+
+-- the command that begins the transfer, and has no answer
+abbrev pub last_line : PlanValue → List ℕ
+last_line (Uni w) = action_line w.action
+last_line (Multi wants) = codes "END"
+
+-- those of a want that are asked: all, or those up to the one that is answered ERROR
+abbrev pub lines_asked : List (List ℕ) → Verdict → List (List ℕ)
+lines_asked lines Accepted = lines
+lines_asked lines (RefusedAfter oks) = take (suc oks) lines
+
+-- those of all wants
+abbrev pub all_asked : List (List (List ℕ)) → List Verdict → List (List ℕ)
+all_asked [] verdicts = []
+all_asked (lines ∷ more) [] = []
+all_asked (lines ∷ more) (v ∷ verdicts) = lines_asked lines v ++ all_asked more verdicts
+
+-- The transfer is begun only if some want was accepted.
+abbrev pub last_asked : (is_some_accepted : Bool) → List ℕ → List (List ℕ)
+last_asked true line = line ∷ []
+last_asked false line = []
+
+-- the bytes of lines, each with its end
+abbrev pub bytes_of_lines : List (List ℕ) → List ℕ
+bytes_of_lines [] = []
+bytes_of_lines (l ∷ lines) = ended l ++ bytes_of_lines lines
+
+-- all that is asked where the wants have these verdicts: HELLO, the commands of the wants, and the last one
+abbrev pub asked_by : PlanValue → List Verdict → List ℕ
+asked_by plan verdicts = bytes_of_lines
+    (codes "HELLO" ∷ (all_asked (lines_of plan) verdicts
+    ++ last_asked (list_any is_accepted verdicts) (last_line plan)))
 
 -- ---- the whole dialogue
 

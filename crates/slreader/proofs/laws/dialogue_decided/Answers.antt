@@ -1,5 +1,5 @@
 use Rattle.slreader.proofs.PartLaws.{given_law, so_far_law, no_dialogue_law, bad_reply_law, not_a_packet_law}
-use Rattle.slreader.proofs.PartLaws.{all_refused_law}
+use Rattle.slreader.proofs.PartLaws.{all_refused_law, asked_law}
 use Rattle.slreader.proofs.laws.dialogue_decided.Goals as goal
 
 pub returns : goal.returns
@@ -9,5 +9,6 @@ returns c = record {
   no_dialogue = no_dialogue_law;
   bad_reply = bad_reply_law;
   not_a_packet = not_a_packet_law;
+  asked = asked_law;
   all_refused = all_refused_law;
 }
