@@ -12,7 +12,7 @@ _seedlinkd() {
         local options="--verbose --help"
         case $command in
             "") options+=" --version" ;;
-            serve) options+=" --listen --feed --turns --reread --report" ;;
+            serve) options+=" --listen --feed --turns --reread --report --numbers" ;;
             read) options+=" --fetch --output" ;;
         esac
         mapfile -t COMPREPLY < <(compgen -W "$options" -- "$current")
@@ -20,7 +20,7 @@ _seedlinkd() {
         mapfile -t COMPREPLY < <(compgen -W "serve feed read check replay" -- "$current")
     else
         case $command,$previous,$count in
-            *,--output,* | serve,serve,0 | check,* | replay,* | feed,*,[1-9]*)
+            *,--output,* | *,--numbers,* | serve,serve,0 | check,* | replay,* | feed,*,[1-9]*)
                 mapfile -t COMPREPLY < <(compgen -f -- "$current") ;;
         esac
     fi

@@ -7,3 +7,4 @@ mod ReadLemmas
 mod ViewLemmas
 mod SameLemmas
 mod ChangesLemmas
+pub mod NumberLemmas

@@ -4,6 +4,7 @@ pub mod Faults
 pub mod Finding
 pub mod Indexing
 pub mod Keys
+pub mod Numbers
 pub mod Places
 pub mod Reading
 pub mod Settings

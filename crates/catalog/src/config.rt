@@ -9,6 +9,7 @@ ghost use Rattle.toml.specs.Parse.{parse_document};
 ghost use Rattle.toml.specs.View.{table_view};
 ghost use Rattle.protocol.specs.Catalog.{has_codes, sees, view_of, is_same_view, is_same_but_for_access};
 ghost use Rattle.catalog.specs.Failing.{FailsAt};
+ghost use Rattle.catalog.specs.Numbers.{config_by};
 ghost use Rattle.catalog.specs.Places.{view_in, HasDistinctCodes, IsPlace};
 ghost use Rattle.catalog.specs.Reading.{config_of, config_read};
 ghost use Rattle.catalog.specs.declared.error.Step.TheVariants.{Text};
@@ -18,6 +19,7 @@ use crate::error::{ConfigError, Step};
 use crate::fault::ConfigFault;
 use crate::index::Index;
 use crate::listing::stations_of;
+use crate::numbers::{KeptNumber, begin_at};
 use crate::settings::{access_of, connections_of, title_of};
 use crate::station::{Station, copy_of};
 use crate::view::{View, see};
@@ -259,6 +261,14 @@ impl Config {
         self.title() == new.title()
             && self.max_connections == new.max_connections
             && are_same(self.stations(), new.stations())
+    }
+
+    /// Has each station begin with the number that is kept for it: the first in the list that has its codes. A station
+    /// of which none is there keeps its own.
+    pub fn begin_at(&mut self, kept: &[KeptNumber])
+        ensures { self.new ≡ config_by kept.now self.old }
+    {
+        begin_at(&mut self.stations, kept);
     }
 
     /// The same configuration once more. Only memory can lack.

@@ -157,6 +157,14 @@ impl Station {
         self.first
     }
 
+    /// Another number for its first record.
+    pub(crate) fn begin_at(&mut self, first: Seq)
+        ensures { self.new ≡ record self.old { station = record self.old.station { first = first } } }
+    {
+        let own = &mut self.first;
+        *own = first;
+    }
+
     /// Whether it has these codes, byte for byte.
     pub(crate) fn has_codes(&self, network: &[u8], code: &[u8]) -> bool
         ensures { result ≡ has_codes network.now code.now self.now.station }

@@ -31,7 +31,7 @@ serve_words =
     ∷ codes "127.0.0.1:18001" ∷ []
 
 pub serve_asked : job_of serve_words
-    ≡ Some (Serve (codes "c.toml") (codes "127.0.0.1:18000") (codes "127.0.0.1:18001") None None None)
+    ≡ Some (Serve (codes "c.toml") (codes "127.0.0.1:18000") (codes "127.0.0.1:18001") None None None None)
 unfolding clap_on_literals
 serve_asked = refl
 
@@ -44,7 +44,7 @@ turns_words =
     codes "seedlinkd" ∷ codes "serve" ∷ codes "--turns" ∷ codes "20" ∷ codes "c" ∷ codes "--feed=b" ∷ codes "--listen=a"
     ∷ []
 
-pub turns_asked : job_of turns_words ≡ Some (Serve (codes "c") (codes "a") (codes "b") (Some 20) None None)
+pub turns_asked : job_of turns_words ≡ Some (Serve (codes "c") (codes "a") (codes "b") (Some 20) None None None)
 unfolding clap_on_literals
 turns_asked = refl
 
@@ -54,9 +54,19 @@ reread_words =
     ∷ codes "--feed=b"
     ∷ codes "--listen=a" ∷ []
 
-pub reread_asked : job_of reread_words ≡ Some (Serve (codes "c") (codes "a") (codes "b") None (Some 600) (Some 9))
+pub reread_asked : job_of reread_words ≡ Some (Serve (codes "c") (codes "a") (codes "b") None (Some 600) (Some 9) None)
 unfolding clap_on_literals
 reread_asked = refl
+
+abbrev numbers_words : List Text
+numbers_words =
+    codes "seedlinkd" ∷ codes "serve" ∷ codes "c" ∷ codes "--numbers" ∷ codes "n.toml" ∷ codes "--feed=b"
+    ∷ codes "--listen=a" ∷ []
+
+pub numbers_asked : job_of numbers_words
+    ≡ Some (Serve (codes "c") (codes "a") (codes "b") None None None (Some (codes "n.toml")))
+unfolding clap_on_literals
+numbers_asked = refl
 
 pub feed_asked : job_of (codes "seedlinkd" ∷ codes "feed" ∷ codes "a" ∷ codes "f" ∷ [])
     ≡ Some (Feed (codes "a") (codes "f"))

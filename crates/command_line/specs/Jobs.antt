@@ -57,11 +57,14 @@ addressed_app =
     (option true (codes "listen"))) (option true (codes "feed"))
 
 -- `serve CONFIG --listen A:P --feed A:P [--turns N] [--reread N] [--report N]`
+abbrev pub timed_app : App
+timed_app =
+    with_rule (with_rule (with_rule addressed_app (turns_rule (codes "turns"))) (turns_rule (codes "reread")))
+    (turns_rule (codes "report"))
+
+-- `serve CONFIG --listen A:P --feed A:P [--turns N] [--reread N] [--report N] [--numbers FILE]`
 abbrev pub serve_app : App
-serve_app =
-    with_verbose
-    (with_rule (with_rule (with_rule addressed_app (turns_rule (codes "turns"))) (turns_rule (codes "reread")))
-    (turns_rule (codes "report")))
+serve_app = with_verbose (with_rule timed_app (option false (codes "numbers")))
 
 -- `feed A:P FILE`
 abbrev pub feed_app : App
@@ -107,7 +110,7 @@ program_app =
 pub data Asked : Type 0 where
   Check : (file : List ℕ) → Asked
   Replay : (config : List ℕ) → (script : List ℕ) → Asked
-  Serve : (config listen feed : List ℕ) → (turns reread report : Option ℕ) → Asked
+  Serve : (config listen feed : List ℕ) → (turns reread report : Option ℕ) → (numbers : Option (List ℕ)) → Asked
   Feed : (server file : List ℕ) → Asked
   Read : (server : List ℕ) → (wants : List (List ℕ)) → (fetch : Bool) → (output : Option (List ℕ)) → Asked
 
@@ -115,8 +118,8 @@ pub data Asked : Type 0 where
 abbrev pub asked : Job → Asked
 asked (job.Check file) = Check file.now
 asked (job.Replay config script) = Replay config.now script.now
-asked (job.Serve config listen feed turns reread report) =
-    Serve config.now listen.now feed.now turns reread report
+asked (job.Serve config listen feed turns reread report numbers) =
+    Serve config.now listen.now feed.now turns reread report (option_map (λ file. file.now) numbers)
 asked (job.Feed server file) = Feed server.now file.now
 asked (job.Read server wants fetch output) =
     Read server.now (map (λ want. want.now) wants.items) fetch (option_map (λ file. file.now) output)
@@ -150,15 +153,16 @@ turns_in name rows = turns_of (first_of name rows)
 
 -- a server's job, where all of it is there
 abbrev pub with_server : Option (List ℕ) → Option (List ℕ) → Option (List ℕ) →
-    Option (Option ℕ) → Option (Option ℕ) → Option (Option ℕ) → Option Asked
-with_server (Some config) (Some listen) (Some feed) (Some turns) (Some reread) (Some report) =
-    Some (Serve config listen feed turns reread report)
-with_server _ _ _ _ _ _ = None
+    Option (Option ℕ) → Option (Option ℕ) → Option (Option ℕ) → Option (List ℕ) → Option Asked
+with_server (Some config) (Some listen) (Some feed) (Some turns) (Some reread) (Some report) numbers =
+    Some (Serve config listen feed turns reread report numbers)
+with_server _ _ _ _ _ _ numbers = None
 
 abbrev pub serve_asked : List Row → Option Asked
 serve_asked rows =
     with_server (first_of (codes "CONFIG") rows) (first_of (codes "listen") rows) (first_of (codes "feed") rows)
     (turns_in (codes "turns") rows) (turns_in (codes "reread") rows) (turns_in (codes "report") rows)
+    (first_of (codes "numbers") rows)
 
 abbrev pub feed_asked : List Row → Option Asked
 feed_asked rows = with_both Feed (first_of (codes "SERVER") rows) (first_of (codes "FILE") rows)

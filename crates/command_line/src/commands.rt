@@ -3,7 +3,8 @@ ghost use Rattle.std.specs.Prelude.{◌≡◌, Some, false, true, codes, IfOk};
 ghost use Rattle.clap.specs.Words.{App, app_of, new_app, rule_of, with_rule, with_subcommand};
 ghost use Rattle.command_line.specs.Building.{Builds};
 ghost use Rattle.command_line.specs.Jobs.{addressed_app, bare_app, check_app, feed_app, fetch_rule, option};
-ghost use Rattle.command_line.specs.Jobs.{program_app, read_app, replay_app, serve_app, turns_rule, verbose_rule};
+ghost use Rattle.command_line.specs.Jobs.{program_app, read_app, replay_app, serve_app, timed_app, turns_rule};
+ghost use Rattle.command_line.specs.Jobs.{verbose_rule};
 ghost use Rattle.command_line.specs.Jobs.{wanted, wants_app, wants_rule, with_verbose};
 
 use clap::builder::ValueParser;
@@ -149,8 +150,8 @@ fn addressed_command<'a>(alloc: Global) -> Built<'a>
 }
 
 /// `serve CONFIG --listen A:P --feed A:P [--turns N] [--reread N] [--report N]`.
-fn serve_command<'a>(alloc: Global) -> Built<'a>
-    ensures { Builds result serve_app }
+fn timed_command<'a>(alloc: Global) -> Built<'a>
+    ensures { Builds result timed_app }
 {
     let with_end = with_turns(
         alloc,
@@ -164,13 +165,34 @@ fn serve_command<'a>(alloc: Global) -> Built<'a>
         "reread",
         "Reads CONFIG again every N turns, 1 to 1000000000",
     );
-    let with_report = with_turns(
+    with_turns(
         alloc,
         with_reread,
         "report",
         "Writes a line on standard error every N turns, 1 to 1000000000",
-    );
-    with_verbose(alloc, with_report)
+    )
+}
+
+/// The option `--numbers FILE`.
+fn numbers<'a>(alloc: Global) -> Arg<'a>
+    ensures rule { rule_of result ≡ option false (codes "numbers") }
+    ensures own { result.global ≡ false }
+{
+    option(
+        alloc,
+        "numbers",
+        "FILE",
+        false,
+        "Goes on with the numbers in FILE, and keeps numbers there",
+    )
+}
+
+/// `serve CONFIG --listen A:P --feed A:P [--turns N] [--reread N] [--report N] [--numbers FILE]`.
+fn serve_command<'a>(alloc: Global) -> Built<'a>
+    ensures { Builds result serve_app }
+{
+    let with_numbers = with_argument(timed_command(alloc), numbers(alloc));
+    with_verbose(alloc, with_numbers)
 }
 
 /// `feed A:P FILE`.

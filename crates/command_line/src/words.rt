@@ -66,6 +66,7 @@ fn serve_job<'a>(arguments: &ArgMatches<'a>) -> Option<Job<'a>>
     let turns = turns_in(arguments, "turns")?;
     let reread = turns_in(arguments, "reread")?;
     let report = turns_in(arguments, "report")?;
+    let numbers = text_at(arguments, "numbers");
     Some(Job::Serve {
         config,
         listen,
@@ -73,6 +74,7 @@ fn serve_job<'a>(arguments: &ArgMatches<'a>) -> Option<Job<'a>>
         turns,
         reread,
         report,
+        numbers,
     })
 }
 

@@ -1,6 +1,6 @@
 -- One read of a feed's port.
 use Rattle.std.proofs.Common.{◌≡◌, ℕ, ◌≤◌, Bool, true, false, List, [], ◌∷◌, ◌++◌, map, refl, sym, ap, subst}
-use Rattle.std.proofs.Common.{append-nil, Option, arith}
+use Rattle.std.proofs.Common.{append-nil, length, ◌<◌, Option, arith}
 use Rattle.protocol.specs.Catalog.{Config}
 use Rattle.protocol.specs.World.{World, world_from}
 use Rattle.protocol.specs.World.Event.{Arrive}
@@ -35,9 +35,10 @@ module _ (config : Config) (w : World) (happenings dropped port : ℕ) (rest : L
     pub feed-piece : (bytes : List ℕ) (server' : ServerValue) (dropped' : ℕ) (rest' : List ℕ)
         → Tells a b (Read port most (Piece bytes) ∷ []) →
         Arrives config w (fed rest bytes).records server' dropped dropped' → rest' ≡ (fed rest bytes).rest →
+        length rest < 512 → length bytes ≤ most →
         Once (FeedReads config) config w a b server' (feed_tally happenings dropped) (feed_tally happenings dropped')
         (feed_seat port rest readable writable) (feed_seat port rest' readable writable) On
-    feed-piece bytes server' dropped' rest' tells arrives left =
+    feed-piece bytes server' dropped' rest' tells arrives left held few =
         let one = append-nil (map Arrive (countable config w (fed rest bytes).records)) in
         record {
           deeds = piece_read config w port most rest bytes ∷ [];
@@ -48,7 +49,7 @@ module _ (config : Config) (w : World) (happenings dropped port : ℕ) (rest : L
             faithful = (tt, tt);
           };
           how = λ n ds w' o p.
-              piece most rest bytes may short refl
+              piece most rest bytes may short refl held few
               (subst
               (λ es. FeedReads config n (world_from config w es)
               (feed_seat port (fed rest bytes).rest readable writable) ds w' o) one

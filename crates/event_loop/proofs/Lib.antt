@@ -13,3 +13,4 @@ mod PassesLemmas
 mod SleepLemmas
 mod LeaveLemmas
 mod AwakeLemmas
+mod FewLemmas

@@ -1,6 +1,7 @@
 -- A turn: what was heard, and the passes after it.
-use Rattle.std.proofs.Common.{ℕ, List, ◌++◌, refl, sym, subst, Option}
+use Rattle.std.proofs.Common.{◌≡◌, ℕ, ◌*◌, ◌≤◌, List, ◌++◌, length, refl, sym, ap, subst, Option, arith}
 use Rattle.protocol.specs.Catalog.{Config}
+use Rattle.protocol.specs.History.{Arrival}
 use Rattle.protocol.specs.World.{World}
 use Rattle.server_core.specs.ServerValues.{ServerValue, StandsAt}
 use Rattle.event_loop.specs.declared.seat.Seat.{Seat}
@@ -11,14 +12,19 @@ use Rattle.event_loop.specs.Deeds.{Deed, Tally, no_tally, world_beyond}
 use Rattle.event_loop.specs.Feeding.{feed_tally}
 use Rattle.event_loop.specs.Going.{Does}
 use Rattle.event_loop.specs.Hearing.End.{Faulted}
-use Rattle.event_loop.specs.Turns.{Passes, Turns, Fails, tally_of}
+use Rattle.event_loop.specs.Hearing.{feeds_in}
+use Rattle.event_loop.specs.Turns.{BringsAtMost, Passes, Turns, Fails, tally_of}
 use Rattle.event_loop.specs.Tables.{WholeHearing, PassesAll, tally_heard_by, heard_end}
 use Rattle.event_loop.proofs.DeedLemmas.{does-then, world_beyond-append}
+use Rattle.event_loop.proofs.FewLemmas.{hearing-brings, passes-few, turn-few}
 use Rattle.event_loop.proofs.HandsLemmas.{hands-as-alone}
 
 -- what a turn answers, by what it heard
 abbrev pub turned_by : Report → ℕ → Turned
 turned_by report dropped = record { happenings = report.happenings; quiet = report.quiet; dropped = dropped }
+
+none-brought : (w w' : World) → w'.history ≡ w.history → BringsAtMost 0 w w'
+none-brought w w' same = omega (arith, ap (λ (h : List Arrival). length h) same)
 
 module _ (config : Config) (most limit : ℕ) (w : World) (a b : Option (List Call)) (mid : ServerValue)
     (ss mid_ss : List Seat) where
@@ -26,9 +32,9 @@ module _ (config : Config) (most limit : ℕ) (w : World) (a b : Option (List Ca
       WholeHearing config most limit w a b mid (tally_heard_by report) ss mid_ss (heard_end report) →
       ((v : World) → StandsAt mid config v →
       PassesAll limit config v b c last (feed_tally report.happenings 0)
-      (feed_tally report.happenings dropped) mid_ss ss') →
+      (feed_tally report.happenings dropped) mid_ss ss') → feeds_in mid_ss ≤ 16 →
       Turns config most limit w a c last ss ss' (turned_by report dropped)
-  turn-made c last ss' report dropped hearing passes =
+  turn-made c last ss' report dropped hearing passes few =
       let v : World = world_beyond config w hearing.deeds in
       let x : PassesAll limit config v b c last (feed_tally report.happenings 0)
       (feed_tally report.happenings dropped) mid_ss ss' = passes v hearing.does.stands in
@@ -49,6 +55,10 @@ module _ (config : Config) (most limit : ℕ) (w : World) (a b : Option (List Ca
           passes = subst (λ u. Passes config limit v mid_ss x.deeds u ss')
               (sym (world_beyond-append config w hearing.deeds x.deeds)) x.how;
         };
+        few_records = subst (λ u. BringsAtMost (16 * limit) w u)
+            (sym (world_beyond-append config w hearing.deeds x.deeds))
+            (turn-few (feeds_in mid_ss) limit w v (world_beyond config v x.deeds) few
+            (hearing-brings config hearing.how) (passes-few config x.how));
         isolation = hands-as-alone config w deeds does.faithful;
       }
 
@@ -59,5 +69,6 @@ module _ (config : Config) (most limit : ℕ) (w : World) (a b : Option (List Ca
     counts = t;
     does = hearing.does;
     how = hearing.how;
+    no_record = none-brought w (world_beyond config w hearing.deeds) (hearing-brings config hearing.how);
     isolation = hands-as-alone config w hearing.deeds hearing.does.faithful;
   }

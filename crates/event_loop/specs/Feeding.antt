@@ -1,6 +1,6 @@
 -- The pass over a feed's port: its reads, and the records that become whole.
 -- The loop is this project's own.
-use Rattle.std.specs.Prelude.{◌≡◌, ℕ, zero, suc, ◌+◌, ◌-◌, ◌^◌, ◌≤◌, ◌==◌, Bool, true, false, ◌&&◌, if◌then◌else◌, List}
+use Rattle.std.specs.Prelude.{◌≡◌, ℕ, zero, suc, ◌+◌, ◌-◌, ◌^◌, ◌<◌, ◌≤◌, ◌==◌, Bool, true, false, ◌&&◌, if◌then◌else◌, List}
 use Rattle.std.specs.Prelude.{[], ◌∷◌, length, map, Option, Some, None, is_some}
 use Rattle.protocol.specs.Catalog.{Config}
 use Rattle.protocol.specs.Streams.{FeedRead, feed_from}
@@ -79,12 +79,13 @@ piece_read config w port most rest bytes =
     (refusals config w (fed rest bytes).records)
 
 -- The reads of a pass over a feed's port, of at most so many, lead to a world and a seat; there is none once the port
--- is shut. Each is made while the port may be read, and of at most 512 bytes.
+-- is shut. Each is made while the port may be read, and of at most 512 bytes; what is left over of the reads before is
+-- less than a record.
 pub data FeedReads (config : Config) : ℕ → World → Seat → List Deed → World → Option Seat → Type 0 where
   enough : {w : World} {s : Seat} → FeedReads config zero w s [] w (Some s)
   not_readable : {n : ℕ} {w : World} {s : Seat} → s.readable ≡ false → FeedReads config (suc n) w s [] w (Some s)
   piece : {n : ℕ} {w w' : World} {s : Seat} {o : Option Seat} {ds : List Deed} (most : ℕ) (rest bytes : List ℕ) →
-      s.readable ≡ true → most ≤ 512 → s.role ≡ FeedRole rest →
+      s.readable ≡ true → most ≤ 512 → s.role ≡ FeedRole rest → length rest < 512 → length bytes ≤ most →
       FeedReads config n (beyond config w (piece_read config w s.port most rest bytes))
       (record s { role = FeedRole (fed rest bytes).rest }) ds w' o →
       FeedReads config (suc n) w s (piece_read config w s.port most rest bytes ∷ ds) w' o

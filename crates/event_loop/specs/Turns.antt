@@ -1,6 +1,7 @@
 -- A turn of a loop: what it hears, and then each open port's pass, by rising number; and what each client is handed by
 -- it. The loop is this project's own.
-use Rattle.std.specs.Prelude.{◌≡◌, ℕ, if◌then◌else◌, List, [], ◌∷◌, ◌++◌, flat_map, Option, Some, None}
+use Rattle.std.specs.Prelude.{◌≡◌, ℕ, ◌+◌, ◌*◌, ◌≤◌, if◌then◌else◌, List, [], ◌∷◌, ◌++◌, length, flat_map, Option}
+use Rattle.std.specs.Prelude.{Some, None}
 use Rattle.protocol.specs.Catalog.{Config}
 use Rattle.protocol.specs.World.{Event, World, config_after, world_after}
 use Rattle.protocol.specs.Alone.{alone, own_view, seen}
@@ -75,13 +76,18 @@ tally_of turned = record { happenings = turned.happenings; dropped = turned.drop
 abbrev pub end_of : Turned → End
 end_of turned = if turned.quiet then Quieted else Limit
 
--- A turn was made.
+-- At most so many records arrived between the two worlds.
+abbrev pub BringsAtMost : ℕ → World → World → Type 0
+BringsAtMost most w w' = length w'.history ≤ length w.history + most
+
+-- A turn was made. Each of up to 16 feeds brought at most so many records as reads are made of a port.
 pub record Turns (config : Config) (most limit : ℕ) (w : World) (calls calls' : Option (List Call))
     (server' : ServerValue)
     (seats seats' : List Seat) (turned : Turned) : Type 0 where
   pub deeds : List Deed
   pub does : Does config w calls calls' server' no_tally (tally_of turned) deeds
   pub how : IsTurn config most limit w seats deeds (world_beyond config w deeds) seats' (end_of turned)
+  pub few_records : BringsAtMost (16 * limit) w (world_beyond config w deeds)
   pub isolation : HandsAsAlone config w deeds
 
 -- A turn that failed heard a fault, and went through no port.
@@ -92,4 +98,5 @@ pub record Fails (config : Config) (most limit : ℕ) (w : World) (calls calls' 
   pub counts : Tally
   pub does : Does config w calls calls' server' no_tally counts deeds
   pub how : Hearing config most limit w seats deeds (world_beyond config w deeds) (heard seats' Faulted)
+  pub no_record : BringsAtMost 0 w (world_beyond config w deeds)
   pub isolation : HandsAsAlone config w deeds

@@ -37,8 +37,10 @@ fn take_records(
     ensures arrives { (config : Config) (w : World) → StandsAt server.old config w →
         Arrives config w (fed cutter.old piece.now).records server.new dropped.old dropped.new }
     ensures rest { cutter.new ≡ (fed cutter.old piece.now).rest }
+    ensures held { length cutter.old < 512 }
     ensures quiet { IsQuiet brought.old brought.new server.old server.new }
 {
+    let _held = cutter.rest();
     let mut left = piece;
     'records: while !left.is_empty() {
         let Feeding { used, whole } = cutter.feed(left);

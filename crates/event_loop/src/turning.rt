@@ -5,6 +5,7 @@ ghost use Rattle.std.specs.declared.option.Option.{Option};
 ghost use Rattle.protocol.specs.Catalog.{Config as ProtocolConfig, is_same_but_for_access};
 ghost use Rattle.protocol.specs.World.{World, config_by, empty_world, step};
 ghost use Rattle.protocol.specs.World.Event.{Reload};
+ghost use Rattle.held_records.specs.Rings.{holdings_of};
 ghost use Rattle.server_core.specs.ServerValues.{StandsAt};
 ghost use Rattle.sl_io.specs.Counts.{IsMore};
 ghost use Rattle.event_loop.specs.Deeds.{Tally, refused_more};
@@ -25,6 +26,7 @@ use crate::seat::{Role, Seat};
 use crate::sleeping::{go, settle, skip, wake_after, wake_if};
 use crate::table::clients;
 use catalog::Config;
+use held_records::Rings;
 use ports::Ports;
 use protocol::report::Report;
 use server_core::{Client, ReloadFault, Server};
@@ -257,7 +259,7 @@ impl<P: Ports + Drop> Loop<P> {
 impl<P: Ports> Loop<P> {
     /// Takes up to `limit` happenings, or until Quiet; then goes through the open ports by rising number. Each port's
     /// pass reads while the port may be read, up to `limit` times, and on a client's port then offers and writes, up to
-    /// `limit` times.
+    /// `limit` times. At most `limit` records arrive from each of 16 feeds.
     ///
     /// It fails with 40 Poll only if the ports could not say what happened. What was done before it in the turn stands,
     /// and a further turn goes on.
@@ -358,6 +360,15 @@ impl<P: Ports> Loop<P> {
             → result ≡ length w.history }
     {
         self.server.arrivals()
+    }
+
+    /// What the server holds of all stations.
+    pub fn rings(&self) -> &Rings
+        ensures value { result.now ≡ self.now.server.rings }
+        ensures holds { (config : ProtocolConfig) (w : World) → StandsAt self.now.server config w →
+            result.now ≡ holdings_of config w.history }
+    {
+        self.server.rings()
     }
 
     /// How many records the server refused in all turns; it stays at 2^64 - 1.

@@ -1,19 +1,19 @@
 -- Held records by their numbers.
-use Rattle.std.proofs.Common.{◌≡◌, ℕ, ◌+◌, ◌-◌, ◌%◌, ◌≤◌, Bool, true, false, List, [], ◌∷◌, length, drop, slice_get}
-use Rattle.std.proofs.Common.{nat_le, Option, Some, None, option_map, find, suc, refl, sym, ap, ◌∙◌, arith, length-drop}
+use Rattle.std.proofs.Common.{◌≡◌, ℕ, ◌+◌, ◌-◌, ◌%◌, ◌≤◌, Bool, true, false, List, [], ◌∷◌, length, drop, slice_get, map}
+use Rattle.std.proofs.Common.{nat_le, Option, Some, None, option_map, find, zero, suc, refl, sym, ap, ◌∙◌, arith, length-drop}
 use Rattle.std.specs.Prelude.{◌==◌}
 use Rattle.std.specs.Option.{option_and_then}
 use Rattle.std.proofs.lemmas.List.{take_all}
 use Rattle.std.proofs.lemmas.Bool.Decides.{nat_tests}
 use Rattle.protocol.specs.Packet.{numbers}
-use Rattle.protocol.specs.Catalog.{Station}
+use Rattle.protocol.specs.Catalog.{Config, Entry, Station}
 use Rattle.protocol.specs.History.{Arrival, held_with_number, oldest_held, from_number, number_at as number_in_history}
 use Rattle.protocol.proofs.FoundLemmas.{both}
 use Rattle.station_ring.specs.declared.held.Held.{Held}
 use Rattle.station_ring.specs.Rings.{RingValue, first_place, held_at, number_at, place_among, place_with}
 use Rattle.station_ring.proofs.NumberLemmas.{found}
 use Rattle.station_ring.proofs.ReachLemmas.{slice_get-drop}
-use Rattle.held_records.specs.Rings.{arrivals_of, ring_of}
+use Rattle.held_records.specs.Rings.{arrivals_of, holdings_of, next_numbers, numbers_after, ring_of}
 use Rattle.held_records.proofs.ArrivalLemmas.{length-arrivals_of, number_of_arrival}
 use Rattle.held_records.proofs.HistoryLemmas.{walk_all}
 
@@ -89,6 +89,26 @@ held_with_number-ring s h number =
 pub next_number-ring : (s : Station) (h : List Arrival)
     → number_at (ring_of s h) (ring_of s h).pushes ≡ number_in_history s h (length h)
 next_number-ring s h = rw (take_all (length h) h (omega arith), length-arrivals_of s 0 h) refl
+
+-- The same of all stations.
+numbers-rings : (h : List Arrival) (es : List Entry)
+    → map (λ r. number_at r r.pushes) (map (λ e. ring_of e.station h) es)
+    ≡ map (λ e. number_in_history e.station h (length h)) es
+numbers-rings h [] = refl
+numbers-rings h (e ∷ es) = ap (λ n. n ∷ map (λ r. number_at r r.pushes) (map (λ x. ring_of x.station h) es))
+    (next_number-ring e.station h)
+    ∙ ap (λ ns. number_in_history e.station h (length h) ∷ ns) (numbers-rings h es)
+
+-- The next number of the ring at a place, where one is there.
+pub number-at_place : (rs : List RingValue) (place : ℕ) (o : Option RingValue) → o ≡ slice_get rs place
+    → option_map (λ r. number_at r r.pushes) o ≡ slice_get (map (λ r. number_at r r.pushes) rs) place
+number-at_place [] place o e = ap (option_map (λ r. number_at r r.pushes)) e
+number-at_place (r ∷ rs) zero o e = ap (option_map (λ r. number_at r r.pushes)) e
+number-at_place (r ∷ rs) (suc place) o e = number-at_place rs place o e
+
+pub numbers-held : (config : Config) (h : List Arrival) → next_numbers (holdings_of config h) ≡ numbers_after config h
+unfolding holdings_of
+numbers-held config h = numbers-rings h config.entries
 
 -- ---- what is answered for a number
 

@@ -39,6 +39,16 @@ ring_of s h = holding_of s.capacity s.first (arrivals_of s 0 h)
 unfoldable pub holdings_of : Config → List Arrival → RingsValue
 holdings_of config h = record { rings = map (λ e. ring_of e.station h) config.entries; arrivals = length h }
 
+-- ---- the numbers that come next
+
+-- the number that the next record of each station is to have, by the rings
+abbrev pub next_numbers : RingsValue → List ℕ
+next_numbers v = map (λ r. number_in_ring r r.pushes) v.rings
+
+-- the same after a history, in the order of the configuration
+abbrev pub numbers_after : Config → List Arrival → List ℕ
+numbers_after config h = map (λ e. number_at e.station h (length h)) config.entries
+
 -- ---- what a held record is
 
 -- A held record is the arrival of a station at the position that is its stamp, and has that number.

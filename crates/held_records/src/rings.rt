@@ -9,7 +9,7 @@ ghost use Rattle.station_ring.specs.declared.held.Held.{Held};
 ghost use Rattle.catalog.specs.Places.{station_at, HasDistinctCodes};
 ghost use Rattle.station_ring.specs.Rings.{RingValue, pushed, number_at, held_at, place_with};
 ghost use Rattle.held_records.specs.Rings.{AllGrow, AreBehind, GrowByOne, IsBefore, IsBehind, holdings_of, place_from};
-ghost use Rattle.held_records.specs.Rings.{ring_of, summary_of};
+ghost use Rattle.held_records.specs.Rings.{next_numbers, numbers_after, ring_of, summary_of};
 
 use catalog::Config;
 use sl_packet::Seq;
@@ -78,6 +78,26 @@ impl Rings {
     /// it was, so that who asks looks at that ring.
     pub fn latest(&self) -> usize {
         self.latest
+    }
+
+    /// How many stations have a ring.
+    pub fn count(&self) -> usize
+        ensures { result ≡ length self.now.rings }
+    {
+        let _ = self.arrivals;
+        self.rings.len()
+    }
+
+    /// The number that the next record of the station at a place is to have, where one is there.
+    pub fn next_number(&self, place: usize) -> Option<Seq>
+        ensures ring { result ≡ slice_get (next_numbers self.now) place }
+        ensures history { (config : ProtocolConfig) (h : List Arrival) → self.now ≡ holdings_of config h →
+            result ≡ slice_get (numbers_after config h) place }
+    {
+        match self.ring(place) {
+            Some(ring) => Some(ring.next_number()),
+            None => None,
+        }
     }
 
     /// A record of the station at a place arrives, and has that station's next number. It takes no memory.

@@ -41,6 +41,7 @@ failure_number (failure.Send fault) = send_fault_number fault
 failure_number failure.Untaken = 43
 failure_number (failure.Want fault) = reader_fault_number fault
 failure_number (failure.Packets fault) = listing_fault_number fault
+failure_number (failure.Numbers fault) = 49
 
 -- its name
 abbrev pub failure_name : Failure → List ℕ
@@ -60,3 +61,4 @@ failure_name (failure.Send fault) = send_fault_name fault
 failure_name failure.Untaken = codes "Write"
 failure_name (failure.Want fault) = reader_fault_name fault
 failure_name (failure.Packets fault) = listing_fault_name fault
+failure_name (failure.Numbers fault) = codes "Numbers"

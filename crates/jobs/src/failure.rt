@@ -2,7 +2,7 @@
 ghost use Rattle.std.specs.Prelude.{◌≡◌};
 ghost use Rattle.jobs.specs.Faults.{failure_number, failure_name};
 
-use crate::faults::ReplayFault;
+use crate::faults::{NumbersFault, ReplayFault};
 use catalog::ConfigFault;
 use feeder::SendFault;
 use packet_listing::ListingFault;
@@ -66,10 +66,13 @@ pub enum Failure {
     /// Not all that was asked for was read.
     #[error("{0}")]
     Packets(ListingFault),
+    /// The numbers of an earlier run were not read.
+    #[error("{0}")]
+    Numbers(NumbersFault),
 }
 
 impl Failure {
-    /// The number and the name by which the program reports it: 1 to 6, 10, 11, 20 to 25, 34, 40 to 47, 51 or 52.
+    /// The number and the name by which the program reports it: 1 to 6, 10, 11, 20 to 25, 34, 40 to 47, 49, 51 or 52.
     pub fn report(self) -> Report
         ensures number { result.number ≡ failure_number self }
         ensures name { result.name.now ≡ failure_name self }
@@ -91,6 +94,7 @@ impl Failure {
             Failure::Untaken => Report::new(43, "Write"),
             Failure::Want(fault) => fault.report(),
             Failure::Packets(fault) => fault.report(),
+            Failure::Numbers(fault) => fault.report(),
         }
     }
 }

@@ -1,5 +1,6 @@
-//! Why a script was not replayed.
+//! Why a script was not replayed, and why numbers were not read.
 ghost use Rattle.std.specs.Prelude.{◌≡◌};
+ghost use Rattle.std.specs.Prelude.{codes};
 ghost use Rattle.jobs.specs.Faults.{replay_fault_number, replay_fault_name};
 
 use protocol::report::Report;
@@ -28,5 +29,26 @@ impl ReplayFault {
             ReplayFault::Stream(fault) => fault.report(),
             ReplayFault::Script(_) => Report::new(45, "Script"),
         }
+    }
+}
+
+/// Why the numbers of an earlier run were not read.
+#[derive(Clone, Copy, Debug, PartialEq, Eq, Drop, Error)]
+pub enum NumbersFault {
+    /// The file can't be opened, or not be read to its end.
+    #[error("the file of numbers can't be read")]
+    Unread,
+    /// Its text is not as it has to be.
+    #[error("the file of numbers is not in TOML with a network, a code and a number for each station")]
+    Invalid,
+}
+
+impl NumbersFault {
+    /// The number and the name by which the program reports it: 49 Numbers.
+    pub fn report(self) -> Report
+        ensures number { result.number ≡ 49 }
+        ensures name { result.name.now ≡ codes "Numbers" }
+    {
+        Report::new(49, "Numbers")
     }
 }

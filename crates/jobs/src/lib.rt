@@ -9,6 +9,7 @@ mod feeding;
 mod files;
 mod incident;
 mod network;
+mod numbers;
 mod operator;
 mod output_file;
 mod part_texts;
@@ -21,7 +22,7 @@ mod work;
 
 pub use endpoint::Endpoint;
 pub use failure::Failure;
-pub use faults::ReplayFault;
+pub use faults::{NumbersFault, ReplayFault};
 pub use feeding::{SentFeed, await_end, begin_feed, feed_records, send_feed};
 pub use incident::{Incident, Site};
 pub use network::send_file;

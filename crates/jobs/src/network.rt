@@ -4,9 +4,11 @@ use crate::failure::Failure;
 use crate::feeding::{SentFeed, send_feed};
 use crate::files::{config_at, open, unopened};
 use crate::incident::{Incident, Site};
+use crate::numbers::NumberFile;
 use crate::operator::{ServeOptions, serve_by};
 use crate::output_file::ReasonKeeper;
 use crate::standard_error::StandardError as Eprinted;
+use catalog::Config;
 use error_lines::StandardError;
 use packet_listing::{Nowhere, read_over};
 use sl_io::{Outer, Sink};
@@ -81,15 +83,28 @@ where
 {
     let clients = server_of(listen)?;
     let feeds = server_of(feed)?;
-    let config = config_at(rt, options.path)?;
+    let mut config = config_at(rt, options.path)?;
+    let numbers = numbers_for(rt, options.numbers, &mut config)?;
     let ports = listen_at(rt, clients, feeds)?;
     let errors = StandardError::open(rt);
-    match serve_by(rt, config, ports, options, errors) {
+    match serve_by(rt, config, ports, options, numbers, errors) {
         Ok(mut ports) => {
             ports.finish();
             Ok(())
         }
-        Err(fault) => Err(Incident::from(Failure::Serve(fault))),
+        Err(incident) => Err(incident),
+    }
+}
+
+/// The file of numbers that is named, with which the stations of a configuration begin.
+fn numbers_for<'a, R: Files + AllocGlobal>(
+    rt: &R,
+    path: Option<&'a str>,
+    config: &mut Config,
+) -> Result<Option<NumberFile<'a>>, Incident<'a>> {
+    match path {
+        Some(path) => Ok(Some(NumberFile::open(rt, path, config)?)),
+        None => Ok(None),
     }
 }
 

@@ -3,17 +3,19 @@ ghost use Rattle.std.specs.Prelude.{◌≡◌, ◌∷◌, [], None, IfErr, IfOk}
 ghost use Rattle.serving.specs.Asked.{Tells};
 ghost use Rattle.serving.specs.Asked.Asked.{Refuses};
 ghost use Rattle.serving.specs.declared.faults.ServeFault.TheVariants.{Poll};
+ghost use Rattle.jobs.specs.declared.failure.Failure.TheVariants.{Serve};
 ghost use Rattle.jobs.specs.Serving.{ServedByFile, EndedByFile};
 
 use crate::failure::Failure;
 use crate::files::config_at;
-use crate::incident::Incident;
+use crate::incident::{Incident, Site};
+use crate::numbers::NumberFile;
 use catalog::Config;
 use error_lines::{Device, ErrorLines, Line};
 use ports::Ports;
 use protocol::report::Report;
 use server_core::ReloadFault;
-use serving::{Activity, Between, Refusal, ServeFault, Timetable, serve_between};
+use serving::{Activity, Ahead, Between, Refusal, ServeFault, Timetable, serve_between};
 use std::fmt::Write;
 use std::rt::Files;
 
@@ -22,18 +24,32 @@ use std::rt::Files;
 pub struct ServeOptions<'a> {
     /// The file of its configuration.
     pub path: &'a str,
+    /// The file of its numbers, if it has one.
+    pub numbers: Option<&'a str>,
     pub timetable: Timetable,
     /// Whether a configuration that is not taken is explained.
     pub is_verbose: bool,
 }
 
-/// The file of a configuration, and lines to a device that never waits: whoever reads them can't stop the server.
+/// The files of a configuration and of numbers, and lines to a device that never waits: whoever reads them can't stop
+/// the server.
 #[derive(Drop)]
 pub struct Operator<'r, 'a, R, D> {
     rt: &'r R,
     path: &'a str,
+    numbers: Option<NumberFile<'a>>,
+    /// Whether numbers were kept, and else where they could not be.
+    has_kept: bool,
+    unkept: Site<'a>,
     is_verbose: bool,
     errors: ErrorLines<D>,
+}
+
+impl<'r, 'a, R, D: Device> Operator<'r, 'a, R, D> {
+    /// Tells an incident that ends nothing.
+    fn tell(&mut self, incident: &Incident<'_>) {
+        let _is_written = self.errors.write_line(&line_of(incident, self.is_verbose));
+    }
 }
 
 /// The line `seedlinkd: N Name` of an incident, and on request the lines that explain it. What is too long is left out.
@@ -57,17 +73,27 @@ impl<'r, 'a, R: Files + AllocGlobal, D: Device> Between for Operator<'r, 'a, R, 
     ghost asked = { λ _. None };
 
     fn configuration(&mut self) -> Result<Config, Incident<'a>> {
-        config_at(self.rt, self.path)
+        let mut config = config_at(self.rt, self.path)?;
+        if let Some(file) = &self.numbers {
+            file.begin(&mut config);
+        }
+        Ok(config)
     }
 
     fn refused(&mut self, refusal: Refusal<Incident<'a>>)
         ensures call { Tells None None (Refuses refusal.entry ∷ []) }
     {
-        let incident = match refusal {
-            Refusal::Unread(incident) => incident,
-            Refusal::Different => Failure::Reload(ReloadFault).in_file(self.path),
-        };
-        let _is_written = self.errors.write_line(&line_of(&incident, self.is_verbose));
+        match refusal {
+            Refusal::Unread(incident) => self.tell(&incident),
+            Refusal::Different => self.tell(&Failure::Reload(ReloadFault).in_file(self.path)),
+            Refusal::Unkept(incident) => {
+                if self.has_kept {
+                    self.tell(&incident);
+                } else {
+                    self.unkept = incident.site;
+                }
+            }
+        }
     }
 
     /// In the line `seedlinkd: clients 3, feeds 1, records 1200, refused 2`.
@@ -76,27 +102,50 @@ impl<'r, 'a, R: Files + AllocGlobal, D: Device> Between for Operator<'r, 'a, R, 
         let _ = write!(line, "seedlinkd: {activity}");
         let _is_written = self.errors.write_line(&line);
     }
+
+    fn keep(&mut self, numbers: &Ahead<'_>) -> Result<(), Incident<'a>> {
+        let Some(file) = &mut self.numbers else {
+            return Ok(());
+        };
+        file.keep(self.rt, numbers)?;
+        self.has_kept = true;
+        Ok(())
+    }
 }
 
 /// Runs a new server with the configuration that was read from a file over ports, as the options say, with lines to a
-/// device, and gives the ports back.
+/// device and the numbers in a file, if there is one, and gives the ports back.
 pub fn serve_by<'a, R: Files + AllocGlobal, P: Ports + Drop, D: Device + Drop>(
     rt: &R,
     config: Config,
     ports: P,
     options: ServeOptions<'a>,
+    numbers: Option<NumberFile<'a>>,
     device: D,
-) -> Result<P, ServeFault>
+) -> Result<P, Incident<'a>>
     ensures served { IfOk result (λ left.
         ServedByFile options.entry.timetable config (P.calls ports) (P.calls left)) }
-    ensures ended { IfErr result (λ fault. fault ≡ Poll →
+    ensures ended { IfErr result (λ incident. incident.failure ≡ Serve Poll →
         EndedByFile options.entry.timetable config (P.calls ports)) }
 {
     let mut operator = Operator {
         rt,
         path: options.path,
+        numbers,
+        has_kept: false,
+        unkept: Site::Unnamed,
         is_verbose: options.is_verbose,
         errors: ErrorLines::new(device),
     };
-    serve_between(rt.alloc(), config, ports, &mut operator, options.timetable)
+    match serve_between(rt.alloc(), config, ports, &mut operator, options.timetable) {
+        Ok(ports) => Ok(ports),
+        Err(ServeFault::Numbers) => Err(Incident {
+            failure: Failure::Serve(ServeFault::Numbers),
+            site: operator.unkept,
+        }),
+        Err(fault) => Err(Incident {
+            failure: Failure::Serve(fault),
+            site: Site::Unnamed,
+        }),
+    }
 }

@@ -4,7 +4,7 @@ use crate::incident::Incident;
 use crate::network::{feed_file, read_server, serve_sockets};
 use crate::operator::ServeOptions;
 use command_line::Job;
-use serving::Timetable;
+use serving::{KEEP_EVERY, Timetable};
 use std::net::Net;
 use std::os::fd::AsRawFd;
 use std::rt::Files;
@@ -28,14 +28,17 @@ where
             turns,
             reread,
             report,
+            numbers,
         } => {
             let timetable = Timetable {
                 turns,
                 reread,
                 report,
+                keep: numbers.map(|_| KEEP_EVERY),
             };
             let options = ServeOptions {
                 path: config,
+                numbers,
                 timetable,
                 is_verbose,
             };

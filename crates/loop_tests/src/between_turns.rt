@@ -35,6 +35,8 @@ fn words_of(made: &Made) -> &'static str {
         Made::Refused(Refusal::Different) => "different",
         Made::Refused(Refusal::Unread(7)) => "unread",
         Made::Refused(Refusal::Unread(_)) => "another fault",
+        Made::Refused(Refusal::Unkept(_)) => "unkept",
+        Made::Keep(_, _) => "keep",
         Made::Report(activity) => {
             let nobody = Activity {
                 clients: 0,
@@ -59,6 +61,7 @@ fn asked(alloc: Global) -> Result<MemoryBetween, Fail> {
         turns: Some(7),
         reread: Some(2),
         report: Some(3),
+        keep: None,
     };
     let config = Config::read(alloc, CENTRE)?;
     let _ports = serve_between(alloc, config, ports, &mut between, timetable)?;

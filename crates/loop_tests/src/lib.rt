@@ -8,6 +8,8 @@ mod failures;
 #[cfg(test)]
 mod joining;
 #[cfg(test)]
+mod kept_numbers;
+#[cfg(test)]
 mod random;
 #[cfg(test)]
 mod runs;

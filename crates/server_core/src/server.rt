@@ -58,6 +58,7 @@ impl Model for Server {
 impl Server {
     ghost use Rattle.session_state.specs.Sessions.{SessionValue};
     ghost use Rattle.station_ring.specs.declared.held.Summary.{Summary};
+    ghost use Rattle.held_records.specs.Rings.{holdings_of};
     ghost use Rattle.server_core.specs.ServerValues.{StandsAt, mark_at};
     ghost use Rattle.server_core.specs.Marks.{IsAmong, IsSpared, LeavesOthers, MarksThose, OpensNext};
     ghost use Rattle.server_core.specs.Refusals.{is_idle, room_of, receipt, offer_of};
@@ -305,6 +306,15 @@ impl Server {
         ensures { (config : ProtocolConfig) (w : World) → StandsAt self.now config w → result ≡ length w.history }
     {
         self.rings.arrivals()
+    }
+
+    /// What is held of all stations.
+    pub fn rings(&self) -> &Rings
+        ensures value { result.now ≡ self.now.rings }
+        ensures holds { (config : ProtocolConfig) (w : World) → StandsAt self.now config w →
+            result.now ≡ holdings_of config w.history }
+    {
+        &self.rings
     }
 
     /// A client's connection ends, and the client is gone for good.

@@ -1,6 +1,6 @@
 -- How often a configuration is asked for.
 use Rattle.std.proofs.Common.{◌≡◌, ℕ, ◌+◌, Bool, true, false, if◌then◌else◌, List, [], ◌∷◌, ◌++◌, refl, sym, ap}
-use Rattle.std.proofs.Common.{subst, ◌∙◌}
+use Rattle.std.proofs.Common.{length, subst, ◌∙◌}
 use Rattle.std.proofs.Common.{Option, Some, None, Result, Ok, Err, arith, rules}
 use Rattle.std.proofs.lemmas.Grind.{common_steps}
 use Rattle.protocol.specs.Catalog.{Config, is_same_but_for_access}
@@ -8,11 +8,12 @@ use Rattle.protocol.specs.World.{World}
 use Rattle.event_loop.specs.Loops.{LoopValue}
 use Rattle.serving.specs.declared.timetable.Timetable.{Timetable}
 use Rattle.serving.specs.declared.between.Refusal.TheVariants.{Different}
-use Rattle.serving.specs.Timetables.{is_due, turns_of}
+use Rattle.serving.specs.Timetables.{is_due, is_keep_due, turns_of}
+use Rattle.serving.specs.Ahead.{numbers_ahead}
 use Rattle.serving.specs.Asked.{Asked, Tells}
-use Rattle.serving.specs.Asked.Asked.{Configuration, Refuses}
+use Rattle.serving.specs.Asked.Asked.{Configuration, Keeps, Refuses}
 use Rattle.serving.specs.Acts.{Act, world_then}
-use Rattle.serving.specs.Runs.{Runs, Stops, RereadsIf, refusals, reports_if}
+use Rattle.serving.specs.Runs.{Runs, Stops, KeepsIf, RereadsIf, refusals, reports_if, unkept}
 use Rattle.serving.specs.Runs.Runs.{begins, turned, failed}
 use Rattle.serving.specs.Counting.{asks, due_in, AsksAsDue}
 
@@ -63,30 +64,46 @@ module _ {F : Type 0} where
   reread-since false config w v v' a b acts ys x e =
       record { xs = ys; was = sym x.2 ∙ e; counts = omega arith }
 
-  stop-since : (t : Timetable) (done : ℕ) (config : Config) (w : World) (v v' : LoopValue)
-      (a b : Option (List (Asked F))) (acts : List Act) (ys : List (Asked F)) → Stops t done config w v a acts v' b
+  keep-asks : (numbers : List ℕ) (answer : Result (Unit {0}) F) → asks (Keeps numbers answer ∷ unkept answer) ≡ 0
+  keep-asks numbers (Err fault) = refl
+  keep-asks numbers (Ok done) = refl
+
+  keep-since : (due : Bool) (config : Config) (w : World) (kept kept' : ℕ) (a b : Option (List (Asked F)))
+      (ys : List (Asked F)) → KeepsIf due config w kept a kept' b → b ≡ Some ys → Since a ys 0
+  keep-since true config w kept kept' a b ys x e =
+      let answer = x.0.answer in
+      let numbers = numbers_ahead config w.history in
+      subst (λ n. Since a ys n) (keep-asks numbers answer)
+      (told-since a b (Keeps numbers answer ∷ unkept answer) ys x.0.tells e)
+  keep-since false config w kept kept' a b ys x e = record { xs = ys; was = sym x.1 ∙ e; counts = omega arith }
+
+  stop-since : (t : Timetable) (done : ℕ) (config : Config) (w : World) (v v' : LoopValue) (kept kept' : ℕ)
+      (a b : Option (List (Asked F))) (acts : List Act) (ys : List (Asked F))
+      → Stops t done config w v kept a acts v' kept' b
       → b ≡ Some ys → Since a ys (if is_due t.reread done then 1 else 0)
-  stop-since t done config w v v' a b acts ys x e =
+  stop-since t done config w v v' kept kept' a b acts ys x e =
       let due : Bool = is_due t.report done in
       let u : World = world_then config w acts in
       let s : Since x.between ys 0 =
       subst (λ n. Since x.between ys n) (reports-ask F due u v')
       (told-since x.between b (reports_if due u v') ys x.report e) in
-      let r : Since a s.xs (if is_due t.reread done then 1 else 0) =
-      reread-since (is_due t.reread done) config w v v' a x.between acts s.xs x.reread s.was in
-      record { xs = r.xs; was = r.was; counts = omega (arith, s.counts, r.counts) }
+      let r : Since x.first s.xs (if is_due t.reread done then 1 else 0) =
+      reread-since (is_due t.reread done) config w v v' x.first x.between acts s.xs x.reread s.was in
+      let k : Since a r.xs 0 =
+      keep-since (is_keep_due t kept (length w.history)) config w kept kept' a x.first r.xs x.keep r.was in
+      record { xs = k.xs; was = k.was; counts = omega (arith, s.counts, r.counts, k.counts) }
 
 module _ {F : Type 0} (t : Timetable) (config : Config) (w : World) (first : LoopValue)
     (a : Option (List (Asked F))) where
-  counted : {done failures : ℕ} {acts : List Act} {v : LoopValue} {b : Option (List (Asked F))}
-      → Runs t config w first a done failures acts v b → (ys : List (Asked F)) → b ≡ Some ys
+  counted : {done failures kept : ℕ} {acts : List Act} {v : LoopValue} {b : Option (List (Asked F))}
+      → Runs t config w first a done failures kept acts v b → (ys : List (Asked F)) → b ≡ Some ys
       → Since a ys (due_in t.reread done)
   counted begins ys e = record { xs = ys; was = e; counts = omega arith }
   counted (turned v' tn stop r x refused s) ys e =
-      let p = stop-since t _ _ _ v' _ _ _ stop ys s e in
+      let p = stop-since t _ _ _ v' _ _ _ _ _ stop ys s e in
       since-since a _ ys _ _ p (counted r p.xs p.was)
   counted (failed v' stop r x refused few s) ys e =
-      let p = stop-since t _ _ _ v' _ _ _ stop ys s e in
+      let p = stop-since t _ _ _ v' _ _ _ _ _ stop ys s e in
       since-since a _ ys _ _ p (counted r p.xs p.was)
 
 pub asks-as-due : (F : Type 0) → AsksAsDue F

@@ -2,3 +2,5 @@ pub mod ActLemmas
 pub mod StopLemmas
 pub mod RunLemmas
 pub mod CountLemmas
+pub mod AheadLemmas
+pub mod KeepLemmas

@@ -1,6 +1,6 @@
 -- Runs, turn after turn.
 use Rattle.std.proofs.Common.{◌≡◌, ℕ, suc, if◌then◌else◌, ◌<◌, ◌≤◌, arith, Bool, true, false, Result, Ok, Err, List}
-use Rattle.std.proofs.Common.{[], ◌∷◌, ◌++◌, refl, sym, ap, subst, ◌∙◌, Option}
+use Rattle.std.proofs.Common.{length, [], ◌∷◌, ◌++◌, refl, sym, ap, subst, ◌∙◌, Option}
 use Rattle.protocol.specs.Catalog.{Config}
 use Rattle.protocol.specs.World.{World}
 use Rattle.server_core.specs.ServerValues.{ServerValue, StandsAt}
@@ -40,7 +40,7 @@ module _ (config : Config) (w : World) (acts : List Act) (deeds : List Deed) whe
   config-turned : config_then config (acts ++ Turning deeds ∷ []) ≡ here
   config-turned = config-append config acts (Turning deeds ∷ []) ∙ config-turning here deeds
 
-  world-turned : world_then config w (acts ++ Turning deeds ∷ []) ≡ world_beyond here there deeds
+  pub world-turned : world_then config w (acts ++ Turning deeds ∷ []) ≡ world_beyond here there deeds
   world-turned = world-append config w acts (Turning deeds ∷ []) ∙ world-turning here there deeds
 
   pub stands-turned : (server : ServerValue) → StandsAt server here (world_beyond here there deeds) →
@@ -86,17 +86,18 @@ stop-keeps false config w v v' a b acts x = ap (λ (u : LoopValue). u.calls) x.1
 module _ {F : Type 0} (t : Timetable) (config : Config) (w : World) (first : LoopValue)
     (first_asked : Option (List (Asked F))) where
   -- no turn yet
-  pub ran-nothing : StandsAt first.server config w → RanSo t config w first first_asked 0 0 first first_asked
-  ran-nothing stands = record {
+  pub ran-nothing : (kept : ℕ) → kept ≡ length w.history → StandsAt first.server config w
+      → RanSo t config w first first_asked 0 0 kept first first_asked
+  ran-nothing kept is stands = record {
     acts = [];
-    runs = begins;
+    runs = subst (λ n. Runs t config w first first_asked 0 0 n [] first first_asked) (sym is) begins;
     tells = Tells-nil first.calls;
     stands = stands;
     isolation = hands-nothing config w;
   }
 
-  module _ (done failures failures' : ℕ) (v v' : LoopValue) (a : Option (List (Asked F)))
-      (r : RanSo t config w first first_asked done failures v a) where
+  module _ (done failures failures' kept : ℕ) (v v' : LoopValue) (a : Option (List (Asked F)))
+      (r : RanSo t config w first first_asked done failures kept v a) where
     abbrev now : Config
     now = config_then config r.acts
 
@@ -107,15 +108,15 @@ module _ {F : Type 0} (t : Timetable) (config : Config) (w : World) (first : Loo
     abbrev with : List Deed → List Act
     with deeds = r.acts ++ Turning deeds ∷ []
 
-    module _ (v'' : LoopValue) (b : Option (List (Asked F)))
-        (stop : (k : Config) (u : World) → StandsAt v'.server k u → SomeStop t (suc done) k u v' a v'' b)
+    module _ (v'' : LoopValue) (kept' : ℕ) (b : Option (List (Asked F)))
+        (stop : (k : Config) (u : World) → StandsAt v'.server k u → SomeStop t (suc done) k u v' kept a v'' kept' b)
         (few : failures' < 16) where
       after : (deeds : List Deed) → (s : SomeStop t (suc done) (config_then config (with deeds))
-          (world_then config w (with deeds)) v' a v'' b) →
-          Runs t config w first first_asked (suc done) (failures_kept t (suc done) failures') (with deeds ++ s.acts)
-          v'' b →
+          (world_then config w (with deeds)) v' kept a v'' kept' b) →
+          Runs t config w first first_asked (suc done) (failures_kept t (suc done) failures') kept'
+          (with deeds ++ s.acts) v'' b →
           Tells v.calls v'.calls (calls_in deeds) → HandsAsAlone now at deeds →
-          RanSo t config w first first_asked (suc done) (failures_kept t (suc done) failures') v'' b
+          RanSo t config w first first_asked (suc done) (failures_kept t (suc done) failures') kept' v'' b
       after deeds s runs tells hands =
           let k : Config = config_then config (with deeds) in
           let u : World = world_then config w (with deeds) in
@@ -123,8 +124,10 @@ module _ {F : Type 0} (t : Timetable) (config : Config) (w : World) (first : Loo
             acts = with deeds ++ s.acts;
             runs = runs;
             tells = tells-silent first.calls v'.calls v''.calls (with deeds) s.acts
-                (stop-calls (is_due t.reread (suc done)) k u v' v'' a s.stops.between s.acts s.stops.reread)
-                (stop-keeps (is_due t.reread (suc done)) k u v' v'' a s.stops.between s.acts s.stops.reread)
+                (stop-calls (is_due t.reread (suc done)) k u v' v'' s.stops.first s.stops.between s.acts
+                s.stops.reread)
+                (stop-keeps (is_due t.reread (suc done)) k u v' v'' s.stops.first s.stops.between s.acts
+                s.stops.reread)
                 (tells-turning first.calls v.calls v'.calls r.acts deeds r.tells tells);
             stands = subst (λ c. StandsAt v''.server c (world_then config w (with deeds ++ s.acts)))
                 (sym (config-append config (with deeds) s.acts))
@@ -132,26 +135,27 @@ module _ {F : Type 0} (t : Timetable) (config : Config) (w : World) (first : Loo
                 (sym (world-append config w (with deeds) s.acts))
                 s.stands);
             isolation = hands-then config w (with deeds) s.acts (hands-turned config w r.acts deeds r.isolation hands)
-                (hands-stop (is_due t.reread (suc done)) k u v' v'' a s.stops.between s.acts s.stops.reread);
+                (hands-stop (is_due t.reread (suc done)) k u v' v'' s.stops.first s.stops.between s.acts
+                s.stops.reread);
           }
 
       by-turn : OneTurn failures failures' now at v v' →
-          RanSo t config w first first_asked (suc done) (failures_kept t (suc done) failures') v'' b
+          RanSo t config w first first_asked (suc done) (failures_kept t (suc done) failures') kept' v'' b
       by-turn (made answer e x refused) =
           let s : SomeStop t (suc done) (config_then config (with x.deeds)) (world_then config w (with x.deeds))
-          v' a v'' b =
+          v' kept a v'' kept' b =
           stop _ _ (stands-turned config w r.acts x.deeds v'.server x.does.stands) in
           after x.deeds s
-          (subst (λ n. Runs t config w first first_asked (suc done) n (with x.deeds ++ s.acts) v'' b)
+          (subst (λ n. Runs t config w first first_asked (suc done) n kept' (with x.deeds ++ s.acts) v'' b)
           (sym (ap (failures_kept t (suc done)) e ∙ kept-none t (suc done)))
           (turned v' answer s.acts r.runs x refused s.stops))
           x.does.tells x.isolation
       by-turn (not_made e x refused) =
           let s : SomeStop t (suc done) (config_then config (with x.deeds)) (world_then config w (with x.deeds))
-          v' a v'' b =
+          v' kept a v'' kept' b =
           stop _ _ (stands-turned config w r.acts x.deeds v'.server x.does.stands) in
           after x.deeds s
-          (subst (λ n. Runs t config w first first_asked (suc done) n (with x.deeds ++ s.acts) v'' b)
+          (subst (λ n. Runs t config w first first_asked (suc done) n kept' (with x.deeds ++ s.acts) v'' b)
           (sym (ap (failures_kept t (suc done)) e))
           (failed v' s.acts r.runs x refused (subst (λ n. n < 16) e few) s.stops))
           x.does.tells x.isolation
@@ -166,10 +170,11 @@ module _ {F : Type 0} (t : Timetable) (config : Config) (w : World) (first : Loo
           record {
             done = done;
             some_left = left;
+            kept = kept;
             before = v;
             ran = record {
               acts = r.acts;
-              runs = subst (λ n. Runs t config w first first_asked done n r.acts v a) (fifteen e) r.runs;
+              runs = subst (λ n. Runs t config w first first_asked done n kept r.acts v a) (fifteen e) r.runs;
               tells = r.tells;
               stands = r.stands;
               isolation = r.isolation;
@@ -182,35 +187,36 @@ module _ {F : Type 0} (t : Timetable) (config : Config) (w : World) (first : Loo
           }
 
   -- a turn more, with the stop after it
-  pub ran-on : (done next failures failures' : ℕ) (v v' v'' : LoopValue) (a b : Option (List (Asked F))) →
-      next ≡ suc done →
-      RanSo t config w first first_asked done failures v a →
+  pub ran-on : (done next failures failures' last last' : ℕ) (v v' v'' : LoopValue)
+      (a b : Option (List (Asked F))) → next ≡ suc done →
+      RanSo t config w first first_asked done failures last v a →
       ((k : Config) (u : World) → StandsAt v.server k u → OneTurn failures failures' k u v v') →
-      ((k : Config) (u : World) → StandsAt v'.server k u → SomeStop t next k u v' a v'' b) →
+      ((k : Config) (u : World) → StandsAt v'.server k u → SomeStop t next k u v' last a v'' last' b) →
       failures' < 16 → (kept : ℕ) → kept ≡ failures_kept t next failures' →
-      RanSo t config w first first_asked next kept v'' b
-  ran-on done next failures failures' v v' v'' a b e r turn stop few kept is =
-      subst (λ n. RanSo t config w first first_asked next n v'' b) (sym is)
-      (subst (λ n. RanSo t config w first first_asked n (failures_kept t n failures') v'' b) (sym e)
-      (by-turn done failures failures' v v' a r v'' b
-      (λ k u there. subst (λ n. SomeStop t n k u v' a v'' b) e (stop k u there)) few
+      RanSo t config w first first_asked next kept last' v'' b
+  ran-on done next failures failures' last last' v v' v'' a b e r turn stop few kept is =
+      subst (λ n. RanSo t config w first first_asked next n last' v'' b) (sym is)
+      (subst (λ n. RanSo t config w first first_asked n (failures_kept t n failures') last' v'' b) (sym e)
+      (by-turn done failures failures' last v v' a r v'' last' b
+      (λ k u there. subst (λ n. SomeStop t n k u v' last a v'' last' b) e (stop k u there)) few
       (turn _ _ r.stands)))
 
   -- the sixteenth in a row that failed
-  pub ran-out : (done failures failures' : ℕ) (v v' : LoopValue) (a : Option (List (Asked F)))
-      → RanSo t config w first first_asked done failures v a →
+  pub ran-out : (done failures failures' kept : ℕ) (v v' : LoopValue) (a : Option (List (Asked F)))
+      → RanSo t config w first first_asked done failures kept v a →
       ((k : Config) (u : World) → StandsAt v.server k u → OneTurn failures failures' k u v v') →
       done < turns_of t → failures < 16 → 16 ≤ failures' →
       GaveUp t config w first first_asked v' a
-  ran-out done failures failures' v v' a r turn left few many =
-      by-last done failures failures' v v' a r left few many
+  ran-out done failures failures' kept v v' a r turn left few many =
+      by-last done failures failures' kept v v' a r left few many
       (turn _ _ r.stands)
 
-  pub ran-all : (done failures : ℕ) (v : LoopValue) (a : Option (List (Asked F))) →
-      RanSo t config w first first_asked done failures v a → done ≡ turns_of t →
+  pub ran-all : (done failures kept : ℕ) (v : LoopValue) (a : Option (List (Asked F))) →
+      RanSo t config w first first_asked done failures kept v a → done ≡ turns_of t →
       Ran t config w first first_asked v a
-  ran-all done failures v a r e =
+  ran-all done failures kept v a r e =
       record {
         failures = failures;
-        ran = subst (λ n. RanSo t config w first first_asked n failures v a) e r;
+        kept = kept;
+        ran = subst (λ n. RanSo t config w first first_asked n failures kept v a) e r;
       }

@@ -7,15 +7,17 @@ use Rattle.protocol.specs.World.Event.{Reload}
 use Rattle.server_core.specs.ServerValues.{StandsAt}
 use Rattle.event_loop.specs.Hearing.{clients_in, feeds_in}
 use Rattle.serving.specs.declared.activity.Activity.{Activity}
-use Rattle.serving.specs.declared.between.Refusal.TheVariants.{Unread, Different}
+use Rattle.serving.specs.declared.between.Refusal.TheVariants.{Unread, Different, Unkept}
 use Rattle.serving.specs.declared.timetable.Timetable.{Timetable}
-use Rattle.serving.specs.Timetables.{is_due}
+use Rattle.serving.specs.Ahead.{numbers_ahead}
+use Rattle.serving.specs.Timetables.{is_due, is_keep_due}
 use Rattle.serving.specs.Asked.{Asked, Tells}
-use Rattle.serving.specs.Asked.Asked.{Configuration, Refuses, Reports}
+use Rattle.serving.specs.Asked.Asked.{Configuration, Keeps, Refuses, Reports}
 use Rattle.serving.specs.Acts.{config_then, world_then}
 use Rattle.serving.specs.Acts.Act.{Reloading}
 use Rattle.event_loop.specs.Loops.{LoopValue}
-use Rattle.serving.specs.Runs.{refusals, RereadsIf, SomeReread, SomeStop, activity_of, reports_if}
+use Rattle.serving.specs.Runs.{refusals, KeepsIf, KeepsNow, RereadsIf, SomeReread, SomeStop, activity_of}
+use Rattle.serving.specs.Runs.{reports_if}
 
 pub Tells-nil : {F : Type 0} (a : Option (List (Asked F))) → Tells a a []
 Tells-nil None = tt
@@ -101,15 +103,44 @@ activity-is a w v c f r x =
     ∙ ap (λ n. record a { clients = clients_in v.seats; feeds = feeds_in v.seats; records = n }) r
     ∙ ap (λ n. record (activity_of w v) { refused = n }) x
 
-module _ {F : Type 0} (t : Timetable) (done : ℕ) (config : Config) (w : World) (v v' : LoopValue)
-    (a b : Option (List (Asked F))) where
+-- numbers that were kept, or that were not
+pub were-kept : {F : Type 0} (config : Config) (w : World) (a b : Option (List (Asked F))) (numbers : List ℕ)
+    → numbers ≡ numbers_ahead config w.history → Tells a b (Keeps numbers (Ok tt) ∷ []) → KeepsNow config w a b
+were-kept config w a b numbers is tells = record {
+  answer = Ok tt;
+  tells = subst (λ ns. Tells a b (Keeps ns (Ok tt) ∷ [])) is tells;
+}
+
+pub were-not-kept : {F : Type 0} (config : Config) (w : World) (a b c : Option (List (Asked F))) (numbers : List ℕ)
+    (fault : F)
+    → numbers ≡ numbers_ahead config w.history → Tells a b (Keeps numbers (Err fault) ∷ [])
+    → Tells b c (Refuses (Unkept fault) ∷ []) → KeepsNow config w a c
+were-not-kept config w a b c numbers fault is tells more = record {
+  answer = Err fault;
+  tells = subst (λ ns. Tells a c (Keeps ns (Err fault) ∷ Refuses (Unkept fault) ∷ [])) is
+      (Tells-trans a b c (Keeps numbers (Err fault) ∷ []) (Refuses (Unkept fault) ∷ []) tells more);
+}
+
+module _ {F : Type 0} (config : Config) (w : World) (kept : ℕ) (a b : Option (List (Asked F))) (due : Bool) where
+  pub not-kept : due ≡ false → KeepsIf due config w kept a kept a
+  not-kept is = subst (λ d. KeepsIf d config w kept a kept a) (sym is) (refl, refl)
+
+  pub kept-now : due ≡ true → (arrivals : ℕ) → arrivals ≡ length w.history → KeepsNow config w a b
+      → KeepsIf due config w kept a arrivals b
+  kept-now due_is arrivals is x = subst (λ d. KeepsIf d config w kept a arrivals b) (sym due_is) (x, is)
+
+module _ {F : Type 0} (t : Timetable) (done : ℕ) (config : Config) (w : World) (v v' : LoopValue) (kept kept' : ℕ)
+    (before a b : Option (List (Asked F)))
+    (keeps : KeepsIf (is_keep_due t kept (length w.history)) config w kept before kept' a) where
   pub stops-silent : (due : Bool) → due ≡ is_due t.reread done → is_due t.report done ≡ false →
-      SomeReread due config w v a v' b → SomeStop t done config w v a v' b
+      SomeReread due config w v a v' b → SomeStop t done config w v kept before v' kept' b
   stops-silent due e silent x =
       record {
         acts = x.acts;
         stops = record {
+          first = a;
           between = b;
+          keep = keeps;
           reread = subst (λ d. RereadsIf d config w v a x.acts v' b) e x.rereads;
           report = subst (λ d. Tells b b (reports_if d (world_then config w x.acts) v')) (sym silent) (Tells-nil b);
         };
@@ -122,7 +153,7 @@ module _ {F : Type 0} (t : Timetable) (done : ℕ) (config : Config) (w : World)
       told.clients ≡ clients_in v'.seats → told.feeds ≡ feeds_in v'.seats →
       ((k : Config) (u : World) → StandsAt v'.server k u → told.records ≡ length u.history)
       → told.refused ≡ v'.refused →
-      SomeStop t done config w v a v' c
+      SomeStop t done config w v kept before v' kept' c
   stops-told due e loud x c told tells clients feeds records refused =
       let u : World = world_then config w x.acts in
       let is : told ≡ activity_of u v' =
@@ -130,7 +161,9 @@ module _ {F : Type 0} (t : Timetable) (done : ℕ) (config : Config) (w : World)
       record {
         acts = x.acts;
         stops = record {
+          first = a;
           between = b;
+          keep = keeps;
           reread = subst (λ d. RereadsIf d config w v a x.acts v' b) e x.rereads;
           report = subst (λ d. Tells b c (reports_if d u v')) (sym loud)
               (subst (λ (y : Activity). Tells b c (Reports y ∷ [])) is tells);

@@ -6,7 +6,7 @@ use Rattle.event_loop.specs.Loops.{LoopValue}
 use Rattle.serving.specs.declared.timetable.Timetable.{Timetable}
 use Rattle.serving.specs.Timetables.{is_due, turns_of}
 use Rattle.serving.specs.Asked.{Asked}
-use Rattle.serving.specs.Asked.Asked.{Configuration, Refuses, Reports}
+use Rattle.serving.specs.Asked.Asked.{Configuration, Keeps, Refuses, Reports}
 use Rattle.serving.specs.Runs.{Ran}
 
 -- A call asks for the configuration.
@@ -14,6 +14,7 @@ abbrev pub is_ask : {F : Type 0} → Asked F → Bool
 is_ask (Configuration answer) = true
 is_ask (Refuses refusal) = false
 is_ask (Reports activity) = false
+is_ask (Keeps numbers answer) = false
 
 -- how many calls do
 abbrev pub asks : {F : Type 0} → List (Asked F) → ℕ

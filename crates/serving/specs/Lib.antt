@@ -1,8 +1,10 @@
 pub mod Faults
 pub mod Timetables
+pub mod Ahead
 pub mod Asked
 pub mod Made
 pub mod Acts
 pub mod Runs
 pub mod Served
 pub mod Counting
+pub mod Keeping

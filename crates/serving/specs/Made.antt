@@ -1,16 +1,17 @@
 -- The calls that answers in memory kept.
 use Rattle.std.specs.Prelude.{ℕ, if◌then◌else◌, List, map, Option, Some, None}
 use Rattle.serving.specs.declared.memory_between.Made.{Made}
-use Rattle.serving.specs.declared.memory_between.Made.TheVariants.{Configuration, Refused, Report}
+use Rattle.serving.specs.declared.memory_between.Made.TheVariants.{Configuration, Refused, Report, Keep}
 use Rattle.serving.specs.declared.memory_between.MemoryBetween.{MemoryBetween}
 use Rattle.serving.specs.Asked.{Asked}
-use Rattle.serving.specs.Asked.Asked.{Configuration as AskedConfiguration, Refuses, Reports}
+use Rattle.serving.specs.Asked.Asked.{Configuration as AskedConfiguration, Refuses, Reports, Keeps}
 
 -- a call
 abbrev pub made_value : Made → Asked ℕ
 made_value (Configuration answer) = AskedConfiguration answer
 made_value (Refused refusal) = Refuses refusal
 made_value (Report activity) = Reports activity
+made_value (Keep numbers answer) = Keeps numbers.items answer
 
 -- all calls, unless one was lost
 abbrev pub told : MemoryBetween → Option (List (Asked ℕ))

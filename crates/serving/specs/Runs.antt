@@ -11,12 +11,13 @@ use Rattle.event_loop.specs.Deeds.{refused_more}
 use Rattle.event_loop.specs.Hearing.{clients_in, feeds_in}
 use Rattle.event_loop.specs.Loops.{LoopValue, TurnMade, TurnFailed}
 use Rattle.serving.specs.declared.activity.Activity.{Activity}
-use Rattle.serving.specs.declared.between.Refusal.TheVariants.{Unread, Different}
+use Rattle.serving.specs.declared.between.Refusal.TheVariants.{Unread, Different, Unkept}
 use Rattle.serving.specs.declared.timetable.Timetable.{Timetable}
-use Rattle.serving.specs.Timetables.{is_due, failures_kept, turns_of}
+use Rattle.serving.specs.Ahead.{numbers_ahead}
+use Rattle.serving.specs.Timetables.{is_due, is_keep_due, failures_kept, turns_of}
 use Rattle.serving.specs.declared.between.NoConfiguration.{NoConfiguration}
 use Rattle.serving.specs.Asked.{Asked, Tells}
-use Rattle.serving.specs.Asked.Asked.{Configuration, Refuses, Reports}
+use Rattle.serving.specs.Asked.Asked.{Configuration, Keeps, Refuses, Reports}
 use Rattle.serving.specs.Acts.{Act, all_calls, config_then, world_then, HandsThroughout}
 use Rattle.serving.specs.Acts.Act.{Turning, Reloading}
 
@@ -54,6 +55,23 @@ pub record SomeReread {F : Type 0} (due : Bool) (config : Config) (w : World) (v
   pub rereads : RereadsIf due config w v asked acts v' asked'
   pub stands : StandsAt v'.server (config_then config acts) (world_then config w acts)
 
+-- what is told of numbers that were to be kept
+abbrev pub unkept : {F : Type 0} → Result (Unit {0}) F → List (Asked F)
+unkept (Ok done) = []
+unkept (Err fault) = Refuses (Unkept fault) ∷ []
+
+-- The numbers of the stations were to be kept once, so far ahead of those that come next.
+pub record KeepsNow {F : Type 0} (config : Config) (w : World) (asked asked' : Option (List (Asked F)))
+    : Type 0 where
+  pub answer : Result (Unit {0}) F
+  pub tells : Tells asked asked' (Keeps (numbers_ahead config w.history) answer ∷ unkept answer)
+
+-- The same, where it is due; so many records had arrived when they were to be kept last.
+abbrev pub KeepsIf : {F : Type 0} → Bool → Config → World → (kept : ℕ) → Option (List (Asked F)) → (kept' : ℕ)
+    → Option (List (Asked F)) → Type 0
+KeepsIf true config w kept asked kept' asked' = KeepsNow config w asked asked' × (kept' ≡ length w.history)
+KeepsIf false config w kept asked kept' asked' = (kept' ≡ kept) × (asked' ≡ asked)
+
 -- what a server has done so far
 abbrev pub activity_of : World → LoopValue → Activity
 activity_of w v = record {
@@ -68,17 +86,20 @@ abbrev pub reports_if : {F : Type 0} → Bool → World → LoopValue → List (
 reports_if due w v = if due then Reports (activity_of w v) ∷ [] else []
 
 -- What the timetable says was done after so many turns.
-pub record Stops {F : Type 0} (t : Timetable) (done : ℕ) (config : Config) (w : World) (v : LoopValue)
-    (asked : Option (List (Asked F))) (acts : List Act) (v' : LoopValue) (asked' : Option (List (Asked F)))
-    : Type 0 where
+pub record Stops {F : Type 0} (t : Timetable) (done : ℕ) (config : Config) (w : World) (v : LoopValue) (kept : ℕ)
+    (asked : Option (List (Asked F))) (acts : List Act) (v' : LoopValue) (kept' : ℕ)
+    (asked' : Option (List (Asked F))) : Type 0 where
+  pub first : Option (List (Asked F))
   pub between : Option (List (Asked F))
-  pub reread : RereadsIf (is_due t.reread done) config w v asked acts v' between
+  pub keep : KeepsIf (is_keep_due t kept (length w.history)) config w kept asked kept' first
+  pub reread : RereadsIf (is_due t.reread done) config w v first acts v' between
   pub report : Tells between asked' (reports_if (is_due t.report done) (world_then config w acts) v')
 
-pub record SomeStop {F : Type 0} (t : Timetable) (done : ℕ) (config : Config) (w : World) (v : LoopValue)
-    (asked : Option (List (Asked F))) (v' : LoopValue) (asked' : Option (List (Asked F))) : Type 0 where
+pub record SomeStop {F : Type 0} (t : Timetable) (done : ℕ) (config : Config) (w : World) (v : LoopValue) (kept : ℕ)
+    (asked : Option (List (Asked F))) (v' : LoopValue) (kept' : ℕ) (asked' : Option (List (Asked F)))
+    : Type 0 where
   pub acts : List Act
-  pub stops : Stops t done config w v asked acts v' asked'
+  pub stops : Stops t done config w v kept asked acts v' kept' asked'
   pub stands : StandsAt v'.server (config_then config acts) (world_then config w acts)
 
 -- ---- turns
@@ -93,36 +114,37 @@ pub data OneTurn (failures failures' : ℕ) (config : Config) (w : World) (v v' 
 -- ---- runs
 
 -- So many turns were made, of which the last so many failed in a row since the configuration was last read again, never
--- sixteen; and after each of them what the timetable says.
+-- sixteen; and after each of them what the timetable says. So many records had arrived when the numbers of the stations
+-- were to be kept last.
 pub data Runs {F : Type 0} (t : Timetable) (config : Config) (w : World) (first : LoopValue)
     (first_asked : Option (List (Asked F)))
-    : (done failures : ℕ) → List Act → LoopValue → Option (List (Asked F)) → Type 0 where
-  begins : Runs t config w first first_asked 0 0 [] first first_asked
-  turned : {done failures : ℕ} {acts : List Act} {v v'' : LoopValue} {asked asked'' : Option (List (Asked F))}
+    : (done failures kept : ℕ) → List Act → LoopValue → Option (List (Asked F)) → Type 0 where
+  begins : Runs t config w first first_asked 0 0 (length w.history) [] first first_asked
+  turned : {done failures kept kept' : ℕ} {acts : List Act} {v v'' : LoopValue} {asked asked'' : Option (List (Asked F))}
       (v' : LoopValue) (turned : Turned) (stop : List Act) →
-      Runs t config w first first_asked done failures acts v asked →
+      Runs t config w first first_asked done failures kept acts v asked →
       (x : TurnMade (config_then config acts) 64 (world_then config w acts) v v' turned) →
       v'.refused ≡ refused_more v.refused turned.dropped →
       Stops t (suc done) (config_then config (acts ++ Turning x.deeds ∷ []))
-      (world_then config w (acts ++ Turning x.deeds ∷ [])) v' asked stop v'' asked'' →
-      Runs t config w first first_asked (suc done) 0 ((acts ++ Turning x.deeds ∷ []) ++ stop) v'' asked''
-  failed : {done failures : ℕ} {acts : List Act} {v v'' : LoopValue} {asked asked'' : Option (List (Asked F))}
+      (world_then config w (acts ++ Turning x.deeds ∷ [])) v' kept asked stop v'' kept' asked'' →
+      Runs t config w first first_asked (suc done) 0 kept' ((acts ++ Turning x.deeds ∷ []) ++ stop) v'' asked''
+  failed : {done failures kept kept' : ℕ} {acts : List Act} {v v'' : LoopValue} {asked asked'' : Option (List (Asked F))}
       (v' : LoopValue) (stop : List Act) →
-      Runs t config w first first_asked done failures acts v asked →
+      Runs t config w first first_asked done failures kept acts v asked →
       (x : TurnFailed (config_then config acts) 64 (world_then config w acts) v v') →
       v'.refused ≡ v.refused → suc failures < 16 →
       Stops t (suc done) (config_then config (acts ++ Turning x.deeds ∷ []))
-      (world_then config w (acts ++ Turning x.deeds ∷ [])) v' asked stop v'' asked'' →
-      Runs t config w first first_asked (suc done) (failures_kept t (suc done) (suc failures))
+      (world_then config w (acts ++ Turning x.deeds ∷ [])) v' kept asked stop v'' kept' asked'' →
+      Runs t config w first first_asked (suc done) (failures_kept t (suc done) (suc failures)) kept'
       ((acts ++ Turning x.deeds ∷ []) ++ stop) v'' asked''
 
 -- A run so far: the calls on ports are its acts', the server stands for the world after it, and each client's port took
 -- what a client alone is handed.
 pub record RanSo {F : Type 0} (t : Timetable) (config : Config) (w : World) (first : LoopValue)
-    (first_asked : Option (List (Asked F))) (done failures : ℕ) (v : LoopValue) (asked : Option (List (Asked F)))
-    : Type 0 where
+    (first_asked : Option (List (Asked F))) (done failures kept : ℕ) (v : LoopValue)
+    (asked : Option (List (Asked F))) : Type 0 where
   pub acts : List Act
-  pub runs : Runs t config w first first_asked done failures acts v asked
+  pub runs : Runs t config w first first_asked done failures kept acts v asked
   pub tells : TellsCalls first.calls v.calls (all_calls acts)
   pub stands : StandsAt v.server (config_then config acts) (world_then config w acts)
   pub isolation : HandsThroughout config w acts
@@ -131,15 +153,17 @@ pub record RanSo {F : Type 0} (t : Timetable) (config : Config) (w : World) (fir
 pub record Ran {F : Type 0} (t : Timetable) (config : Config) (w : World) (first : LoopValue)
     (first_asked : Option (List (Asked F))) (v : LoopValue) (asked : Option (List (Asked F))) : Type 0 where
   pub failures : ℕ
-  pub ran : RanSo t config w first first_asked (turns_of t) failures v asked
+  pub kept : ℕ
+  pub ran : RanSo t config w first first_asked (turns_of t) failures kept v asked
 
 -- Turns were left, and the last of those that were made was the sixteenth in a row that failed.
 pub record GaveUp {F : Type 0} (t : Timetable) (config : Config) (w : World) (first : LoopValue)
     (first_asked : Option (List (Asked F))) (v : LoopValue) (asked : Option (List (Asked F))) : Type 0 where
   pub done : ℕ
   pub some_left : done < turns_of t
+  pub kept : ℕ
   pub before : LoopValue
-  pub ran : RanSo t config w first first_asked done 15 before asked
+  pub ran : RanSo t config w first first_asked done 15 kept before asked
   pub last : TurnFailed (config_then config ran.acts) 64 (world_then config w ran.acts) before v
   pub refused : v.refused ≡ before.refused
   pub tells : TellsCalls first.calls v.calls (all_calls (ran.acts ++ Turning last.deeds ∷ []))
@@ -151,7 +175,7 @@ pub record GaveUp {F : Type 0} (t : Timetable) (config : Config) (w : World) (fi
 
 -- so many turns, with no stop between them
 abbrev pub block_of : ℕ → Timetable
-block_of turns = record { turns = Some turns; reread = None; report = None }
+block_of turns = record { turns = Some turns; reread = None; report = None; keep = None }
 
 -- All turns of a block were made.
 abbrev pub RanBlock : ℕ → Config → World → LoopValue → LoopValue → Type 0

@@ -1,5 +1,5 @@
 -- What a server over ports has done once its turns are over.
-use Rattle.std.specs.Prelude.{◌≡◌, ℕ, List, [], Option, None}
+use Rattle.std.specs.Prelude.{◌≡◌, ℕ, List, [], ◌∷◌, Option, Some, None, Ok, Err}
 use Rattle.protocol.specs.Catalog.{Config}
 use Rattle.protocol.specs.World.{empty_world}
 use Rattle.server_core.specs.ServerValues.{StandsAt}
@@ -7,7 +7,10 @@ use Rattle.ports.specs.Calls.{Call}
 use Rattle.event_loop.specs.Loops.{LoopValue}
 use Rattle.serving.specs.declared.timetable.Timetable.{Timetable}
 use Rattle.serving.specs.declared.between.NoConfiguration.{NoConfiguration}
-use Rattle.serving.specs.Asked.{Asked}
+use Rattle.serving.specs.Asked.{Asked, Tells}
+use Rattle.serving.specs.declared.between.Refusal.TheVariants.{Unkept}
+use Rattle.serving.specs.Asked.Asked.{Keeps, Refuses}
+use Rattle.serving.specs.Ahead.{numbers_ahead}
 use Rattle.serving.specs.Runs.{Ran, GaveUp, block_of}
 
 -- a server that began with this configuration, when no one had come and no port was open
@@ -18,13 +21,25 @@ pub record Begins (config : Config) (calls : Option (List Call)) (first : LoopVa
   pub most : first.most ≡ config.max_connections
   pub none_refused : first.refused ≡ 0
 
+-- If numbers are to be kept, those of the first world were kept once, and nothing else was asked.
+abbrev pub KeepsFirst : {F : Type 0} → Option ℕ → Config → (asked asked' : Option (List (Asked F))) → Type 0
+KeepsFirst None config asked asked' = asked' ≡ asked
+KeepsFirst (Some every) config asked asked' = Tells asked asked' (Keeps (numbers_ahead config []) (Ok tt) ∷ [])
+
+-- They could not be kept, which was handed on, and nothing else was asked.
+pub record KeptNothing {F : Type 0} (config : Config) (asked asked' : Option (List (Asked F))) : Type 0 where
+  pub fault : F
+  pub tells : Tells asked asked' (Keeps (numbers_ahead config []) (Err fault) ∷ Refuses (Unkept fault) ∷ [])
+
 -- It made all its turns.
 pub record Served {F : Type 0} (t : Timetable) (config : Config) (calls calls' : Option (List Call))
     (asked asked' : Option (List (Asked F))) : Type 0 where
   pub first : LoopValue
   pub last : LoopValue
+  pub asked_first : Option (List (Asked F))
   pub begins : Begins config calls first
-  pub ran : Ran t config empty_world first asked last asked'
+  pub keeps : KeepsFirst t.keep config asked asked_first
+  pub ran : Ran t config empty_world first asked_first last asked'
   pub calls_after : last.calls ≡ calls'
 
 -- It ended early.
@@ -32,8 +47,10 @@ pub record Ended {F : Type 0} (t : Timetable) (config : Config) (calls : Option 
     (asked asked' : Option (List (Asked F))) : Type 0 where
   pub first : LoopValue
   pub last : LoopValue
+  pub asked_first : Option (List (Asked F))
   pub begins : Begins config calls first
-  pub gave_up : GaveUp t config empty_world first asked last asked'
+  pub keeps : KeepsFirst t.keep config asked asked_first
+  pub gave_up : GaveUp t config empty_world first asked_first last asked'
 
 -- The same with nothing between its turns.
 abbrev pub ServedBlock : ℕ → Config → Option (List Call) → Option (List Call) → Type 0

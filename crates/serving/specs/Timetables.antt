@@ -1,6 +1,7 @@
 -- When a server stops between its turns. Timetables are this project's own. Left out: time.
-use Rattle.std.specs.Prelude.{ℕ, zero, suc, ◌-◌, ◌%◌, ◌^◌, ◌==◌, Bool, false, if◌then◌else◌, Option, Some, None}
+use Rattle.std.specs.Prelude.{ℕ, zero, suc, ◌-◌, ◌%◌, ◌^◌, ◌==◌, nat_lt, Bool, false, if◌then◌else◌, Option, Some, None}
 use Rattle.std.specs.Prelude.{unwrap_or}
+use Rattle.std.specs.Option.{option_map_or}
 use Rattle.serving.specs.declared.timetable.Timetable.{Timetable}
 
 -- after how many turns a run ends
@@ -12,6 +13,10 @@ abbrev pub is_due : Option ℕ → ℕ → Bool
 is_due None done = false
 is_due (Some zero) done = false
 is_due (Some (suc n)) done = done % suc n == 0
+
+-- more than a number of records arrived since the numbers of the stations were kept
+abbrev pub is_keep_due : Timetable → (kept arrivals : ℕ) → Bool
+is_keep_due t kept arrivals = option_map_or (λ every. nat_lt every (arrivals - kept)) t.keep false
 
 -- how many failed turns in a row still count after so many turns: they are counted anew once the configuration was read
 -- again

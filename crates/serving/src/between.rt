@@ -2,18 +2,22 @@
 ghost use Rattle.std.specs.Prelude.{List, [], ◌∷◌, None};
 ghost use Rattle.std.specs.declared.option.Option.{Option};
 ghost use Rattle.serving.specs.Asked.{Asked, Tells};
-ghost use Rattle.serving.specs.Asked.Asked.{Configuration, Refuses, Reports};
+ghost use Rattle.serving.specs.Asked.Asked.{Configuration, Keeps, Refuses, Reports};
+ghost use Rattle.serving.specs.Ahead.{ahead_of};
 
 use crate::activity::Activity;
+use crate::ahead::Ahead;
 use catalog::Config;
 
-/// Why a configuration did not come into force.
+/// What a server could not do: why a configuration did not come into force, or numbers were not kept.
 #[derive(Drop)]
 pub enum Refusal<F> {
     /// It could not be read.
     Unread(F),
     /// It differs from the present one in more than the lists of addresses.
     Different,
+    /// It is none: the numbers of the stations could not be kept.
+    Unkept(F),
 }
 
 /// Whoever answers a server between its turns. It may tell all calls that were made, with their answers.
@@ -28,20 +32,24 @@ pub trait Between {
     fn configuration(&mut self) -> Result<Config, Self::Fault>
         ensures call { Tells (asked self.old) (asked self.new) (Configuration result ∷ []) };
 
-    /// A configuration did not come into force.
+    /// A configuration did not come into force, or numbers were not kept.
     fn refused(&mut self, refusal: Refusal<Self::Fault>)
         ensures call { Tells (asked self.old) (asked self.new) (Refuses refusal ∷ []) };
 
     /// What the server has done so far.
     fn report(&mut self, activity: Activity)
         ensures call { Tells (asked self.old) (asked self.new) (Reports activity ∷ []) };
+
+    /// The numbers of the stations are to be kept, for a server that is begun later.
+    fn keep(&mut self, numbers: &Ahead<'_>) -> Result<(), Self::Fault>
+        ensures call { Tells (asked self.old) (asked self.new) (Keeps (ahead_of numbers.now) result ∷ []) };
 }
 
 /// There is no other configuration.
 #[derive(Clone, Copy, Debug, PartialEq, Eq, Drop)]
 pub struct NoConfiguration;
 
-/// Nothing between turns: there is never another configuration, and reports go nowhere.
+/// Nothing between turns: there is never another configuration, and reports and numbers go nowhere.
 #[derive(Clone, Copy, Debug, PartialEq, Eq, Drop)]
 pub struct NothingBetween;
 
@@ -59,4 +67,8 @@ impl Between for NothingBetween {
     {}
 
     fn report(&mut self, _activity: Activity) {}
+
+    fn keep(&mut self, _numbers: &Ahead<'_>) -> Result<(), NoConfiguration> {
+        Ok(())
+    }
 }

@@ -16,10 +16,13 @@ pub enum ServeFault {
     /// The ports could not say what happened, sixteen turns in a row.
     #[error("the ports can't say what happened")]
     Poll,
+    /// The numbers of the stations could not be kept when it began.
+    #[error("the numbers can't be kept")]
+    Numbers,
 }
 
 impl ServeFault {
-    /// The number and the name by which the program reports it: 25 or 40.
+    /// The number and the name by which the program reports it: 25, 40 or 49.
     pub fn report(self) -> Report
         ensures number { result.number ≡ serve_fault_number self }
         ensures name { result.name.now ≡ serve_fault_name self }
@@ -27,6 +30,7 @@ impl ServeFault {
         match self {
             ServeFault::OutOfMemory => Report::new(25, "OutOfMemory"),
             ServeFault::Poll => Report::new(40, "Poll"),
+            ServeFault::Numbers => Report::new(49, "Numbers"),
         }
     }
 }

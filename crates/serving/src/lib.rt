@@ -3,6 +3,7 @@
 #![tactic(auto)]
 
 mod activity;
+mod ahead;
 pub mod between;
 mod faults;
 pub mod laws;
@@ -12,6 +13,7 @@ mod running;
 mod timetable;
 
 pub use activity::Activity;
+pub use ahead::{Ahead, KEEP_EVERY};
 pub use between::{Between, NoConfiguration, NothingBetween, Refusal};
 pub use faults::ServeFault;
 pub use memory_between::{Made, MemoryBetween};

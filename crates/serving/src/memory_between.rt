@@ -1,13 +1,16 @@
 //! Answers between turns, in memory.
-ghost use Rattle.std.specs.Prelude.{◌≡◌, Some, [], ◌∷◌};
+ghost use Rattle.std.specs.Prelude.{◌≡◌, Some, [], ◌∷◌, IfOk};
 ghost use Rattle.serving.specs.Made.{told, made_value};
 ghost use Rattle.serving.specs.Asked.{Tells};
-ghost use Rattle.serving.specs.Asked.Asked.{Configuration, Refuses, Reports};
+ghost use Rattle.serving.specs.Asked.Asked.{Configuration, Keeps, Refuses, Reports};
+ghost use Rattle.serving.specs.Ahead.{ahead_of};
 
 use crate::activity::Activity;
+use crate::ahead::Ahead;
 use crate::between::{Between, Refusal};
 use catalog::Config;
-use std::alloc::Global;
+use sl_packet::Seq;
+use std::alloc::{AllocError, Global};
 
 /// A call that was made, and its answer.
 #[derive(Drop)]
@@ -15,14 +18,16 @@ pub enum Made {
     Configuration(Result<Config, u8>),
     Refused(Refusal<u8>),
     Report(Activity),
+    Keep(Vec<Seq>, Result<(), u8>),
 }
 
-/// Answers in memory: they follow a script, the last first, and keep each call with its answer. Once there was no
-/// memory to keep one, they tell their calls no more.
+/// Answers in memory: they follow a script, the last first, and keep each call with its answer. Numbers are kept unless
+/// they were told otherwise. Once there was no memory to keep a call, they tell their calls no more.
 #[derive(Drop)]
 pub struct MemoryBetween {
     alloc: Global,
     script: Vec<Result<Config, u8>>,
+    unkept: Vec<bool>,
     made: Vec<Made>,
     lost: bool,
 }
@@ -35,9 +40,17 @@ impl MemoryBetween {
         MemoryBetween {
             alloc,
             script,
+            unkept: Vec::new(alloc),
             made: Vec::new(alloc),
             lost: false,
         }
+    }
+
+    /// Whether each keep of numbers is refused, the last first. Once these are over, none is.
+    pub fn refusing(self, unkept: Vec<bool>) -> MemoryBetween
+        ensures calls { told result ≡ told self }
+    {
+        MemoryBetween { unkept, ..self }
     }
 
     /// All calls that were kept, in order, with their answers.
@@ -57,7 +70,17 @@ impl MemoryBetween {
         }
     }
 
-    fn keep(&mut self, made: Made)
+    // What a keep of numbers answers.
+    fn kept(&mut self) -> Result<(), u8>
+        ensures same { told self.new ≡ told self.old }
+    {
+        match self.unkept.pop() {
+            Some(true) => Err(0),
+            _ => Ok(()),
+        }
+    }
+
+    fn remember(&mut self, made: Made)
         ensures kept { Tells (told self.old) (told self.new) (made_value made ∷ []) }
     {
         if self.made.push(made).is_err() {
@@ -77,13 +100,13 @@ impl Between for MemoryBetween {
         match self.answer() {
             Ok(config) => {
                 match config.copy(self.alloc) {
-                    Ok(copy) => self.keep(Made::Configuration(Ok(copy))),
+                    Ok(copy) => self.remember(Made::Configuration(Ok(copy))),
                     Err(_) => self.lost = true,
                 }
                 Ok(config)
             }
             Err(fault) => {
-                self.keep(Made::Configuration(Err(fault)));
+                self.remember(Made::Configuration(Err(fault)));
                 Err(fault)
             }
         }
@@ -92,12 +115,37 @@ impl Between for MemoryBetween {
     fn refused(&mut self, refusal: Refusal<u8>)
         ensures call { Tells (told self.old) (told self.new) (Refuses refusal ∷ []) }
     {
-        self.keep(Made::Refused(refusal));
+        self.remember(Made::Refused(refusal));
     }
 
     fn report(&mut self, activity: Activity)
         ensures call { Tells (told self.old) (told self.new) (Reports activity ∷ []) }
     {
-        self.keep(Made::Report(activity));
+        self.remember(Made::Report(activity));
     }
+
+    fn keep(&mut self, numbers: &Ahead<'_>) -> Result<(), u8>
+        ensures call { Tells (told self.old) (told self.new) (Keeps (ahead_of numbers.now) result ∷ []) }
+    {
+        let answer = self.kept();
+        match numbers_of(self.alloc, numbers) {
+            Ok(numbers) => self.remember(Made::Keep(numbers, answer)),
+            Err(_) => self.lost = true,
+        }
+        answer
+    }
+}
+
+/// The numbers once more. Only memory can lack.
+fn numbers_of(alloc: Global, numbers: &Ahead<'_>) -> Result<Vec<Seq>, AllocError>
+    ensures { IfOk result (λ copy. copy.items ≡ ahead_of numbers.now) }
+{
+    let mut copy = Vec::new(alloc);
+    for place in 0..numbers.count() {
+        match numbers.number(place) {
+            Some(number) => copy.push(number)?,
+            None => {}
+        }
+    }
+    Ok(copy)
 }

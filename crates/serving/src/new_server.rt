@@ -1,9 +1,13 @@
 //! A new server, until its turns are over.
-ghost use Rattle.std.specs.Prelude.{◌≡◌, IfOk, IfErr};
-ghost use Rattle.serving.specs.declared.faults.ServeFault.TheVariants.{OutOfMemory, Poll};
-ghost use Rattle.serving.specs.Served.{Served, ServedBlock, Ended, EndedBlock};
+ghost use Rattle.std.specs.Prelude.{◌≡◌, IfOk, IfErr, OnErr, OnOk};
+ghost use Rattle.protocol.specs.Catalog.{Config as ProtocolConfig};
+ghost use Rattle.protocol.specs.World.{empty_world};
+ghost use Rattle.server_core.specs.ServerValues.{StandsAt};
+ghost use Rattle.serving.specs.declared.faults.ServeFault.TheVariants.{Numbers, OutOfMemory, Poll};
+ghost use Rattle.serving.specs.Served.{Served, ServedBlock, Ended, EndedBlock, KeepsFirst, KeptNothing};
 
-use crate::between::{Between, NothingBetween};
+use crate::ahead::Ahead;
+use crate::between::{Between, NothingBetween, Refusal};
 use crate::faults::ServeFault;
 use crate::running::run;
 use crate::timetable::Timetable;
@@ -12,9 +16,34 @@ use event_loop::Loop;
 use ports::Ports;
 use std::alloc::Global;
 
+/// Has the numbers of a new server kept, if numbers are to be kept. A fault is handed on.
+fn keep_first<P: Ports, B: Between>(
+    server: &Loop<P>,
+    between: &mut B,
+    timetable: &Timetable,
+) -> Result<(), ServeFault>
+    ensures kept { OnOk result ((config : ProtocolConfig) → StandsAt server.now.server config empty_world →
+        KeepsFirst timetable.now.keep config (B.asked between.old) (B.asked between.new)) }
+    ensures unkept { OnErr result ((config : ProtocolConfig) → StandsAt server.now.server config empty_world →
+        KeptNothing config (B.asked between.old) (B.asked between.new)) }
+    ensures fault { IfErr result (λ fault. fault ≡ Numbers) }
+{
+    if timetable.keep.is_none() {
+        return Ok(());
+    }
+    match between.keep(&Ahead::of(server.rings())) {
+        Ok(()) => Ok(()),
+        Err(fault) => {
+            between.refused(Refusal::Unkept(fault));
+            Err(ServeFault::Numbers)
+        }
+    }
+}
+
 /// Runs a new server with that configuration over ports, as the timetable says, and gives the ports back. A turn that
 /// fails is passed over; sixteen in a row end the server with 40. Without memory for the server it is 25, and nothing
-/// was asked.
+/// was asked. If numbers are to be kept, they are kept before the first turn; if they can't be, that is handed on and it
+/// is 49, and no turn was made.
 pub fn serve_between<P: Ports + Drop, B: Between>(
     alloc: Global,
     config: Config,
@@ -27,13 +56,18 @@ pub fn serve_between<P: Ports + Drop, B: Between>(
     ensures ended { IfErr result (λ fault. fault ≡ Poll →
         Ended timetable config (P.calls ports) (B.asked between.old) (B.asked between.new)) }
     ensures no_memory { IfErr result (λ fault. fault ≡ OutOfMemory → between.new ≡ between.old) }
+    ensures unkept { IfErr result (λ fault. fault ≡ Numbers →
+        KeptNothing config (B.asked between.old) (B.asked between.new)) }
 {
     let Ok(mut server) = Loop::new(alloc, config, ports) else {
         return Err(ServeFault::OutOfMemory);
     };
-    match run(&mut server, between, timetable) {
-        Ok(()) => Ok(server.into_ports()),
-        Err(_) => Err(ServeFault::Poll),
+    match keep_first(&server, between, &timetable) {
+        Ok(()) => match run(&mut server, between, timetable) {
+            Ok(()) => Ok(server.into_ports()),
+            Err(_) => Err(ServeFault::Poll),
+        },
+        Err(fault) => Err(fault),
     }
 }
 

@@ -1,13 +1,15 @@
 //! A server over ports, turn after turn.
-ghost use Rattle.std.specs.Prelude.{◌≡◌, ◌≤◌, ◌+◌, ◌<◌, OnErr, OnOk};
+ghost use Rattle.std.specs.Prelude.{◌≡◌, ◌≤◌, ◌+◌, ◌<◌, OnErr, OnOk, length};
 ghost use Rattle.protocol.specs.Catalog.{Config as ProtocolConfig};
 ghost use Rattle.protocol.specs.World.{World};
 ghost use Rattle.server_core.specs.ServerValues.{StandsAt};
 ghost use Rattle.event_loop.specs.Hearing.{clients_in, feeds_in};
-ghost use Rattle.serving.specs.Runs.{Ran, GaveUp, RanBlock, GaveUpBlock, OneTurn, SomeReread, SomeStop};
-ghost use Rattle.serving.specs.Timetables.{turns_of};
+ghost use Rattle.serving.specs.Runs.{Ran, GaveUp, RanBlock, GaveUpBlock, KeepsIf, KeepsNow, OneTurn, SomeReread};
+ghost use Rattle.serving.specs.Runs.{SomeStop};
+ghost use Rattle.serving.specs.Timetables.{is_keep_due, turns_of};
 
 use crate::activity::Activity;
+use crate::ahead::Ahead;
 use crate::between::{Between, NothingBetween, Refusal};
 use crate::timetable::Timetable;
 use event_loop::{Loop, LoopFault};
@@ -55,29 +57,64 @@ fn reread<P: Ports, B: Between>(server: &mut Loop<P>, between: &mut B, due: bool
     }
 }
 
-/// Does what is to be done after so many turns.
+/// Has the numbers of the stations kept. A fault is handed on.
+fn keep_now<P: Ports, B: Between>(server: &Loop<P>, between: &mut B)
+    ensures { (config : ProtocolConfig) (w : World) → StandsAt server.now.server config w →
+        KeepsNow config w (B.asked between.old) (B.asked between.new) }
+{
+    match between.keep(&Ahead::of(server.rings())) {
+        Ok(()) => {}
+        Err(fault) => between.refused(Refusal::Unkept(fault)),
+    }
+}
+
+/// Has the numbers of the stations kept, if that is due, where so many records had arrived when they were kept last.
+/// Answers how many had when they are kept last now.
+fn keep<P: Ports, B: Between>(
+    server: &Loop<P>,
+    between: &mut B,
+    timetable: &Timetable,
+    kept: u64,
+) -> u64
+    ensures { (config : ProtocolConfig) (w : World) → StandsAt server.now.server config w →
+        KeepsIf (is_keep_due timetable.now kept (length w.history)) config w kept (B.asked between.old) result
+        (B.asked between.new) }
+{
+    let arrivals = server.arrivals();
+    if !timetable.keeps(kept, arrivals) {
+        return kept;
+    }
+    keep_now(server, between);
+    arrivals
+}
+
+/// Does what is to be done after so many turns, where so many records had arrived when the numbers were kept last.
+/// Answers how many had when they are kept last now.
 fn stop<P: Ports, B: Between>(
     server: &mut Loop<P>,
     between: &mut B,
     timetable: &Timetable,
     done: u64,
-)
+    kept: u64,
+) -> u64
     ensures stops { (config : ProtocolConfig) (w : World) → StandsAt server.old.server config w →
-        SomeStop timetable.now done config w server.old (B.asked between.old) server.new
+        SomeStop timetable.now done config w server.old kept (B.asked between.old) server.new result
         (B.asked between.new) }
     ensures seats { server.new.seats ≡ server.old.seats }
     ensures most { server.new.most ≡ server.old.most }
 {
+    let kept = keep(server, between, timetable, kept);
     reread(server, between, timetable.rereads(done));
     if timetable.reports(done) {
         between.report(Activity::of(server));
     }
+    kept
 }
 
 /// Has a server go on until the turns of its timetable are done, and does between them what the timetable says. A turn
 /// that fails is passed over; it ends early, with 40, only if sixteen turns in a row fail, which are counted anew once
-/// the configuration was read again. What was done until then stands, and a further run goes on. Nothing is allocated
-/// but if a port joins, and by what is asked between turns.
+/// the configuration was read again. What was done until then stands, and a further run goes on. The numbers of the
+/// stations count as kept when it begins. Nothing is allocated but if a port joins, and by what is asked between turns.
 pub fn run<P: Ports, B: Between>(
     server: &mut Loop<P>,
     between: &mut B,
@@ -98,13 +135,14 @@ pub fn run<P: Ports, B: Between>(
     let turns = timetable.total();
     let mut done = 0u64;
     let mut failures = 0u8;
+    let mut kept = server.arrivals();
     'going: while done < turns {
         let failed = one_turn(server, failures);
         if failed >= FAILURES {
             return Err(LoopFault);
         }
         done += 1;
-        stop(server, between, &timetable, done);
+        kept = stop(server, between, &timetable, done, kept);
         failures = timetable.failures_kept(done, failed);
     }
     Ok(())

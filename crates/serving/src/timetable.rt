@@ -1,26 +1,30 @@
 //! When a server stops between its turns.
 ghost use Rattle.std.specs.Prelude.{◌≡◌, ◌≤◌, Some, None};
-ghost use Rattle.serving.specs.Timetables.{is_due, failures_kept, turns_of};
+ghost use Rattle.serving.specs.Timetables.{is_due, is_keep_due, failures_kept, turns_of};
 
 /// After how many turns a server ends, and at which multiples of a number of turns it reads its configuration again and
 /// reports what it has done. Without a number of turns it ends after 2^64 - 1; without another number, or if that is 0,
 /// it never stops for it.
+///
+/// With `keep` it has the numbers of its stations kept, once more than so many records arrived since they were kept.
 #[derive(Clone, Copy, Debug, PartialEq, Eq, Drop)]
 pub struct Timetable {
     pub turns: Option<usize>,
     pub reread: Option<usize>,
     pub report: Option<usize>,
+    pub keep: Option<usize>,
 }
 
 impl Timetable {
     /// So many turns, with no stop between them.
     pub fn of_turns(turns: u64) -> Timetable
-        ensures { result ≡ record { turns = Some turns; reread = None; report = None } }
+        ensures { result ≡ record { turns = Some turns; reread = None; report = None; keep = None } }
     {
         Timetable {
             turns: Some(turns as usize),
             reread: None,
             report: None,
+            keep: None,
         }
     }
 
@@ -46,6 +50,16 @@ impl Timetable {
         ensures { result ≡ is_due self.now.report done }
     {
         is_due(self.report, done)
+    }
+
+    /// Whether the numbers are to be kept again, once so many records arrived, of which so many had when they were kept.
+    pub fn keeps(&self, kept: u64, arrivals: u64) -> bool
+        ensures { result ≡ is_keep_due self.now kept arrivals }
+    {
+        match self.keep {
+            None => false,
+            Some(every) => (every as u64) < arrivals.saturating_sub(kept),
+        }
     }
 
     /// How many failed turns in a row still count after so many turns: none if the configuration was read again then.

@@ -73,6 +73,7 @@ fn serve_has_two_addresses_and_may_have_turns(rt: HostRuntime) -> Result<(), Fai
         turns: Some(20),
         reread: None,
         report: None,
+        numbers: None,
     };
     assert!(rt; job == wanted);
     Ok(())

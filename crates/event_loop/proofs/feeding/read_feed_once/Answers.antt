@@ -1,4 +1,4 @@
-use Rattle.std.proofs.Common.{rules, ◌≤◌, length, take, ap, ◌∙◌, subst, [], ◌∷◌, Ok}
+use Rattle.std.proofs.Common.{rules, ℕ, ◌≤◌, length, length-take, take, ap, ◌∙◌, subst, [], ◌∷◌, Ok, arith}
 use Rattle.ports.specs.Calls.{Tells, given}
 use Rattle.ports.specs.Calls.Call.{Read}
 use Rattle.event_loop.proofs.FeedStepLemmas.{feed-refused, feed-piece, feed-later, feed-closed, feed-failed}
@@ -25,7 +25,8 @@ returns-in-Ok-Bytes g c = record {
       c.take_records.new.cutter
       (subst (λ r. Tells a b (Read c.args.port (length c.read.new.buffer) (given r c.read.new.buffer) ∷ []))
       (c.in-Ok-Bytes.is ∙ ap Ok c.in-Ok-Bytes.field-0-is) c.read.ensures.call)
-      (c.take_records.ensures.arrives config w stands) c.take_records.ensures.rest;
+      (c.take_records.ensures.arrives config w stands) c.take_records.ensures.rest c.take_records.ensures.held
+      (omega (arith, length-take {A = ℕ}));
   quiet = c.take_records.ensures.quiet;
 }
 

@@ -7,7 +7,8 @@ pub going-init : goal.going-init
 going-init g c =
     record {
       ran = λ config w stands.
-          ran-nothing c.args.timetable config w c.args.server.now (g.B.Between.asked c.args.between.now) stands;
+          ran-nothing c.args.timetable config w c.args.server.now (g.B.Between.asked c.args.between.now)
+          c.arrivals-kept.result (c.arrivals-kept.ensures config w stands) stands;
       few_failures = omega arith;
       counted = omega arith;
       within = omega arith;
@@ -22,11 +23,11 @@ going-preserved g c =
     record {
       ran = λ config w stands.
           ran-on c.args.timetable config w c.args.server.now (asked c.args.between.now)
-          c.going.done _ c.going.failures c.one_turn-failed.result
-          c.going.server c.one_turn-failed.new.server c.stop.new.server
-          (asked c.going.between) (asked c.stop.new.between)
+          c.going.done _ c.going.failures c.one_turn-failed.result c.going.kept c.stop-kept.result
+          c.going.server c.one_turn-failed.new.server c.stop-kept.new.server
+          (asked c.going.between) (asked c.stop-kept.new.between)
           (add-one c.going.done) (c.going.invariant.ran config w stands)
-          c.one_turn-failed.ensures.turn c.stop.ensures.stops c.if-failed-ge-FAILURES.false
+          c.one_turn-failed.ensures.turn c.stop-kept.ensures.stops c.if-failed-ge-FAILURES.false
           c.failures_kept-failures.result c.failures_kept-failures.ensures.value;
       few_failures = omega (arith, c.failures_kept-failures.ensures.few, c.if-failed-ge-FAILURES.false);
       counted = omega (
@@ -36,9 +37,9 @@ going-preserved g c =
         c.going.invariant.counted,
       );
       within = omega (arith, c.going-test.true);
-      few_clients = λ few. rw (c.stop.ensures.seats, c.stop.ensures.most) c.one_turn-failed.ensures.few_clients;
-      few_feeds = λ few. rw c.stop.ensures.seats c.one_turn-failed.ensures.few_feeds;
-      most = c.stop.ensures.most ∙ c.one_turn-failed.ensures.most ∙ c.going.invariant.most;
+      few_clients = λ few. rw (c.stop-kept.ensures.seats, c.stop-kept.ensures.most) c.one_turn-failed.ensures.few_clients;
+      few_feeds = λ few. rw c.stop-kept.ensures.seats c.one_turn-failed.ensures.few_feeds;
+      most = c.stop-kept.ensures.most ∙ c.one_turn-failed.ensures.most ∙ c.going.invariant.most;
     }
 
 pub returns-then-failed-ge-FAILURES-clause-gave_up : goal.returns-then-failed-ge-FAILURES-clause-gave_up
@@ -47,7 +48,7 @@ returns-then-failed-ge-FAILURES-clause-gave_up g c = λ config w stands.
     let left : c.going.done < turns_of c.args.timetable =
     subst (λ n. c.going.done < n) c.total-turns.ensures c.going-test.true in
     ran-out c.args.timetable config w c.args.server.now (asked c.args.between.now)
-    c.going.done c.going.failures c.one_turn-failed.result
+    c.going.done c.going.failures c.one_turn-failed.result c.going.kept
     c.going.server c.one_turn-failed.new.server
     (asked c.going.between) (c.going.invariant.ran config w stands)
     c.one_turn-failed.ensures.turn left c.going.invariant.few_failures c.if-failed-ge-FAILURES.true
@@ -57,5 +58,5 @@ returns-clause-ran g c = λ config w stands.
     let asked = g.B.Between.asked in
     let all : c.going.done ≡ c.total-turns.result = omega (arith, c.going.invariant.within, c.going-test.false) in
     ran-all c.args.timetable config w c.args.server.now (asked c.args.between.now)
-    c.going.done c.going.failures c.going.server
+    c.going.done c.going.failures c.going.kept c.going.server
     (asked c.going.between) (c.going.invariant.ran config w stands) (all ∙ c.total-turns.ensures)

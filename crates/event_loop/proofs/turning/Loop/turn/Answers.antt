@@ -40,7 +40,8 @@ returns-clause-ok g c =
     turn-made config old.most c.args.limit w (calls old.ports) (calls c.hear.new.ports) c.hear.new.server
     old.seats.items c.hear.new.seats.items (calls c.pass_all.new.ports) c.pass_all.new.server
     c.pass_all.new.seats.items c.in-Ok.heard c.pass_all.new.dropped
-    (c.in-Ok.ensures.ok config w stands) (λ v there. c.pass_all.ensures.goes c.in-Ok.heard.happenings config v there))
+    (c.in-Ok.ensures.ok config w stands) (λ v there. c.pass_all.ensures.goes c.in-Ok.heard.happenings config v there)
+    (c.hear.ensures.table).few_feeds)
 
 pub returns-clause-few_clients : goal.returns-clause-few_clients
 returns-clause-few_clients g c = (c.pass_all.ensures.table _ c.hear.ensures.table).few_clients

@@ -1,0 +1,200 @@
+//! Two servers, one after the other, of which the second goes on with the numbers that the first kept.
+use super::runs::Row::{Feed, Inside, Quiet};
+use super::runs::{Row, both, feed, happenings, port, record};
+use catalog::{Config, KeptNumber};
+use number_file::{NumberTable, read_numbers};
+use ports::{MemoryPorts, PortScript, Script};
+use serving::{Made, MemoryBetween, Timetable, serve_between};
+use std::alloc::Global;
+use std::test::Fail;
+use test_centre::CENTRE;
+
+/// All that is held of the two stations of GE.
+const FETCH: &[u8] = b"STATION APE GE\rFETCH\rSTATION WLF GE\rFETCH\rEND\r";
+
+/// The feed joins, and a client after it.
+static FED: [Row; 5] = [Feed(1), Quiet, Quiet, Inside(2), Quiet];
+
+/// Three records of GE APE and two of GE WLF, where that one has a station.
+fn records(alloc: Global) -> Result<Vec<u8>, Fail> {
+    let mut bytes = Vec::new(alloc);
+    for second in 1..3 {
+        bytes.extend_from_slice(&record(b"GE", b"APE", second)?)?;
+        bytes.extend_from_slice(&record(b"GE", b"WLF", second)?)?;
+    }
+    bytes.extend_from_slice(&record(b"GE", b"APE", 3)?)?;
+    Ok(bytes)
+}
+
+/// The feed of these records, and the client.
+fn scripts(alloc: Global) -> Result<Vec<PortScript>, Fail> {
+    let feed = feed(alloc, 1, records(alloc)?.as_slice(), 512)?;
+    both(alloc, feed, port(alloc, 2, FETCH, 520, 520, 40)?)
+}
+
+/// What a server did.
+#[derive(Drop)]
+struct Run {
+    between: MemoryBetween,
+    taken: Vec<u8>,
+}
+
+/// Runs a server for six turns, with numbers that are kept once more than so many records came. Its stations begin with
+/// some that were kept.
+fn served(
+    alloc: Global,
+    text: &[u8],
+    kept: &[KeptNumber],
+    keep: usize,
+    unkept: Vec<bool>,
+) -> Result<Run, Fail> {
+    let mut config = Config::read(alloc, text)?;
+    config.begin_at(kept);
+    let ports = MemoryPorts::new(
+        alloc,
+        Script::new(happenings(alloc, &FED)?, scripts(alloc)?),
+    );
+    let mut between = MemoryBetween::new(alloc, Vec::new(alloc)).refusing(unkept);
+    let timetable = Timetable {
+        turns: Some(6),
+        reread: None,
+        report: None,
+        keep: Some(keep),
+    };
+    let ports = serve_between(alloc, config, ports, &mut between, timetable)?;
+    let taken = ports.record(alloc, 2)?.taken;
+    Ok(Run { between, taken })
+}
+
+/// The numbers of the last keep that was not refused, beside the codes of a configuration's stations; and what was kept
+/// before of stations that it does not have. They are written, and read again.
+fn kept_by(
+    alloc: Global,
+    text: &[u8],
+    before: &[KeptNumber],
+    run: &Run,
+) -> Result<Vec<KeptNumber>, Fail> {
+    let config = Config::read(alloc, text)?;
+    let mut table = NumberTable::new(alloc, &config, before)?;
+    for made in run.between.made() {
+        if let Made::Keep(numbers, Ok(())) = made {
+            for (place, number) in numbers.iter().enumerate() {
+                table.set(place, *number);
+            }
+        }
+    }
+    let mut written = Vec::new(alloc);
+    table.write(&mut written)?;
+    Ok(read_numbers(alloc, written.as_slice())?)
+}
+
+/// The digits of the packets that a client took, one after the other. The four answers to its commands come before.
+fn digits(alloc: Global, taken: &[u8]) -> Result<Vec<u8>, Fail> {
+    let mut all = Vec::new(alloc);
+    let packets = taken.get(16..).unwrap_or(b"");
+    for packet in packets.chunks(520) {
+        all.extend_from_slice(packet.get(2..8).unwrap_or(b""))?;
+    }
+    Ok(all)
+}
+
+/// How often numbers were to be kept.
+fn keeps(run: &Run) -> usize {
+    run.between
+        .made()
+        .iter()
+        .filter(|made| matches!(made, Made::Keep(_, _)))
+        .count()
+}
+
+#[test]
+fn the_first_server_counts_from_the_first_numbers(rt: HostRuntime) -> Result<(), Fail> {
+    let alloc = rt.alloc();
+    let run = served(alloc, CENTRE, &[], 2, Vec::new(alloc))?;
+    assert_eq!(rt;
+        digits(alloc, run.taken.as_slice())?.as_slice(),
+        b"000000FFFFFE000001FFFFFF000002".as_slice()
+    );
+    assert_eq!(rt; keeps(&run), 2);
+    Ok(())
+}
+
+#[test]
+fn the_next_server_goes_on_beyond_them(rt: HostRuntime) -> Result<(), Fail> {
+    let alloc = rt.alloc();
+    let first = served(alloc, CENTRE, &[], 2, Vec::new(alloc))?;
+    let kept = kept_by(alloc, CENTRE, &[], &first)?;
+    let next = served(alloc, CENTRE, kept.as_slice(), 2, Vec::new(alloc))?;
+    assert_eq!(rt;
+        digits(alloc, next.taken.as_slice())?.as_slice(),
+        b"004003004000004004004001004005".as_slice()
+    );
+    Ok(())
+}
+
+#[test]
+fn numbers_that_were_kept_at_the_start_are_ahead_too(rt: HostRuntime) -> Result<(), Fail> {
+    let alloc = rt.alloc();
+    let first = served(alloc, CENTRE, &[], 5, Vec::new(alloc))?;
+    assert_eq!(rt; keeps(&first), 1);
+    let kept = kept_by(alloc, CENTRE, &[], &first)?;
+    let next = served(alloc, CENTRE, kept.as_slice(), 5, Vec::new(alloc))?;
+    assert_eq!(rt;
+        digits(alloc, next.taken.as_slice())?.as_slice(),
+        b"004000003FFE004001003FFF004002".as_slice()
+    );
+    Ok(())
+}
+
+#[test]
+fn a_keep_that_fails_is_tried_after_more_records(rt: HostRuntime) -> Result<(), Fail> {
+    let alloc = rt.alloc();
+    let mut unkept = Vec::new(alloc);
+    unkept.push(true)?;
+    unkept.push(false)?;
+    let first = served(alloc, CENTRE, &[], 2, unkept)?;
+    assert_eq!(rt; keeps(&first), 2);
+    assert_eq!(rt; first.between.made().len(), 3);
+    let kept = kept_by(alloc, CENTRE, &[], &first)?;
+    let next = served(alloc, CENTRE, kept.as_slice(), 2, Vec::new(alloc))?;
+    assert_eq!(rt;
+        digits(alloc, next.taken.as_slice())?.as_slice(),
+        b"004000003FFE004001003FFF004002".as_slice()
+    );
+    Ok(())
+}
+
+/// GE WLF alone.
+const FOREST: &[u8] = br#"title = "Test Centre"
+
+[[station]]
+network = "GE"
+code = "WLF"
+description = "Forest"
+capacity = 2
+first = "FFFFFE"
+"#;
+
+#[test]
+fn a_station_that_comes_back_goes_on(rt: HostRuntime) -> Result<(), Fail> {
+    let alloc = rt.alloc();
+    let first = served(alloc, FOREST, &[], 1, Vec::new(alloc))?;
+    let kept = kept_by(alloc, FOREST, &[], &first)?;
+    assert_eq!(rt; kept.len(), 1);
+    let second = served(alloc, CENTRE, kept.as_slice(), 1, Vec::new(alloc))?;
+    assert_eq!(rt;
+        digits(alloc, second.taken.as_slice())?.as_slice(),
+        b"000000004000000001004001000002".as_slice()
+    );
+    let all = kept_by(alloc, CENTRE, kept.as_slice(), &second)?;
+    assert_eq!(rt; all.len(), 3);
+    let third = served(alloc, FOREST, all.as_slice(), 1, Vec::new(alloc))?;
+    let still = kept_by(alloc, FOREST, all.as_slice(), &third)?;
+    assert_eq!(rt; still.len(), 3);
+    let last = served(alloc, CENTRE, still.as_slice(), 1, Vec::new(alloc))?;
+    assert_eq!(rt;
+        digits(alloc, last.taken.as_slice())?.as_slice(),
+        b"00400300C00400400400C005004005".as_slice()
+    );
+    Ok(())
+}

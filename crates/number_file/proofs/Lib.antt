@@ -1,0 +1,3 @@
+pub mod TableLemmas
+mod ReadLemmas
+mod TextLemmas

@@ -1,0 +1,3 @@
+pub mod Reading
+pub mod Tables
+pub mod Text
