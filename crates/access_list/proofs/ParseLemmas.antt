@@ -1,12 +1,12 @@
 -- The pieces of a text, one after the other, and the tokens so far.
 use Rattle.std.proofs.Common.{◌≡◌, ℕ, ◌+◌, ◌<◌, Bool, List, [], ◌∷◌, ◌++◌, length, drop, get_or, refl, sym, ap, ◌∙◌}
-use Rattle.std.proofs.Common.{append_assoc, append-nil, arith, drop-cons, add-one}
-use Rattle.std.specs.Prelude.{Result, Ok, Err}
+use Rattle.std.proofs.Common.{append_assoc, append-nil, arith, drop-cons, add-one, Option, Some, None, true, false}
+use Rattle.std.specs.Prelude.{Result, Ok, Err, find, cond}
 use Rattle.std.specs.List.{slice_split, onto_first}
 use Rattle.protocol.specs.Access.{Token}
 use Rattle.protocol.specs.Pieces.{split, cons_first, without_empty}
 use Rattle.protocol.proofs.FoundLemmas.{both}
-use Rattle.access_list.specs.Tokens.{cons_token, tokens_of, token_of}
+use Rattle.access_list.specs.Tokens.{cons_token, tokens_of, token_of, is_refused}
 use Rattle.access_list.specs.declared.fault.AccessFault.{AccessFault}
 
 -- tokens before others
@@ -77,3 +77,23 @@ pub pieces_are : (p : ℕ → Bool) (bs : List ℕ) → slice_split p bs ≡ spl
 pieces_are p [] = refl
 pieces_are p (b ∷ bs) = both (p b) (λ y. rw (y, pieces_are p bs))
     (λ n. rw (n, onto_is b (slice_split p bs), pieces_are p bs))
+
+-- the first entry that is refused, among what is left of the pieces
+abbrev pub refused_left : List (List ℕ) → ℕ → Option (List ℕ)
+refused_left ps k = find is_refused (drop k ps)
+
+-- the piece at hand is not refused
+pub refused_left-passed : (ps : List (List ℕ)) (k : ℕ) (w : List ℕ) → k < length ps → w ≡ get_or ps k w
+    → is_refused w ≡ false → refused_left ps k ≡ refused_left ps (k + 1)
+refused_left-passed ps k w h e passed = ap (find is_refused) (at_hand ps k w h e)
+    ∙ ap (λ b. cond b (Some w) (find is_refused (drop (k + 1) ps))) passed
+
+-- or it is
+pub refused_left-found : (ps : List (List ℕ)) (k : ℕ) (w : List ℕ) → k < length ps → w ≡ get_or ps k w
+    → is_refused w ≡ true → refused_left ps k ≡ Some w
+refused_left-found ps k w h e found = ap (find is_refused) (at_hand ps k w h e)
+    ∙ ap (λ b. cond b (Some w) (find is_refused (drop (k + 1) ps))) found
+
+-- no piece is left
+pub refused_left-end : (ps : List (List ℕ)) (k : ℕ) → drop k ps ≡ [] → refused_left ps k ≡ None
+refused_left-end ps k e = ap (find is_refused) e

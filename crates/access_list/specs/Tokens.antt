@@ -1,6 +1,7 @@
 -- The list of addresses and masks that a text spells.
 use Rattle.std.specs.Prelude.{ℕ, ◌+◌, ◌-◌, ◌^◌, Bool, ◌||◌, nat_le, ◌==◌, if◌then◌else◌, List, [], ◌∷◌, take, drop}
-use Rattle.std.specs.Prelude.{position, Option, Some, None, option_and_then, Result, Ok, Err}
+use Rattle.std.specs.Prelude.{position, Option, Some, None, option_and_then, Result, Ok, Err, false, find}
+use Rattle.std.specs.Prelude.{is_err}
 use Rattle.protocol.specs.Access.{Token}
 use Rattle.protocol.specs.Pieces.{split, without_empty}
 use Rattle.protocol.specs.Time.{digits_between}
@@ -69,3 +70,12 @@ tokens_of (p ∷ ps) = cons_token (token_of p) (tokens_of ps)
 -- the list that a text spells, or why it spells none
 abbrev pub list_of : List ℕ → Result (List Token) AccessFault
 list_of text = tokens_of (without_empty (split is_separator text))
+
+-- what stands between two separators, and spells no token
+abbrev pub is_refused : List ℕ → Bool
+is_refused [] = false
+is_refused (b ∷ bs) = is_err (token_of (b ∷ bs))
+
+-- the first entry of a text that spells no token
+abbrev pub first_refused : List ℕ → Option (List ℕ)
+first_refused text = find is_refused (split is_separator text)

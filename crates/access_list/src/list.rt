@@ -2,7 +2,7 @@
 ghost use Rattle.std.specs.Prelude.{◌≡◌, ◌↔◌, true};
 ghost use Rattle.std.specs.List.{list_any};
 ghost use Rattle.protocol.specs.Access.{is_in};
-ghost use Rattle.access_list.specs.Tokens.{is_separator};
+ghost use Rattle.access_list.specs.Tokens.{is_refused, is_separator};
 
 use crate::fault::AccessFault;
 use crate::token::Token;
@@ -26,10 +26,10 @@ impl Model for AccessList {
 }
 
 impl AccessList {
-    ghost use Rattle.std.specs.Prelude.{◌≢◌, ℕ, Ok, Err, IfOk, IfErr};
+    ghost use Rattle.std.specs.Prelude.{◌≢◌, ℕ, Ok, Err, IfOk, IfErr, option_map};
     ghost use Rattle.std.specs.Net.Addr.{ipv4_bits};
     ghost use Rattle.protocol.specs.Access.{allows, IsAllowed};
-    ghost use Rattle.access_list.specs.Tokens.{list_of};
+    ghost use Rattle.access_list.specs.Tokens.{list_of, first_refused};
     ghost use Rattle.access_list.specs.declared.fault.AccessFault.TheVariants.{OutOfMemory};
 
     /// The list that a text spells. Any number of spaces and commas separate its tokens, and nothing else does. A token
@@ -62,6 +62,24 @@ impl AccessList {
         Ok(AccessList { tokens })
     }
 
+    /// The first entry of a text that is not an address, alone or with a mask: the one for whose fault `parse` refuses
+    /// the text. None if all entries are valid.
+    pub fn refused_entry(text: &[u8]) -> Option<&[u8]>
+        ensures { option_map (λ entry. entry.now) result ≡ first_refused text.now }
+    {
+        let entries = text.split(
+            |byte|
+                ensures { result ≡ is_separator byte.now }
+            { is_separator(*byte) },
+        );
+        for entry in entries {
+            if is_refused(entry) {
+                return Some(entry);
+            }
+        }
+        None
+    }
+
     /// The same list once more. Only memory can lack.
     pub fn copy(&self, alloc: Global) -> Result<AccessList, AllocError>
         ensures { IfOk result (λ copy. copy ≡ self.now) }
@@ -92,6 +110,13 @@ fn is_separator(byte: u8) -> bool
     ensures { result ≡ is_separator byte }
 {
     byte == b' ' || byte == b','
+}
+
+/// Whether something stands between two separators, and spells no token.
+fn is_refused(entry: &[u8]) -> bool
+    ensures { result ≡ is_refused entry.now }
+{
+    !entry.is_empty() && Token::parse(entry).is_err()
 }
 
 /// Whether one of the tokens has the address.
