@@ -1,0 +1,3 @@
+mod SeenLemmas
+mod HolderLemmas
+mod EntryLemmas
