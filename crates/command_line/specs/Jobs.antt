@@ -46,6 +46,14 @@ abbrev pub replay_app : App
 replay_app =
     with_verbose (with_rule (with_rule (new_app (codes "replay")) (wanted (codes "CONFIG"))) (wanted (codes "SCRIPT")))
 
+-- `ADDRESS`, which may be left out
+abbrev pub address_rule : Rule
+address_rule = new_rule (codes "ADDRESS")
+
+-- `view CONFIG [ADDRESS]`
+abbrev pub view_app : App
+view_app = with_verbose (with_rule (with_rule (new_app (codes "view")) (wanted (codes "CONFIG"))) address_rule)
+
 -- an option `--name N` that counts turns, with N from 1 to 1,000,000,000
 abbrev pub turns_rule : Text → Rule
 turns_rule name = record (option false name) { parser = Some (Unsigned 1 1000000000) }
@@ -101,8 +109,8 @@ named_app = with_verbose bare_app
 -- the program and its subcommands
 abbrev pub program_app : App
 program_app =
-    with_subcommand (with_subcommand (with_subcommand (with_subcommand (with_subcommand named_app check_app.top)
-    replay_app.top) serve_app.top) feed_app.top) read_app.top
+    with_subcommand (with_subcommand (with_subcommand (with_subcommand (with_subcommand (with_subcommand named_app
+    check_app.top) replay_app.top) view_app.top) serve_app.top) feed_app.top) read_app.top
 
 -- ---- jobs
 
@@ -110,6 +118,7 @@ program_app =
 pub data Asked : Type 0 where
   Check : (file : List ℕ) → Asked
   Replay : (config : List ℕ) → (script : List ℕ) → Asked
+  View : (config : List ℕ) → (address : Option (List ℕ)) → Asked
   Serve : (config listen feed : List ℕ) → (turns reread report : Option ℕ) → (numbers : Option (List ℕ)) → Asked
   Feed : (server file : List ℕ) → Asked
   Read : (server : List ℕ) → (wants : List (List ℕ)) → (fetch : Bool) → (output : Option (List ℕ)) → Asked
@@ -118,6 +127,7 @@ pub data Asked : Type 0 where
 abbrev pub asked : Job → Asked
 asked (job.Check file) = Check file.now
 asked (job.Replay config script) = Replay config.now script.now
+asked (job.View config address) = View config.now (option_map (λ text. text.now) address)
 asked (job.Serve config listen feed turns reread report numbers) =
     Serve config.now listen.now feed.now turns reread report (option_map (λ file. file.now) numbers)
 asked (job.Feed server file) = Feed server.now file.now
@@ -136,6 +146,14 @@ with_both make _ _ = None
 -- the job of `replay`, by what was found of its arguments
 abbrev pub replay_asked : List Row → Option Asked
 replay_asked rows = with_both Replay (first_of (codes "CONFIG") rows) (first_of (codes "SCRIPT") rows)
+
+-- the job of `view`, where its configuration is there
+abbrev pub with_config : Option (List ℕ) → Option (List ℕ) → Option Asked
+with_config address None = None
+with_config address (Some config) = Some (View config address)
+
+abbrev pub view_asked : List Row → Option Asked
+view_asked rows = with_config (first_of (codes "ADDRESS") rows) (first_of (codes "CONFIG") rows)
 
 -- a number of turns from 1 to 1,000,000,000
 abbrev pub checked_turns : Option ℕ → Option (Option ℕ)
@@ -187,6 +205,7 @@ asked_by None = None
 asked_by (Some p) =
     if bytes_eq p.0 (codes "check") then check_asked p.1
     else if bytes_eq p.0 (codes "replay") then replay_asked p.1
+    else if bytes_eq p.0 (codes "view") then view_asked p.1
     else if bytes_eq p.0 (codes "serve") then serve_asked p.1
     else if bytes_eq p.0 (codes "feed") then feed_asked p.1
     else if bytes_eq p.0 (codes "read") then read_asked p.1 else None

@@ -2,17 +2,19 @@
 ghost use Rattle.std.specs.Prelude.{◌≡◌, Some, false, true, codes, IfOk};
 ghost use Rattle.clap.specs.Words.{App, app_of, new_app, rule_of, with_rule, with_subcommand};
 ghost use Rattle.command_line.specs.Building.{Builds};
-ghost use Rattle.command_line.specs.Jobs.{addressed_app, bare_app, check_app, feed_app, fetch_rule, option};
+ghost use Rattle.command_line.specs.Jobs.{address_rule, addressed_app, bare_app, check_app, feed_app, fetch_rule};
+ghost use Rattle.command_line.specs.Jobs.{option};
 ghost use Rattle.command_line.specs.Jobs.{program_app, read_app, replay_app, serve_app, timed_app, turns_rule};
-ghost use Rattle.command_line.specs.Jobs.{verbose_rule};
+ghost use Rattle.command_line.specs.Jobs.{verbose_rule, view_app};
 ghost use Rattle.command_line.specs.Jobs.{wanted, wants_app, wants_rule, with_verbose};
 
 use clap::builder::ValueParser;
 use clap::{Arg, ArgAction, Command};
 use std::alloc::{AllocError, Global};
 
-/// What `--version` prints after the program's name.
-const VERSION: &str = "0.1.0";
+/// What `--version` prints after the program's name: the version, and the logic of the toolchain with which each
+/// function was proved before the program was built.
+const VERSION: &str = "0.1.0 (each function proved, logic dac8208d650f15bf)";
 
 /// A command that is being built, unless memory ran out on the way.
 type Built<'a> = Result<Command<'a>, AllocError>;
@@ -110,6 +112,28 @@ fn replay_command<'a>(alloc: Global) -> Built<'a>
     let with_config = with_wanted(alloc, command, "CONFIG", "The configuration, in TOML");
     let with_script = with_wanted(alloc, with_config, "SCRIPT", "The script, an event a line");
     with_verbose(alloc, with_script)
+}
+
+/// The argument `ADDRESS`, which may be left out.
+fn address<'a>(alloc: Global) -> Arg<'a>
+    ensures rule { rule_of result ≡ address_rule }
+    ensures own { result.global ≡ false }
+{
+    Arg::new(alloc, "ADDRESS").help("The address of a client, as 10.0.0.7")
+}
+
+/// `view CONFIG [ADDRESS]`.
+fn view_command<'a>(alloc: Global) -> Built<'a>
+    ensures { Builds result view_app }
+{
+    let command = started(
+        alloc,
+        "view",
+        "Lists the stations that an address sees, or all with the lists that hold for them",
+    );
+    let with_config = with_wanted(alloc, command, "CONFIG", "The configuration, in TOML");
+    let with_address = with_argument(with_config, address(alloc));
+    with_verbose(alloc, with_address)
 }
 
 /// An option `--name N` that counts turns.
@@ -307,7 +331,8 @@ fn built<'a>(alloc: Global) -> Built<'a>
     let named = with_verbose(alloc, bare(alloc));
     let with_check = with_subcommand(named, check_command(alloc));
     let with_replay = with_subcommand(with_check, replay_command(alloc));
-    let with_serve = with_subcommand(with_replay, serve_command(alloc));
+    let with_view = with_subcommand(with_replay, view_command(alloc));
+    let with_serve = with_subcommand(with_view, serve_command(alloc));
     let with_feed = with_subcommand(with_serve, feed_command(alloc));
     with_subcommand(with_feed, read_command(alloc))
 }

@@ -13,6 +13,12 @@ pub enum Job<'a> {
         config: &'a str,
         script: &'a str,
     },
+    /// `view CONFIG [ADDRESS]`: the stations that an address sees, or without one all stations with the lists of
+    /// addresses that hold for them.
+    View {
+        config: &'a str,
+        address: Option<&'a str>,
+    },
     /// `serve CONFIG --listen A:P --feed A:P [--turns N] [--reread N] [--report N] [--numbers FILE]`: a server over
     /// sockets. Each number is 1 to 1,000,000,000, and counts turns. Without `turns` the server runs until it is ended
     /// from outside. Every `reread` turns it reads its configuration again, and every `report` turns it tells what it

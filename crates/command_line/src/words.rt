@@ -3,7 +3,7 @@ ghost use Rattle.std.specs.Prelude.{◌≡◌, ◌||◌, [], Some, false, IfOk, 
 ghost use Rattle.clap.specs.Words.{all_of, fault_of, first_of, found_of, kind_of, rows_of, subcommand_rows_of};
 ghost use Rattle.command_line.specs.Jobs.{HelpIs, IsJob, IsTold, asked, asked_by, check_asked, feed_asked, is_shown};
 ghost use Rattle.command_line.specs.Jobs.{job_of, program_app, read_asked, replay_asked, serve_asked, turns_in};
-ghost use Rattle.command_line.specs.Jobs.{verbose_by, verbose_in, verbose_of};
+ghost use Rattle.command_line.specs.Jobs.{verbose_by, verbose_in, verbose_of, view_asked};
 ghost use Rattle.command_line.specs.declared.job.WordsFault.TheVariants.{OutOfMemory};
 
 use crate::commands::program;
@@ -40,6 +40,14 @@ fn replay_job<'a>(arguments: &ArgMatches<'a>) -> Option<Job<'a>>
     let config = text_at(arguments, "CONFIG")?;
     let script = text_at(arguments, "SCRIPT")?;
     Some(Job::Replay { config, script })
+}
+
+fn view_job<'a>(arguments: &ArgMatches<'a>) -> Option<Job<'a>>
+    ensures { option_map asked result ≡ view_asked (rows_of (found_of arguments.now)) }
+{
+    let config = text_at(arguments, "CONFIG")?;
+    let address = text_at(arguments, "ADDRESS");
+    Some(Job::View { config, address })
 }
 
 /// The number of turns that an option has: the inner None where it is left out, and None where the text is no number of
@@ -116,6 +124,8 @@ fn job_in<'a>(alloc: Global, matches: &ArgMatches<'a>) -> Result<Option<Job<'a>>
         Ok(check_job(arguments))
     } else if name == "replay" {
         Ok(replay_job(arguments))
+    } else if name == "view" {
+        Ok(view_job(arguments))
     } else if name == "serve" {
         Ok(serve_job(arguments))
     } else if name == "feed" {
