@@ -1,9 +1,11 @@
 -- The numbers and names by which the program reports a replay that failed, and any other failure of its own.
-use Rattle.std.specs.Prelude.{ℕ, List, codes}
+use Rattle.std.specs.Prelude.{ℕ, Bool, true, false, List, codes}
 use Rattle.catalog.specs.Faults.{fault_number, fault_name}
 use Rattle.feeder.specs.Sending.{send_fault_number, send_fault_name}
 use Rattle.slreader.specs.Faults.{reader_fault_number, reader_fault_name}
 use Rattle.packet_listing.specs.Faults.{listing_fault_number, listing_fault_name}
+use Rattle.packet_listing.specs.declared.fault.ListingFault.{ListingFault}
+use Rattle.packet_listing.specs.declared.fault.ListingFault.TheVariants as listing
 use Rattle.serving.specs.Faults.{serve_fault_number, serve_fault_name}
 use Rattle.socket_ports.specs.Faults.{listen_fault_number, listen_fault_name}
 use Rattle.sl_io.specs.Faults.{stream_fault_number, stream_fault_name}
@@ -33,12 +35,14 @@ failure_number (failure.Replay fault) = replay_fault_number fault
 failure_number (failure.Check fault) = stream_fault_number fault
 failure_number (failure.Records fault) = file_fault_number fault
 failure_number failure.Address = 11
+failure_number failure.Client = 11
 failure_number (failure.Listen fault) = listen_fault_number fault
 failure_number failure.Connect = 47
 failure_number (failure.Reload fault) = 34
 failure_number (failure.Serve fault) = serve_fault_number fault
 failure_number (failure.Send fault) = send_fault_number fault
 failure_number failure.Untaken = 43
+failure_number failure.Unanswered = 42
 failure_number (failure.Want fault) = reader_fault_number fault
 failure_number (failure.Packets fault) = listing_fault_number fault
 failure_number (failure.Numbers fault) = 49
@@ -53,12 +57,19 @@ failure_name (failure.Replay fault) = replay_fault_name fault
 failure_name (failure.Check fault) = stream_fault_name fault
 failure_name (failure.Records fault) = file_fault_name fault
 failure_name failure.Address = codes "Address"
+failure_name failure.Client = codes "Address"
 failure_name (failure.Listen fault) = listen_fault_name fault
 failure_name failure.Connect = codes "Connect"
 failure_name (failure.Reload fault) = codes "Different"
 failure_name (failure.Serve fault) = serve_fault_name fault
 failure_name (failure.Send fault) = send_fault_name fault
 failure_name failure.Untaken = codes "Write"
+failure_name failure.Unanswered = codes "Read"
 failure_name (failure.Want fault) = reader_fault_name fault
 failure_name (failure.Packets fault) = listing_fault_name fault
 failure_name (failure.Numbers fault) = codes "Numbers"
+
+-- why packets were not listed to the end, by whether HELLO was answered
+abbrev pub unlisted : ListingFault → Bool → Failure
+unlisted listing.Read false = failure.Unanswered
+unlisted fault _ = failure.Packets fault

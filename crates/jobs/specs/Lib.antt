@@ -5,5 +5,4 @@ pub mod Output
 pub mod PartTexts
 pub mod Replaying
 pub mod Serving
-pub mod SettingTexts
 pub mod Sites

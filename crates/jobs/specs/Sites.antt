@@ -5,7 +5,8 @@ use Rattle.std.specs.declared.io.Error.{Error}
 use Rattle.jobs.specs.Faults.{failure_number}
 use Rattle.jobs.specs.declared.failure.Failure.{Failure}
 use Rattle.jobs.specs.declared.incident.Site.{Site}
-use Rattle.jobs.specs.declared.incident.Site.TheVariants.{Unnamed, File, Setting, Unwritten, Word, Want, Server, Socket}
+use Rattle.jobs.specs.declared.incident.Site.TheVariants.{Unnamed, File, Setting, Differing, Unread, Unwritten, Word}
+use Rattle.jobs.specs.declared.incident.Site.TheVariants.{Want, Server, Socket}
 use Rattle.socket_ports.specs.declared.fault.ListenError.{ListenError}
 use Rattle.socket_ports.specs.declared.fault.ListenError.TheVariants as error
 use Rattle.slreader.specs.declared.fault.ReaderFault.{ReaderFault}
@@ -14,6 +15,8 @@ use Rattle.slreader.specs.WordParts.{wrong_part}
 use Rattle.catalog.specs.declared.error.ConfigError.{ConfigError}
 use Rattle.catalog.specs.declared.fault.ConfigFault.{ConfigFault}
 use Rattle.catalog.specs.declared.fault.ConfigFault.TheVariants as config
+use Rattle.config_findings.specs.declared.difference.Difference.{Difference}
+use Rattle.config_findings.specs.declared.finding.Finding.{Finding}
 
 -- memory was refused
 abbrev pub is_memory : Failure → Bool
@@ -45,6 +48,11 @@ abbrev pub output_site : Bor (List ℕ) → Option Error → Site → Site
 output_site path None other = other
 output_site path (Some reason) other = Unwritten path reason
 
+-- of a job that reads a file: that file, if it could not be read for that reason, or else another place
+abbrev pub input_site : Bor (List ℕ) → Option Error → Site → Site
+input_site path None other = other
+input_site path (Some reason) other = Unread path reason
+
 -- of a job that reads a file and writes to a server
 abbrev pub feed_site : Failure → (path address : Bor (List ℕ)) → Site
 feed_site failure path address =
@@ -57,10 +65,15 @@ listening_site clients feeds (error.Clients reason) = Socket clients reason
 listening_site clients feeds (error.Feeds reason) = Socket feeds reason
 
 -- of a configuration that is refused with that fault
-abbrev pub setting_site : Bor (List ℕ) → ConfigError → ConfigFault → Site
-setting_site path error config.OutOfMemory = Unnamed
-setting_site path error _ = Setting path error
+abbrev pub setting_site : Bor (List ℕ) → ConfigError → Finding → ConfigFault → Site
+setting_site path error finding config.OutOfMemory = Unnamed
+setting_site path error finding _ = Setting path error finding
 
 -- of a configuration that is refused
-abbrev pub config_site : Bor (List ℕ) → ConfigError → Site
-config_site path error = setting_site path error error.fault
+abbrev pub config_site : Bor (List ℕ) → ConfigError → Finding → Site
+config_site path error finding = setting_site path error finding error.fault
+
+-- of a configuration that differs: in what first, if that is known
+abbrev pub difference_site : Bor (List ℕ) → Option Difference → Site
+difference_site path None = File path
+difference_site path (Some difference) = Differing path difference

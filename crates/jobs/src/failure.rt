@@ -42,6 +42,9 @@ pub enum Failure {
     /// A word is no address with a port.
     #[error("a word is no address with a port")]
     Address,
+    /// A word is no address.
+    #[error("a word is no address")]
+    Client,
     /// An address could not be listened on.
     #[error("{0}")]
     Listen(ListenFault),
@@ -63,6 +66,9 @@ pub enum Failure {
     /// A word is no want, or the plan is outside the reader's limits.
     #[error("{0}")]
     Want(ReaderFault),
+    /// The server ended the connection before it had answered HELLO.
+    #[error("the connection ended before HELLO was answered; perhaps the server has max_connections clients already")]
+    Unanswered,
     /// Not all that was asked for was read.
     #[error("{0}")]
     Packets(ListingFault),
@@ -86,12 +92,14 @@ impl Failure {
             Failure::Check(fault) => fault.report(),
             Failure::Records(fault) => fault.report(),
             Failure::Address => Report::new(11, "Address"),
+            Failure::Client => Report::new(11, "Address"),
             Failure::Listen(fault) => fault.report(),
             Failure::Connect => Report::new(47, "Connect"),
             Failure::Reload(fault) => fault.report(),
             Failure::Serve(fault) => fault.report(),
             Failure::Send(fault) => fault.report(),
             Failure::Untaken => Report::new(43, "Write"),
+            Failure::Unanswered => Report::new(42, "Read"),
             Failure::Want(fault) => fault.report(),
             Failure::Packets(fault) => fault.report(),
             Failure::Numbers(fault) => fault.report(),

@@ -2,10 +2,13 @@
 //! the system takes.
 use crate::failure::Failure;
 use crate::incident::{Incident, Site};
+use crate::reasons::ReasonKeeper;
 use crate::replaying::replay;
-use catalog::Config;
+use catalog::{Config, ConfigError};
+use config_findings::{Finding, finding_of};
 use record_listing::check_records;
 use sl_io::{Outer, ReadFault, read_all};
+use std::alloc::Global;
 use std::rt::Files;
 use std::{fs, io};
 
@@ -14,12 +17,15 @@ pub fn check_file<'a, R: Files + Print + AllocGlobal>(
     rt: &R,
     path: &'a str,
 ) -> Result<(), Incident<'a>> {
-    let mut file = Outer::new(open(rt, path)?);
+    let mut file = Outer::new(ReasonKeeper::new(open(rt, path)?));
     let mut out = Outer::new(io::writer(rt));
     match check_records(rt.alloc(), &mut file, &mut out) {
         Ok(None) => Ok(()),
         Ok(Some(finding)) => Err(Incident::of_records(path, finding)),
-        Err(fault) => Err(Failure::Check(fault).in_file(path)),
+        Err(fault) => {
+            let incident = Failure::Check(fault).in_file(path);
+            Err(incident.at_input(path, file.into_inner().into_reason()))
+        }
     }
 }
 
@@ -30,11 +36,14 @@ pub fn replay_files<'a, R: Files + Print + AllocGlobal>(
     script: &'a str,
 ) -> Result<(), Incident<'a>> {
     let config = config_at(rt, config)?;
-    let mut file = Outer::new(open(rt, script)?);
+    let mut file = Outer::new(ReasonKeeper::new(open(rt, script)?));
     let mut out = Outer::new(io::writer(rt));
     match replay(rt.alloc(), config, &mut file, &mut out) {
         Ok(()) => Ok(()),
-        Err(fault) => Err(Failure::Replay(fault).in_file(script)),
+        Err(fault) => {
+            let incident = Failure::Replay(fault).in_file(script);
+            Err(incident.at_input(script, file.into_inner().into_reason()))
+        }
     }
 }
 
@@ -43,16 +52,41 @@ pub fn config_at<'a, R: Files + AllocGlobal>(
     rt: &R,
     path: &'a str,
 ) -> Result<Config, Incident<'a>> {
-    let mut file = Outer::new(open(rt, path)?);
-    let text = match read_all(rt.alloc(), &mut file) {
+    let text = match text_at(rt, path) {
         Ok(text) => text,
-        Err(ReadFault::OutOfMemory) => return Err(Failure::OutOfMemory.in_file(path)),
-        Err(ReadFault::Read) => return Err(Failure::File.in_file(path)),
+        Err(incident) => return Err(incident),
     };
-    match Config::read_by_steps(rt.alloc(), text.as_slice()) {
-        Ok(config) => Ok(config),
-        Err(error) => Err(Incident::of_config(path, error)),
+    config_in(rt.alloc(), path, text.as_slice())
+}
+
+/// The text of a configuration's file.
+pub fn text_at<'a, R: Files + AllocGlobal>(rt: &R, path: &'a str) -> Result<Vec<u8>, Incident<'a>> {
+    let mut file = Outer::new(ReasonKeeper::new(open(rt, path)?));
+    match read_all(rt.alloc(), &mut file) {
+        Ok(text) => Ok(text),
+        Err(ReadFault::OutOfMemory) => Err(Failure::OutOfMemory.in_file(path)),
+        Err(ReadFault::Read) => {
+            let incident = Failure::File.in_file(path);
+            Err(incident.at_input(path, file.into_inner().into_reason()))
+        }
     }
+}
+
+/// The configuration that the text of a file spells.
+pub fn config_in<'a>(alloc: Global, path: &'a str, text: &[u8]) -> Result<Config, Incident<'a>> {
+    match Config::read_by_steps(alloc, text) {
+        Ok(config) => Ok(config),
+        Err(error) => Err(refused(alloc, path, text, error)),
+    }
+}
+
+/// A configuration that is refused, and what is found where it is. Without memory that is nothing.
+fn refused<'a>(alloc: Global, path: &'a str, text: &[u8], error: ConfigError) -> Incident<'a> {
+    let finding = match finding_of(alloc, text, &error) {
+        Ok(finding) => finding,
+        Err(_) => Finding::Nothing,
+    };
+    Incident::of_config(path, error, finding)
 }
 
 /// A file that is opened to be read.

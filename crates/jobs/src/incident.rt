@@ -1,17 +1,20 @@
 //! A failure, and where it happened.
 ghost use Rattle.std.specs.Prelude.{◌≡◌};
-ghost use Rattle.jobs.specs.Sites.{config_site, feed_site, file_site, is_memory, is_output, listening_site};
-ghost use Rattle.jobs.specs.Sites.{output_site, server_site, want_site, word_site};
+ghost use Rattle.jobs.specs.Sites.{config_site, difference_site, feed_site, file_site, input_site, is_memory};
+ghost use Rattle.jobs.specs.Sites.{is_output};
+ghost use Rattle.jobs.specs.Sites.{listening_site, output_site, server_site, want_site, word_site};
 ghost use Rattle.socket_ports.specs.Faults.{fault_of};
+ghost use Rattle.jobs.specs.Faults.{failure_number};
 ghost use Rattle.jobs.specs.declared.failure.Failure.TheVariants.{Config, Listen, Records, Want as WantFailure};
 ghost use Rattle.jobs.specs.declared.incident.Site.TheVariants.{Record};
 
 use crate::failure::Failure;
 use crate::faults::ReplayFault;
 use crate::part_texts::{allowed_in, name_of};
-use crate::setting_texts::{key_of, limit_of};
 use catalog::{ConfigError, ConfigFault, Step};
+use config_findings::{Difference, Finding as ConfigFinding, key_of, limit_of};
 use record_listing::Finding;
+use server_core::ReloadFault;
 use slreader::{ReaderFault, Want, WantPart};
 use socket_ports::ListenError;
 use std::fmt::{self, Display, Formatter, Write};
@@ -24,12 +27,16 @@ pub enum Site<'a> {
     Unnamed,
     /// A file that was read.
     File(&'a str),
-    /// A step of the reading of a configuration's file.
-    Setting(&'a str, ConfigError),
+    /// A step of the reading of a configuration's file, and what is found there.
+    Setting(&'a str, ConfigError, ConfigFinding),
+    /// The first difference of a configuration's file from what is in force.
+    Differing(&'a str, Difference),
     /// A record of a file, or what is left over after its last one.
     Record(&'a str, Finding),
     /// A file that could not be opened, for the system's reason.
     Unopened(&'a str, io::Error),
+    /// A file that could not be read to its end, for the system's reason.
+    Unread(&'a str, io::Error),
     /// A file that took no more, for the system's reason.
     Unwritten(&'a str, io::Error),
     /// A word of the command line that is no address.
@@ -132,17 +139,32 @@ impl Failure {
 }
 
 impl<'a> Incident<'a> {
-    /// A configuration in a file that is refused.
-    pub fn of_config(path: &'a str, error: ConfigError) -> Incident<'a>
+    /// A configuration in a file that is refused, and what is found where it is.
+    pub fn of_config(path: &'a str, error: ConfigError, finding: ConfigFinding) -> Incident<'a>
         ensures failure { result.failure ≡ Config error.fault }
-        ensures site { result.site ≡ config_site path.entry error }
+        ensures site { result.site ≡ config_site path.entry error finding }
     {
         let failure = Failure::Config(error.fault);
         let site = match error.fault {
             ConfigFault::OutOfMemory => Site::Unnamed,
-            _ => Site::Setting(path, error),
+            _ => Site::Setting(path, error, finding),
         };
         Incident { failure, site }
+    }
+
+    /// A configuration in a file that differs in more than its access lists, and in what first, if that is known.
+    pub fn of_difference(path: &'a str, difference: Option<Difference>) -> Incident<'a>
+        ensures failure { failure_number result.failure ≡ 34 }
+        ensures site { result.site ≡ difference_site path.entry difference }
+    {
+        let site = match difference {
+            Some(difference) => Site::Differing(path, difference),
+            None => Site::File(path),
+        };
+        Incident {
+            failure: Failure::Reload(ReloadFault),
+            site,
+        }
     }
 
     /// A word of the command line that is no want.
@@ -189,6 +211,21 @@ impl<'a> Incident<'a> {
         }
     }
 
+    /// It, in a job that reads a file: at the file, if that could not be read for a reason of the system's.
+    pub fn at_input(self, path: &'a str, reason: Option<io::Error>) -> Incident<'a>
+        ensures failure { result.failure ≡ self.entry.failure }
+        ensures site { result.site ≡ input_site path.entry reason self.entry.site }
+    {
+        let Incident { failure, site } = self;
+        match reason {
+            Some(reason) => Incident {
+                failure,
+                site: Site::Unread(path, reason),
+            },
+            None => Incident { failure, site },
+        }
+    }
+
     /// A file of records in which something is wrong.
     pub fn of_records(path: &'a str, finding: Finding) -> Incident<'a>
         ensures failure { result.failure ≡ Records finding.fault }
@@ -217,6 +254,10 @@ impl Display for Incident<'_> {
         write!(f, "{}", self.site)?;
         match self.failure {
             Failure::Replay(ReplayFault::Script(line)) => writeln!(f, "  line: {line}"),
+            Failure::Address => f.write_str(
+                "  allowed: an address and a port, as 127.0.0.1:18000\n",
+            ),
+            Failure::Client => f.write_str("  allowed: four numbers joined by dots, as 10.0.0.7\n"),
             _ => Ok(()),
         }
     }
@@ -228,18 +269,26 @@ impl Display for Site<'_> {
         match self {
             Site::Unnamed => Ok(()),
             Site::File(path) => writeln!(f, "  file: {path}"),
-            Site::Setting(path, error) => {
+            Site::Setting(path, error, finding) => {
                 writeln!(f, "  file: {path}")?;
-                put_setting(f, error)
+                put_key(f, error.step, &error.network, &error.code)?;
+                write!(f, "{finding}")?;
+                writeln!(f, "  allowed: {}", limit_of(error.step))
+            }
+            Site::Differing(path, difference) => {
+                writeln!(f, "  file: {path}")?;
+                put_key(f, difference.step, &difference.network, &difference.code)?;
+                writeln!(f, "  in force: {}", difference.in_force)?;
+                writeln!(f, "  in the file: {}", difference.in_file)
             }
             Site::Record(path, finding) => {
                 writeln!(f, "  file: {path}")?;
                 writeln!(f, "  record: {}", finding.number)?;
                 writeln!(f, "  offset: {}", finding.offset)
             }
-            Site::Unopened(path, reason) | Site::Unwritten(path, reason) => {
-                writeln!(f, "  file: {path}\n  reason: {reason}")
-            }
+            Site::Unopened(path, reason)
+            | Site::Unread(path, reason)
+            | Site::Unwritten(path, reason) => { writeln!(f, "  file: {path}\n  reason: {reason}") }
             Site::Word(word) => writeln!(f, "  word: {word}"),
             Site::Want(word, part) => {
                 writeln!(f, "  word: {word}")?;
@@ -254,22 +303,26 @@ impl Display for Site<'_> {
     }
 }
 
-/// The lines that say at which station and key a configuration is refused, and what is allowed there.
-fn put_setting<W: Write>(f: &mut Formatter<W>, error: &ConfigError) -> fmt::Result {
-    match error.step {
+/// The lines that say which station and key a step reads.
+fn put_key<W: Write>(
+    f: &mut Formatter<W>,
+    step: Step,
+    network: &Option<Vec<u8>>,
+    code: &Option<Vec<u8>>,
+) -> fmt::Result {
+    match step {
         Step::Station(place, _) => {
             write!(f, "  station: {}", place as u128 + 1)?;
-            put_code(f, &error.network)?;
-            put_code(f, &error.code)?;
+            put_code(f, network)?;
+            put_code(f, code)?;
             writeln!(f, "")?;
         }
         _ => {}
     }
-    match key_of(error.step) {
-        Some(key) => writeln!(f, "  key: {key}")?,
-        None => {}
+    match key_of(step) {
+        Some(key) => writeln!(f, "  key: {key}"),
+        None => Ok(()),
     }
-    writeln!(f, "  allowed: {}", limit_of(error.step))
 }
 
 /// The lines that say which part of a want is wrong, and what is allowed there.

@@ -1,4 +1,7 @@
 //! Jobs over sockets.
+ghost use Rattle.std.specs.Prelude.{◌≡◌};
+ghost use Rattle.jobs.specs.Faults.{unlisted};
+
 use crate::endpoint::Endpoint;
 use crate::failure::Failure;
 use crate::feeding::{SentFeed, send_feed};
@@ -6,11 +9,11 @@ use crate::files::{config_at, open, unopened};
 use crate::incident::{Incident, Site};
 use crate::numbers::NumberFile;
 use crate::operator::{ServeOptions, serve_by};
-use crate::output_file::ReasonKeeper;
+use crate::reasons::{AnswerCounter, ReasonKeeper};
 use crate::standard_error::StandardError as Eprinted;
 use catalog::Config;
 use error_lines::StandardError;
-use packet_listing::{Nowhere, read_over};
+use packet_listing::{ListingFault, Nowhere, read_over};
 use sl_io::{Outer, Sink};
 use slreader::{Plan, Want};
 use socket_ports::MioPorts;
@@ -115,11 +118,14 @@ pub fn send_file<'a, R: Files + Net>(
     path: &'a str,
 ) -> Result<SentFeed<R::Stream>, Incident<'a>> {
     let server = server_of(server)?;
-    let mut file = Outer::new(open(rt, path)?);
+    let mut file = Outer::new(ReasonKeeper::new(open(rt, path)?));
     let stream = connection(rt, server)?;
     match send_feed(stream, &mut file) {
         Ok(feed) => Ok(feed),
-        Err(failure) => Err(failure.in_feed(path, server.word)),
+        Err(failure) => {
+            let incident = failure.in_feed(path, server.word);
+            Err(incident.at_input(path, file.into_inner().into_reason()))
+        }
     }
 }
 
@@ -194,11 +200,24 @@ fn list<'a, R: Net + AllocGlobal, O: Sink, P: Sink>(
         Ok(other) => other,
         Err(reason) => return Err(unconnected(server, reason)),
     };
-    let mut reader = Outer::new(stream);
+    let mut reader = Outer::new(AnswerCounter::new(stream));
     let mut writer = Outer::new(other);
     match read_over(rt.alloc(), plan, &mut reader, &mut writer, out, records) {
         Ok(_) => Ok(()),
-        Err(fault) => Err(Failure::Packets(fault).at_server(server.word)),
+        Err(fault) => {
+            let failure = unlisted(fault, reader.into_inner().is_answered());
+            Err(failure.at_server(server.word))
+        }
+    }
+}
+
+/// Why packets were not listed to the end, by whether HELLO was answered before.
+fn unlisted(fault: ListingFault, is_answered: bool) -> Failure
+    ensures { result ≡ unlisted fault is_answered }
+{
+    match fault {
+        ListingFault::Read if !is_answered => Failure::Unanswered,
+        _ => Failure::Packets(fault),
     }
 }
 

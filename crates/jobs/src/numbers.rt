@@ -29,7 +29,8 @@ pub struct NumberFile<'a> {
 }
 
 impl<'a> NumberFile<'a> {
-    /// Reads a file of numbers, and has the stations of a configuration begin with them. One that is not there has none.
+    /// Reads a file of numbers, and has the stations of a configuration begin with them. One that is not there has
+    /// none.
     pub fn open<R: Files + AllocGlobal>(
         rt: &R,
         path: &'a str,

@@ -11,10 +11,10 @@ use crate::files::config_at;
 use crate::incident::{Incident, Site};
 use crate::numbers::NumberFile;
 use catalog::Config;
+use config_findings::{Difference, first_difference};
 use error_lines::{Device, ErrorLines, Line};
 use ports::Ports;
 use protocol::report::Report;
-use server_core::ReloadFault;
 use serving::{Activity, Ahead, Between, Refusal, ServeFault, Timetable, serve_between};
 use std::fmt::Write;
 use std::rt::Files;
@@ -43,6 +43,10 @@ pub struct Operator<'r, 'a, R, D> {
     unkept: Site<'a>,
     is_verbose: bool,
     errors: ErrorLines<D>,
+    /// The configuration that the server began with.
+    begun: Config,
+    /// What the configuration that was read last differs in first, but for access lists.
+    difference: Option<Difference>,
 }
 
 impl<'r, 'a, R, D: Device> Operator<'r, 'a, R, D> {
@@ -77,6 +81,10 @@ impl<'r, 'a, R: Files + AllocGlobal, D: Device> Between for Operator<'r, 'a, R, 
         if let Some(file) = &self.numbers {
             file.begin(&mut config);
         }
+        self.difference = match first_difference(self.rt.alloc(), &self.begun, &config) {
+            Ok(difference) => difference,
+            Err(_) => None,
+        };
         Ok(config)
     }
 
@@ -85,7 +93,10 @@ impl<'r, 'a, R: Files + AllocGlobal, D: Device> Between for Operator<'r, 'a, R, 
     {
         match refusal {
             Refusal::Unread(incident) => self.tell(&incident),
-            Refusal::Different => self.tell(&Failure::Reload(ReloadFault).in_file(self.path)),
+            Refusal::Different => {
+                let incident = Incident::of_difference(self.path, self.difference.take());
+                self.tell(&incident);
+            }
             Refusal::Unkept(incident) => {
                 if self.has_kept {
                     self.tell(&incident);
@@ -128,6 +139,12 @@ pub fn serve_by<'a, R: Files + AllocGlobal, P: Ports + Drop, D: Device + Drop>(
     ensures ended { IfErr result (λ incident. incident.failure ≡ Serve Poll →
         EndedByFile options.entry.timetable config (P.calls ports)) }
 {
+    let Ok(begun) = config.copy(rt.alloc()) else {
+        return Err(Incident {
+            failure: Failure::Serve(ServeFault::OutOfMemory),
+            site: Site::Unnamed,
+        });
+    };
     let mut operator = Operator {
         rt,
         path: options.path,
@@ -136,6 +153,8 @@ pub fn serve_by<'a, R: Files + AllocGlobal, P: Ports + Drop, D: Device + Drop>(
         unkept: Site::Unnamed,
         is_verbose: options.is_verbose,
         errors: ErrorLines::new(device),
+        begun,
+        difference: None,
     };
     match serve_between(rt.alloc(), config, ports, &mut operator, options.timetable) {
         Ok(ports) => Ok(ports),

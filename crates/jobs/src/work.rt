@@ -3,6 +3,7 @@ use crate::files::{check_file, replay_files};
 use crate::incident::Incident;
 use crate::network::{feed_file, read_server, serve_sockets};
 use crate::operator::ServeOptions;
+use crate::viewing::view_file;
 use command_line::Job;
 use serving::{KEEP_EVERY, Timetable};
 use std::net::Net;
@@ -21,6 +22,7 @@ where
     match job {
         Job::Check { file } => check_file(rt, file),
         Job::Replay { config, script } => replay_files(rt, config, script),
+        Job::View { config, address } => view_file(rt, config, address),
         Job::Serve {
             config,
             listen,

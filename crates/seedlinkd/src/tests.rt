@@ -3,4 +3,5 @@ mod endpoints;
 mod explained;
 mod replays;
 mod scripts;
+mod views;
 mod words;

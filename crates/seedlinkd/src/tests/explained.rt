@@ -2,6 +2,7 @@
 use super::replays::config;
 use catalog::Config;
 use command_line::Job;
+use config_findings::{finding_of, first_difference};
 use jobs::{Failure, Incident, replay, run_job};
 use record_listing::check_records;
 use sl_io::{MemorySink, MemorySource};
@@ -20,7 +21,8 @@ static STATIONS: [(&str, &str); 12] = [
     ),
     (
         "[[station]]\nnetwork = \"XX\"\ncode = \"APE\"\ndescription = \"\"\ncapacity = \"4\"\n",
-        "  station: 2 XX APE\n  key: capacity\n  allowed: a whole number from 1 to 65536\n",
+        "  station: 2 XX APE\n  key: capacity\n  found: a text\n  wanted: a whole number\n  \
+            allowed: a whole number from 1 to 65536\n",
     ),
     (
         "[[station]]\nnetwork = \"ge\"\n",
@@ -28,7 +30,8 @@ static STATIONS: [(&str, &str); 12] = [
     ),
     (
         "[[station]]\ncode = \"APE\"\n",
-        "  station: 2\n  key: network\n  allowed: 1 to 2 of A to Z and 0 to 9\n",
+        "  station: 2\n  key: network\n  found: nothing\n  wanted: a text\n  \
+            allowed: 1 to 2 of A to Z and 0 to 9\n",
     ),
     (
         "[[station]]\nnetwork = \"XX\"\ncode = \"SIXSIX\"\n",
@@ -36,16 +39,22 @@ static STATIONS: [(&str, &str); 12] = [
     ),
     (
         "[[station]]\nnetwork = \"XX\"\ncode = \"APE\"\n",
-        "  station: 2 XX APE\n  key: description\n  allowed: at most 60 bytes of printable ASCII\n",
+        "  station: 2 XX APE\n  key: description\n  found: nothing\n  wanted: a text\n  \
+            allowed: at most 60 bytes of printable ASCII\n",
     ),
     (
         "first = \"0000000\"\n",
         "  station: 1 GE APE\n  key: first\n  allowed: 1 to 6 hexadecimal digits\n",
     ),
     (
-        "access = \"10.0.0/8\"\n",
-        "  station: 1 GE APE\n  key: access\n  \
-            allowed: addresses and masks, separated by spaces and commas\n",
+        "access = \"10.0.0.7,, 10.0.0/8 10.0.0\"\n",
+        "  station: 1 GE APE\n  key: access\n  entry: 10.0.0/8\n  \
+            allowed: addresses and masks, separated by spaces and commas, as 10.0.0.7, 10.0.0.0/8\n",
+    ),
+    (
+        "access = [\"10.0.0.7\"]\n",
+        "  station: 1 GE APE\n  key: access\n  found: an array\n  wanted: a text\n  \
+            allowed: addresses and masks, separated by spaces and commas, as 10.0.0.7, 10.0.0.0/8\n",
     ),
     (
         "[[station]]\nnetwork = \"GE\"\ncode = \"APE\"\ndescription = \"\"\ncapacity = 3\n",
@@ -60,16 +69,16 @@ static STATIONS: [(&str, &str); 12] = [
     (
         "[[station]]\nnetwork = \"XX\"\ncode = \"B\"\ndescription = \"\"\ncapacity = 1\n\
             [[station]]\nnetwork = 4\n",
-        "  station: 3\n  key: network\n  allowed: 1 to 2 of A to Z and 0 to 9\n",
+        "  station: 3\n  key: network\n  found: a whole number\n  wanted: a text\n  \
+            allowed: 1 to 2 of A to Z and 0 to 9\n",
     ),
-    ("title = \n", "  allowed: TOML in UTF-8\n"),
 ];
 
 /// Configurations whose own keys are refused, and the lines after the file's.
-static SERVERS: [(&str, &str); 6] = [
+static SERVERS: [(&str, &str); 7] = [
     (
         "",
-        "  key: title\n  allowed: 1 to 100 bytes of printable ASCII\n",
+        "  key: title\n  found: nothing\n  wanted: a text\n  allowed: 1 to 100 bytes of printable ASCII\n",
     ),
     (
         "title = \"\"",
@@ -77,7 +86,8 @@ static SERVERS: [(&str, &str); 6] = [
     ),
     (
         "title = \"T\"\naccess = \"10.0.0.0/33\"",
-        "  key: access\n  allowed: addresses and masks, separated by spaces and commas\n",
+        "  key: access\n  entry: 10.0.0.0/33\n  \
+            allowed: addresses and masks, separated by spaces and commas, as 10.0.0.7, 10.0.0.0/8\n",
     ),
     (
         "title = \"T\"\nmax_connections = 10001",
@@ -85,23 +95,96 @@ static SERVERS: [(&str, &str); 6] = [
     ),
     (
         "title = \"T\"",
-        "  key: station\n  allowed: 1 to 1024 tables\n",
+        "  key: station\n  found: nothing\n  wanted: an array of tables, each under [[station]]\n  \
+            allowed: 1 to 1024 tables\n",
     ),
     (
         "title = \"T\"\nstation = [4]",
-        "  key: station\n  allowed: 1 to 1024 tables\n",
+        "  key: station\n  found: an array\n  wanted: an array of tables, each under [[station]]\n  \
+            allowed: 1 to 1024 tables\n",
+    ),
+    (
+        "title = \"T\"\n[station]\nnetwork = \"GE\"",
+        "  key: station\n  found: a table\n  wanted: an array of tables, each under [[station]]\n  \
+            allowed: 1 to 1024 tables\n",
     ),
 ];
 
 /// The lines that explain why a configuration is refused, after the first.
-fn refusal(alloc: Global, text: &str) -> Result<String, Fail> {
-    match Config::read_by_steps(alloc, text.as_bytes()) {
+fn refusal(alloc: Global, text: &[u8]) -> Result<String, Fail> {
+    match Config::read_by_steps(alloc, text) {
         Ok(_) => Ok(String::new(alloc)),
         Err(error) => {
-            let incident = Incident::of_config("island.toml", error);
+            let finding = finding_of(alloc, text, &error)?;
+            let incident = Incident::of_config("island.toml", error, finding);
             Ok(format!(in alloc; "{}", incident.site)?)
         }
     }
+}
+
+#[test]
+fn a_text_that_is_not_toml(rt: HostRuntime) -> Result<(), Fail> {
+    let text = format!(in rt.alloc(); "{ISLAND}title = \ncode = 3\n")?;
+    let told = refusal(rt.alloc(), text.as_bytes())?;
+    assert!(rt;
+        told.as_str()
+            .starts_with("  file: island.toml\n  line: 7\n  column: 9\n  reason: "),
+        "{told}"
+    );
+    assert!(rt;
+        told.as_str()
+            .ends_with("\n  text: title = \n  allowed: TOML in UTF-8\n"),
+        "{told}"
+    );
+    Ok(())
+}
+
+#[test]
+fn a_text_that_is_not_utf8(rt: HostRuntime) -> Result<(), Fail> {
+    let told = refusal(rt.alloc(), b"title = \"\xC3\xA9\xFF\"\n")?;
+    assert!(rt;
+        told.as_str() == "  file: island.toml\n  offset: 11\n  allowed: TOML in UTF-8\n",
+        "{told}"
+    );
+    Ok(())
+}
+
+/// What stands in another configuration after its title, in place of ISLAND's station, and the lines that say in what
+/// it differs first, after the file's.
+static OTHERS: [(&str, &str); 4] = [
+    (
+        "[[station]]\nnetwork = \"GE\"\ncode = \"APE\"\ndescription = \"\"\ncapacity = 4\nfirst = \"A\"\n",
+        "  station: 1 GE APE\n  key: capacity\n  in force: 3\n  in the file: 4\n",
+    ),
+    (
+        "[[station]]\nnetwork = \"GE\"\ncode = \"APE\"\ndescription = \"\"\ncapacity = 3\nfirst = \"a\"\n",
+        "  station: 1 GE APE\n  key: first\n  in force: 000000\n  in the file: 00000A\n",
+    ),
+    (
+        "max_connections = 7\n[[station]]\nnetwork = \"XX\"\ncode = \"APE\"\ndescription = \"\"\ncapacity = 3\n",
+        "  key: max_connections\n  in force: 100\n  in the file: 7\n",
+    ),
+    (
+        "[[station]]\nnetwork = \"GE\"\ncode = \"APE\"\ndescription = \"\"\ncapacity = 3\n\
+            [[station]]\nnetwork = \"XX\"\ncode = \"APE\"\ndescription = \"\"\ncapacity = 3\n",
+        "  key: station\n  in force: 1\n  in the file: 2\n",
+    ),
+];
+
+#[test]
+fn a_configuration_that_differs(rt: HostRuntime) -> Result<(), Fail> {
+    let in_force = Config::read(rt.alloc(), ISLAND.as_bytes())?;
+    assert!(rt; first_difference(rt.alloc(), &in_force, &in_force)?.is_none());
+    for (behind, lines) in &OTHERS {
+        let text = format!(in rt.alloc(); "title = \"T\"\n{behind}")?;
+        let in_file = Config::read(rt.alloc(), text.as_bytes())?;
+        let difference = first_difference(rt.alloc(), &in_force, &in_file)?;
+        let incident = Incident::of_difference("island.toml", difference);
+        let told = format!(in rt.alloc(); "{}", incident.site)?;
+        let wanted = format!(in rt.alloc(); "  file: island.toml\n{lines}")?;
+        assert!(rt; told == wanted, "at {behind}: {told}");
+    }
+    Ok(())
 }
 
 #[test]
@@ -109,7 +192,7 @@ fn a_station_that_is_refused(rt: HostRuntime) -> Result<(), Fail> {
     for (behind, lines) in &STATIONS {
         let text = format!(in rt.alloc(); "{ISLAND}{behind}")?;
         let wanted = format!(in rt.alloc(); "  file: island.toml\n{lines}")?;
-        let told = refusal(rt.alloc(), text.as_str())?;
+        let told = refusal(rt.alloc(), text.as_bytes())?;
         assert!(rt; told == wanted, "at {behind}: {told}");
     }
     Ok(())
@@ -119,7 +202,7 @@ fn a_station_that_is_refused(rt: HostRuntime) -> Result<(), Fail> {
 fn a_key_of_the_server_that_is_refused(rt: HostRuntime) -> Result<(), Fail> {
     for (text, lines) in &SERVERS {
         let wanted = format!(in rt.alloc(); "  file: island.toml\n{lines}")?;
-        let told = refusal(rt.alloc(), text)?;
+        let told = refusal(rt.alloc(), text.as_bytes())?;
         assert!(rt; told == wanted, "at {text}: {told}");
     }
     Ok(())
@@ -216,6 +299,20 @@ fn a_file_that_is_not_there(rt: HostRuntime) -> Result<(), Fail> {
 }
 
 #[test]
+fn a_folder_in_place_of_a_file(rt: HostRuntime) -> Result<(), Fail> {
+    let lines = "  file: /\n  reason: Is a directory (os error 21)\n";
+    let told = unfinished(&rt, Job::Check { file: "/" })?;
+    assert!(rt; told.as_str().ends_with(lines), "{told}");
+    let replay = Job::Replay {
+        config: "/",
+        script: "nor.this",
+    };
+    let told = unfinished(&rt, replay)?;
+    assert!(rt; told.as_str().ends_with(lines), "{told}");
+    Ok(())
+}
+
+#[test]
 fn a_word_that_is_refused(rt: HostRuntime) -> Result<(), Fail> {
     let feed = Job::Feed {
         server: "localhost:18001",
@@ -223,7 +320,8 @@ fn a_word_that_is_refused(rt: HostRuntime) -> Result<(), Fail> {
     };
     assert!(rt;
         unfinished(&rt, feed)?.as_str()
-            == "  cause: a word is no address with a port\n  word: localhost:18001\n"
+            == "  cause: a word is no address with a port\n  word: localhost:18001\n  \
+                allowed: an address and a port, as 127.0.0.1:18000\n"
     );
     Ok(())
 }
@@ -261,7 +359,9 @@ fn a_want_that_is_refused(rt: HostRuntime) -> Result<(), Fail> {
             fetch: true,
             output: None,
         };
-        let wanted = format!(in rt.alloc(); "  cause: this can't be asked for in SeedLink\n{lines}")?;
+        let wanted = format!(in rt.alloc();
+            "  cause: this can't be asked for in SeedLink\n{lines}"
+        )?;
         assert!(rt; unfinished(&rt, read)?.as_str() == wanted.as_str());
     }
     Ok(())

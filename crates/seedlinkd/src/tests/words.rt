@@ -51,6 +51,27 @@ fn check_has_one_text(rt: HostRuntime) -> Result<(), Fail> {
 }
 
 #[test]
+fn view_may_have_an_address(rt: HostRuntime) -> Result<(), Fail> {
+    let words = strings(rt.alloc(), &["seedlinkd", "view", "c.toml"])?;
+    let job = read_words(rt.alloc(), words.as_slice())?.job;
+    assert!(rt;
+        job == Job::View {
+            config: "c.toml",
+            address: None,
+        }
+    );
+    let words = strings(rt.alloc(), &["seedlinkd", "view", "c.toml", "10.0.0.7"])?;
+    let job = read_words(rt.alloc(), words.as_slice())?.job;
+    assert!(rt;
+        job == Job::View {
+            config: "c.toml",
+            address: Some("10.0.0.7"),
+        }
+    );
+    Ok(())
+}
+
+#[test]
 fn serve_has_two_addresses_and_may_have_turns(rt: HostRuntime) -> Result<(), Fail> {
     let words = strings(
         rt.alloc(),

@@ -1,0 +1,97 @@
+//! Readers and writers of which the reason of a failure is kept.
+use std::io;
+use std::io::{Read, Write};
+
+/// Passes on what is read and written, and keeps why the last call that failed did.
+#[derive(Drop)]
+pub struct ReasonKeeper<T> {
+    inner: T,
+    reason: Option<io::Error>,
+}
+
+impl<T: Drop> ReasonKeeper<T> {
+    /// What is read from or written to `inner`, of which no call has failed yet.
+    pub fn new(inner: T) -> ReasonKeeper<T> {
+        ReasonKeeper {
+            inner,
+            reason: None,
+        }
+    }
+
+    /// Why the last call that failed did.
+    pub fn into_reason(self) -> Option<io::Error> {
+        self.reason
+    }
+}
+
+impl<T> ReasonKeeper<T> {
+    /// Keeps a reason, and answers an error of the same kind.
+    fn keep(&mut self, reason: io::Error) -> io::Error {
+        let kind = reason.kind();
+        self.reason = Some(reason);
+        io::Error::from(kind)
+    }
+}
+
+impl<T: Read> Read for ReasonKeeper<T> {
+    fn read(&mut self, block: &mut [u8]) -> io::Result<usize> {
+        match self.inner.read(block) {
+            Ok(count) => Ok(count),
+            Err(reason) => Err(self.keep(reason)),
+        }
+    }
+}
+
+impl<T: Write> Write for ReasonKeeper<T> {
+    fn write(&mut self, bytes: &[u8]) -> io::Result<usize> {
+        match self.inner.write(bytes) {
+            Ok(count) => Ok(count),
+            Err(reason) => Err(self.keep(reason)),
+        }
+    }
+
+    fn flush(&mut self) -> io::Result<()> {
+        self.inner.flush()
+    }
+}
+
+/// How many lines answer HELLO.
+const ANSWER: usize = 2;
+
+/// Passes on what is read, and counts the lines that end in it, as far as those that answer HELLO.
+#[derive(Drop)]
+pub struct AnswerCounter<T> {
+    inner: T,
+    lines: usize,
+}
+
+impl<T> AnswerCounter<T> {
+    /// What is read from `inner`, of which no line has come yet.
+    pub fn new(inner: T) -> AnswerCounter<T> {
+        AnswerCounter { inner, lines: 0 }
+    }
+
+    /// Whether both lines came that answer HELLO.
+    pub fn is_answered(&self) -> bool {
+        self.lines >= ANSWER
+    }
+
+    /// Counts the lines that end in a piece.
+    fn count(&mut self, piece: &[u8]) {
+        for byte in piece {
+            if *byte == b'\n' && self.lines < ANSWER {
+                self.lines += 1;
+            }
+        }
+    }
+}
+
+impl<T: Read> Read for AnswerCounter<T> {
+    fn read(&mut self, block: &mut [u8]) -> io::Result<usize> {
+        let count = self.inner.read(block)?;
+        if !self.is_answered() {
+            self.count(&block[..count]);
+        }
+        Ok(count)
+    }
+}

@@ -1,0 +1,66 @@
+//! Who may see what.
+use catalog::Config;
+use jobs::{list_holders, list_seen};
+use sl_io::MemorySink;
+use std::alloc::Global;
+use std::net::Ipv4Addr;
+use std::test::Fail;
+use test_centre::CENTRE;
+
+/// Lists of a server and of its first station, and what its line says of whom they admit.
+static LISTS: [(&str, &str, &str); 6] = [
+    ("", "", "GE APE -\n"),
+    ("access = \"10.0.0.7\"\n", "", "GE APE 10.0.0.7\n"),
+    (
+        "access = \"10.0.0.7\"\n",
+        "access = \"\"\n",
+        "GE APE nobody\n",
+    ),
+    ("", "access = \" , ,\"\n", "GE APE nobody\n"),
+    (
+        "access = \"\"\n",
+        "access = \"10.0.0.0/8,,  192.0.2.1 ,0.0.0.0/0\"\n",
+        "GE APE 10.0.0.0/8 192.0.2.1 0.0.0.0/0\n",
+    ),
+    ("access = \"\"\n", "", "GE APE nobody\n"),
+];
+
+/// What an address sees.
+fn seen(alloc: Global, address: Ipv4Addr) -> Result<MemorySink, Fail> {
+    let config = Config::read(alloc, CENTRE)?;
+    let mut sink = MemorySink::new(alloc);
+    list_seen(alloc, &config, address, &mut sink)?;
+    Ok(sink)
+}
+
+#[test]
+fn an_address_sees_its_stations(rt: HostRuntime) -> Result<(), Fail> {
+    let inside = seen(rt.alloc(), Ipv4Addr::new(10, 0, 0, 7))?;
+    assert!(rt; inside.bytes() == b"GE APE   Island\nGE WLF   Forest\nXX APE   Vault\n".as_slice());
+    let outside = seen(rt.alloc(), Ipv4Addr::new(172, 16, 0, 9))?;
+    assert!(rt; outside.bytes() == b"GE WLF   Forest\nXX APE   Vault\n".as_slice());
+    Ok(())
+}
+
+/// The lines of who may use which station.
+fn holders(alloc: Global, text: &[u8]) -> Result<MemorySink, Fail> {
+    let config = Config::read(alloc, text)?;
+    let mut sink = MemorySink::new(alloc);
+    list_holders(alloc, &config, text, &mut sink)?;
+    Ok(sink)
+}
+
+#[test]
+fn a_station_has_its_list(rt: HostRuntime) -> Result<(), Fail> {
+    let lines = holders(rt.alloc(), CENTRE)?;
+    assert!(rt; lines.bytes() == b"GE APE 10.0.0.0/8\nGE WLF -\nXX APE -\n".as_slice());
+    for (server, station, line) in &LISTS {
+        let text = format!(in rt.alloc();
+            "title = \"T\"\n{server}[[station]]\nnetwork = \"GE\"\ncode = \"APE\"\n\
+                description = \"\"\ncapacity = 3\n{station}"
+        )?;
+        let lines = holders(rt.alloc(), text.as_bytes())?;
+        assert!(rt; lines.bytes() == line.as_bytes(), "at {server}{station}");
+    }
+    Ok(())
+}
