@@ -1,6 +1,7 @@
 -- The pass over a feed's port: its reads, and the records that become whole.
 -- The loop is this project's own.
-use Rattle.std.specs.Prelude.{◌≡◌, ℕ, zero, suc, ◌+◌, ◌-◌, ◌^◌, ◌<◌, ◌≤◌, ◌==◌, Bool, true, false, ◌&&◌, if◌then◌else◌, List}
+use Rattle.std.specs.Prelude.{◌≡◌, ℕ, zero, suc, ◌+◌, ◌-◌, ◌^◌, ◌<◌, ◌≤◌, ◌==◌, Bool, true, false, ◌&&◌, if◌then◌else◌}
+use Rattle.std.specs.Prelude.{List}
 use Rattle.std.specs.Prelude.{[], ◌∷◌, length, map, Option, Some, None, is_some}
 use Rattle.protocol.specs.Catalog.{Config}
 use Rattle.protocol.specs.Streams.{FeedRead, feed_from}

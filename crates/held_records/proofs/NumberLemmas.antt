@@ -1,6 +1,8 @@
 -- Held records by their numbers.
-use Rattle.std.proofs.Common.{◌≡◌, ℕ, ◌+◌, ◌-◌, ◌%◌, ◌≤◌, Bool, true, false, List, [], ◌∷◌, length, drop, slice_get, map}
-use Rattle.std.proofs.Common.{nat_le, Option, Some, None, option_map, find, zero, suc, refl, sym, ap, ◌∙◌, arith, length-drop}
+use Rattle.std.proofs.Common.{◌≡◌, ℕ, ◌+◌, ◌-◌, ◌%◌, ◌≤◌, Bool, true, false, List, [], ◌∷◌, length, drop, slice_get}
+use Rattle.std.proofs.Common.{map}
+use Rattle.std.proofs.Common.{nat_le, Option, Some, None, option_map, find, zero, suc, refl, sym, ap, ◌∙◌, arith}
+use Rattle.std.proofs.Common.{length-drop}
 use Rattle.std.specs.Prelude.{◌==◌}
 use Rattle.std.specs.Option.{option_and_then}
 use Rattle.std.proofs.lemmas.List.{take_all}

@@ -22,7 +22,8 @@ with_nexts-more (n ∷ ns) (next ∷ nexts) (suc i) inside =
     ap (λ l. record n { next = next } ∷ l) (with_nexts-more ns nexts i (omega (arith, inside)))
 
 -- the number at a place, by what stands there
-pub with_next-set : (ns : List Numbered) (i next : ℕ) (d n : Numbered) → i < length ns → n ≡ record (get_or ns i d) { next = next }
+pub with_next-set : (ns : List Numbered) (i next : ℕ) (d n : Numbered) → i < length ns
+    → n ≡ record (get_or ns i d) { next = next }
     → set ns i n ≡ with_next ns i next
 with_next-set [] i next d n inside is = absurd (omega (arith, inside))
 with_next-set (x ∷ ns) zero next d n inside is = ap (λ m. m ∷ ns) is

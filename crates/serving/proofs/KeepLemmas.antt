@@ -20,7 +20,8 @@ use Rattle.serving.specs.Asked.{Asked, Tells}
 use Rattle.serving.specs.Asked.Asked.{Configuration, Keeps, Refuses}
 use Rattle.serving.specs.Acts.{Act, all_events, config_then, world_then}
 use Rattle.serving.specs.Acts.Act.{Turning}
-use Rattle.serving.specs.Keeping.{AreAhead, BeginsTurn, IsAhead, Kept, KeepsAhead, just_kept, kept_by, kept_from, kept_with}
+use Rattle.serving.specs.Keeping.{AreAhead, BeginsTurn, IsAhead, Kept, KeepsAhead, just_kept, kept_by, kept_from}
+use Rattle.serving.specs.Keeping.{kept_with}
 use Rattle.serving.specs.Keeping.{nothing_kept}
 use Rattle.serving.specs.Keeping.BeginsTurn.{no_turn, of_made, of_failed}
 use Rattle.serving.specs.Runs.{KeepsIf, RereadsIf, Runs, Stops, refusals, reloads, reports_if, unkept}
@@ -201,7 +202,8 @@ module _ (config : Config) (every : ℕ) where
           kept = numbers_ahead config f.earlier;
           last = f.numbers;
           ahead = λ place inside.
-              subst (λ l. AheadAt config l (numbers_ahead config f.earlier) place) (sym is') (ahead-at config.entries f.earlier later' place within inside);
+              subst (λ l. AheadAt config l (numbers_ahead config f.earlier) place) (sym is')
+              (ahead-at config.entries f.earlier later' place within inside);
         }
       where
         in-room : (e l n m kept h h' every room : ℕ) → kept ≤ e + n * m → h ≤ kept + every → h' ≤ h + 1024
@@ -285,7 +287,8 @@ module _ {F : Type 0} (t : Timetable) (every : ℕ) (config : Config) (w : World
       (a b : Option (List (Asked F))) (stop : List Act) (ys : List (Asked F))
       → BringsAtMost 1024 (world_then config w acts)
       (world_beyond (config_then config acts) (world_then config w acts) deeds)
-      → Stops t done (config_then config (acts ++ Turning deeds ∷ [])) (world_then config w (acts ++ Turning deeds ∷ []))
+      → Stops t done (config_then config (acts ++ Turning deeds ∷ []))
+      (world_then config w (acts ++ Turning deeds ∷ []))
       v' kept a stop v'' kept' b
       → b ≡ Some ys
       → (xs : List (Asked F)) × (a ≡ Some xs)

@@ -1,5 +1,6 @@
 -- That what is kept stays ahead of what is given, at each moment of a run.
-use Rattle.std.specs.Prelude.{◌≡◌, ℕ, suc, ◌+◌, ◌*◌, ◌%◌, ◌<◌, ◌≤◌, List, [], ◌∷◌, ◌++◌, length, slice_index, Option, Some}
+use Rattle.std.specs.Prelude.{◌≡◌, ℕ, suc, ◌+◌, ◌*◌, ◌%◌, ◌<◌, ◌≤◌, List, [], ◌∷◌, ◌++◌, length, slice_index, Option}
+use Rattle.std.specs.Prelude.{Some}
 use Rattle.std.specs.Prelude.{None, Ok, Err}
 use Rattle.protocol.specs.Packet.{numbers}
 use Rattle.protocol.specs.Catalog.{Config}
@@ -74,8 +75,8 @@ pub data BeginsTurn (config : Config) (w : World) (v : LoopValue) (events : List
   of_failed : (v' : LoopValue) (more : List Event) (x : TurnFailed config 64 w v v') →
       events_in x.deeds ≡ events ++ more → BeginsTurn config w v events
 
--- At each moment of a run the numbers that were kept last are ahead of those that are given, if the first ones were kept
--- before it, and the keeps that failed since are few: at most one for 7,168 records.
+-- At each moment of a run the numbers that were kept last are ahead of those that are given, if the first ones were
+-- kept before it, and the keeps that failed since are few: at most one for 7,168 records.
 abbrev pub KeepsAhead : Type 0 → Type 0
 KeepsAhead F = (t : Timetable) (every : ℕ) (config : Config) (w : World) (first v : LoopValue)
     (asked asked' : List (Asked F)) (done failures kept : ℕ) (acts : List Act) (events : List Event) →

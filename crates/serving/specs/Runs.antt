@@ -120,7 +120,8 @@ pub data Runs {F : Type 0} (t : Timetable) (config : Config) (w : World) (first 
     (first_asked : Option (List (Asked F)))
     : (done failures kept : ℕ) → List Act → LoopValue → Option (List (Asked F)) → Type 0 where
   begins : Runs t config w first first_asked 0 0 (length w.history) [] first first_asked
-  turned : {done failures kept kept' : ℕ} {acts : List Act} {v v'' : LoopValue} {asked asked'' : Option (List (Asked F))}
+  turned : {done failures kept kept' : ℕ} {acts : List Act} {v v'' : LoopValue}
+      {asked asked'' : Option (List (Asked F))}
       (v' : LoopValue) (turned : Turned) (stop : List Act) →
       Runs t config w first first_asked done failures kept acts v asked →
       (x : TurnMade (config_then config acts) 64 (world_then config w acts) v v' turned) →
@@ -128,7 +129,8 @@ pub data Runs {F : Type 0} (t : Timetable) (config : Config) (w : World) (first 
       Stops t (suc done) (config_then config (acts ++ Turning x.deeds ∷ []))
       (world_then config w (acts ++ Turning x.deeds ∷ [])) v' kept asked stop v'' kept' asked'' →
       Runs t config w first first_asked (suc done) 0 kept' ((acts ++ Turning x.deeds ∷ []) ++ stop) v'' asked''
-  failed : {done failures kept kept' : ℕ} {acts : List Act} {v v'' : LoopValue} {asked asked'' : Option (List (Asked F))}
+  failed : {done failures kept kept' : ℕ} {acts : List Act} {v v'' : LoopValue}
+      {asked asked'' : Option (List (Asked F))}
       (v' : LoopValue) (stop : List Act) →
       Runs t config w first first_asked done failures kept acts v asked →
       (x : TurnFailed (config_then config acts) 64 (world_then config w acts) v v') →

@@ -12,8 +12,8 @@ use sl_packet::Seq;
 /// How far a kept number is ahead of the next one that is given.
 const ROOM: u32 = 16_384;
 
-/// Once more than so many records arrived, numbers are to be kept again. With what a turn brings, at most 1,024, this is
-/// half of how far they are ahead, so that a keep that fails can be made good by the next.
+/// Once more than so many records arrived, numbers are to be kept again. With what a turn brings, at most 1,024, this
+/// is half of how far they are ahead, so that a keep that fails can be made good by the next.
 pub const KEEP_EVERY: usize = 7_168;
 
 /// Numbers are those below this one.

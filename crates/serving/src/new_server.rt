@@ -42,8 +42,8 @@ fn keep_first<P: Ports, B: Between>(
 
 /// Runs a new server with that configuration over ports, as the timetable says, and gives the ports back. A turn that
 /// fails is passed over; sixteen in a row end the server with 40. Without memory for the server it is 25, and nothing
-/// was asked. If numbers are to be kept, they are kept before the first turn; if they can't be, that is handed on and it
-/// is 49, and no turn was made.
+/// was asked. If numbers are to be kept, they are kept before the first turn; if they can't be, that is handed on and
+/// it is 49, and no turn was made.
 pub fn serve_between<P: Ports + Drop, B: Between>(
     alloc: Global,
     config: Config,

@@ -52,7 +52,8 @@ impl Timetable {
         is_due(self.report, done)
     }
 
-    /// Whether the numbers are to be kept again, once so many records arrived, of which so many had when they were kept.
+    /// Whether the numbers are to be kept again, once so many records arrived, of which so many had when they were
+    /// kept.
     pub fn keeps(&self, kept: u64, arrivals: u64) -> bool
         ensures { result ≡ is_keep_due self.now kept arrivals }
     {

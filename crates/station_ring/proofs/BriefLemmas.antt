@@ -132,7 +132,8 @@ pub briefs-put : (before after : List Stream) (h h' : Buffer Held) (d d' : Buffe
     → h' ≡ buffer (keep_last h.capacity (h.items ++ x ∷ [])) h.capacity
     → d' ≡ buffer (keep_last d.capacity (d.items ++ b ∷ [])) d.capacity
     → ((k : ℕ) (s : Stream) → slice_get before k ≡ Some s → slice_get after k ≡ Some s)
-    → length before ≤ length after → Tells after x b → 1 ≤ h.capacity → d.capacity ≡ h.capacity → AreBriefs before h.items d.items
+    → length before ≤ length after → Tells after x b → 1 ≤ h.capacity → d.capacity ≡ h.capacity
+    → AreBriefs before h.items d.items
     → (1 ≤ h'.capacity) × (d'.capacity ≡ h'.capacity) × AreBriefs after h'.items d'.items
 briefs-put before after h h' d d' x b eh ed keeps grows told some same are =
     rw (eh, ed) (

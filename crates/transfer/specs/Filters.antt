@@ -47,8 +47,8 @@ pub record IsFilter (f : Filter) (streams : List Stream) (c : Choice) : Type 0 w
   pub refused : (k : ℕ) (s : Stream) → slice_get f.refused k ≡ Some true → slice_get streams k ≡ Some s
       → Refuses c.selectors s
 
--- No record passes the patterns of a named station: each has one of these streams, and all of them are refused. And none
--- starts after the end of TIME.
+-- No record passes the patterns of a named station: each has one of these streams, and all of them are refused. And
+-- none starts after the end of TIME.
 pub record RefusesAll (streams : List Stream) (c : Choice) : Type 0 where
   pub few : length streams < 64
   pub unended : (x : Held) → is_after_end c.action x ≡ false

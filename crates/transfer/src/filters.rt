@@ -135,9 +135,9 @@ impl Filter {
         self.refused[usize::from(number)] = true;
     }
 
-    /// Asks the patterns of the i-th named station of its streams, up to the first that passes. Whether no record of the
-    /// station is wanted for that, and none starts after an end of TIME: all streams are refused, each record has one
-    /// of them, and no end is asked.
+    /// Asks the patterns of the i-th named station of its streams, up to the first that passes. Whether no record of
+    /// the station is wanted for that, and none starts after an end of TIME: all streams are refused, each record has
+    /// one of them, and no end is asked.
     pub fn refuses_all(&mut self, session: &Session, i: usize, streams: &[Stream]) -> bool
         requires { i < length (chosen_of session.now.mode) }
         ensures filter { (c : Choice) → slice_get (chosen_of session.now.mode) i ≡ Some c

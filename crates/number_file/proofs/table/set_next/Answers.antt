@@ -13,4 +13,5 @@ returns-then-place-len c =
 
 pub returns-else-place-len : goal.returns-else-place-len
 returns-else-place-len c =
-    sym (with_next-past c.args.numbers.now.items c.args.place c.args.next (omega (arith, c.if-place-len.false, c.len.ensures)))
+    sym (with_next-past c.args.numbers.now.items c.args.place c.args.next
+    (omega (arith, c.if-place-len.false, c.len.ensures)))

@@ -14,5 +14,6 @@ loop-place-preserved c =
           made ∙ ap (λ l. l ++ w.in-Some.number ∷ []) c.loop-place.invariant
           ∙ one-more all i w.in-Some.number w.in-Some.ensures
           ∙ ap (λ n. take n all) (sym (add-one i))
-      | in-None w ↦ absurd (some-there all i w.in-None.ensures (omega (arith, c.loop-place-test.true, c.count-place-end.ensures)))
+      | in-None w ↦ absurd (some-there all i w.in-None.ensures
+          (omega (arith, c.loop-place-test.true, c.count-place-end.ensures)))
     ]

@@ -37,7 +37,8 @@ going-preserved g c =
         c.going.invariant.counted,
       );
       within = omega (arith, c.going-test.true);
-      few_clients = λ few. rw (c.stop-kept.ensures.seats, c.stop-kept.ensures.most) c.one_turn-failed.ensures.few_clients;
+      few_clients = λ few. rw (c.stop-kept.ensures.seats, c.stop-kept.ensures.most)
+          c.one_turn-failed.ensures.few_clients;
       few_feeds = λ few. rw c.stop-kept.ensures.seats c.one_turn-failed.ensures.few_feeds;
       most = c.stop-kept.ensures.most ∙ c.one_turn-failed.ensures.most ∙ c.going.invariant.most;
     }

@@ -11,7 +11,8 @@ invariant-going g l =
     let asked = g.B.Between.asked in
     record {
       ran : (config : Config) (w : World) → StandsAt l.fn.server.server config w →
-          RanSo l.timetable config w l.fn.server (asked l.fn.between) l.done l.failures l.kept l.server (asked l.between);
+          RanSo l.timetable config w l.fn.server (asked l.fn.between) l.done l.failures l.kept l.server
+          (asked l.between);
       few_failures : l.failures < 16;
       counted : l.failures ≤ l.done;
       within : l.done ≤ l.turns;
