@@ -12,9 +12,11 @@ top=$(cd "$(dirname "$(readlink -f "$0")")/.." && pwd)
 cd "$top"
 ./seedlinkd --version >/dev/null
 
-# The version stands in the program's sources alone.
-version=$(sed -n 's/^const VERSION: &str = "\(.*\)";$/\1/p' crates/command_line/src/commands.rt)
-[ "$(./seedlinkd --version)" = "seedlinkd $version" ] || { echo "package: the program has another version than its sources" >&2; exit 1; }
+# The version stands in the program's sources alone, with the logic that proved it, which has to be the toolchain's.
+version=$(sed -n 's/^const VERSION: &str = "\([^ ]*\) .*";$/\1/p' crates/command_line/src/commands.rt)
+logic=$(rt version | sed -n 's/.* logic \([0-9a-f]*\).*/\1/p')
+[ "$(./seedlinkd --version)" = "seedlinkd $version (each function proved, logic $logic)" ] ||
+    { echo "package: the program has another version than its sources, or another logic than the toolchain" >&2; exit 1; }
 commit=$(git rev-parse HEAD)
 changes=
 [ -z "$(git status --porcelain)" ] || changes="
@@ -22,7 +24,6 @@ changes=
 SOURCE_DATE_EPOCH=$(git log -1 --format=%ct)
 export SOURCE_DATE_EPOCH
 date=$(date -d "@$SOURCE_DATE_EPOCH" '+%a, %d %b %Y %H:%M:%S +0000')
-logic=$(rt version | sed -n 's/.* logic \([0-9a-f]*\).*/\1/p')
 maintainer="Moreltiller maintainers <maintainers@users.noreply.moreltiller.example>"
 
 room=$(mktemp -d)

@@ -17,10 +17,10 @@ _seedlinkd() {
         esac
         mapfile -t COMPREPLY < <(compgen -W "$options" -- "$current")
     elif [ -z "$command" ]; then
-        mapfile -t COMPREPLY < <(compgen -W "serve feed read check replay" -- "$current")
+        mapfile -t COMPREPLY < <(compgen -W "serve feed read view check replay" -- "$current")
     else
         case $command,$previous,$count in
-            *,--output,* | *,--numbers,* | serve,serve,0 | check,* | replay,* | feed,*,[1-9]*)
+            *,--output,* | *,--numbers,* | serve,serve,0 | view,view,0 | check,* | replay,* | feed,*,[1-9]*)
                 mapfile -t COMPREPLY < <(compgen -f -- "$current") ;;
         esac
     fi
