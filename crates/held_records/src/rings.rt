@@ -1,19 +1,16 @@
 //! The rings of all stations.
 ghost use Rattle.std.specs.Prelude.{◌≡◌, ◌≢◌, ◌≤◌, ◌<◌, ◌^◌, ◌+◌, ◌-◌, [], ◌∷◌, ◌++◌, List, ℕ, length, map, take};
-ghost use Rattle.std.specs.Prelude.{slice_get, slice_set, option_map, IfOk, IfSome, Some, None, true, int_lt};
+ghost use Rattle.std.specs.Prelude.{slice_get, slice_set, option_map, IfOk, IfSome, Some, None, true};
 ghost use Rattle.protocol.specs.Catalog.{Config as ProtocolConfig, Station};
 ghost use Rattle.protocol.specs.History.{Arrival, is_of, number_at as number_in_history, oldest_held, held_with_number};
-ghost use Rattle.protocol.specs.History.{from_number, holds_after};
-ghost use Rattle.std.specs.List.{list_any};
-ghost use Rattle.station_ring.specs.declared.held.Held.{Held};
+ghost use Rattle.protocol.specs.History.{from_number};
 ghost use Rattle.catalog.specs.Places.{station_at, HasDistinctCodes};
-ghost use Rattle.station_ring.specs.Rings.{RingValue, pushed, number_at, held_at, place_with};
+ghost use Rattle.station_ring.specs.Rings.{RingValue, pushed, number_at, place_with};
 ghost use Rattle.held_records.specs.Rings.{AllGrow, AreBehind, GrowByOne, IsBefore, IsBehind, holdings_of, place_from};
 ghost use Rattle.held_records.specs.Rings.{next_numbers, numbers_after, ring_of, summary_of};
 
 use catalog::Config;
 use sl_packet::Seq;
-use sl_time::Tick;
 use station_ring::{Ring, Summary};
 use std::alloc::{AllocError, Global};
 use std::marker::Model;
@@ -154,17 +151,6 @@ impl Rings {
             None => self.arrivals,
         }
     }
-
-    /// Whether a record of the station at a place is held that starts after a moment.
-    pub fn holds_after(&self, place: usize, last: Tick) -> bool
-        ensures { (config : ProtocolConfig) (h : List Arrival) → self.now ≡ holdings_of config h →
-            result ≡ holds_after (station_at config.entries place) last h }
-    {
-        match self.ring(place) {
-            Some(ring) => ring_holds_after(ring, last),
-            None => false,
-        }
-    }
 }
 
 /// Pushes a record to the ring at a place. Its stamp is the count of the records that arrived before.
@@ -226,30 +212,4 @@ fn from_number(ring: &Ring, number: Seq, arrivals: u64) -> u64
         None if ring.next_number() == number => arrivals,
         None => oldest_of(ring, arrivals),
     }
-}
-
-/// Whether the record at a place is held and starts after a moment.
-fn starts_after(ring: &Ring, place: u64, last: Tick) -> bool
-    ensures { (x : Held) → held_at ring.now place ≡ Some x → result ≡ int_lt last x.summary.start }
-{
-    match ring.get(place) {
-        Some(held) => last.value() < held.summary.start.value(),
-        None => false,
-    }
-}
-
-/// Whether a held record starts after a moment.
-fn ring_holds_after(ring: &Ring, last: Tick) -> bool
-    ensures { result ≡ list_any (λ x. int_lt last x.summary.start) ring.now.held }
-{
-    ring.holds_its_last();
-    let Some(oldest) = ring.oldest() else {
-        return false;
-    };
-    for place in oldest..ring.pushes() {
-        if starts_after(ring, place, last) {
-            return true;
-        }
-    }
-    false
 }

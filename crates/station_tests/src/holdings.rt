@@ -3,7 +3,6 @@ use crate::arrivals::{record, summary};
 use catalog::Config;
 use held_records::Rings;
 use sl_packet::Seq;
-use sl_time::Tick;
 use std::alloc::Global;
 use std::test::Fail;
 
@@ -152,30 +151,10 @@ fn rings_hold_the_last_of_each_station(rt: HostRuntime) -> Result<(), Fail> {
     Ok(())
 }
 
-#[test]
-fn a_held_record_starts_after_a_moment(rt: HostRuntime) -> Result<(), Fail> {
-    let rings = filled(rt.alloc())?;
-    for (place, last, after) in [
-        (0, 6, true),
-        (0, 7, false),
-        (1, 3, true),
-        (1, 4, false),
-        (2, -1, true),
-        (NOWHERE, -1, false),
-    ] {
-        assert!(rt;
-            rings.holds_after(place, Tick::new(last)) == after,
-            "{place} {last}"
-        );
-    }
-    Ok(())
-}
-
 /// Whether nothing is held of a station, and requests start at the next arrival.
 fn is_empty_at(rings: &Rings, place: usize) -> bool {
     rings.oldest_held(place) == rings.arrivals()
         && from(rings, place, 0x10) == Some(rings.arrivals())
-        && !rings.holds_after(place, Tick::new(-1))
         && position_at(rings, place, 0).is_none()
 }
 
