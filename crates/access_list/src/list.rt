@@ -105,8 +105,8 @@ impl AccessList {
     }
 }
 
-/// Whether a byte parts tokens.
-fn is_separator(byte: u8) -> bool
+/// Whether a byte separates the entries of a list: a space or a comma.
+pub fn is_separator(byte: u8) -> bool
     ensures { result ≡ is_separator byte }
 {
     byte == b' ' || byte == b','

@@ -1,7 +1,6 @@
 //! What a server is set up with.
 ghost use Rattle.std.specs.Prelude.{◌≡◌, ◌≢◌, ◌<◌, ◌≤◌, All, length, slice_get, option_map, unwrap_or, false, IfOk};
-ghost use Rattle.std.specs.Prelude.{IfErr};
-ghost use Rattle.std.specs.Prelude.{OnOk, Ok, Err, Some, None, IfSome};
+ghost use Rattle.std.specs.Prelude.{IfErr, OnOk, Ok, Err, Some, None, IfSome};
 ghost use Rattle.std.specs.List.{position};
 ghost use Rattle.std.specs.Str.{IsUtf8};
 ghost use Rattle.std.specs.Net.Addr.{ipv4_bits};
@@ -18,6 +17,7 @@ use crate::comparing::{are_same, are_seen, copies};
 use crate::error::{ConfigError, Step};
 use crate::fault::ConfigFault;
 use crate::index::Index;
+use crate::keys::table_of;
 use crate::listing::stations_of;
 use crate::numbers::{KeptNumber, begin_at};
 use crate::settings::{access_of, connections_of, title_of};
@@ -58,26 +58,6 @@ impl Model for Config {
         (length c.title.items ≤ 100) × (1 ≤ c.max_connections) × (c.max_connections ≤ 10000) ×
         HasDistinctCodes c.stations.items × All HasShortCodes c.stations.items ×
         Finds c.index.places c.stations.items × (length c.stations.items ≤ 1024) };
-}
-
-/// The table of a configuration's text.
-fn table_of(alloc: Global, bytes: &[u8]) -> Result<Table, ConfigFault>
-    ensures ok { IfOk result (λ table. parse_document bytes.now ≡ Some (table_view table)) }
-    ensures text { OnOk result (IsUtf8 bytes.now) }
-    ensures toml { IfErr result (λ e. e ≢ ConfigFault.OutOfMemory → e ≡ ConfigFault.Toml) }
-    ensures fault { IfErr result (λ e. e ≢ ConfigFault.OutOfMemory → IsUtf8 bytes.now
-        → parse_document bytes.now ≡ None) }
-{
-    match toml::table_from_slice(alloc, bytes) {
-        Ok(table) => Ok(table),
-        Err(error) => {
-            if error.is_memory() {
-                Err(ConfigFault::OutOfMemory)
-            } else {
-                Err(ConfigFault::Toml)
-            }
-        }
-    }
 }
 
 impl Config {

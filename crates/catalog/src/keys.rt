@@ -1,5 +1,7 @@
-//! What a key of a TOML table holds.
-ghost use Rattle.std.specs.Prelude.{◌≡◌, ◌≢◌, ◌≤◌, map, option_map, IfOk, IfErr, Ok, Err, true};
+//! The table that a text spells, and what a key of a table holds.
+ghost use Rattle.std.specs.Prelude.{◌≡◌, ◌≢◌, ◌≤◌, map, option_map, IfOk, IfErr, OnOk, Ok, Err, Some, None, true};
+ghost use Rattle.std.specs.Str.{IsUtf8};
+ghost use Rattle.toml.specs.Parse.{parse_document};
 ghost use Rattle.toml.specs.View.{table_view, view};
 ghost use Rattle.toml.specs.Data.{get_member};
 ghost use Rattle.catalog.specs.Steps.{within_if};
@@ -9,6 +11,27 @@ ghost use Rattle.catalog.specs.Keys.{number_if_any, elements_at, number_up_to};
 use crate::fault::ConfigFault;
 use std::alloc::Global;
 use toml::{Table, Value};
+
+/// The table that a text spells, which is TOML in UTF-8. It fails with Toml if the text is not, and with OutOfMemory only
+/// where there is no memory.
+pub fn table_of(alloc: Global, text: &[u8]) -> Result<Table, ConfigFault>
+    ensures ok { IfOk result (λ table. parse_document text.now ≡ Some (table_view table)) }
+    ensures text { OnOk result (IsUtf8 text.now) }
+    ensures toml { IfErr result (λ e. e ≢ ConfigFault.OutOfMemory → e ≡ ConfigFault.Toml) }
+    ensures fault { IfErr result (λ e. e ≢ ConfigFault.OutOfMemory → IsUtf8 text.now
+        → parse_document text.now ≡ None) }
+{
+    match toml::table_from_slice(alloc, text) {
+        Ok(table) => Ok(table),
+        Err(error) => {
+            if error.is_memory() {
+                Err(ConfigFault::OutOfMemory)
+            } else {
+                Err(ConfigFault::Toml)
+            }
+        }
+    }
+}
 
 /// The value at a key.
 fn value_at<'a>(table: &'a Table, key: &str) -> Option<&'a Value>

@@ -11,6 +11,7 @@ use crate::place::{Place, line_from, place_of};
 use crate::setting_texts::wanted_of;
 use crate::values::value_at;
 use access_list::AccessList;
+use catalog::keys::table_of;
 use catalog::{ConfigError, ConfigFault, Step};
 use std::alloc::{AllocError, Global};
 use std::fmt::{self, Display, Formatter, Write};
@@ -89,18 +90,13 @@ fn toml_finding(alloc: Global, text: &str) -> Result<Finding, AllocError>
 }
 
 /// The table of a text, if it is one.
-fn table_of(alloc: Global, text: &[u8]) -> Result<Option<Table>, AllocError>
+fn table_if_any(alloc: Global, text: &[u8]) -> Result<Option<Table>, AllocError>
     ensures { IfOk result (λ table. IsUtf8 text.now → parse_document text.now ≡ option_map table_view table) }
 {
-    match toml::table_from_slice(alloc, text) {
+    match table_of(alloc, text) {
         Ok(table) => Ok(Some(table)),
-        Err(error) => {
-            if error.is_memory() {
-                Err(AllocError)
-            } else {
-                Ok(None)
-            }
-        }
+        Err(ConfigFault::OutOfMemory) => Err(AllocError),
+        Err(_) => Ok(None),
     }
 }
 
@@ -108,7 +104,7 @@ fn table_of(alloc: Global, text: &[u8]) -> Result<Option<Table>, AllocError>
 fn kind_finding(alloc: Global, text: &[u8], step: Step) -> Result<Finding, AllocError>
     ensures { IfOk result (λ f. IsUtf8 text.now → FindsKind (parse_document text.now) step f) }
 {
-    match table_of(alloc, text)? {
+    match table_if_any(alloc, text)? {
         Some(table) => Ok(Finding::OtherKind {
             found: Kind::of(value_at(&table, step)),
             wanted: wanted_of(step),
@@ -121,7 +117,7 @@ fn kind_finding(alloc: Global, text: &[u8], step: Step) -> Result<Finding, Alloc
 fn entry_finding(alloc: Global, text: &[u8], step: Step) -> Result<Finding, AllocError>
     ensures { IfOk result (λ f. IsUtf8 text.now → FindsEntry (parse_document text.now) step f) }
 {
-    match table_of(alloc, text)? {
+    match table_if_any(alloc, text)? {
         Some(table) => entry_in(alloc, &table, step),
         None => Ok(Finding::Nothing),
     }

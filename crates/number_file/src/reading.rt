@@ -1,10 +1,11 @@
 //! What a file of numbers says.
-ghost use Rattle.std.specs.Prelude.{◌≡◌, ◌≢◌, [], map, IfOk, IfErr, Ok, Err, Some};
+ghost use Rattle.std.specs.Prelude.{◌≡◌, ◌≢◌, [], map, IfOk, IfErr, OnOk, Ok, Err, Some};
+ghost use Rattle.std.specs.Str.{IsUtf8};
 ghost use Rattle.toml.specs.Parse.{parse_document};
 ghost use Rattle.toml.specs.View.{table_view, view};
 ghost use Rattle.number_file.specs.Reading.{next_of, number_in, numbers_after, numbers_of, numbers_read};
 
-use catalog::keys::{elements_at, table_in, text_at};
+use catalog::keys::{elements_at, table_in, table_of, text_at};
 use catalog::settings::{code_of, network_of};
 use catalog::{ConfigFault, KeptNumber};
 use sl_packet::Seq;
@@ -18,16 +19,14 @@ use toml::{Table, Value};
 /// another kind; with Limit where a value is outside its limits; and with OutOfMemory only where there is no memory.
 pub fn read_numbers(alloc: Global, bytes: &[u8]) -> Result<Vec<KeptNumber>, ConfigFault>
     ensures ok { IfOk result (λ numbers. numbers_read (parse_document bytes.now) ≡ Ok numbers.items) }
+    ensures text { OnOk result (IsUtf8 bytes.now) }
+    ensures fault { IfErr result (λ e. e ≢ ConfigFault.OutOfMemory → IsUtf8 bytes.now
+        → numbers_read (parse_document bytes.now) ≡ Err e) }
+    ensures no_text { IfErr result (λ e. e ≢ ConfigFault.OutOfMemory → ¬ IsUtf8 bytes.now → e ≡ ConfigFault.Toml) }
 {
-    match toml::table_from_slice(alloc, bytes) {
+    match table_of(alloc, bytes) {
         Ok(table) => numbers_of(alloc, &table),
-        Err(error) => {
-            if error.is_memory() {
-                Err(ConfigFault::OutOfMemory)
-            } else {
-                Err(ConfigFault::Toml)
-            }
-        }
+        Err(fault) => Err(fault),
     }
 }
 

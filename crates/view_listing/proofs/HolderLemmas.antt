@@ -2,7 +2,7 @@
 use Rattle.std.proofs.Common.{◌≡◌, ℕ, ◌+◌, ◌<◌, ◌≤◌, zero, suc, List, [], ◌∷◌, ◌++◌, length, drop, map, get_or, refl}
 use Rattle.std.proofs.Common.{append-nil, append_assoc, sym, ap, ap₂, ◌∙◌, arith, add-one, drop-cons}
 use Rattle.toml.specs.Data.{Members}
-use Rattle.protocol.specs.Catalog.{Entry, Station}
+use Rattle.protocol.specs.Catalog.{Entry}
 use Rattle.view_listing.specs.Holders.{holder_line, holders_from, list_at}
 
 -- the lines of the stations from a place on

@@ -4,14 +4,8 @@ ghost use Rattle.access_list.specs.Tokens.{is_separator};
 ghost use Rattle.view_listing.specs.Holders.{entries_of, list_words, words_of};
 
 use crate::lines::put;
+use access_list::list::is_separator;
 use std::alloc::AllocError;
-
-/// Whether a byte separates entries.
-fn is_separator(byte: u8) -> bool
-    ensures { result ≡ is_separator byte }
-{
-    byte == b' ' || byte == b','
-}
 
 /// A space and a word.
 fn put_word(text: &mut Vec<u8>, word: &[u8]) -> Result<(), AllocError>

@@ -8,7 +8,8 @@ ghost use Rattle.view_listing.specs.Holders.{holder_line, holders_from, holders_
 
 use crate::entries::put_list;
 use crate::lines::put;
-use catalog::{Config, Station, StationStep, Step};
+use catalog::keys::table_of;
+use catalog::{Config, ConfigFault, Station, StationStep, Step};
 use config_findings::text_at;
 use std::alloc::{AllocError, Global};
 use toml::Table;
@@ -55,13 +56,10 @@ pub fn holders_of(alloc: Global, config: &Config, text: &[u8]) -> Result<Vec<u8>
         (λ keys. lines.items ≡ holders_text keys (stations_of config.now))) }
 {
     let mut lines = Vec::new(alloc);
-    match toml::table_from_slice(alloc, text) {
+    match table_of(alloc, text) {
         Ok(table) => put_all(&mut lines, config.stations(), &table)?,
-        Err(error) => {
-            if error.is_memory() {
-                return Err(AllocError);
-            }
-        }
+        Err(ConfigFault::OutOfMemory) => return Err(AllocError),
+        Err(_) => {}
     }
     Ok(lines)
 }

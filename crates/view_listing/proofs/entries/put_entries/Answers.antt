@@ -12,7 +12,7 @@ use Rattle.std.proofs.lemmas.List.{length_push, drop_all}
 use Rattle.protocol.specs.Pieces.{split}
 use Rattle.access_list.specs.Tokens.{is_separator}
 use Rattle.view_listing.specs.Holders.{words_of}
-use Rattle.view_listing.proofs.EntryLemmas.{pieces_are, words_left, words_left-empty, words_left-word, words_left-end}
+use Rattle.view_listing.proofs.EntryLemmas.{pieces_are, words_left-empty, words_left-word, words_left-end}
 use Rattle.view_listing.proofs.entries.put_entries.Goals as goal
 
 -- where the entry at hand stands, and at the end how many there were, by the steps first
