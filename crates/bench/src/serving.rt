@@ -142,12 +142,13 @@ pub fn garbage(alloc: Global, rounds: u32) -> anyhow::Result<u64> {
     })
 }
 
-/// The last of 1,024 stations is found by its codes. Answers a sum of its places.
+/// The last two of 1,024 stations are found by their codes, by turns. Answers a sum of their places.
 pub fn found(alloc: Global, rounds: u32) -> anyhow::Result<u64> {
     let config = config_of(alloc, 1024, 0, 1)?;
     let mut sum: u64 = 0;
-    for _ in 0..rounds {
-        if let Some(place) = config.place_of(b"GE", b"01023") {
+    for round in 0..rounds {
+        let code: &[u8] = if round % 2 == 0 { b"01023" } else { b"01022" };
+        if let Some(place) = config.place_of(b"GE", code) {
             sum = sum.wrapping_add(place as u64);
         }
     }

@@ -1,12 +1,15 @@
 -- An index of stations' codes, one station after the other.
-use Rattle.std.proofs.Common.{◌≡◌, ℕ, ◌+◌, ◌<◌, ◌≤◌, suc, inl, inr, Bool, ◌&&◌, true, false, List, [], ◌∷◌, ◌++◌}
+use Rattle.std.proofs.Common.{◌≡◌, ℕ, zero, ◌+◌, ◌<◌, ◌≤◌, suc, inl, inr, Bool, ◌&&◌, true, false, List, [], ◌∷◌, ◌++◌}
 use Rattle.std.proofs.Common.{length, take, get_or, All, Option, Some, None, refl, sym, ap, ◌∙◌, subst, arith}
 use Rattle.std.specs.Prelude.{cond, IfSome}
 use Rattle.std.specs.List.{position, position_from}
 use Rattle.std.specs.Str.{bytes_eq}
 use Rattle.std.specs.HashMap.{IsEmpty, Updates}
 use Rattle.std.specs.Map.{lookup}
+use Rattle.std.proofs.Common.{◌==◌, ap₂, eq-eqb, eqb-true}
 use Rattle.std.proofs.lemmas.Bool.{false≢true}
+use Rattle.std.proofs.lemmas.Grind.{same_number_lists}
+use Rattle.std.proofs.lemmas.Nat.{be_bytes_8}
 use Rattle.std.proofs.lemmas.Bool.Decides.{leb_tells}
 use Rattle.std.proofs.lemmas.List.{get_or-take, length-take-le, take_more}
 use Rattle.std.proofs.lemmas.List.Elements.{All-get_or}
@@ -15,17 +18,69 @@ use Rattle.std.proofs.lemmas.Iterator.Adapters.{position_from-zero}
 use Rattle.std.proofs.lemmas.Slice.Eq.{bytes_eq-Decides}
 use Rattle.protocol.specs.Catalog.{Entry, Station, has_codes}
 use Rattle.protocol.specs.Reading.{Not}
-use Rattle.catalog.specs.Indexing.{Places, codes_eq, key, place_in, first_place, AreShort, Finds, HasShortCodes}
+use Rattle.catalog.specs.Indexing.{Places, codes_eq, digits, key, place_in, first_place, spelled}
+use Rattle.catalog.specs.Indexing.{AreBytes, AreCodes, AreShort, Finds, HasShortCodes}
 use Rattle.catalog.specs.Places.{station_at, HasDistinctCodes, SameCodes}
 use Rattle.catalog.specs.declared.index.Codes.{Codes}
 use Rattle.catalog.proofs.DistinctLemmas.{at_place, nothing}
 
 -- ---- keys
 
+-- the digits of a text are bytes
+digits_are_bytes : (t : List ℕ) → length t ≤ 7 → AreBytes t → (i : ℕ) → get_or (digits t) i 0 < 256
+digits_are_bytes t few are zero = omega (arith, few)
+digits_are_bytes t few are (suc zero) = are 0
+digits_are_bytes t few are (suc (suc zero)) = are 1
+digits_are_bytes t few are (suc (suc (suc zero))) = are 2
+digits_are_bytes t few are (suc (suc (suc (suc zero)))) = are 3
+digits_are_bytes t few are (suc (suc (suc (suc (suc zero))))) = are 4
+digits_are_bytes t few are (suc (suc (suc (suc (suc (suc zero)))))) = are 5
+digits_are_bytes t few are (suc (suc (suc (suc (suc (suc (suc zero))))))) = are 6
+digits_are_bytes t few are (suc (suc (suc (suc (suc (suc (suc (suc i)))))))) = omega arith
+
+-- A text is known by its digits.
+same_digits : (a b : List ℕ) → length a ≤ 7 → digits a ≡ digits b → a ≡ b
+same_digits a b few same =
+    same_number_lists a b (ap (λ ds. get_or ds 0 0) same) (λ k h. each k (omega (arith, few, h)))
+  where
+    each : (k : ℕ) → k < 7 → get_or a k 0 ≡ get_or b k 0
+    each zero h = ap (λ ds. get_or ds 1 0) same
+    each (suc zero) h = ap (λ ds. get_or ds 2 0) same
+    each (suc (suc zero)) h = ap (λ ds. get_or ds 3 0) same
+    each (suc (suc (suc zero))) h = ap (λ ds. get_or ds 4 0) same
+    each (suc (suc (suc (suc zero)))) h = ap (λ ds. get_or ds 5 0) same
+    each (suc (suc (suc (suc (suc zero))))) h = ap (λ ds. get_or ds 6 0) same
+    each (suc (suc (suc (suc (suc (suc zero)))))) h = ap (λ ds. get_or ds 7 0) same
+    each (suc (suc (suc (suc (suc (suc (suc k))))))) h = absurd (omega (arith, h))
+
+-- A text is known by the number that it is spelled as.
+same_spelled : (a b : List ℕ) → length a ≤ 7 → length b ≤ 7 → AreBytes a → AreBytes b → spelled a ≡ spelled b → a ≡ b
+same_spelled a b a_few b_few a_are b_are same =
+    same_digits a b a_few
+    (sym (be_bytes_8 (digits a) (spelled a) refl (digits_are_bytes a a_few a_are) refl)
+    ∙ be_bytes_8 (digits b) (spelled a) refl (digits_are_bytes b b_few b_are) same)
+
+-- Numbers are equal exactly where the texts are that they spell.
+equal_spelled : (a b : List ℕ) → length a ≤ 7 → length b ≤ 7 → AreBytes a → AreBytes b
+    → (spelled a == spelled b) ≡ bytes_eq a b
+equal_spelled a b a_few b_few a_are b_are = by (bytes_eq a b) refl
+  where
+    by : (r : Bool) → bytes_eq a b ≡ r → (spelled a == spelled b) ≡ r
+    by true is = eq-eqb (spelled a) (spelled b) (ap spelled ((bytes_eq-Decides a b).0 is))
+    by false is = other (spelled a == spelled b) refl
+      where
+        other : (r : Bool) → (spelled a == spelled b) ≡ r → r ≡ false
+        other false e = refl
+        other true e = absurd (false≢true (sym is ∙ (bytes_eq-Decides a b).1
+            (same_spelled a b a_few b_few a_are b_are (eqb-true (spelled a) (spelled b) e))))
+
 -- keys are equal where their codes are
-equal_codes : (s : Station) (network code : List ℕ)
+equal_codes : (s : Station) (network code : List ℕ) → AreCodes s.network s.code → AreCodes network code
     → codes_eq (key s.network s.code) (key network code) ≡ has_codes network code s
-equal_codes s network code = refl
+equal_codes s network code its those =
+    ap₂ (λ a b. a && b)
+    (equal_spelled s.network network (omega (arith, its.short.0)) (omega (arith, those.short.0)) its.network_bytes those.network_bytes)
+    (equal_spelled s.code code (omega (arith, its.short.1)) (omega (arith, those.short.1)) its.code_bytes those.code_bytes)
 
 -- two tests that both pass
 both_pass : (a b : Bool) → (a && b) ≡ true → (a ≡ true) × (b ≡ true)
@@ -88,7 +143,7 @@ nobody_with_long_codes es network code short long =
     by e false is has = refl
     by e true is has =
         let same = same_codes e.station network code is in
-        absurd (long (subst (λ l. length l ≤ 2) same.0 has.0, subst (λ l. length l ≤ 5) same.1 has.1))
+        absurd (long (subst (λ l. length l ≤ 2) same.0 has.short.0, subst (λ l. length l ≤ 5) same.1 has.short.1))
 
 -- ---- one station more
 
@@ -122,12 +177,12 @@ apart es i d distinct within =
     earlier k x lt = rw (get_or-take i es k x lt) (by k x (p (get_or es k x)) lt refl)
 
 -- an index of stations with one more
-indexed : (m n : Places) (es : List Entry) (e : Entry) → Finds m es
+indexed : (m n : Places) (es : List Entry) (e : Entry) → HasShortCodes e → Finds m es
     → first_place es e.station.network e.station.code ≡ None
     → Updates codes_eq m n (key e.station.network e.station.code) (Some (length es)) → Finds n (es ++ e ∷ [])
-indexed m n es e finds none updates network code =
+indexed m n es e has finds none updates network code are =
     updates.0 (key network code)
-    ∙ ap (λ b. cond b (Some (length es)) (place_in m network code)) (equal_codes e.station network code)
+    ∙ ap (λ b. cond b (Some (length es)) (place_in m network code)) (equal_codes e.station network code has are)
     ∙ by (p e) refl
     ∙ sym (from_more p 0 es e)
     ∙ sym (first_of p (es ++ e ∷ []))
@@ -144,36 +199,36 @@ indexed m n es e finds none updates network code =
         (subst (λ w. first_place es w e.station.code ≡ None) same.0 none) in
         rw (sym (first_of p es) ∙ first)
         (ap {B = Option ℕ} Some (let same : length es ≡ 0 + length es = omega arith in same))
-    by false is = finds network code ∙ first_of p es ∙ sym (or_none (position_from p 0 es))
+    by false is = finds network code are ∙ first_of p es ∙ sym (or_none (position_from p 0 es))
 
 -- an index of the first stations of a list
 pub index_more : (m n : Places) (es : List Entry) (i : ℕ) (d : Entry) → HasDistinctCodes es → i < length es
-    → Finds m (take i es)
+    → HasShortCodes (get_or es i d) → Finds m (take i es)
     → Updates codes_eq m n (key (get_or es i d).station.network (get_or es i d).station.code) (Some i)
     → Finds n (take (i + 1) es)
-index_more m n es i d distinct within finds updates =
+index_more m n es i d distinct within has finds updates =
     let here : length (take i es) ≡ i = length-take-le i es (omega (arith, within)) in
     subst (Finds n) (sym (take_more es i d within))
-    (indexed m n (take i es) (get_or es i d) finds (apart es i d distinct within)
+    (indexed m n (take i es) (get_or es i d) has finds (apart es i d distinct within)
     (subst (λ k. Updates codes_eq m n (key (get_or es i d).station.network (get_or es i d).station.code) (Some k))
     (sym here) updates))
 
 -- nothing is found in an empty map
 pub found_nowhere : (m : Places) → IsEmpty m → Finds m []
-found_nowhere m empty network code =
+found_nowhere m empty network code are =
     ap (λ (es : List (Codes × ℕ)). lookup (codes_eq (key network code)) es) empty
 
 -- codes that are short are found in the index, and no station has others
 pub place_found : (m : Places) (es : List Entry) (network code : List ℕ) (r : Option ℕ) → All HasShortCodes es
     → Finds m es
-    → (AreShort network code → r ≡ place_in m network code) → (Not (AreShort network code) → r ≡ None)
-    → r ≡ first_place es network code
-place_found m es network code r short finds found none =
+    → (AreShort network code → r ≡ place_in m network code) → (AreShort network code → AreCodes network code)
+    → (Not (AreShort network code) → r ≡ None) → r ≡ first_place es network code
+place_found m es network code r short finds found are none =
     let gone : Not (AreShort network code) → r ≡ first_place es network code = λ long. none long
     ∙ sym (nobody_with_long_codes es network code short long) in
     elim (leb_tells (length network) 2) [
       | inl few ↦ elim (leb_tells (length code) 5) [
-        | inl letters ↦ found (few.1, letters.1) ∙ finds network code
+        | inl letters ↦ found (few.1, letters.1) ∙ finds network code (are (few.1, letters.1))
         | inr more ↦ gone (λ both. let over = more.1 in let under = both.1 in absurd (omega (arith, over, under)))
       ]
       | inr more ↦ gone (λ both. let over = more.1 in let under = both.0 in absurd (omega (arith, over, under)))

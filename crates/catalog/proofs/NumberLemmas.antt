@@ -1,7 +1,7 @@
 -- Stations that begin with numbers that are kept.
 use Rattle.std.proofs.Common.{◌≡◌, ℕ, zero, suc, ◌+◌, ◌<◌, ◌≤◌, List, [], ◌∷◌, All, length, map, refl, sym, ap, subst}
-use Rattle.std.proofs.Common.{◌∙◌, Bool, true, false, Option, Some, None, cond, drop, get_or}
-use Rattle.std.specs.List.{position, position_from}
+use Rattle.std.proofs.Common.{◌∙◌, true, false, Some, cond, drop, get_or}
+use Rattle.std.specs.List.{position_from}
 use Rattle.std.proofs.lemmas.List.{at_drop_more, drop_all, length-map}
 use Rattle.std.proofs.lemmas.List.Elements.{All-map}
 use Rattle.std.proofs.lemmas.Iterator.Adapters.{position_from-zero}
@@ -54,8 +54,8 @@ module _ (kept : List Numbered) where
       ap (λ o. cond (has_codes network code e.station) (Some n) o) (found-by network code (n + 1) es)
 
   pub finds-by : (places : Places) (es : List Entry) → Finds places es → Finds places (map (entry_by kept) es)
-  finds-by places es finds network code =
-      finds network code
+  finds-by places es finds network code are =
+      finds network code are
       ∙ position_from-zero (λ e. has_codes network code e.station) es
       ∙ sym (found-by network code 0 es)
       ∙ sym (position_from-zero (λ e. has_codes network code e.station) (map (entry_by kept) es))

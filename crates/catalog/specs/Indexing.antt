@@ -1,7 +1,7 @@
 -- Where stations stand, found by their codes. The index is this project's own.
-use Rattle.std.specs.Prelude.{◌≡◌, ℕ, ◌≤◌, Bool, ◌&&◌, List, length, Option}
-use Rattle.std.specs.List.{position}
-use Rattle.std.specs.Str.{bytes_eq}
+use Rattle.std.specs.Prelude.{◌≡◌, ℕ, ◌<◌, ◌≤◌, ◌==◌, Bool, ◌&&◌, List, [], ◌∷◌, length, Option}
+use Rattle.std.specs.Int.{from_be_bytes, w64}
+use Rattle.std.specs.List.{position, slice_index}
 use Rattle.std.specs.declared.hash.FoldHasher.{FoldHasher}
 use Rattle.std.specs.declared.hash.BuildHasherDefault.{BuildHasherDefault}
 use Rattle.std.specs.HashMap.{HashMap, get}
@@ -14,11 +14,25 @@ Places = HashMap Codes ℕ (BuildHasherDefault FoldHasher)
 
 -- the codes are the same
 abbrev pub codes_eq : Codes → Codes → Bool
-codes_eq x y = bytes_eq x.network.items y.network.items && bytes_eq x.code.items y.code.items
+codes_eq x y = (x.network == y.network) && (x.code == y.code)
+
+-- the length of a text of up to seven bytes, and its bytes, filled up with zeros
+abbrev pub digits : List ℕ → List ℕ
+digits text =
+    length text ∷ slice_index text 0 ∷ slice_index text 1 ∷ slice_index text 2 ∷ slice_index text 3 ∷ slice_index text 4
+    ∷ slice_index text 5 ∷ slice_index text 6 ∷ []
+
+-- the number that has these digits to the base 256
+abbrev pub spelled : List ℕ → ℕ
+spelled text = from_be_bytes w64 (digits text)
 
 -- the key that these codes are
 abbrev pub key : List ℕ → List ℕ → Codes
-key network code = record { network = record { items = network }; code = record { items = code } }
+key network code = record { network = spelled network; code = spelled code }
+
+-- All are bytes.
+abbrev pub AreBytes : List ℕ → Type 0
+AreBytes text = (i : ℕ) → slice_index text i < 256
 
 -- the place at these codes
 abbrev pub place_in : Places → List ℕ → List ℕ → Option ℕ
@@ -28,14 +42,21 @@ place_in places network code = get codes_eq places (key network code)
 abbrev pub first_place : List Entry → List ℕ → List ℕ → Option ℕ
 first_place entries network code = position (λ e. has_codes network code e.station) entries
 
--- Each pair of codes has the place of the first station that has them, and none where no station does.
-abbrev pub Finds : Places → List Entry → Type 0
-Finds places entries = (network code : List ℕ) → place_in places network code ≡ first_place entries network code
-
--- codes that a station may have
+-- codes as long as a station may have them
 abbrev pub AreShort : List ℕ → List ℕ → Type 0
 AreShort network code = (length network ≤ 2) × (length code ≤ 5)
 
+-- codes that can be spelled as a key
+pub record AreCodes (network code : List ℕ) : Type 0 where
+  pub short : AreShort network code
+  pub network_bytes : AreBytes network
+  pub code_bytes : AreBytes code
+
 -- a station's codes are such
 abbrev pub HasShortCodes : Entry → Type 0
-HasShortCodes e = AreShort e.station.network e.station.code
+HasShortCodes e = AreCodes e.station.network e.station.code
+
+-- Each pair of codes has the place of the first station that has them, and none where no station does.
+abbrev pub Finds : Places → List Entry → Type 0
+Finds places entries =
+    (network code : List ℕ) → AreCodes network code → place_in places network code ≡ first_place entries network code

@@ -1,4 +1,4 @@
-use Rattle.std.proofs.Common.{◌≡◌, ◌≤◌, sym, subst, All, length, List}
+use Rattle.std.proofs.Common.{◌≤◌, sym, subst, All, length, List}
 use Rattle.std.proofs.lemmas.List.{length-map}
 use Rattle.protocol.specs.Catalog.{Entry}
 use Rattle.catalog.specs.Indexing.{Finds, HasShortCodes}

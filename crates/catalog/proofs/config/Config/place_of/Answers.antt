@@ -12,7 +12,7 @@ returns c =
     let holds = c.self.invariant in
     let found : c.place_of.result ≡ first_place inside.stations.items network code =
     place_found inside.index.places inside.stations.items network code c.place_of.result holds.4 holds.5
-    c.place_of.ensures.short c.place_of.ensures.long in
+    c.place_of.ensures.short c.place_of.ensures.spelled c.place_of.ensures.long in
     record {
       value = found ∙ ap (λ (config : Config). first_place config.entries network code) c.self.view_is;
       few = few_places inside.stations.items network code c.place_of.result found holds.6;

@@ -3,7 +3,7 @@ use Rattle.std.specs.HashMap.{Updates}
 use Rattle.std.proofs.lemmas.List.{take_all}
 use Rattle.std.proofs.lemmas.List.Elements.{All-more}
 use Rattle.protocol.specs.Catalog.{Entry}
-use Rattle.catalog.specs.Indexing.{Places, key, codes_eq, AreShort, Finds, HasShortCodes}
+use Rattle.catalog.specs.Indexing.{Places, key, codes_eq, AreCodes, AreShort, Finds, HasShortCodes}
 use Rattle.catalog.specs.declared.index.Codes.{Codes}
 use Rattle.catalog.proofs.IndexLemmas.{found_nowhere, index_more}
 use Rattle.catalog.proofs.index.Index.of.Goals as goal
@@ -27,6 +27,9 @@ loop-place-preserved c =
     let code : c.code.result.now ≡ (get_or es i e).station.code = c.code.ensures.value
     ∙ ap (λ (x : Entry). x.station.code) at in
     let here : AreShort c.network.result.now c.code.result.now = (c.network.ensures.short, c.code.ensures.short) in
+    let spelt : AreCodes c.network.result.now c.code.result.now → HasShortCodes (get_or es i e) =
+    λ are. subst (λ n. AreCodes n (get_or es i e).station.code) network
+    (subst (λ n. AreCodes c.network.result.now n) code are) in
     elim c.match-of.branch [
       | in-Some+in_ok-insert w ↦
           let the_key : w.in-Some.codes ≡ key (get_or es i e).station.network
@@ -37,11 +40,10 @@ loop-place-preserved c =
           w.in_ok-insert.ensures.updates in
           record {
             finds = subst (λ (m : Places). Finds m (take (i + 1) es)) (sym w.places-is)
-                (index_more c.loop-place.places w.insert.new.self es i e c.requires within c.loop-place.invariant.finds
-                updates);
+                (index_more c.loop-place.places w.insert.new.self es i e c.requires within
+                (spelt w.in-Some.ensures.spelled) c.loop-place.invariant.finds updates);
             short = All-more HasShortCodes es i e within c.loop-place.invariant.short
-                (subst (λ n. AreShort n (get_or es i e).station.code) network
-                (subst (λ n. AreShort c.network.result.now n) code here));
+                (spelt w.in-Some.ensures.spelled);
           }
       | in_default w ↦ absurd (w.in_default.ensures.none here)
     ]
