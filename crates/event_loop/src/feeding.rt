@@ -13,7 +13,7 @@ use feeder::{FeedCutter, Feeding};
 use ports::{Got, PortFault, Ports};
 use server_core::Server;
 
-// A record arrives, and one that is refused is counted. It is told whether one was accepted.
+/// A record arrives, and one that is refused is counted. It is told whether one was accepted.
 fn take_record(server: &mut Server, whole: &[u8; 512], dropped: &mut u64, brought: &mut bool)
     ensures arrives { (config : Config) (w : World) → StandsAt server.old config w →
         Arrives config w (whole.now ∷ []) server.new dropped.old dropped.new }
@@ -26,7 +26,7 @@ fn take_record(server: &mut Server, whole: &[u8; 512], dropped: &mut u64, brough
     }
 }
 
-// The records that a piece of a feed makes whole arrive.
+/// The records that a piece of a feed makes whole arrive.
 fn take_records(
     server: &mut Server,
     cutter: &mut FeedCutter,
@@ -52,7 +52,7 @@ fn take_records(
     }
 }
 
-// One read of a feed's port, if it may be read.
+/// One read of a feed's port, if it may be read.
 fn read_feed_once<P: Ports>(
     server: &mut Server,
     ports: &mut P,
@@ -94,7 +94,7 @@ fn read_feed_once<P: Ports>(
     }
 }
 
-// The reads of a pass over a feed's port, up to so many; whether the port stays open.
+/// The reads of a pass over a feed's port, up to so many; whether the port stays open.
 pub fn read_feed<P: Ports>(
     server: &mut Server,
     ports: &mut P,

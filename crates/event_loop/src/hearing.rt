@@ -48,7 +48,7 @@ pub struct Report {
     pub quiet: bool,
 }
 
-// Makes room for one more seat, with its byte. It fails only where there is no memory.
+/// Makes room for one more seat, with its byte. It fails only where there is no memory.
 fn has_room(seats: &mut Vec<Seat>, awake: &mut Vec<u8>) -> bool
     ensures seats { seats.new.items ≡ seats.old.items }
     ensures awake { awake.new.items ≡ awake.old.items }
@@ -61,8 +61,8 @@ fn has_room(seats: &mut Vec<Seat>, awake: &mut Vec<u8>) -> bool
     awake.reserve(1).is_ok()
 }
 
-// A client's port joins: a seat is made and the client opened; or else the port is shut, and nothing came of it. The
-// place of the seat is reserved first, so that no client is opened that could have no seat.
+/// A client's port joins: a seat is made and the client opened; or else the port is shut, and nothing came of it. The
+/// place of the seat is reserved first, so that no client is opened that could have no seat.
 fn join_client<P: Ports>(
     server: &mut Server,
     ports: &mut P,
@@ -103,7 +103,7 @@ fn join_client<P: Ports>(
     }
 }
 
-// A feed's port joins: a seat is made, or else the port is shut.
+/// A feed's port joins: a seat is made, or else the port is shut.
 fn join_feed<P: Ports>(
     server: &Server,
     ports: &mut P,
@@ -144,7 +144,7 @@ fn join_feed<P: Ports>(
     }
 }
 
-// Hears what happened next.
+/// Hears what happened next.
 fn hear_once<P: Ports>(
     server: &mut Server,
     ports: &mut P,

@@ -29,7 +29,7 @@ pub enum Went {
     Over,
 }
 
-// A client's port is shut, and the client is closed.
+/// A client's port is shut, and the client is closed.
 fn shut<P: Ports>(server: &mut Server, ports: &mut P, client: Client, port: u64)
     ensures call { Tells (P.calls ports.old) (P.calls ports.new) (Shut port ∷ []) }
     ensures stands { (config : Config) (w : World) → StandsAt server.old config w
@@ -40,7 +40,7 @@ fn shut<P: Ports>(server: &mut Server, ports: &mut P, client: Client, port: u64)
     let _ = server.close(client);
 }
 
-// One read of a client's port, of no more bytes than the client may send.
+/// One read of a client's port, of no more bytes than the client may send.
 fn read_piece<P: Ports>(
     server: &mut Server,
     ports: &mut P,
@@ -79,7 +79,7 @@ fn read_piece<P: Ports>(
     }
 }
 
-// One read of a client's port, where it may be read and the client has room.
+/// One read of a client's port, where it may be read and the client has room.
 fn read_once<P: Ports>(
     server: &mut Server,
     ports: &mut P,
@@ -106,7 +106,7 @@ fn read_once<P: Ports>(
     read_piece(server, ports, client, seat, &mut buffer[..room])
 }
 
-// The reads of a pass over a client's port, up to so many; whether the port stays open.
+/// The reads of a pass over a client's port, up to so many; whether the port stays open.
 pub fn read_client<P: Ports>(
     server: &mut Server,
     ports: &mut P,
@@ -135,7 +135,7 @@ pub fn read_client<P: Ports>(
     true
 }
 
-// One write to a client's port, of all that waits for the client.
+/// One write to a client's port, of all that waits for the client.
 fn write_once<P: Ports>(server: &mut Server, ports: &mut P, client: Client, seat: &mut Seat) -> Went
     requires role { seat.old.role ≡ Role.Client client }
     ensures goes { (t : Tally) (config : Config) (w : World) → StandsAt server.old config w →
@@ -187,8 +187,8 @@ fn write_once<P: Ports>(server: &mut Server, ports: &mut P, client: Client, seat
     }
 }
 
-// Whether an offer to a client is known to find nothing, so that it may be spared. A client that is marked is offered
-// something even if its selectors refuse what came: that offer finds nothing and takes the mark away.
+/// Whether an offer to a client is known to find nothing, so that it may be spared. A client that is marked is offered
+/// something even if its selectors refuse what came: that offer finds nothing and takes the mark away.
 fn finds_nothing(server: &Server, client: Client) -> bool
     ensures idle { result ≡ true → (config : Config) (w : World) → StandsAt server.now config w →
         Some Idle ≡ option_map (λ c. offer_of (offered w.history c)) (client_at w client) }
@@ -201,9 +201,9 @@ fn finds_nothing(server: &Server, client: Client) -> bool
     }
 }
 
-// The writes of a pass over a client's port, up to so many; whether the port stays open. A client for which nothing
-// would be found is offered nothing. One that is offered something is offered more until nothing is found, which takes
-// its mark away.
+/// The writes of a pass over a client's port, up to so many; whether the port stays open. A client for which nothing
+/// would be found is offered nothing. One that is offered something is offered more until nothing is found, which takes
+/// its mark away.
 pub fn write_client<P: Ports>(
     server: &mut Server,
     ports: &mut P,

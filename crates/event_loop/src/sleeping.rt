@@ -94,7 +94,7 @@ pub fn go(seats: &mut Vec<Seat>, awake: &mut Vec<u8>, feeds: &mut usize, at: usi
     let _gone = awake.remove(at);
 }
 
-// Each byte is 1.
+/// Each byte is 1.
 fn wake_all(awake: &mut [u8])
     ensures { EachIndex awake.new (λ i. slice_index awake.new i ≡ 1) }
 {

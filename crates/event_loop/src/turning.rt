@@ -67,7 +67,7 @@ impl LoopFault {
     }
 }
 
-// The pass over one port; whether the port stays open. It is told whether records came by it.
+/// The pass over one port; whether the port stays open. It is told whether records came by it.
 fn pass<P: Ports>(
     server: &mut Server,
     ports: &mut P,
@@ -104,7 +104,7 @@ fn pass<P: Ports>(
     }
 }
 
-// The pass over the port at a place, and where the next port is then. A port that is shut has no seat any more.
+/// The pass over the port at a place, and where the next port is then. A port that is shut has no seat any more.
 fn pass_at<P: Ports>(
     server: &mut Server,
     ports: &mut P,
@@ -153,7 +153,7 @@ fn pass_at<P: Ports>(
     }
 }
 
-// The passes over all ports, by rising number. Those that sleep are passed over.
+/// The passes over all ports, by rising number. Those that sleep are passed over.
 fn pass_all<P: Ports>(
     server: &mut Server,
     ports: &mut P,
