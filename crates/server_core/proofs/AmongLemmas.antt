@@ -1,15 +1,13 @@
 -- Numbers that are put among others, one after the other.
-use Rattle.std.proofs.Common.{◌≡◌, ℕ, ◌+◌, ◌<◌, ◌==◌, Bool, true, false, List, [], ◌∷◌, ◌++◌, length, get_or, take}
-use Rattle.std.proofs.Common.{Some, refl}
-use Rattle.std.proofs.Common.{sym, ap, subst, ◌∙◌, arith, eqb-true}
-use Rattle.std.proofs.lemmas.List.{get_or_append_left, take_more}
+use Rattle.std.proofs.Common.{◌≡◌, ℕ, ◌+◌, ◌<◌, ◌≤◌, true, false, List, [], ◌∷◌, ◌++◌, length, inl, inr, slice_get}
+use Rattle.std.proofs.Common.{Some, sym, ap, ◌∙◌, arith}
+use Rattle.std.proofs.lemmas.Bool.{cases_eq, cases_lt}
+use Rattle.std.proofs.lemmas.List.{get_or_append_left}
+use Rattle.std.proofs.lemmas.Option.{slice_get_within}
 use Rattle.std.proofs.Math.Seq.{get_or-append_seam}
 use Rattle.std.proofs.Common.{length-append}
-use Rattle.protocol.proofs.FoundLemmas.{both}
 use Rattle.slot_rows.specs.declared.row.Row.{Row}
 use Rattle.slot_rows.specs.Rows.{bit_of}
-use Rattle.server_core.specs.declared.clients.Opened.{Opened}
-use Rattle.server_core.specs.Clients.{slot_in}
 use Rattle.server_core.specs.Marks.{IsAmong}
 
 pub among-more : (k : ℕ) (xs ys : List ℕ) → IsAmong k xs → IsAmong k (xs ++ ys)
@@ -31,32 +29,39 @@ among-last k x xs e =
       is = get_or-append_seam xs x [] 0 ∙ e;
     }
 
-slot_in-last : {X : Type 0} (os : List Opened) (o : Opened) (k slot : ℕ) → slot_in (os ++ o ∷ []) k ≡ Some slot
-    → (slot_in os k ≡ Some slot → X) → (o.number ≡ k → o.slot ≡ slot → X) → X
-slot_in-last [] o k slot e first last =
-    both (o.number == k)
-    (λ yes. last (eqb-true o.number k yes) (let q : Some o.slot ≡ Some slot = rw yes at e in cc))
-    (λ no. absurd (let q : slot_in [] k ≡ Some slot = rw no at e in cc))
-slot_in-last (x ∷ os) o k slot e first last =
-    both (x.number == k) (λ yes. first (let q : Some x.slot ≡ Some slot = rw yes at e in rw yes q))
-    (λ no. slot_in-last os o k slot (rw no at e) (λ f. first (rw no f)) last)
+-- The numbers at the slots up to one whose bit is set are among some.
+abbrev pub AllAmong : List ℕ → Row → ℕ → List ℕ → Type 0
+AllAmong numbers row end some =
+    (slot k : ℕ) → slot < end → bit_of row slot ≡ true → slice_get numbers slot ≡ Some k → IsAmong k some
 
--- All marked ones up to a place are among some.
-abbrev pub AllAmong : List Opened → Row → ℕ → List ℕ → Type 0
-AllAmong os row at some = (k slot : ℕ) → slot_in (take at os) k ≡ Some slot → bit_of row slot ≡ true → IsAmong k some
+-- No slot between the last one and the next is set.
+AreUnset : Row → ℕ → ℕ → Type 0
+AreUnset row from next = (slot : ℕ) → from ≤ slot → slot < next → bit_of row slot ≡ false
 
-module _ (os : List Opened) (row : Row) (at : ℕ) (some : List ℕ) (here : Opened) (inside : at < length os)
-    (is : here ≡ get_or os at here) (so_far : AllAmong os row at some) where
-  pub among-marked : AllAmong os row (at + 1) (some ++ here.number ∷ [])
-  among-marked k slot e bit =
-      slot_in-last (take at os) here k slot
-      (ap (λ xs. slot_in xs k) (ap (λ x. take at os ++ x ∷ []) is ∙ sym (take_more os at here inside)) ∙ e)
-      (λ first. among-more k some (here.number ∷ []) (so_far k slot first bit))
-      (λ number its-slot. among-last k here.number some number)
+module _ (numbers : List ℕ) (row : Row) (some : List ℕ) where
+  unset : {X : Type 0} (slot : ℕ) → bit_of row slot ≡ true → bit_of row slot ≡ false → X
+  unset slot is is-not = absurd (let q : true ≡ false = sym is ∙ is-not in cc)
 
-  pub among-unmarked : bit_of row here.slot ≡ false → AllAmong os row (at + 1) some
-  among-unmarked unmarked k slot e bit =
-      slot_in-last (take at os) here k slot
-      (ap (λ xs. slot_in xs k) (ap (λ x. take at os ++ x ∷ []) is ∙ sym (take_more os at here inside)) ∙ e)
-      (λ first. so_far k slot first bit)
-      (λ number its-slot. absurd (let q : true ≡ false = sym bit ∙ ap (bit_of row) (sym its-slot) ∙ unmarked in cc))
+  pub among-first : (next : ℕ) → ((slot : ℕ) → 0 ≤ slot → slot < next → bit_of row slot ≡ false)
+      → AllAmong numbers row next some
+  among-first next passed slot k below bit at = unset slot bit (passed slot (omega arith) below)
+
+  pub among-next : (here next x : ℕ) → AllAmong numbers row here some → slice_get numbers here ≡ Some x
+      → ((slot : ℕ) → here + 1 ≤ slot → slot < next → bit_of row slot ≡ false)
+      → AllAmong numbers row next (some ++ x ∷ [])
+  among-next here next x so_far is passed slot k below bit at =
+      elim (cases_lt slot here) [
+        | inl before ↦ among-more k some (x ∷ []) (so_far slot k before bit at)
+        | inr le ↦ elim (cases_eq slot here) [
+          | inl same ↦
+              among-last k x some (let q : Some x ≡ Some k = sym is ∙ ap (slice_get numbers) (sym same) ∙ at in cc)
+          | inr apart ↦ unset slot bit (passed slot (omega (arith, le, apart)) below)
+        ]
+      ]
+
+-- Each slot that is set is one of those.
+pub all-among : (numbers : List ℕ) (row : Row) (end : ℕ) (some : List ℕ) → length numbers ≡ end
+    → AllAmong numbers row end some → (slot k : ℕ) → bit_of row slot ≡ true → slice_get numbers slot ≡ Some k
+    → IsAmong k some
+all-among numbers row end some counted among slot k bit at =
+    among slot k (let inside = slice_get_within numbers slot k at in omega (arith, inside, counted)) bit at

@@ -166,7 +166,13 @@ sessions-counted c = length-map-range_with_len (session_of c.opened.items c.slot
 
 -- Where a client was looked for is no part of what its sessions are.
 pub near-table : (c : Clients) (at : ℕ) → IsTable c → IsTable (record c { near = at })
-near-table c at table = record { rising = table.rising; below = table.below; apart = table.apart; there = table.there }
+near-table c at table = record {
+  rising = table.rising;
+  below = table.below;
+  apart = table.apart;
+  there = table.there;
+  numbered = table.numbered;
+}
 
 pub near-sessions : (c : Clients) (at : ℕ) → sessions_of (record c { near = at }) ≡ sessions_of c
 unfolding sessions_of
@@ -184,15 +190,24 @@ room-sessions c d opens opened slots =
     (λ slot e. ap (λ (xs : List (Option SessionValue)). slice_index_or xs slot None) slots))
 
 pub room-table : (c d : Clients) → d.opens ≡ c.opens → d.opened.items ≡ c.opened.items → d.slots.slots ≡ c.slots.slots
+    → ((k slot : ℕ) → slot_in c.opened.items k ≡ Some slot → slice_get d.numbers.items slot ≡ Some k)
     → IsTable c → IsTable d
-room-table c d opens opened slots table = record {
+room-table c d opens opened slots numbered table = record {
   rising = subst AreRising (sym opened) table.rising;
   below = subst (λ os. AreBelow d.opens os) (sym opened)
       (subst (λ n. AreBelow n c.opened.items) (sym opens) table.below);
   apart = subst AreApart (sym opened) table.apart;
   there = λ k slot e. subst (λ (xs : List (Option SessionValue)). IsSome (slice_index_or xs slot None)) (sym slots)
       (table.there k slot (ap (λ os. slot_in os k) (sym opened) ∙ e));
+  numbered = λ k slot e. numbered k slot (ap (λ os. slot_in os k) (sym opened) ∙ e);
 }
+
+-- A number that is put at a vacant slot leaves those of the open clients.
+pub numbers-kept : (c : Clients) (slot : ℕ) (new : List ℕ) → IsTable c → get c.slots slot ≡ None
+    → ((other k : ℕ) → other ≢ slot → slice_get c.numbers.items other ≡ Some k → slice_get new other ≡ Some k)
+    → (k s : ℕ) → slot_in c.opened.items k ≡ Some s → slice_get new s ≡ Some k
+numbers-kept c slot new table vacant others k s e =
+    others s k (vacant-apart c.slots s slot (table.there k s e) vacant) (table.numbered k s e)
 
 -- ---- the sessions in the slots are settled
 
@@ -246,6 +261,7 @@ written-table c new table kept =
       below = table.below;
       apart = table.apart;
       there = λ k slot e. kept slot (table.there k slot e);
+      numbered = table.numbered;
     }
 
 -- ---- one more
@@ -255,13 +271,18 @@ module _ (c new : Clients) (slot : ℕ) (address : Ipv4Addr) (s : SessionValue) 
   one = record { number = c.opens; slot = slot; address = address }
 
   pub opens-table : IsTable c → new.opens ≡ c.opens + 1 → new.opened.items ≡ c.opened.items ++ one ∷ []
-      → get c.slots slot ≡ None → Updates c.slots new.slots slot (Some s) → IsTable new
-  opens-table table opens opened vacant updates = record {
+      → get c.slots slot ≡ None → Updates c.slots new.slots slot (Some s)
+      → slice_get new.numbers.items slot ≡ Some c.opens
+      → ((other k : ℕ) → other ≢ slot → slice_get c.numbers.items other ≡ Some k
+      → slice_get new.numbers.items other ≡ Some k)
+      → IsTable new
+  opens-table table opens opened vacant updates put kept = record {
     rising = subst AreRising (sym opened) (rising-more c.opened.items one table.below table.rising);
     below = subst (λ os. AreBelow new.opens os) (sym opened)
         (subst (λ n. AreBelow n (c.opened.items ++ one ∷ [])) (sym opens) (below-more c.opened.items one table.below));
     apart = subst AreApart (sym opened) apart;
     there = λ k s' e. there k s' (ap (λ os. slot_in os k) (sym opened) ∙ e);
+    numbered = λ k s' e. numbered k s' (ap (λ os. slot_in os k) (sym opened) ∙ e);
   }
     where
       os : List Opened
@@ -297,6 +318,14 @@ module _ (c new : Clients) (slot : ℕ) (address : Ipv4Addr) (s : SessionValue) 
           (λ no. let was = table.there k s' (old-slot k s' (eqb-false c.opens k no) e) in
           subst IsSome (sym (updates.others s' (vacant-apart c.slots s' slot was vacant))) was)
 
+      numbered : (k s' : ℕ) → slot_in os k ≡ Some s' → slice_get new.numbers.items s' ≡ Some k
+      numbered k s' e =
+          both (c.opens == k)
+          (λ yes. let same = eqb-true c.opens k yes in
+          ap (slice_get new.numbers.items) (new-slot k s' same e) ∙ put ∙ ap Some same)
+          (λ no. numbers-kept c slot new.numbers.items table vacant kept k s'
+          (old-slot k s' (eqb-false c.opens k no) e))
+
   pub opens-sessions : IsTable c → new.opens ≡ c.opens + 1 → new.opened.items ≡ c.opened.items ++ one ∷ []
       → get c.slots slot ≡ None → Updates c.slots new.slots slot (Some s)
       → sessions_of new ≡ sessions_of c ++ Some s ∷ []
@@ -323,8 +352,8 @@ module _ (c new : Clients) (slot : ℕ) (address : Ipv4Addr) (s : SessionValue) 
 module _ (c new : Clients) (number at slot : ℕ) where
   pub closes-table : IsTable c → IsNumberAt c.opened.items number at → slot_in c.opened.items number ≡ Some slot
       → new.opens ≡ c.opens → new.opened.items ≡ remove c.opened.items at → Updates c.slots new.slots slot None
-      → IsTable new
-  closes-table table is here opens opened updates = record {
+      → new.numbers.items ≡ c.numbers.items → IsTable new
+  closes-table table is here opens opened updates numbers = record {
     rising = subst AreRising (sym opened) (rising-less c.opened.items at table.rising);
     below = subst (λ os. AreBelow new.opens os) (sym opened)
         (subst (λ n. AreBelow n (remove c.opened.items at)) (sym opens)
@@ -336,6 +365,8 @@ module _ (c new : Clients) (number at slot : ℕ) where
         (updates.others s'
         (λ same. other k s' e' (table.apart k number slot (old-slot k s' e' ∙ ap Some same) here))))
         (table.there k s' (old-slot k s' e'));
+    numbered = λ k s' e. ap (λ ns. slice_get ns s') numbers
+        ∙ table.numbered k s' (old-slot k s' (ap (λ os. slot_in os k) (sym opened) ∙ e));
   }
     where
       other : (k s' : ℕ) → slot_in (remove c.opened.items at) k ≡ Some s' → k ≡ number → ⊥

@@ -15,11 +15,11 @@ use Rattle.transfer.specs.Choosing.{is_transfer}
 use Rattle.server_core.specs.declared.clients.Clients.{Clients}
 use Rattle.server_core.specs.declared.marks.Marks.{Marks}
 use Rattle.server_core.specs.Clients.{IsTable, in_slot, sessions_of, slot_in}
-use Rattle.server_core.specs.Marks.{AreMarked, Elsewhere, IsSpared, IsAmong, Keeps, LeavesOthers, MarksThose, OpensNext}
+use Rattle.server_core.specs.Marks.{AreMarked, Elsewhere, IsSpared, Keeps, LeavesOthers, MarksThose, OpensNext}
 use Rattle.server_core.specs.Marks.{asked, asks, bit_by, mark_in, mark_of, marks_of}
 use Rattle.server_core.specs.Refusals.{is_idle, offer_of}
 use Rattle.server_core.specs.ServerValues.{ServerValue, StandsAt, mark_at}
-use Rattle.server_core.proofs.SessionLemmas.{seen-session, seen-there, serving}
+use Rattle.server_core.proofs.SessionLemmas.{seen-there, serving}
 use Rattle.server_core.proofs.MarkLemmas.{unmarked-idle}
 use Rattle.server_core.proofs.NumberLemmas.{slot_in-below}
 use Rattle.server_core.proofs.SlotLemmas.{index-of, session-is, sessions-counted, value-inside, values-same}

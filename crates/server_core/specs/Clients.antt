@@ -1,7 +1,7 @@
 -- The open clients of a server: their numbers, and the slots in which their sessions are. A slot is used again, a
 -- number never. This project's own.
 use Rattle.std.specs.Prelude.{◌≡◌, ℕ, ◌<◌, ◌==◌, if◌then◌else◌, List, [], ◌∷◌, map, length, Option, Some, None, IsSome}
-use Rattle.std.specs.Prelude.{slice_index_or}
+use Rattle.std.specs.Prelude.{slice_get, slice_index_or}
 use Rattle.std.specs.List.{range_with_len}
 use Rattle.std.specs.Net.Addr.{ipv4_bits}
 use Rattle.slab.specs.Slab.{Slab, get}
@@ -68,9 +68,11 @@ pub record IsNumberAt (os : List Opened) (number at : ℕ) : Type 0 where
 abbrev pub AreApart : List Opened → Type 0
 AreApart os = (j k slot : ℕ) → slot_in os j ≡ Some slot → slot_in os k ≡ Some slot → j ≡ k
 
--- Numbers rise, each below the next one that is given; and each has a slot of its own, in which a session is.
+-- Numbers rise, each below the next one that is given; and each has a slot of its own, in which a session is, and at
+-- which the number stands.
 pub record IsTable (c : Clients) : Type 0 where
   pub rising : AreRising c.opened.items
   pub below : AreBelow c.opens c.opened.items
   pub apart : AreApart c.opened.items
   pub there : (k slot : ℕ) → slot_in c.opened.items k ≡ Some slot → IsSome (get c.slots slot)
+  pub numbered : (k slot : ℕ) → slot_in c.opened.items k ≡ Some slot → slice_get c.numbers.items slot ≡ Some k

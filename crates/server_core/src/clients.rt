@@ -1,14 +1,18 @@
 //! The open clients of a server: their numbers, and the slots in which their sessions are.
 ghost use Rattle.std.specs.Prelude.{◌≡◌, ◌≢◌, ◌+◌, ℕ, ◌∷◌, ◌++◌, [], IfOk, OnOk, OnErr, IfSome, Some, None, true};
 ghost use Rattle.std.specs.Prelude.{is_some};
-ghost use Rattle.std.specs.Prelude.{slice_set};
+ghost use Rattle.std.specs.Prelude.{slice_get, slice_set};
 ghost use Rattle.std.specs.Net.Addr.{ipv4_bits};
 ghost use Rattle.slab.specs.Slab.{get, Updates};
 ghost use Rattle.protocol.specs.Catalog.{Config as ProtocolConfig};
 ghost use Rattle.held_records.specs.Rings.{RingsValue};
+ghost use Rattle.slot_rows.specs.Rows.{bit_of};
+ghost use Rattle.server_core.specs.Marks.{IsAmong};
 
+use crate::client::Client;
 use session_state::Session;
 use slab::Slab;
+use slot_rows::Row;
 use std::alloc::{AllocError, Global};
 use std::net::Ipv4Addr;
 
@@ -29,10 +33,27 @@ pub struct Clients {
     pub opens: usize,
     /// The open ones, by rising number.
     pub opened: Vec<Opened>,
-    /// The place among them at which one was found last. What is asked for next is mostly that one or the one after it.
+    /// The place among them at which one was found last.
     pub near: usize,
     /// Their sessions.
     pub slots: Slab<Session>,
+    /// At each slot the number of the client whose session is there, or was last.
+    pub numbers: Vec<usize>,
+}
+
+/// The client in a slot has a number from now on. It fails where there is no room for it, and then no other changes.
+fn put_number(numbers: &mut Vec<usize>, slot: usize, number: usize) -> Result<(), AllocError>
+    ensures put { OnOk result (slice_get numbers.new.items slot ≡ Some number) }
+    ensures others { (other k : ℕ) → other ≢ slot → slice_get numbers.old.items other ≡ Some k →
+        slice_get numbers.new.items other ≡ Some k }
+{
+    if slot < numbers.len() {
+        numbers[slot] = number;
+        return Ok(());
+    }
+    numbers.resize(slot, 0)?;
+    numbers.push(number)?;
+    Ok(())
 }
 
 impl Clients {
@@ -52,6 +73,7 @@ impl Clients {
             opened: Vec::new(alloc),
             near: 0,
             slots: Slab::new(alloc),
+            numbers: Vec::new(alloc),
         }
     }
 
@@ -77,6 +99,22 @@ impl Clients {
         let at = finding::place_of(self.opened.as_slice(), self.near, number)?;
         self.near = at;
         Some(self.opened[at].slot)
+    }
+
+    /// The open clients in the slots whose bit is set are added to some, with some that closed perhaps. It fails only
+    /// where there is no room for them.
+    pub fn add_set(&self, row: &Row, some: &mut Vec<Client>) -> Result<(), AllocError>
+        requires { IsTable self.now }
+        ensures { OnOk result ((k slot : ℕ) → slot_in self.now.opened.items k ≡ Some slot → bit_of row.now slot ≡ true
+            → IsAmong k some.new.items) }
+    {
+        let end = self.numbers.len();
+        let mut slot = row.next_set(0, end);
+        'slots: while slot < end {
+            some.push(Client::new(self.numbers[slot]))?;
+            slot = row.next_set(slot + 1, end);
+        }
+        Ok(())
     }
 
     /// The slot that the next client will have.
@@ -113,6 +151,7 @@ impl Clients {
         }
         self.slots.reserve(1)?;
         let slot = self.slots.vacant_key();
+        put_number(&mut self.numbers, slot, number)?;
         self.opened.push(Opened {
             number,
             slot,

@@ -5,12 +5,9 @@ ghost use Rattle.session_state.specs.Choices.{chosen_of};
 ghost use Rattle.session_state.specs.declared.session.Settled.TheVariants.{Rest, Start};
 ghost use Rattle.transfer.specs.Choosing.{is_transfer};
 ghost use Rattle.server_core.specs.Refusals.{is_idle};
-ghost use Rattle.server_core.specs.Marks.{Anywhere, Elsewhere, HasRooms, IsAmong, Keeps, asked, bit_by};
-ghost use Rattle.server_core.specs.Clients.{slot_in};
-ghost use Rattle.std.specs.Prelude.{Some, ◌++◌, ◌∷◌, []};
+ghost use Rattle.server_core.specs.Marks.{Anywhere, Elsewhere, HasRooms, Keeps, asked, bit_by};
 
-use crate::client::{Client, Offer};
-use crate::clients::Opened;
+use crate::client::Offer;
 use session_state::{Session, Settled, State};
 use slot_rows::Row;
 use std::alloc::{AllocError, Global};
@@ -51,29 +48,6 @@ fn is_nothing_found(found: Offer) -> bool
         Offer::Bytes => false,
         Offer::Ended => false,
     }
-}
-
-/// A client is added to some, if it is marked.
-fn add_marked(one: &Opened, marks: &Marks, some: &mut Vec<Client>) -> Result<(), AllocError>
-    ensures marked { OnOk result (bit_of marks.now.marked one.now.slot ≡ true →
-        some.new.items ≡ some.old.items ++ one.now.number ∷ []) }
-    ensures unmarked { OnOk result (bit_of marks.now.marked one.now.slot ≡ false → some.new.items ≡ some.old.items) }
-{
-    if marks.is_marked(one.slot) {
-        some.push(Client::new(one.number))?;
-    }
-    Ok(())
-}
-
-/// The open clients that are marked are added to some. It fails only where there is no room for them.
-pub fn marked_of(opened: &[Opened], marks: &Marks, some: &mut Vec<Client>) -> Result<(), AllocError>
-    ensures { OnOk result ((k slot : ℕ) → slot_in opened.now k ≡ Some slot → bit_of marks.now.marked slot ≡ true
-        → IsAmong k some.new.items) }
-{
-    for one in opened {
-        add_marked(one, marks, some)?;
-    }
-    Ok(())
 }
 
 impl Marks {

@@ -12,7 +12,7 @@ ghost use Rattle.protocol.specs.World.Event.{Open, Bytes, Take, Close, Arrive, R
 use crate::arrivals::{ArriveFault, Placing, placed};
 use crate::client::{Client, Gone, Offer, Refusal, ReloadFault};
 use crate::clients::Clients;
-use crate::marks::{Marks, marked_of};
+use crate::marks::Marks;
 use crate::reviewing::review_all;
 use crate::seats;
 use catalog::Config;
@@ -182,7 +182,7 @@ impl Server {
     pub fn marked_clients(&self, some: &mut Vec<Client>) -> Result<(), AllocError>
         ensures { OnOk result ((k : ℕ) → mark_at self.now k ≡ Some true → IsAmong k some.new.items) }
     {
-        marked_of(self.clients.opened.as_slice(), &self.marks, some)
+        self.clients.add_set(&self.marks.marked, some)
     }
 
     /// Whether an offer to a client would find something: bytes, or that the connection is over. It is no event: the

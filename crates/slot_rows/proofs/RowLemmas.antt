@@ -1,11 +1,14 @@
 -- Words by their bits: what a write to one word does to each bit.
 use Rattle.std.proofs.Common.{◌≡◌, ℕ, zero, suc, ◌+◌, ◌*◌, ◌/◌, ◌%◌, ◌^◌, ◌<◌, ◌≤◌, Bool, true, false, ◌||◌, ◌&&◌, eqb}
 use Rattle.std.proofs.Common.{max, min, List, length, get_or, set, refl, sym, ap, ◌∙◌, inl, inr, arith, get_or-set_same}
-use Rattle.std.proofs.Common.{get_or-set_other, length-set, eq-eqb, w64}
+use Rattle.std.proofs.Common.{get_or-set_other, length-set, eq-eqb, w64, ◌-◌}
+use Rattle.std.proofs.Math.Nat.{div-div-eq-div-mul, div-le_self}
 use Rattle.std.specs.Prelude.{◌≢◌, bit_and, bit_or}
-use Rattle.std.specs.Int.{bit_at, bit_not}
+use Rattle.std.specs.Int.{bit_at, bit_not, trailing_zeros}
+use Rattle.std.proofs.lemmas.Nat.{pow-add}
 use Rattle.std.proofs.lemmas.Bool.{cases_eq, cases_lt}
 use Rattle.std.proofs.lemmas.List.{get_or_past}
+use Rattle.std.proofs.lemmas.Nat.Bits.{bit_at-trailing_zeros, bit_at_above}
 use Rattle.std.proofs.lemmas.Nat.Bits.{bit_at-lt, bit_at-zero, bit_at_and, bit_at_clear_other, bit_at_clear_same}
 use Rattle.std.proofs.lemmas.Nat.Bits.{bit_at_or, bit_at_set_other, bit_at_set_same}
 use Rattle.slot_rows.specs.Rows.{bit_in}
@@ -152,3 +155,64 @@ added-all count before one other now is all n within =
               ∙ and-false (bit_in one n)
           | inr past_one ↦ ap (λ b. b && bit_in other n) (bit-past one n past_one)
         ]
+
+-- ---- the first bit of a word from a slot on
+
+-- A word that is shifted has its bits further down.
+shifted : (w a t : ℕ) → bit_at (w / 2 ^ a) t ≡ bit_at w (a + t)
+shifted w a t =
+    ap (λ q. q % 2) (div-div-eq-div-mul w (2 ^ a) (2 ^ t) ∙ ap (λ d. w / d) (sym (pow-add 2 a t)))
+
+module _ (words : List ℕ) (at word : ℕ) (is : word ≡ get_or words (at / 64) 0) where
+  bit-here : (t : ℕ) → at % 64 + t < 64 → bit_in words (at + t) ≡ eqb (bit_at (word / 2 ^ (at % 64)) t) 1
+  bit-here t within =
+      let group : (at + t) / 64 ≡ at / 64 = omega (arith, within) in
+      let place : (at + t) % 64 ≡ at % 64 + t = omega (arith, within) in
+      ap (λ i. eqb (bit_at (get_or words i 0) ((at + t) % 64)) 1) group
+      ∙ ap (λ i. eqb (bit_at (get_or words (at / 64) 0) i) 1) place
+      ∙ ap (λ w. eqb (bit_at w (at % 64 + t)) 1) (sym is)
+      ∙ ap (λ x. eqb x 1) (sym (shifted word (at % 64) t))
+
+  -- Where nothing is left of the word, none of its slots is set.
+  pub nothing-left : word / 2 ^ (at % 64) ≡ 0 → (slot : ℕ) → at ≤ slot → slot < at - at % 64 + 64
+      → bit_in words slot ≡ false
+  nothing-left none slot from below =
+      let t : ℕ = slot - at in
+      let there : slot ≡ at + t = omega (arith, from) in
+      ap (bit_in words) there
+      ∙ bit-here t (omega (arith, from, below))
+      ∙ ap (λ x. eqb (bit_at x t) 1) none
+      ∙ ap (λ x. eqb x 1) (bit_at-zero t)
+
+  module _ (fits : word < 2 ^ 64) (some : 0 < word / 2 ^ (at % 64)) where
+    abbrev pub lowest : ℕ
+    lowest = trailing_zeros w64 (word / 2 ^ (at % 64))
+
+    low : word / 2 ^ (at % 64) < 2 ^ 64
+    low = let less = div-le_self word (2 ^ (at % 64)) in omega (arith, fits, less)
+
+    -- it is one of the word's
+    within-word : at % 64 + lowest < 64
+    within-word =
+        let is-set = (bit_at-trailing_zeros w64 (word / 2 ^ (at % 64)) some low).1 in
+        elim (cases_lt (at % 64 + lowest) 64) [
+          | inl lt ↦ lt
+          | inr ge ↦
+              let one : 1 ≡ 0 = sym is-set ∙ shifted word (at % 64) lowest
+              ∙ bit_at_above word 64 (at % 64 + lowest) fits (omega (arith, ge)) in
+              absurd (omega (arith, one))
+        ]
+
+    pub lowest-set : bit_in words (at + lowest) ≡ true
+    lowest-set = bit-here lowest within-word
+        ∙ eq-eqb _ 1 (bit_at-trailing_zeros w64 (word / 2 ^ (at % 64)) some low).1
+
+    pub none-below : (slot : ℕ) → at ≤ slot → slot < at + lowest → bit_in words slot ≡ false
+    none-below slot from below =
+        let t : ℕ = slot - at in
+        let there : slot ≡ at + t = omega (arith, from) in
+        let less : t < lowest = omega (arith, from, below) in
+        let inside = within-word in
+        ap (bit_in words) there
+        ∙ bit-here t (omega (arith, less, inside))
+        ∙ ap (λ x. eqb x 1) ((bit_at-trailing_zeros w64 (word / 2 ^ (at % 64)) some low).2 t less)

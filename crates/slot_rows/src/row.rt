@@ -1,5 +1,6 @@
 //! A row of bits.
-ghost use Rattle.std.specs.Prelude.{◌≡◌, ◌≢◌, ◌≤◌, ℕ, ◌*◌, ◌||◌, ◌&&◌, length, nat_lt, true, false, OnOk};
+ghost use Rattle.std.specs.Prelude.{◌≡◌, ◌≢◌, ◌<◌, ◌≤◌, ◌^◌, ℕ, ◌*◌, ◌||◌, ◌&&◌, length, nat_lt, true, false, OnOk};
+ghost use Rattle.std.specs.List.{slice_index};
 
 use std::alloc::{AllocError, Global};
 
@@ -48,6 +49,32 @@ impl Row {
             Some(word) => (*word >> (slot % 64)) & 1 == 1,
             None => false,
         }
+    }
+
+    /// The bits of 64 slots, as one word; no bit is set where there is no room for them.
+    fn word(&self, at: usize) -> u64
+        ensures { result ≡ slice_index self.now.words.items at }
+    {
+        self.words.get(at).copied().unwrap_or(0)
+    }
+
+    /// The first slot from one on, and before another one, whose bit is set; that other one where there is none.
+    pub fn next_set(&self, from: usize, end: usize) -> usize
+        requires { end < 2 ^ 63 }
+        ensures after { from ≤ end → from ≤ result }
+        ensures before { result ≤ end }
+        ensures set { result < end → bit_of self.now result ≡ true }
+        ensures passed { (slot : ℕ) → from ≤ slot → slot < result → bit_of self.now slot ≡ false }
+    {
+        let mut at = from;
+        'groups: while at < end {
+            let rest = self.word(at / 64) >> (at % 64);
+            if rest != 0 {
+                return end.min(at + rest.trailing_zeros() as usize);
+            }
+            at = at - at % 64 + 64;
+        }
+        end
     }
 
     /// Sets a slot's bit, which there is room for.

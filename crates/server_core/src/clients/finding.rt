@@ -14,20 +14,19 @@ fn is_at(opened: &[Opened], at: usize, number: usize) -> bool
     }
 }
 
-/// The place of an open client by its number: the one after a place that is near, or that one itself, or else found by
-/// halving. The one after it comes first, since a loop that asks for all clients, of whom most sleep, asks for each of
-/// those once.
+/// The place of an open client by its number: one that is near, or the one after it, or else found by halving. What is
+/// asked for next is mostly the client that was asked for last, and after it the next one.
 pub fn place_of(opened: &[Opened], near: usize, number: usize) -> Option<usize>
     requires { AreRising opened.now }
     ensures found { IfSome result (λ at. IsNumberAt opened.now number at) }
     ensures absent { result ≡ None → slot_in opened.now number ≡ None }
 {
+    if is_at(opened, near, number) {
+        return Some(near);
+    }
     let next = near.wrapping_add(1);
     if is_at(opened, next, number) {
         return Some(next);
-    }
-    if is_at(opened, near, number) {
-        return Some(near);
     }
     opened.binary_search_by_key(&number, |one| one.number).ok()
 }

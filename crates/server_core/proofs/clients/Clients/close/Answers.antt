@@ -25,9 +25,10 @@ returns-clause-table c =
       opened = c.remove-gone.new.self;
       near = c.args.self.now.near;
       slots = c.try_remove-session.new.self;
+      numbers = c.args.self.now.numbers;
     })
     c.args.number c.in_ok-at.at c.remove-gone.result.slot c.requires found its-slot refl c.remove-gone.ensures.items
-    c.try_remove-session.ensures.updates
+    c.try_remove-session.ensures.updates refl
 
 pub returns-clause-closed : goal.returns-clause-closed
 returns-clause-closed c =
@@ -41,6 +42,7 @@ returns-clause-closed c =
       opened = c.remove-gone.new.self;
       near = c.args.self.now.near;
       slots = c.try_remove-session.new.self;
+      numbers = c.args.self.now.numbers;
     })
     c.args.number c.in_ok-at.at c.remove-gone.result.slot c.requires found its-slot refl c.remove-gone.ensures.items
     c.try_remove-session.ensures.updates
@@ -78,6 +80,7 @@ returns-clause-left c =
       opened = c.remove-gone.new.self;
       near = c.args.self.now.near;
       slots = c.try_remove-session.new.self;
+      numbers = c.args.self.now.numbers;
     })
     c.args.number c.in_ok-at.at c.requires found refl c.remove-gone.ensures.items
 

@@ -1,12 +1,12 @@
 use Rattle.std.proofs.Common.{rules, ◌≡◌, ◌∙◌, ap, sym, refl, Some, None, subst, List, Option}
 use Rattle.std.specs.Prelude.{◌+◌, slice_index_or, ◌∷◌, [], ◌++◌}
-use Rattle.slab.specs.Slab.{Slab, Updates}
+use Rattle.slab.specs.Slab.{Slab, Updates, get}
 use Rattle.session_state.specs.Sessions.{SessionValue}
 use Rattle.server_core.specs.declared.clients.Clients.{Clients}
-use Rattle.server_core.proofs.SlotLemmas.{opens-addresses, opens-sessions, opens-table, room-sessions, room-table}
+use Rattle.server_core.proofs.SlotLemmas.{numbers-kept, opens-addresses, opens-sessions, opens-table, room-sessions, room-table}
 use Rattle.server_core.proofs.SlotLemmas.{settled-goes}
 use Rattle.server_core.proofs.NumberLemmas.{slot_in-more}
-use Rattle.server_core.specs.Clients.{slot_in}
+use Rattle.server_core.specs.Clients.{IsTable, slot_in}
 use Rattle.server_core.proofs.clients.Clients.open.Goals as goal
 
 pub returns-in_err-reserve-clause-err : goal.returns-in_err-reserve-clause-err
@@ -22,12 +22,30 @@ returns-in_err-reserve-clause-settled c = λ config rings settled here slot s e.
     ≡ c.args.self.now.slots.slots = ap (λ (s : Slab SessionValue). s.slots) c.reserve.ensures.rest_kept in
     settled slot s (ap (λ (xs : List (Option SessionValue)). slice_index_or xs slot None) (sym same) ∙ e)
 
+pub returns-in_err-put_number-clause-err : goal.returns-in_err-put_number-clause-err
+returns-in_err-put_number-clause-err c =
+    let same : c.reserve.new.self.slots
+    ≡ c.args.self.now.slots.slots = ap (λ (s : Slab SessionValue). s.slots) c.reserve.ensures.rest_kept in
+    let is = room-sessions c.args.self.now
+    (record c.args.self.now { slots = c.reserve.new.self; numbers = c.put_number.new.numbers }) refl refl same in
+    search rules
+
+pub returns-in_err-put_number-clause-settled : goal.returns-in_err-put_number-clause-settled
+returns-in_err-put_number-clause-settled c = λ config rings settled here slot s e.
+    let same : c.reserve.new.self.slots
+    ≡ c.args.self.now.slots.slots = ap (λ (s : Slab SessionValue). s.slots) c.reserve.ensures.rest_kept in
+    settled slot s (ap (λ (xs : List (Option SessionValue)). slice_index_or xs slot None) (sym same) ∙ e)
+
 pub returns-in_err-push-clause-err : goal.returns-in_err-push-clause-err
 returns-in_err-push-clause-err c =
     let same : c.reserve.new.self.slots
     ≡ c.args.self.now.slots.slots = ap (λ (s : Slab SessionValue). s.slots) c.reserve.ensures.rest_kept in
     let is = room-sessions c.args.self.now
-    (record c.args.self.now { opened = c.push.new.self; slots = c.reserve.new.self }) refl
+    (record c.args.self.now {
+      opened = c.push.new.self;
+      slots = c.reserve.new.self;
+      numbers = c.put_number.new.numbers;
+    }) refl
     c.in_err-push.ensures.items same in
     search rules
 
@@ -49,6 +67,38 @@ updated : (c : goal.After-self-1)
 updated c = subst (λ k. Updates c.reserve.new.self c.insert_reserved-slot.new.self k (Some c.args.session))
     (c.insert_reserved-slot.ensures.key ∙ sym c.vacant_key-slot.ensures.value) c.insert_reserved-slot.ensures.updates
 
+pub returns-in_err-put_number-clause-table : goal.returns-in_err-put_number-clause-table
+returns-in_err-put_number-clause-table c =
+    let same : c.reserve.new.self.slots
+    ≡ c.args.self.now.slots.slots = ap (λ (s : Slab SessionValue). s.slots) c.reserve.ensures.rest_kept in
+    let vacant : get c.args.self.now.slots c.vacant_key-slot.result ≡ None =
+    ap (λ (xs : List (Option SessionValue)). slice_index_or xs c.vacant_key-slot.result None) (sym same)
+    ∙ c.vacant_key-slot.ensures.vacant in
+    room-table c.args.self.now
+    (record c.args.self.now { slots = c.reserve.new.self; numbers = c.put_number.new.numbers }) refl refl same
+    (numbers-kept c.args.self.now c.vacant_key-slot.result c.put_number.new.numbers.items c.requires vacant
+    c.put_number.ensures.others) c.requires
+
+pub returns-in_err-push-clause-table : goal.returns-in_err-push-clause-table
+returns-in_err-push-clause-table c =
+    let same : c.reserve.new.self.slots
+    ≡ c.args.self.now.slots.slots = ap (λ (s : Slab SessionValue). s.slots) c.reserve.ensures.rest_kept in
+    let vacant : get c.args.self.now.slots c.vacant_key-slot.result ≡ None =
+    ap (λ (xs : List (Option SessionValue)). slice_index_or xs c.vacant_key-slot.result None) (sym same)
+    ∙ c.vacant_key-slot.ensures.vacant in
+    room-table c.args.self.now
+    (record c.args.self.now {
+      opened = c.push.new.self;
+      slots = c.reserve.new.self;
+      numbers = c.put_number.new.numbers;
+    }) refl c.in_err-push.ensures.items same
+    (numbers-kept c.args.self.now c.vacant_key-slot.result c.put_number.new.numbers.items c.requires vacant
+    c.put_number.ensures.others) c.requires
+
+roomy-table : (c : goal.After-self-1) → IsTable (roomy c)
+roomy-table c =
+    room-table c.args.self.now (roomy c) refl refl (same-slots c) c.requires.numbered c.requires
+
 pub returns-clause-table : goal.returns-clause-table
 returns-clause-table c =
     opens-table (roomy c)
@@ -57,9 +107,10 @@ returns-clause-table c =
       opened = c.push.new.self;
       near = c.args.self.now.near;
       slots = c.insert_reserved-slot.new.self;
+      numbers = c.put_number.new.numbers;
     }) c.vacant_key-slot.result c.args.address c.args.session
-    (room-table c.args.self.now (roomy c) refl refl (same-slots c) c.requires) refl c.in_ok-push.ensures.items
-    c.vacant_key-slot.ensures.vacant (updated c)
+    (roomy-table c) refl c.in_ok-push.ensures.items
+    c.vacant_key-slot.ensures.vacant (updated c) c.in_ok-put_number.ensures.put c.put_number.ensures.others
 
 pub returns-clause-opened : goal.returns-clause-opened
 returns-clause-opened c =
@@ -69,8 +120,9 @@ returns-clause-opened c =
       opened = c.push.new.self;
       near = c.args.self.now.near;
       slots = c.insert_reserved-slot.new.self;
+      numbers = c.put_number.new.numbers;
     }) c.vacant_key-slot.result c.args.address c.args.session
-    (room-table c.args.self.now (roomy c) refl refl (same-slots c) c.requires) refl c.in_ok-push.ensures.items
+    (roomy-table c) refl c.in_ok-push.ensures.items
     c.vacant_key-slot.ensures.vacant (updated c)
     ∙ ap (λ (xs : List (Option SessionValue)). xs ++ Some c.args.session ∷ [])
     (room-sessions c.args.self.now (roomy c) refl refl (same-slots c))
@@ -90,6 +142,7 @@ returns-clause-came c =
       opened = c.push.new.self;
       near = c.args.self.now.near;
       slots = c.insert_reserved-slot.new.self;
+      numbers = c.put_number.new.numbers;
     }) c.vacant_key-slot.result c.args.address
     c.requires refl c.in_ok-push.ensures.items
 

@@ -1,8 +1,4 @@
-use Rattle.std.proofs.Common.{◌≡◌, ◌∙◌, ℕ, Some, true, ap, sym, subst, Result, Ok, Err, OnOk, List}
-use Rattle.slot_rows.specs.Rows.{bit_of}
-use Rattle.server_core.specs.declared.clients.Opened.{Opened}
-use Rattle.server_core.specs.Clients.{slot_in}
-use Rattle.server_core.specs.Marks.{IsAmong}
+use Rattle.std.proofs.Common.{◌∙◌, ap, Result, Ok, Err, OnOk}
 use Rattle.server_core.specs.ServerValues.{mark_at}
 use Rattle.server_core.proofs.SpareLemmas.{marked-slot}
 use Rattle.server_core.proofs.server.Server.marked_clients.Goals as goal
@@ -13,9 +9,9 @@ on-ok (Err e) P Q f p = p
 
 pub returns : goal.returns
 returns c =
-    on-ok c.marked_of.result _ _
+    on-ok c.add_set.result _ _
     (λ all k marked.
     let at = marked-slot c.self.inside.config c.self.inside.rings c.self.inside.clients c.self.inside.marks k
     c.self.invariant.0 (ap (λ s. mark_at s k) c.self.view_is ∙ marked) in
-    all k at.0 (ap (λ (os : List Opened). slot_in os k) c.as_slice.ensures.value ∙ at.1) at.2)
-    c.marked_of.ensures
+    all k at.0 at.1 at.2)
+    c.add_set.ensures

@@ -1,8 +1,8 @@
-use Rattle.std.proofs.Common.{◌∙◌, ap, sym, refl, subst}
+use Rattle.std.proofs.Common.{◌∙◌, ap, sym, refl}
 use Rattle.std.specs.Prelude.{is_some}
 use Rattle.server_core.specs.Clients.{in_slot}
 use Rattle.server_core.specs.Marks.{marks_of}
-use Rattle.server_core.specs.ServerValues.{ServerValue, mark_at}
+use Rattle.server_core.specs.ServerValues.{mark_at}
 use Rattle.server_core.proofs.SessionLemmas.{found, seen-session}
 use Rattle.server_core.proofs.SpareLemmas.{spared-there, unmarked-slot}
 use Rattle.server_core.proofs.server.Server.unmarked_are_spared.Goals as goal
