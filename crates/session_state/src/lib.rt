@@ -13,6 +13,7 @@ mod named;
 mod refusals;
 mod replies;
 pub mod session;
+mod waiting;
 mod wishes;
 
 pub use choices::{Cursor, Entry};

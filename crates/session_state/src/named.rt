@@ -327,6 +327,7 @@ impl Named {
         let _ = &self.pool;
         self.entries.pass(i, cursor);
     }
+
     /// The index of the station at a place, where it is found at once: there is no other at that place.
     pub fn find(&self, place: usize) -> Option<usize>
         ensures { IfSome result (λ i. IsOnlyAt (map entry_of self.now.choices) place i) }

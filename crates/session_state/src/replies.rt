@@ -6,26 +6,16 @@ ghost use Rattle.protocol.specs.Record.{padded};
 ghost use Rattle.protocol.specs.Session.{error_line, greeting, ok_line};
 ghost use Rattle.catalog.specs.Places.{view_in};
 
-use arrayvec::ArrayVec;
+use crate::waiting::Waiting;
 use catalog::{Config, Station, View};
 use sl_packet::{Seq, header};
 
-/// The bytes that wait to be handed to a client: at most a packet.
-pub type Waiting = ArrayVec<u8, 520>;
-
-fn extend(out: &mut Waiting, text: &[u8])
-    requires { length out.old.items + length text.now ≤ 520 }
-    ensures { out.new.items ≡ out.old.items ++ text.now }
-{
-    let _ = out.try_extend_from_slice(text);
-}
-
 fn extend_padded(out: &mut Waiting, text: &[u8], width: usize)
-    requires room { length out.old.items + width ≤ 520 }
+    requires room { length out.old + width ≤ 520 }
     requires fits { length text.now ≤ width }
-    ensures { out.new.items ≡ out.old.items ++ padded width text.now }
+    ensures { out.new ≡ out.old ++ padded width text.now }
 {
-    extend(out, text);
+    out.extend(text);
     for _ in text.len()..width {
         out.push(b' ');
     }
@@ -34,61 +24,61 @@ fn extend_padded(out: &mut Waiting, text: &[u8], width: usize)
 /// The bytes, at most 520, in place of what waited.
 pub fn put_bytes(out: &mut Waiting, bytes: &[u8])
     requires { length bytes.now ≤ 520 }
-    ensures { out.new.items ≡ bytes.now }
+    ensures { out.new ≡ bytes.now }
 {
     out.clear();
-    extend(out, bytes);
+    out.extend(bytes);
 }
 
 /// The packet of a record, in place of what waited.
 pub fn put_packet(out: &mut Waiting, number: Seq, record: &[u8; 512])
-    ensures { out.new.items ≡ packet number «record».now }
+    ensures { out.new ≡ packet number «record».now }
 {
     out.clear();
-    extend(out, &header(number));
-    extend(out, record);
+    out.extend(&header(number));
+    out.extend(record);
 }
 
 /// The answer to HELLO: who the server is, and its title.
 pub fn put_greeting(out: &mut Waiting, config: &Config, view: &View)
-    ensures { out.new.items ≡ greeting (view_in config.now view.now) }
+    ensures { out.new ≡ greeting (view_in config.now view.now) }
 {
     out.clear();
-    extend(out, b"SeedLink v3.0 (station access)\r\n");
-    extend(out, config.title());
-    extend(out, b"\r\n");
+    out.extend(b"SeedLink v3.0 (station access)\r\n");
+    out.extend(config.title());
+    out.extend(b"\r\n");
 }
 
 /// The answer to a command that was obeyed.
 pub fn put_ok(out: &mut Waiting)
-    ensures { out.new.items ≡ ok_line }
+    ensures { out.new ≡ ok_line }
 {
     put_bytes(out, b"OK\r\n");
 }
 
 /// The answer to a command that was not obeyed.
 pub fn put_error(out: &mut Waiting)
-    ensures { out.new.items ≡ error_line }
+    ensures { out.new ≡ error_line }
 {
     put_bytes(out, b"ERROR\r\n");
 }
 
 /// A station's line of CAT.
 pub fn put_station_line(out: &mut Waiting, station: &Station)
-    ensures { out.new.items ≡ station_line station.now.station }
+    ensures { out.new ≡ station_line station.now.station }
 {
     out.clear();
     extend_padded(out, station.network(), 2);
-    extend(out, b" ");
+    out.extend(b" ");
     extend_padded(out, station.code(), 5);
-    extend(out, b" ");
-    extend(out, station.description());
-    extend(out, b"\r\n");
+    out.extend(b" ");
+    out.extend(station.description());
+    out.extend(b"\r\n");
 }
 
 /// The last line of CAT.
 pub fn put_end_line(out: &mut Waiting)
-    ensures { out.new.items ≡ end_line }
+    ensures { out.new ≡ end_line }
 {
     put_bytes(out, b"END\r\n");
 }

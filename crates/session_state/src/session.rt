@@ -11,7 +11,8 @@ use crate::choices::{Cursor, Entry};
 use crate::entries::Ahead;
 use crate::modes::Mode;
 use crate::refusals::NoRoom;
-use crate::replies::{Waiting, put_bytes, put_packet};
+use crate::replies::{put_bytes, put_packet};
+use crate::waiting::Waiting;
 use arrayvec::ArrayVec;
 use catalog::{Config, View};
 use protocol::record::Kind;
@@ -80,11 +81,11 @@ impl Model for Session {
       state = s.state;
       open_line = s.cutter;
       unread = drop s.read s.unread.items;
-      waiting = drop s.sent s.waiting.items;
+      waiting = drop s.sent s.waiting;
       looked = s.looked;
     } };
 
-    ghost invariant = { λ s. (s.read ≤ length s.unread.items) × (s.sent ≤ length s.waiting.items)
+    ghost invariant = { λ s. (s.read ≤ length s.unread.items) × (s.sent ≤ length s.waiting)
         × (length s.unread.items ≤ s.read + 1024) };
 }
 
@@ -116,7 +117,7 @@ impl Session {
             cutter: LineCutter::new(),
             unread: ArrayVec::new(),
             read: 0,
-            waiting: ArrayVec::new(),
+            waiting: Waiting::new(),
             sent: 0,
             looked: None,
         })
@@ -406,6 +407,7 @@ impl Session {
         let _ = &self.state;
         self.looked = Some(arrivals);
     }
+
     /// The index of the named station at a place, where it is found at once: there is no other at that place.
     pub fn find(&self, place: usize) -> Option<usize>
         ensures { IfSome result (λ i. IsOnlyAt (map entry_of (chosen_of self.now.mode)) place i) }
