@@ -6,6 +6,8 @@
 #[cfg(test)]
 mod addresses;
 #[cfg(test)]
+mod archives;
+#[cfg(test)]
 mod commands;
 #[cfg(test)]
 mod devices;

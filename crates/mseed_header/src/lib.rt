@@ -13,6 +13,7 @@ mod layout;
 mod making;
 mod numbers;
 
+pub use codes::trimmed;
 pub use fields::Fields;
 pub use header::{Header, read};
 pub use making::{FieldFault, make};

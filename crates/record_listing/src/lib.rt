@@ -11,4 +11,4 @@ mod texts;
 pub use check::check_records;
 pub use fault::FileFault;
 pub use finding::Finding;
-pub use texts::put_header;
+pub use texts::{kind_letter, put_header};

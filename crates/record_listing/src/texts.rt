@@ -28,8 +28,8 @@ fn shown_place(byte: u8) -> u8
     }
 }
 
-/// A record's type, by its letter.
-fn kind_letter(kind: Kind) -> u8
+/// A record's type, by its letter: D (data), E (event), C (calibration), O (opaque), T (timing) or L (log).
+pub fn kind_letter(kind: Kind) -> u8
     ensures { result ≡ kind_letter kind }
 {
     match kind {

@@ -1,3 +1,4 @@
 pub mod Dates
+pub mod Days
 pub mod Parts
 pub mod Parsed

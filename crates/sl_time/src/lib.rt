@@ -3,8 +3,10 @@
 
 mod calendar;
 pub mod command;
+pub mod days;
 mod parts;
 pub mod ticks;
 
 pub use command::{TimeFault, parse};
+pub use days::{DayOfYear, day_of};
 pub use ticks::{Tick, of_btime};

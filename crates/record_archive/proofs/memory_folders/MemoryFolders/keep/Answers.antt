@@ -1,0 +1,12 @@
+use Rattle.std.proofs.Common.{◌∙◌, ℕ, List, [], ◌∷◌, ◌++◌, ap, ap₂, map}
+use Rattle.std.proofs.lemmas.List.{map-append}
+use Rattle.record_archive.specs.Stores.{stored}
+use Rattle.record_archive.proofs.memory_folders.MemoryFolders.keep.Goals as goal
+
+pub returns-clause-kept : goal.returns-clause-kept
+returns-clause-kept c =
+    let before = c.args.self.now.all.items in
+    ap (map stored) c.in_ok-push.ensures.items
+    ∙ map-append stored before _
+    ∙ ap₂ (λ (a b : List ℕ). map stored before ++ record { folder = a; file = b; bytes = c.args.bytes.now } ∷ [])
+    c.in_ok-copied.ensures c.in_ok-copied-2.ensures

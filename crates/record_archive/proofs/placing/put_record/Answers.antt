@@ -1,0 +1,59 @@
+use Rattle.std.proofs.Common.{◌∙◌, sym, subst, refl, ℤ}
+use Rattle.std.specs.Prelude.{◌⊎◌, ◌<ℤ◌, ◌≤ℤ◌}
+use Rattle.sl_time.specs.Days.{IsWithinDay, day_start}
+use Rattle.record_archive.specs.Archives.{IsUnplaced}
+use Rattle.record_archive.specs.Archives.IsUnplaced.{Invalid, Undated, Unnamed}
+use Rattle.record_archive.proofs.PutLemmas.{held-put, held-same}
+use Rattle.record_archive.proofs.placing.put_record.Given as given
+use Rattle.record_archive.proofs.placing.put_record.Goals as goal
+
+invalid : (g : given.Over) (c : goal.In-Err g) → IsUnplaced c.args.bytes.now
+invalid g c = Invalid c.in-Err.field-0 (sym c.read.ensures ∙ c.in-Err.is)
+
+pub returns-in-Err-clause-put : goal.returns-in-Err-clause-put
+returns-in-Err-clause-put g c = held-same (g.F.Folders.puts c.args.folders.now) c.args.bytes.now (invalid g c)
+
+pub returns-in-Err-clause-unplaced : goal.returns-in-Err-clause-unplaced
+returns-in-Err-clause-unplaced g c = λ e. invalid g c
+
+unnamed : (g : given.Over) (c : goal.Then-not-has_place g) → IsUnplaced c.args.bytes.now
+unnamed g c =
+    Unnamed c.in-Ok.header (sym c.read.ensures ∙ c.in-Ok.is) (sym c.has_place.ensures ∙ c.if-not-has_place.true)
+
+pub returns-then-not-has_place-clause-put : goal.returns-then-not-has_place-clause-put
+returns-then-not-has_place-clause-put g c =
+    held-same (g.F.Folders.puts c.args.folders.now) c.args.bytes.now (unnamed g c)
+
+pub returns-then-not-has_place-clause-unplaced : goal.returns-then-not-has_place-clause-unplaced
+returns-then-not-has_place-clause-unplaced g c = λ e. unnamed g c
+
+undated : (g : given.Over) (c : goal.In_default g) → IsUnplaced c.args.bytes.now
+undated g c =
+    Undated c.in-Ok.header (sym c.read.ensures ∙ c.in-Ok.is)
+    (subst (λ (z : ℤ). (z <ℤ day_start 1 1) ⊎ (day_start 10000 1 ≤ℤ z)) c.start.ensures
+    (c.day_of.ensures.outside c.in_default.is))
+
+pub returns-in_default-clause-put : goal.returns-in_default-clause-put
+returns-in_default-clause-put g c =
+    held-same (g.F.Folders.puts c.args.folders.now) c.args.bytes.now (undated g c)
+
+pub returns-in_default-clause-unplaced : goal.returns-in_default-clause-unplaced
+returns-in_default-clause-unplaced g c = λ e. undated g c
+
+pub returns-in-Ok-put-clause-put : goal.returns-in-Ok-put-clause-put
+returns-in-Ok-put-clause-put g c =
+    let day = c.in-Some.day in
+    let header = c.in-Ok.header in
+    held-put (g.F.Folders.puts c.args.folders.now) (g.F.Folders.puts c.put.new.self) c.args.bytes.now
+    (record { folder = c.deref.result.now; file = c.deref-2.result.now; bytes = c.args.bytes.now })
+    (record {
+      facts = header;
+      year = day.year;
+      day = day.day;
+      read = sym c.read.ensures ∙ c.in-Ok.is;
+      placed = sym c.has_place.ensures ∙ c.if-not-has_place.false;
+      inside = subst (IsWithinDay day.year day.day) c.start.ensures c.in-Some.ensures.day;
+      folder = c.deref.ensures.value ∙ c.in-Ok-set.ensures.folder;
+      file = c.deref-2.ensures.value ∙ c.in-Ok-set.ensures.file;
+      bytes = refl;
+    }) c.in-Ok-put.ensures.put

@@ -1,0 +1,70 @@
+-- What an archive holds of records: each record that has a place is put into its file, in order.
+use Rattle.std.specs.Prelude.{◌≡◌, ◌⊎◌, ℕ, ◌+◌, ◌<ℤ◌, ◌≤ℤ◌, nat_lt, if◌then◌else◌, length, List, [], ◌∷◌, ◌++◌, Ok, Err, Result, true, false, Option, Some}
+use Rattle.protocol.specs.Record.{Facts, header_of}
+use Rattle.protocol.specs.declared.record.RecordFault.{RecordFault}
+use Rattle.sl_time.specs.Days.{IsWithinDay, day_start}
+use Rattle.sl_io.specs.Counts.{IsMore}
+use Rattle.record_archive.specs.Paths.{has_place, folder_text, file_text}
+use Rattle.record_archive.specs.declared.placing.ArchiveFault.{ArchiveFault}
+use Rattle.record_archive.specs.declared.placing.ArchiveFault.TheVariants.{Folder, OutOfMemory}
+
+-- a record that was put at the end of a file, which is in a folder
+pub record Put : Type 0 where
+  pub folder : List ℕ
+  pub file : List ℕ
+  pub bytes : List ℕ
+
+-- The record is put into the file of its stream and of the day in which it starts.
+pub record IsPut (r : List ℕ) (p : Put) : Type 0 where
+  pub facts : Facts
+  pub year : ℕ
+  pub day : ℕ
+  pub read : header_of r ≡ Ok facts
+  pub placed : has_place facts ≡ true
+  pub inside : IsWithinDay year day facts.start
+  pub folder : p.folder ≡ folder_text year facts
+  pub file : p.file ≡ file_text year day facts
+  pub bytes : p.bytes ≡ r
+
+-- The record is not valid, or its codes name no place, or it starts before the year 1 or after the year 9999 (no valid
+-- record does).
+pub data IsUnplaced (r : List ℕ) : Type 0 where
+  Invalid : (fault : RecordFault) → header_of r ≡ Err fault → IsUnplaced r
+  Unnamed : (facts : Facts) → header_of r ≡ Ok facts → has_place facts ≡ false → IsUnplaced r
+  Undated : (facts : Facts) → header_of r ≡ Ok facts
+      → (facts.start <ℤ day_start 1 1) ⊎ (day_start 10000 1 ≤ℤ facts.start) → IsUnplaced r
+
+-- These are put of those records, in order.
+pub data ArePut : List (List ℕ) → List Put → Type 0 where
+  None_put : ArePut [] []
+  One_put : {rs : List (List ℕ)} {ps : List Put} {r : List ℕ} {p : Put}
+      → ArePut rs ps → IsPut r p → ArePut (rs ++ r ∷ []) (ps ++ p ∷ [])
+  One_unplaced : {rs : List (List ℕ)} {ps : List Put} {r : List ℕ}
+      → ArePut rs ps → IsUnplaced r → ArePut (rs ++ r ∷ []) ps
+
+-- Folders that tell what is put into them tell one more.
+abbrev pub PutsOne : Option (List Put) → Option (List Put) → Put → Type 0
+PutsOne old new p = (ps : List Put) → old ≡ Some ps → new ≡ Some (ps ++ p ∷ [])
+
+-- An archive that holds what is put of some records holds it of these more.
+abbrev pub HoldsMore : Option (List Put) → Option (List Put) → List (List ℕ) → Type 0
+HoldsMore old new more = (rs : List (List ℕ)) (ps : List Put) → old ≡ Some ps → ArePut rs ps →
+    (qs : List Put) × (new ≡ Some qs) × ArePut (rs ++ more) qs
+
+-- The folders failed once more exactly if that is the fault.
+abbrev pub Fails : {A : Type 0} → (before after : ℕ) → Result A ArchiveFault → Type 0
+Fails before after (Ok a) = after ≡ before
+Fails before after (Err Folder) = IsMore before after 1
+Fails before after (Err OutOfMemory) = after ≡ before
+
+-- what is held of a record that is not whole, with a piece more
+abbrev pub held_with : List ℕ → List ℕ → List ℕ
+held_with held piece = if nat_lt (length held + length piece) 512 then held ++ piece else []
+
+-- the record that the piece makes whole, if it does
+abbrev pub whole_with : List ℕ → List ℕ → List (List ℕ)
+whole_with held piece = if nat_lt (length held + length piece) 512 then [] else (held ++ piece) ∷ []
+
+-- Nothing was put.
+abbrev pub PutsNothing : Option (List Put) → Option (List Put) → Type 0
+PutsNothing old new = new ≡ old

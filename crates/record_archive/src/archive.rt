@@ -1,0 +1,121 @@
+//! An archive to which records are written.
+ghost use Rattle.std.specs.Prelude.{◌≡◌, ◌≢◌, ◌≤◌, ◌<◌, ◌+◌, ◌++◌, ◌∷◌, [], length, take, IfOk, None, OnErr};
+ghost use Rattle.std.specs.Io.{WritesAtMost};
+ghost use Rattle.std.specs.Io.KnownBytes.{WriteAppends};
+ghost use Rattle.sl_io.specs.Counts.{IsMore, CountsFailure, CountsEmptyWrite};
+ghost use Rattle.record_archive.specs.Archives.{HoldsMore, held_with, whole_with};
+
+use crate::folders::Folders;
+use crate::placing::{ArchiveFault, Place, Placed, put_record};
+use sl_io::{DeviceFault, Sink};
+use std::alloc::Global;
+use unfinished::Unfinished;
+
+/// An archive in folders, to which the bytes of records are written, in whatever pieces. A record is put into its file
+/// once its last byte came. Memory is taken only for the texts of places.
+#[derive(Drop)]
+pub struct Archive<F: Folders> {
+    folders: F,
+    place: Place,
+    unfinished: Unfinished<512>,
+    unplaced: u64,
+    fault: Option<ArchiveFault>,
+    failures: u64,
+    calls: u64,
+}
+
+impl<F: Folders> Archive<F> {
+    /// An archive in these folders.
+    pub fn new(alloc: Global, folders: F) -> Archive<F>
+        ensures folders { result.folders ≡ folders }
+        ensures nothing { result.unfinished.held ≡ [] }
+    {
+        Archive {
+            folders,
+            place: Place {
+                folder: Vec::new(alloc),
+                file: Vec::new(alloc),
+            },
+            unfinished: Unfinished::new(),
+            unplaced: 0,
+            fault: None,
+            failures: 0,
+            calls: 0,
+        }
+    }
+
+    /// Its folders.
+    pub fn folders(&self) -> &F
+        ensures { result.now ≡ self.now.folders }
+    {
+        &self.folders
+    }
+
+    /// How many records were written that stand in no file, up to 2^64 - 1.
+    pub fn unplaced(&self) -> u64
+        ensures { result ≡ self.now.unplaced }
+    {
+        self.unplaced
+    }
+
+    /// Why the last write that failed did.
+    pub fn fault(&self) -> Option<ArchiveFault>
+        ensures { result ≡ self.now.fault }
+    {
+        self.fault
+    }
+
+    /// The record whose last byte came is put.
+    fn put_whole(&mut self) -> Result<(), DeviceFault>
+        ensures put { IfOk result (λ done. HoldsMore (F.puts self.old.folders) (F.puts self.new.folders)
+            (self.old.unfinished.whole ∷ [])) }
+        ensures refused { OnErr result (F.puts self.new.folders ≡ F.puts self.old.folders) }
+        ensures failure { CountsFailure self.old.failures self.new.failures result }
+        ensures rest { (self.new.unfinished ≡ self.old.unfinished) × (self.new.calls ≡ self.old.calls) }
+    {
+        match put_record(&mut self.folders, &mut self.place, self.unfinished.whole()) {
+            Ok(Placed::InFile) => Ok(()),
+            Ok(Placed::Unplaced) => {
+                self.unplaced = self.unplaced.saturating_add(1);
+                Ok(())
+            }
+            Err(fault) => {
+                self.fault = Some(fault);
+                self.failures = self.failures.wrapping_add(1);
+                Err(DeviceFault)
+            }
+        }
+    }
+}
+
+impl<F: Folders> Sink for Archive<F> {
+    ghost written = { λ _. None };
+
+    ghost failures = { λ a. a.failures };
+
+    ghost calls = { λ a. a.calls };
+
+    ghost empty_writes = { λ _. 0 };
+
+    fn write(&mut self, bytes: &[u8]) -> Result<usize, DeviceFault>
+        ensures bound { WritesAtMost result bytes.now }
+        ensures bytes { WriteAppends None None result bytes.now }
+        ensures failure { CountsFailure self.old.failures self.new.failures result }
+        ensures call { IsMore self.old.calls self.new.calls 1 }
+        ensures empty { CountsEmptyWrite 0 0 result bytes.now }
+        ensures held { IfOk result (λ n. self.new.unfinished.held ≡ held_with self.old.unfinished.held (take n bytes.now)) }
+        ensures put { IfOk result (λ n. HoldsMore (F.puts self.old.folders) (F.puts self.new.folders)
+            (whole_with self.old.unfinished.held (take n bytes.now))) }
+        ensures refused { OnErr result (F.puts self.new.folders ≡ F.puts self.old.folders) }
+    {
+        self.calls = self.calls.wrapping_add(1);
+        let count = bytes.len().min(512 - self.unfinished.count());
+        if self.unfinished.count() + count < 512 {
+            self.unfinished.hold(&bytes[..count]);
+            return Ok(count);
+        }
+        self.unfinished.complete(&bytes[..count]);
+        self.put_whole()?;
+        Ok(count)
+    }
+}

@@ -1,0 +1,179 @@
+//! Folders on the disk.
+ghost use Rattle.std.specs.Prelude.{◌≡◌, None, OnErr, OnOk};
+ghost use Rattle.sl_io.specs.Counts.{CountsFailure};
+ghost use Rattle.record_archive.specs.Archives.{PutsNothing, PutsOne};
+
+use crate::folders::{FolderFault, Folders};
+use lru::LruCache;
+use std::alloc::Global;
+use std::fs::{self, File, OpenOptions, TryLockError};
+use std::io::{self, Write};
+use std::num::NonZeroUsize;
+use std::rt::Files;
+
+/// How many files are kept open.
+const OPEN: usize = 64;
+
+/// The file below the top folder that is locked while records are put there.
+const LOCK: &str = ".lock";
+
+/// Folders below one of the disk, which no others write to meanwhile. The files that were written last are kept open.
+#[derive(Drop)]
+pub struct DiskFolders<'a, R: Files<File = File>> {
+    rt: &'a R,
+    alloc: Global,
+    top: &'a str,
+    open: LruCache<String, File>,
+    _lock: File,
+    reason: Option<io::Error>,
+    failures: u64,
+}
+
+/// Why nothing can be put below a folder.
+#[derive(Drop)]
+pub enum TopFault {
+    /// The folder can't be made, or the file in it that is locked can't be opened.
+    Unopened(io::Error),
+    /// Somebody else puts records there.
+    Locked,
+}
+
+/// No memory.
+fn no_memory() -> io::Error {
+    io::Error::from(io::ErrorKind::OutOfMemory)
+}
+
+/// Locks the file below a folder that says that records are put there.
+fn locked<R: Files<File = File>>(rt: &R, alloc: Global, top: &str) -> Result<File, TopFault> {
+    let path = match format!(in alloc; "{top}/{LOCK}") {
+        Ok(path) => path,
+        Err(_) => return Err(TopFault::Unopened(no_memory())),
+    };
+    let file = match OpenOptions::new()
+        .write(true)
+        .create(true)
+        .open(rt, path.as_str())
+    {
+        Ok(file) => file,
+        Err(reason) => return Err(TopFault::Unopened(reason)),
+    };
+    match file.try_lock() {
+        Ok(()) => Ok(file),
+        Err(TryLockError::WouldBlock) => Err(TopFault::Locked),
+        Err(TryLockError::Error(reason)) => Err(TopFault::Unopened(reason)),
+    }
+}
+
+/// What was written of a record that the file didn't take whole is cut off again, if the system can.
+fn cut_off(file: &File) {
+    if let Ok(metadata) = file.metadata() {
+        let length = metadata.len();
+        let _ = file.set_len(length - length % 512);
+    }
+}
+
+/// Writes a record at the end of a file, or nothing of it.
+fn append(file: &mut File, bytes: &[u8; 512]) -> io::Result<()> {
+    match file.write_all(bytes) {
+        Ok(()) => Ok(()),
+        Err(reason) => {
+            cut_off(file);
+            Err(reason)
+        }
+    }
+}
+
+/// A text of bytes, which are ASCII.
+fn text_of(bytes: &[u8]) -> io::Result<&str> {
+    match str::from_utf8(bytes) {
+        Ok(text) => Ok(text),
+        Err(_) => Err(io::Error::from(io::ErrorKind::InvalidInput)),
+    }
+}
+
+impl<'a, R: Files<File = File>> DiskFolders<'a, R> {
+    /// Folders below one, which is made if it is not there.
+    pub fn open(rt: &'a R, alloc: Global, top: &'a str) -> Result<DiskFolders<'a, R>, TopFault> {
+        if let Err(reason) = fs::create_dir_all(rt, top) {
+            return Err(TopFault::Unopened(reason));
+        }
+        let lock = locked(rt, alloc, top)?;
+        let Some(most) = NonZeroUsize::new(OPEN) else {
+            return Err(TopFault::Unopened(no_memory()));
+        };
+        match LruCache::new(alloc, most) {
+            Ok(open) => Ok(DiskFolders {
+                rt,
+                alloc,
+                top,
+                open,
+                _lock: lock,
+                reason: None,
+                failures: 0,
+            }),
+            Err(_) => Err(TopFault::Unopened(no_memory())),
+        }
+    }
+
+    /// What the system says of the last put that failed.
+    pub fn into_reason(self) -> Option<io::Error> {
+        self.reason
+    }
+
+    /// Opens a file in a folder, both of which are made if they are not there.
+    fn opened(&self, folder: &str, path: &str) -> io::Result<File> {
+        let Ok(folder) = format!(in self.alloc; "{}/{folder}", self.top) else {
+            return Err(no_memory());
+        };
+        fs::create_dir_all(self.rt, folder.as_str())?;
+        OpenOptions::new()
+            .append(true)
+            .create(true)
+            .open(self.rt, path)
+    }
+
+    /// Puts a record at the end of a file in a folder.
+    fn put_at(&mut self, folder: &str, file: &str, bytes: &[u8; 512]) -> io::Result<()>
+        ensures failures { self.new.failures ≡ self.old.failures }
+    {
+        let Ok(path) = format!(in self.alloc; "{}/{folder}/{file}", self.top) else {
+            return Err(no_memory());
+        };
+        if let Some(open) = self.open.get_mut(path.as_str()) {
+            return append(open, bytes);
+        }
+        let mut opened = self.opened(folder, path.as_str())?;
+        append(&mut opened, bytes)?;
+        match self.open.put(path, opened) {
+            Ok(_) => Ok(()),
+            Err(_) => Err(no_memory()),
+        }
+    }
+}
+
+impl<'a, R: Files<File = File>> Folders for DiskFolders<'a, R> {
+    ghost puts = { λ _. None };
+
+    ghost failures = { λ f. f.failures };
+
+    fn put(&mut self, folder: &[u8], file: &[u8], bytes: &[u8; 512]) -> Result<(), FolderFault>
+        ensures put { OnOk result
+            (PutsOne None None (record { folder = folder.now; file = file.now; bytes = bytes.now })) }
+        ensures refused { OnErr result (PutsNothing None None) }
+        ensures failure { CountsFailure self.old.failures self.new.failures result }
+    {
+        let put = match (text_of(folder), text_of(file)) {
+            (Ok(folder), Ok(file)) => self.put_at(folder, file, bytes),
+            (Err(reason), _) => Err(reason),
+            (_, Err(reason)) => Err(reason),
+        };
+        match put {
+            Ok(()) => Ok(()),
+            Err(reason) => {
+                self.reason = Some(reason);
+                self.failures = self.failures.wrapping_add(1);
+                Err(FolderFault)
+            }
+        }
+    }
+}

@@ -1,0 +1,84 @@
+//! One record that is put into an archive.
+ghost use Rattle.std.specs.Prelude.{◌≡◌, ◌∷◌, [], Ok, OnErr, OnOk};
+ghost use Rattle.record_archive.specs.Archives.{Fails, HoldsMore, IsUnplaced};
+ghost use Rattle.record_archive.specs.Paths.{file_text, folder_text};
+ghost use Rattle.record_archive.specs.declared.placing.Placed.TheVariants.{Unplaced};
+
+use crate::folders::Folders;
+use crate::path::{has_place, put_file, put_folder};
+use mseed_header::{Header, read};
+use sl_time::{DayOfYear, day_of};
+use std::alloc::AllocError;
+use thiserror::Error;
+
+/// What became of a record.
+#[derive(Clone, Copy, Debug, PartialEq, Eq, Drop)]
+pub enum Placed {
+    /// It stands at the end of its file.
+    InFile,
+    /// It stands nowhere: it is not valid, or its codes name no place.
+    Unplaced,
+}
+
+/// Why a record could not be put into an archive.
+#[derive(Clone, Copy, Debug, PartialEq, Eq, Drop, Error)]
+pub enum ArchiveFault {
+    /// A folder can't be made, or a file can't be opened or takes no more.
+    #[error("a file of the archive can't be opened, or takes no more")]
+    Folder,
+    /// Memory lacks.
+    #[error("out of memory")]
+    OutOfMemory,
+}
+
+/// The texts of a record's place: its folder, and its file in that.
+#[derive(Drop)]
+pub(crate) struct Place {
+    pub folder: Vec<u8>,
+    pub file: Vec<u8>,
+}
+
+impl Place {
+    /// The place of a record by its header, and the day in which it starts.
+    fn set(&mut self, header: &Header<'_>, day: DayOfYear) -> Result<(), AllocError>
+        ensures folder { OnOk result (self.new.folder.items ≡ folder_text day.year header.now) }
+        ensures file { OnOk result (self.new.file.items ≡ file_text day.year day.day header.now) }
+    {
+        self.folder.clear();
+        self.file.clear();
+        put_folder(&mut self.folder, header, day)?;
+        put_file(&mut self.file, header, day)
+    }
+}
+
+/// Puts a record at the end of the file of its stream and of the day in which it starts, if it is valid and its codes
+/// name a place.
+pub(crate) fn put_record<F: Folders>(
+    folders: &mut F,
+    place: &mut Place,
+    bytes: &[u8; 512],
+) -> Result<Placed, ArchiveFault>
+    ensures put { OnOk result (HoldsMore (F.puts folders.old) (F.puts folders.new) (bytes.now ∷ [])) }
+    ensures unplaced { result ≡ Ok Unplaced → IsUnplaced bytes.now }
+    ensures refused { OnErr result (F.puts folders.new ≡ F.puts folders.old) }
+    ensures fault { Fails (F.failures folders.old) (F.failures folders.new) result }
+{
+    let header = match read(bytes) {
+        Ok(header) => header,
+        Err(_) => return Ok(Placed::Unplaced),
+    };
+    if !has_place(&header) {
+        return Ok(Placed::Unplaced);
+    }
+    let Some(day) = day_of(header.start()) else {
+        return Ok(Placed::Unplaced);
+    };
+    match place.set(&header, day) {
+        Ok(()) => {}
+        Err(_) => return Err(ArchiveFault::OutOfMemory),
+    }
+    match folders.put(&place.folder, &place.file, bytes) {
+        Ok(()) => Ok(Placed::InFile),
+        Err(_) => Err(ArchiveFault::Folder),
+    }
+}
