@@ -12,7 +12,7 @@ _seedlinkd() {
         local options="--verbose --help"
         case $command in
             "") options+=" --version" ;;
-            serve) options+=" --listen --feed --turns --reread --report --numbers" ;;
+            serve) options+=" --listen --feed --turns --reread --report --feed-from --per-address --numbers" ;;
             read) options+=" --fetch --output" ;;
         esac
         mapfile -t COMPREPLY < <(compgen -W "$options" -- "$current")

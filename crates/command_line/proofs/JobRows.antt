@@ -31,7 +31,7 @@ serve_words =
     ∷ codes "127.0.0.1:18001" ∷ []
 
 pub serve_asked : job_of serve_words
-    ≡ Some (Serve (codes "c.toml") (codes "127.0.0.1:18000") (codes "127.0.0.1:18001") None None None None)
+    ≡ Some (Serve (codes "c.toml") (codes "127.0.0.1:18000") (codes "127.0.0.1:18001") None None None None None None)
 unfolding clap_on_literals
 serve_asked = refl
 
@@ -44,7 +44,8 @@ turns_words =
     codes "seedlinkd" ∷ codes "serve" ∷ codes "--turns" ∷ codes "20" ∷ codes "c" ∷ codes "--feed=b" ∷ codes "--listen=a"
     ∷ []
 
-pub turns_asked : job_of turns_words ≡ Some (Serve (codes "c") (codes "a") (codes "b") (Some 20) None None None)
+pub turns_asked : job_of turns_words
+    ≡ Some (Serve (codes "c") (codes "a") (codes "b") (Some 20) None None None None None)
 unfolding clap_on_literals
 turns_asked = refl
 
@@ -54,7 +55,8 @@ reread_words =
     ∷ codes "--feed=b"
     ∷ codes "--listen=a" ∷ []
 
-pub reread_asked : job_of reread_words ≡ Some (Serve (codes "c") (codes "a") (codes "b") None (Some 600) (Some 9) None)
+pub reread_asked : job_of reread_words
+    ≡ Some (Serve (codes "c") (codes "a") (codes "b") None (Some 600) (Some 9) None None None)
 unfolding clap_on_literals
 reread_asked = refl
 
@@ -64,9 +66,21 @@ numbers_words =
     ∷ codes "--listen=a" ∷ []
 
 pub numbers_asked : job_of numbers_words
-    ≡ Some (Serve (codes "c") (codes "a") (codes "b") None None None (Some (codes "n.toml")))
+    ≡ Some (Serve (codes "c") (codes "a") (codes "b") None None None None None (Some (codes "n.toml")))
 unfolding clap_on_literals
 numbers_asked = refl
+
+abbrev limited_words : List Text
+limited_words =
+    codes "seedlinkd" ∷ codes "serve" ∷ codes "c" ∷ codes "--feed=b" ∷ codes "--feed-from"
+    ∷ codes "10.0.0.7, 10.1.0.0/16"
+    ∷ codes "--listen=a" ∷ codes "--per-address=3" ∷ []
+
+pub limited_asked : job_of limited_words
+    ≡ Some (Serve (codes "c") (codes "a") (codes "b") None None None (Some (codes "10.0.0.7, 10.1.0.0/16"))
+    (Some 3) None)
+unfolding clap_on_literals
+limited_asked = refl
 
 pub feed_asked : job_of (codes "seedlinkd" ∷ codes "feed" ∷ codes "a" ∷ codes "f" ∷ [])
     ≡ Some (Feed (codes "a") (codes "f"))

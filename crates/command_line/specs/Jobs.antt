@@ -54,9 +54,9 @@ address_rule = new_rule (codes "ADDRESS")
 abbrev pub view_app : App
 view_app = with_verbose (with_rule (with_rule (new_app (codes "view")) (wanted (codes "CONFIG"))) address_rule)
 
--- an option `--name N` that counts turns, with N from 1 to 1,000,000,000
-abbrev pub turns_rule : Text → Rule
-turns_rule name = record (option false name) { parser = Some (Unsigned 1 1000000000) }
+-- an option `--name N` with a number from 1 to 1,000,000,000
+abbrev pub number_rule : Text → Rule
+number_rule name = record (option false name) { parser = Some (Unsigned 1 1000000000) }
 
 -- `serve CONFIG --listen A:P --feed A:P`
 abbrev pub addressed_app : App
@@ -64,15 +64,20 @@ addressed_app =
     with_rule (with_rule (with_rule (new_app (codes "serve")) (wanted (codes "CONFIG")))
     (option true (codes "listen"))) (option true (codes "feed"))
 
--- `serve CONFIG --listen A:P --feed A:P [--turns N] [--reread N] [--report N]`
+-- that with `[--turns N] [--reread N] [--report N]`: serve's command with its counts of turns
 abbrev pub timed_app : App
 timed_app =
-    with_rule (with_rule (with_rule addressed_app (turns_rule (codes "turns"))) (turns_rule (codes "reread")))
-    (turns_rule (codes "report"))
+    with_rule (with_rule (with_rule addressed_app (number_rule (codes "turns"))) (number_rule (codes "reread")))
+    (number_rule (codes "report"))
 
--- `serve CONFIG --listen A:P --feed A:P [--turns N] [--reread N] [--report N] [--numbers FILE]`
+-- that with `[--feed-from LIST] [--per-address N]`: who may connect
+abbrev pub limited_app : App
+limited_app = with_rule (with_rule timed_app (option false (codes "feed-from"))) (number_rule (codes "per-address"))
+
+-- `serve CONFIG --listen A:P --feed A:P [--turns N] [--reread N] [--report N] [--feed-from LIST] [--per-address N]
+-- [--numbers FILE]`
 abbrev pub serve_app : App
-serve_app = with_verbose (with_rule timed_app (option false (codes "numbers")))
+serve_app = with_verbose (with_rule limited_app (option false (codes "numbers")))
 
 -- `feed A:P FILE`
 abbrev pub feed_app : App
@@ -119,7 +124,8 @@ pub data Asked : Type 0 where
   Check : (file : List ℕ) → Asked
   Replay : (config : List ℕ) → (script : List ℕ) → Asked
   View : (config : List ℕ) → (address : Option (List ℕ)) → Asked
-  Serve : (config listen feed : List ℕ) → (turns reread report : Option ℕ) → (numbers : Option (List ℕ)) → Asked
+  Serve : (config listen feed : List ℕ) → (turns reread report : Option ℕ) → (feed_from : Option (List ℕ))
+      → (per_address : Option ℕ) → (numbers : Option (List ℕ)) → Asked
   Feed : (server file : List ℕ) → Asked
   Read : (server : List ℕ) → (wants : List (List ℕ)) → (fetch : Bool) → (output : Option (List ℕ)) → Asked
 
@@ -128,8 +134,9 @@ abbrev pub asked : Job → Asked
 asked (job.Check file) = Check file.now
 asked (job.Replay config script) = Replay config.now script.now
 asked (job.View config address) = View config.now (option_map (λ text. text.now) address)
-asked (job.Serve config listen feed turns reread report numbers) =
-    Serve config.now listen.now feed.now turns reread report (option_map (λ file. file.now) numbers)
+asked (job.Serve config listen feed turns reread report feed_from per_address numbers) =
+    Serve config.now listen.now feed.now turns reread report (option_map (λ list. list.now) feed_from) per_address
+    (option_map (λ file. file.now) numbers)
 asked (job.Feed server file) = Feed server.now file.now
 asked (job.Read server wants fetch output) =
     Read server.now (map (λ want. want.now) wants.items) fetch (option_map (λ file. file.now) output)
@@ -155,32 +162,34 @@ with_config address (Some config) = Some (View config address)
 abbrev pub view_asked : List Row → Option Asked
 view_asked rows = with_config (first_of (codes "ADDRESS") rows) (first_of (codes "CONFIG") rows)
 
--- a number of turns from 1 to 1,000,000,000
-abbrev pub checked_turns : Option ℕ → Option (Option ℕ)
-checked_turns None = None
-checked_turns (Some n) = if nat_lt n 1 || nat_lt 1000000000 n then None else Some (Some n)
+-- a number from 1 to 1,000,000,000
+abbrev pub checked_number : Option ℕ → Option (Option ℕ)
+checked_number None = None
+checked_number (Some n) = if nat_lt n 1 || nat_lt 1000000000 n then None else Some (Some n)
 
--- the number of turns that a text of 1 to 10 decimal digits spells; any number where the option is left out
-abbrev pub turns_of : Option (List ℕ) → Option (Option ℕ)
-turns_of None = Some None
-turns_of (Some text) = checked_turns (digits_between 1 10 text)
+-- the number that a text of 1 to 10 decimal digits spells; no number where the option is left out
+abbrev pub number_of : Option (List ℕ) → Option (Option ℕ)
+number_of None = Some None
+number_of (Some text) = checked_number (digits_between 1 10 text)
 
--- the number of turns that an option has
-abbrev pub turns_in : Text → List Row → Option (Option ℕ)
-turns_in name rows = turns_of (first_of name rows)
+-- the number that an option has
+abbrev pub number_in : Text → List Row → Option (Option ℕ)
+number_in name rows = number_of (first_of name rows)
 
 -- a server's job, where all of it is there
 abbrev pub with_server : Option (List ℕ) → Option (List ℕ) → Option (List ℕ) →
-    Option (Option ℕ) → Option (Option ℕ) → Option (Option ℕ) → Option (List ℕ) → Option Asked
-with_server (Some config) (Some listen) (Some feed) (Some turns) (Some reread) (Some report) numbers =
-    Some (Serve config listen feed turns reread report numbers)
-with_server _ _ _ _ _ _ numbers = None
+    Option (Option ℕ) → Option (Option ℕ) → Option (Option ℕ) → Option (List ℕ) → Option (Option ℕ) → Option (List ℕ)
+    → Option Asked
+with_server (Some config) (Some listen) (Some feed) (Some turns) (Some reread) (Some report) feed_from
+    (Some per_address) numbers =
+    Some (Serve config listen feed turns reread report feed_from per_address numbers)
+with_server _ _ _ _ _ _ feed_from _ numbers = None
 
 abbrev pub serve_asked : List Row → Option Asked
 serve_asked rows =
     with_server (first_of (codes "CONFIG") rows) (first_of (codes "listen") rows) (first_of (codes "feed") rows)
-    (turns_in (codes "turns") rows) (turns_in (codes "reread") rows) (turns_in (codes "report") rows)
-    (first_of (codes "numbers") rows)
+    (number_in (codes "turns") rows) (number_in (codes "reread") rows) (number_in (codes "report") rows)
+    (first_of (codes "feed-from") rows) (number_in (codes "per-address") rows) (first_of (codes "numbers") rows)
 
 abbrev pub feed_asked : List Row → Option Asked
 feed_asked rows = with_both Feed (first_of (codes "SERVER") rows) (first_of (codes "FILE") rows)

@@ -3,8 +3,9 @@ ghost use Rattle.std.specs.Prelude.{◌≡◌, Some, false, true, codes, IfOk};
 ghost use Rattle.clap.specs.Words.{App, app_of, new_app, rule_of, with_rule, with_subcommand};
 ghost use Rattle.command_line.specs.Building.{Builds};
 ghost use Rattle.command_line.specs.Jobs.{address_rule, addressed_app, bare_app, check_app, feed_app, fetch_rule};
+ghost use Rattle.command_line.specs.Jobs.{limited_app, number_rule};
 ghost use Rattle.command_line.specs.Jobs.{option};
-ghost use Rattle.command_line.specs.Jobs.{program_app, read_app, replay_app, serve_app, timed_app, turns_rule};
+ghost use Rattle.command_line.specs.Jobs.{program_app, read_app, replay_app, serve_app, timed_app};
 ghost use Rattle.command_line.specs.Jobs.{verbose_rule, view_app};
 ghost use Rattle.command_line.specs.Jobs.{wanted, wants_app, wants_rule, with_verbose};
 
@@ -136,19 +137,19 @@ fn view_command<'a>(alloc: Global) -> Built<'a>
     with_verbose(alloc, with_address)
 }
 
-/// An option `--name N` that counts turns.
-fn turns<'a>(alloc: Global, name: &'a str, help: &'a str) -> Arg<'a>
-    ensures rule { rule_of result ≡ turns_rule name.entry.now }
+/// An option `--name N` with a number.
+fn number<'a>(alloc: Global, name: &'a str, help: &'a str) -> Arg<'a>
+    ensures rule { rule_of result ≡ number_rule name.entry.now }
     ensures own { result.global ≡ false }
 {
     option(alloc, name, "N", false, help).value_parser(ValueParser::Unsigned(1, 1_000_000_000))
 }
 
-/// A command with an option `--name N` that counts turns.
-fn with_turns<'a>(alloc: Global, command: Built<'a>, name: &'a str, help: &'a str) -> Built<'a>
-    ensures { (app : App) → Builds command.entry app → Builds result (with_rule app (turns_rule name.entry.now)) }
+/// A command with an option `--name N` with a number.
+fn with_number<'a>(alloc: Global, command: Built<'a>, name: &'a str, help: &'a str) -> Built<'a>
+    ensures { (app : App) → Builds command.entry app → Builds result (with_rule app (number_rule name.entry.now)) }
 {
-    with_argument(command, turns(alloc, name, help))
+    with_argument(command, number(alloc, name, help))
 }
 
 /// A command with an option `--name A:P` that has to be there.
@@ -173,27 +174,54 @@ fn addressed_command<'a>(alloc: Global) -> Built<'a>
     )
 }
 
-/// `serve CONFIG --listen A:P --feed A:P [--turns N] [--reread N] [--report N]`.
+/// Serve's command with its counts of turns: `[--turns N] [--reread N] [--report N]`.
 fn timed_command<'a>(alloc: Global) -> Built<'a>
     ensures { Builds result timed_app }
 {
-    let with_end = with_turns(
+    let with_end = with_number(
         alloc,
         addressed_command(alloc),
         "turns",
         "Ends after N turns, 1 to 1000000000",
     );
-    let with_reread = with_turns(
+    let with_reread = with_number(
         alloc,
         with_end,
         "reread",
         "Reads CONFIG again every N turns, 1 to 1000000000",
     );
-    with_turns(
+    with_number(
         alloc,
         with_reread,
         "report",
         "Writes a line on standard error every N turns, 1 to 1000000000",
+    )
+}
+
+/// The option `--feed-from LIST`.
+fn feed_from<'a>(alloc: Global) -> Arg<'a>
+    ensures rule { rule_of result ≡ option false (codes "feed-from") }
+    ensures own { result.global ≡ false }
+{
+    option(
+        alloc,
+        "feed-from",
+        "LIST",
+        false,
+        "Takes feeds from these addresses alone, as 10.0.0.7, 10.0.0.0/8",
+    )
+}
+
+/// Serve's command with who may connect: `[--feed-from LIST] [--per-address N]`.
+fn limited_command<'a>(alloc: Global) -> Built<'a>
+    ensures { Builds result limited_app }
+{
+    let with_list = with_argument(timed_command(alloc), feed_from(alloc));
+    with_number(
+        alloc,
+        with_list,
+        "per-address",
+        "Takes at most N clients of one address, 1 to 1000000000",
     )
 }
 
@@ -211,11 +239,12 @@ fn numbers<'a>(alloc: Global) -> Arg<'a>
     )
 }
 
-/// `serve CONFIG --listen A:P --feed A:P [--turns N] [--reread N] [--report N] [--numbers FILE]`.
+/// `serve CONFIG --listen A:P --feed A:P [--turns N] [--reread N] [--report N] [--feed-from LIST] [--per-address N]
+/// [--numbers FILE]`.
 fn serve_command<'a>(alloc: Global) -> Built<'a>
     ensures { Builds result serve_app }
 {
-    let with_numbers = with_argument(timed_command(alloc), numbers(alloc));
+    let with_numbers = with_argument(limited_command(alloc), numbers(alloc));
     with_verbose(alloc, with_numbers)
 }
 

@@ -19,10 +19,11 @@ pub enum Job<'a> {
         config: &'a str,
         address: Option<&'a str>,
     },
-    /// `serve CONFIG --listen A:P --feed A:P [--turns N] [--reread N] [--report N] [--numbers FILE]`: a server over
-    /// sockets. Each number is 1 to 1,000,000,000, and counts turns. Without `turns` the server runs until it is ended
-    /// from outside. Every `reread` turns it reads its configuration again, and every `report` turns it tells what it
-    /// has done. Its stations begin with the numbers in FILE, which keeps numbers for the next run.
+    /// `serve CONFIG --listen A:P --feed A:P [--turns N] [--reread N] [--report N] [--feed-from LIST] [--per-address N]
+    /// [--numbers FILE]`: a server over sockets. Each number is 1 to 1,000,000,000. Without `turns` the server runs
+    /// until it is ended from outside. Every `reread` turns it reads its configuration again, and every `report` turns
+    /// it tells what it has done. It takes feeds from the addresses of LIST alone, and at most `per_address` clients of
+    /// one address. Its stations begin with the numbers in FILE, which keeps numbers for the next run.
     Serve {
         config: &'a str,
         listen: &'a str,
@@ -30,6 +31,8 @@ pub enum Job<'a> {
         turns: Option<usize>,
         reread: Option<usize>,
         report: Option<usize>,
+        feed_from: Option<&'a str>,
+        per_address: Option<usize>,
         numbers: Option<&'a str>,
     },
     /// `feed A:P FILE`: sends the records of a file to a server.

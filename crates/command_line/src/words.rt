@@ -2,7 +2,7 @@
 ghost use Rattle.std.specs.Prelude.{◌≡◌, ◌||◌, [], Some, false, IfOk, IfErr, map, option_map, string_bytes};
 ghost use Rattle.clap.specs.Words.{all_of, fault_of, first_of, found_of, kind_of, rows_of, subcommand_rows_of};
 ghost use Rattle.command_line.specs.Jobs.{HelpIs, IsJob, IsTold, asked, asked_by, check_asked, feed_asked, is_shown};
-ghost use Rattle.command_line.specs.Jobs.{job_of, program_app, read_asked, replay_asked, serve_asked, turns_in};
+ghost use Rattle.command_line.specs.Jobs.{job_of, program_app, number_in, read_asked, replay_asked, serve_asked};
 ghost use Rattle.command_line.specs.Jobs.{verbose_by, verbose_in, verbose_of, view_asked};
 ghost use Rattle.command_line.specs.declared.job.WordsFault.TheVariants.{OutOfMemory};
 
@@ -50,10 +50,10 @@ fn view_job<'a>(arguments: &ArgMatches<'a>) -> Option<Job<'a>>
     Some(Job::View { config, address })
 }
 
-/// The number of turns that an option has: the inner None where it is left out, and None where the text is no number of
-/// its range.
-fn turns_in<'a>(arguments: &ArgMatches<'a>, name: &str) -> Option<Option<usize>>
-    ensures { result ≡ turns_in name.now (rows_of (found_of arguments.now)) }
+/// The number that an option has: the inner None where it is left out, and None where the text is no number of its
+/// range.
+fn number_in<'a>(arguments: &ArgMatches<'a>, name: &str) -> Option<Option<usize>>
+    ensures { result ≡ number_in name.now (rows_of (found_of arguments.now)) }
 {
     let Some(text) = text_at(arguments, name) else {
         return Some(None);
@@ -71,9 +71,11 @@ fn serve_job<'a>(arguments: &ArgMatches<'a>) -> Option<Job<'a>>
     let config = text_at(arguments, "CONFIG")?;
     let listen = text_at(arguments, "listen")?;
     let feed = text_at(arguments, "feed")?;
-    let turns = turns_in(arguments, "turns")?;
-    let reread = turns_in(arguments, "reread")?;
-    let report = turns_in(arguments, "report")?;
+    let turns = number_in(arguments, "turns")?;
+    let reread = number_in(arguments, "reread")?;
+    let report = number_in(arguments, "report")?;
+    let feed_from = text_at(arguments, "feed-from");
+    let per_address = number_in(arguments, "per-address")?;
     let numbers = text_at(arguments, "numbers");
     Some(Job::Serve {
         config,
@@ -82,6 +84,8 @@ fn serve_job<'a>(arguments: &ArgMatches<'a>) -> Option<Job<'a>>
         turns,
         reread,
         report,
+        feed_from,
+        per_address,
         numbers,
     })
 }
@@ -191,7 +195,7 @@ fn refused(alloc: Global, error: clap::Error) -> WordsFault
 fn no_number(alloc: Global) -> WordsFault
     ensures { HelpIs false result }
 {
-    match "error: a number of turns is 1 to 10 decimal digits\n".to_string(alloc) {
+    match "error: a number is 1 to 10 decimal digits\n".to_string(alloc) {
         Ok(text) => WordsFault::Refused {
             text,
             is_help: false,

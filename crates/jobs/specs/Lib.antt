@@ -1,3 +1,4 @@
+pub mod Admitting
 pub mod Endpoints
 pub mod Faults
 pub mod Feeding

@@ -1,12 +1,13 @@
 -- Where a failure happened, by its number: it is not the place's if memory was refused, or an output took no more.
-use Rattle.std.specs.Prelude.{ℕ, ◌==◌, ◌||◌, Bool, if◌then◌else◌, List, Option, Some, None}
+use Rattle.std.specs.Prelude.{◌≡◌, ℕ, ◌==◌, ◌||◌, Bool, if◌then◌else◌, List, Option, Some, None, option_map}
 use Rattle.std.specs.Borrow.{Bor}
 use Rattle.std.specs.declared.io.Error.{Error}
 use Rattle.jobs.specs.Faults.{failure_number}
 use Rattle.jobs.specs.declared.failure.Failure.{Failure}
 use Rattle.jobs.specs.declared.incident.Site.{Site}
 use Rattle.jobs.specs.declared.incident.Site.TheVariants.{Unnamed, File, Setting, Differing, Unread, Unwritten, Word}
-use Rattle.jobs.specs.declared.incident.Site.TheVariants.{Want, Server, Socket}
+use Rattle.jobs.specs.declared.incident.Site.TheVariants.{AccessWord, Want, Server, Socket}
+use Rattle.access_list.specs.Tokens.{first_refused}
 use Rattle.socket_ports.specs.declared.fault.ListenError.{ListenError}
 use Rattle.socket_ports.specs.declared.fault.ListenError.TheVariants as error
 use Rattle.slreader.specs.declared.fault.ReaderFault.{ReaderFault}
@@ -38,6 +39,12 @@ word_site failure word = if is_memory failure then Unnamed else Word word
 abbrev pub want_site : ReaderFault → Bor (List ℕ) → Site
 want_site reader.OutOfMemory word = Unnamed
 want_site _ word = Want word (wrong_part word.now)
+
+-- of a word that spells no access list: that word, and its first entry that is invalid
+abbrev pub IsListSite : Bor (List ℕ) → Site → Type 0
+IsListSite word (AccessWord of_word entry) =
+    (of_word ≡ word) × (option_map (λ text. text.now) entry ≡ first_refused word.now)
+IsListSite word _ = ⊥
 
 -- of a job that reads from a server
 abbrev pub server_site : Failure → Bor (List ℕ) → Site

@@ -61,13 +61,13 @@ pub enum Failure {
     #[error("{0}")]
     Send(SendFault),
     /// The server ended a feed before it had read everything.
-    #[error("the server ended the connection before it had read everything; perhaps it has 16 feeds already")]
+    #[error("the server ended the connection before it had read everything; perhaps it takes no feed from here now")]
     Untaken,
     /// A word is no want, or the plan is outside the reader's limits.
     #[error("{0}")]
     Want(ReaderFault),
     /// The server ended the connection before it had answered HELLO.
-    #[error("the connection ended before HELLO was answered; perhaps the server has max_connections clients already")]
+    #[error("the connection ended before HELLO was answered; perhaps the server takes no client from here now")]
     Unanswered,
     /// Not all that was asked for was read.
     #[error("{0}")]

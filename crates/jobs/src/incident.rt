@@ -1,16 +1,21 @@
 //! A failure, and where it happened.
-ghost use Rattle.std.specs.Prelude.{◌≡◌};
+ghost use Rattle.std.specs.Prelude.{◌≡◌, ◌≢◌};
 ghost use Rattle.jobs.specs.Sites.{config_site, difference_site, feed_site, file_site, input_site, is_memory};
 ghost use Rattle.jobs.specs.Sites.{is_output};
 ghost use Rattle.jobs.specs.Sites.{listening_site, output_site, server_site, want_site, word_site};
 ghost use Rattle.socket_ports.specs.Faults.{fault_of};
 ghost use Rattle.jobs.specs.Faults.{failure_number};
-ghost use Rattle.jobs.specs.declared.failure.Failure.TheVariants.{Config, Listen, Records, Want as WantFailure};
+ghost use Rattle.jobs.specs.Sites.{IsListSite};
+ghost use Rattle.jobs.specs.declared.failure.Failure.TheVariants.{Config, Listen, OutOfMemory, Records};
+ghost use Rattle.jobs.specs.declared.failure.Failure.TheVariants.{Want as WantFailure};
+ghost use Rattle.access_list.specs.declared.fault.AccessFault.TheVariants.{OutOfMemory as AccessMemory};
+ghost use Rattle.catalog.specs.declared.fault.ConfigFault.TheVariants.{Access};
 ghost use Rattle.jobs.specs.declared.incident.Site.TheVariants.{Record};
 
 use crate::failure::Failure;
 use crate::faults::ReplayFault;
 use crate::part_texts::{allowed_in, name_of};
+use access_list::{AccessFault, AccessList};
 use catalog::{ConfigError, ConfigFault, Step};
 use config_findings::{Difference, Finding as ConfigFinding, key_of, limit_of};
 use record_listing::Finding;
@@ -41,6 +46,8 @@ pub enum Site<'a> {
     Unwritten(&'a str, io::Error),
     /// A word of the command line that is no address.
     Word(&'a str),
+    /// A word of the command line that is no access list, and its first entry that is invalid.
+    AccessWord(&'a str, Option<&'a [u8]>),
     /// A word of the command line that is no want, and the part of it that is wrong.
     Want(&'a str, Option<WantPart>),
     /// The server with that address.
@@ -167,6 +174,24 @@ impl<'a> Incident<'a> {
         }
     }
 
+    /// A word of the command line that is no access list.
+    pub fn of_list(word: &'a str, fault: AccessFault) -> Incident<'a>
+        ensures memory { fault ≡ AccessMemory → result.failure ≡ OutOfMemory }
+        ensures failure { fault ≢ AccessMemory → result.failure ≡ Config (Access fault) }
+        ensures site { fault ≢ AccessMemory → IsListSite word.entry result.site }
+    {
+        match fault {
+            AccessFault::OutOfMemory => Incident {
+                failure: Failure::OutOfMemory,
+                site: Site::Unnamed,
+            },
+            _ => Incident {
+                failure: Failure::Config(ConfigFault::Access(fault)),
+                site: Site::AccessWord(word, AccessList::refused_entry(word.as_bytes())),
+            },
+        }
+    }
+
     /// A word of the command line that is no want.
     pub fn of_want(word: &'a str, fault: ReaderFault) -> Incident<'a>
         ensures failure { result.failure ≡ WantFailure fault }
@@ -290,6 +315,11 @@ impl Display for Site<'_> {
             | Site::Unread(path, reason)
             | Site::Unwritten(path, reason) => { writeln!(f, "  file: {path}\n  reason: {reason}") }
             Site::Word(word) => writeln!(f, "  word: {word}"),
+            Site::AccessWord(word, entry) => {
+                writeln!(f, "  word: {word}")?;
+                put_entry(f, entry)?;
+                writeln!(f, "  allowed: {}", limit_of(Step::Access))
+            }
             Site::Want(word, part) => {
                 writeln!(f, "  word: {word}")?;
                 put_part(f, part)
@@ -321,6 +351,17 @@ fn put_key<W: Write>(
     }
     match key_of(step) {
         Some(key) => writeln!(f, "  key: {key}"),
+        None => Ok(()),
+    }
+}
+
+/// The line that says which entry of a list is invalid.
+fn put_entry<W: Write>(f: &mut Formatter<W>, entry: &Option<&[u8]>) -> fmt::Result {
+    match entry {
+        Some(bytes) => match str::from_utf8(bytes) {
+            Ok(text) => writeln!(f, "  entry: {text}"),
+            Err(_) => Ok(()),
+        },
         None => Ok(()),
     }
 }

@@ -2,6 +2,7 @@
 //! script and a check of records. Why they fail, and what the exit status is.
 #![tactic(auto)]
 
+mod admitting;
 mod endpoint;
 mod failure;
 mod faults;

@@ -2,6 +2,7 @@
 ghost use Rattle.std.specs.Prelude.{◌≡◌};
 ghost use Rattle.jobs.specs.Faults.{unlisted};
 
+use crate::admitting::admission_of;
 use crate::endpoint::Endpoint;
 use crate::failure::Failure;
 use crate::feeding::{SentFeed, send_feed};
@@ -16,7 +17,7 @@ use error_lines::StandardError;
 use packet_listing::{ListingFault, Nowhere, read_over};
 use sl_io::{Outer, Sink};
 use slreader::{Plan, Want};
-use socket_ports::MioPorts;
+use socket_ports::{Admission, MioPorts};
 use std::alloc::Global;
 use std::fs::OpenOptions;
 use std::io;
@@ -60,15 +61,16 @@ fn unconnected<'a>(server: Server<'a>, reason: io::Error) -> Incident<'a> {
     }
 }
 
-/// Listens at two addresses, for clients and for feeds.
+/// Listens at two addresses, for clients and for feeds, of which those are taken that are admitted.
 fn listen_at<'a, R: Net + AllocGlobal>(
     rt: &R,
     clients: Server<'a>,
     feeds: Server<'a>,
+    admission: Admission,
 ) -> Result<MioPorts, Incident<'a>> {
     let for_clients = clients.endpoint.socket_address();
     let for_feeds = feeds.endpoint.socket_address();
-    match MioPorts::listen(rt, rt.alloc(), for_clients, for_feeds) {
+    match MioPorts::listen_to(rt, rt.alloc(), for_clients, for_feeds, admission) {
         Ok(ports) => Ok(ports),
         Err(error) => Err(Incident::of_listening(clients.word, feeds.word, error)),
     }
@@ -86,9 +88,10 @@ where
 {
     let clients = server_of(listen)?;
     let feeds = server_of(feed)?;
+    let admission = admission_of(rt.alloc(), options.feed_from, options.per_address)?;
     let mut config = config_at(rt, options.path)?;
     let numbers = numbers_for(rt, options.numbers, &mut config)?;
-    let ports = listen_at(rt, clients, feeds)?;
+    let ports = listen_at(rt, clients, feeds, admission)?;
     let errors = StandardError::open(rt);
     match serve_by(rt, config, ports, options, numbers, errors) {
         Ok(mut ports) => {

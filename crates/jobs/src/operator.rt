@@ -19,13 +19,17 @@ use serving::{Activity, Ahead, Between, Refusal, ServeFault, Timetable, serve_be
 use std::fmt::Write;
 use std::rt::Files;
 
-/// What a server does between its turns, and how it tells it.
+/// Whom a server takes, what it does between its turns, and how it tells it.
 #[derive(Clone, Copy)]
 pub struct ServeOptions<'a> {
     /// The file of its configuration.
     pub path: &'a str,
     /// The file of its numbers, if it has one.
     pub numbers: Option<&'a str>,
+    /// The addresses that feeds are taken from; all without a list.
+    pub feed_from: Option<&'a str>,
+    /// How many clients of one address are taken; any number without one.
+    pub per_address: Option<usize>,
     pub timetable: Timetable,
     /// Whether a configuration that is not taken is explained.
     pub is_verbose: bool,

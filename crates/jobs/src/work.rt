@@ -30,6 +30,8 @@ where
             turns,
             reread,
             report,
+            feed_from,
+            per_address,
             numbers,
         } => {
             let timetable = Timetable {
@@ -41,6 +43,8 @@ where
             let options = ServeOptions {
                 path: config,
                 numbers,
+                feed_from,
+                per_address,
                 timetable,
                 is_verbose,
             };

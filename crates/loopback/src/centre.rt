@@ -1,7 +1,7 @@
 //! A server with its ports, and the dialogue with it.
 use catalog::Config;
 use event_loop::Loop;
-use socket_ports::MioPorts;
+use socket_ports::{Admission, MioPorts};
 use std::io;
 use std::io::{ErrorKind, Read, Write};
 use std::net::{Ipv4Addr, Net, OpenStream, SocketAddr, SocketAddrV4, TcpStream};
@@ -55,6 +55,18 @@ where
     look(rt, &mut centre)
 }
 
+/// The same at one that takes the connections that are admitted alone.
+pub fn at_limited_centre<T, R, F>(rt: &R, admission: Admission, look: F) -> Result<T, Fail>
+where
+    R: Net + AllocGlobal,
+    F: FnOnce(&R, &mut Centre) -> Result<T, Fail>,
+    requires { F.IsAlwaysCallable look }
+{
+    let ports = MioPorts::listen_to(rt, rt.alloc(), any_port(), any_port(), admission)?;
+    let mut centre = Centre::over(rt, CENTRE, ports)?;
+    look(rt, &mut centre)
+}
+
 /// A connection to a port of this machine, whose calls never wait.
 pub fn connect<R: Net>(rt: &R, port: u16) -> io::Result<R::Stream> {
     let stream = TcpStream::connect(rt, SocketAddr::from((Ipv4Addr::LOCALHOST, port)))?;
@@ -98,6 +110,11 @@ impl Centre {
     /// A server with that configuration.
     pub fn open<R: Net + AllocGlobal>(rt: &R, config: &[u8]) -> Result<Centre, Fail> {
         let ports = MioPorts::listen(rt, rt.alloc(), any_port(), any_port())?;
+        Centre::over(rt, config, ports)
+    }
+
+    /// The same over ports that are listened on.
+    fn over<R: AllocGlobal>(rt: &R, config: &[u8], ports: MioPorts) -> Result<Centre, Fail> {
         let (clients, feeds) = ports.bound();
         let config = Config::read(rt.alloc(), config)?;
         let server = Loop::new(rt.alloc(), config, ports)?;

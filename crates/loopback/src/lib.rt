@@ -8,7 +8,7 @@ mod records;
 mod stage;
 mod visitor;
 
-pub use centre::{CENTRE, Centre, any_port, at_centre, connect};
+pub use centre::{CENTRE, Centre, any_port, at_centre, at_limited_centre, connect};
 pub use records::{packet, record};
 pub use stage::{Actor, Stage, StageListener, StageStream};
 pub use test_centre::GREETING;

@@ -1,6 +1,6 @@
 -- Whose connection is taken next, and how many join between two polls.
 -- Ports are this project's own. Left out: how many connections wait.
-use Rattle.std.specs.Prelude.{◌≡◌, ℕ, ◌+◌, ◌≤◌, false, Result, Ok, Err}
+use Rattle.std.specs.Prelude.{◌≡◌, ℕ, ◌+◌, ◌≤◌, false, Result, Ok}
 use Rattle.ports.specs.declared.answers.Happening.{Happening}
 use Rattle.ports.specs.declared.answers.Happening.TheVariants.{Joined, JoinedFeed}
 use Rattle.ports.specs.declared.answers.PortFault.{PortFault}

@@ -1,7 +1,9 @@
+pub mod Admissions
 pub mod Doors
 pub mod Ends
 pub mod Faults
 pub mod Numbers
+pub mod Peers
 pub mod Rations
 pub mod Reads
 pub mod Receipts

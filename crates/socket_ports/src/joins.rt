@@ -1,35 +1,48 @@
-//! How many ports join between two polls, so that no crowd at the doors keeps those waiting that are inside.
+//! How many connections are taken between two polls, so that no crowd at the doors keeps those waiting that are inside.
 ghost use Rattle.std.specs.Prelude.{◌≡◌, ◌+◌, ◌<◌, ◌≤◌, ◌↔◌, IsTrue};
 
-/// How many ports join at most between two polls.
+/// How many connections are taken at most between two polls.
 const MOST: u8 = 16;
 
-/// The ports that joined since the last poll.
+/// The connections that were taken since the last poll.
 #[derive(Clone, Copy, Drop)]
 pub struct Joins {
+    /// How many of them joined.
     pub count: u8,
-    ghost few: { count ≤ 16 },
+    /// How many of them were turned away.
+    pub away: u8,
+    ghost few: { count + away ≤ 16 },
 }
 
 impl Joins {
     pub fn new() -> Joins
         ensures { result.count ≡ 0 }
     {
-        Joins { count: 0 }
+        Joins { count: 0, away: 0 }
     }
 
-    /// Whether no further port may join before the next poll.
+    /// Whether no further connection is taken before the next poll.
     pub fn is_full(&self) -> bool
-        ensures { IsTrue result ↔ (self.now.count ≡ 16) }
+        ensures { IsTrue result ↔ (self.now.count + self.now.away ≡ 16) }
     {
-        self.count == MOST
+        self.count + self.away == MOST
     }
 
     /// One more joins.
     pub fn add(&mut self)
-        requires { self.old.count < 16 }
-        ensures { self.new.count ≡ self.old.count + 1 }
+        requires { self.old.count + self.old.away < 16 }
+        ensures joined { self.new.count ≡ self.old.count + 1 }
+        ensures away { self.new.away ≡ self.old.away }
     {
         self.count += 1;
+    }
+
+    /// One more is turned away.
+    pub fn turn_away(&mut self)
+        requires { self.old.count + self.old.away < 16 }
+        ensures joined { self.new.count ≡ self.old.count }
+        ensures away { self.new.away ≡ self.old.away + 1 }
+    {
+        self.away += 1;
     }
 }

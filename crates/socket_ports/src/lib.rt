@@ -5,6 +5,7 @@
 //! between two polls is limited, so that no client keeps the others waiting. What sockets carry is in no contract.
 #![tactic(auto)]
 
+mod admission;
 mod ahead;
 mod connection;
 mod fault;
@@ -14,10 +15,13 @@ mod listeners;
 mod listing;
 mod mio_ports;
 mod options;
+mod peer;
 mod peer_end;
+mod peers;
 mod pool;
 mod ration;
 mod sockets;
 
+pub use admission::Admission;
 pub use fault::{ListenError, ListenFault};
 pub use mio_ports::MioPorts;

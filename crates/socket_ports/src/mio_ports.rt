@@ -1,11 +1,13 @@
 //! Ports over sockets.
-ghost use Rattle.std.specs.Prelude.{◌≡◌, ◌<◌, [], ◌∷◌, length, None};
+ghost use Rattle.std.specs.Prelude.{◌≡◌, ◌<◌, [], ◌∷◌, length, IfOk, None};
 ghost use Rattle.sl_io.specs.Counts.{CountsFailure};
 ghost use Rattle.ports.specs.Calls.{Tells, given, IsGiven, IsTaken};
 ghost use Rattle.ports.specs.Calls.Call.{Next, Read, Write, Shut};
 ghost use Rattle.socket_ports.specs.Doors.{RationsJoins};
 ghost use Rattle.socket_ports.specs.Numbers.{TellsOpenPorts, numbers};
+ghost use Rattle.socket_ports.specs.Peers.{Admits, without};
 
+use crate::admission::Admission;
 use crate::fault::ListenError;
 use crate::sockets::Sockets;
 use ports::{Got, Happening, PortFault, Ports, Put};
@@ -21,7 +23,8 @@ pub struct MioPorts {
 }
 
 impl MioPorts {
-    /// Listens at two addresses, for clients and for feeds. For port 0 the system chooses one.
+    /// Listens at two addresses, for clients and for feeds, and takes all connections. For port 0 the system chooses
+    /// one.
     ///
     /// It fails with OutOfMemory only if there is no memory, and else with the address that can't be listened on and
     /// what the system says of it.
@@ -30,8 +33,25 @@ impl MioPorts {
         alloc: Global,
         clients: SocketAddrV4,
         feeds: SocketAddrV4,
-    ) -> Result<MioPorts, ListenError> {
-        let sockets = Sockets::listen(rt, alloc, clients, feeds)?;
+    ) -> Result<MioPorts, ListenError>
+        ensures { IfOk result (λ ports. ports.sockets.peers
+            ≡ record { admission = record { feed_from = None; per_address = None }; joined = 0; opened = [] }) }
+    {
+        MioPorts::listen_to(rt, alloc, clients, feeds, Admission::of_all())
+    }
+
+    /// The same, but takes the connections that are admitted alone: the others are closed with no byte.
+    pub fn listen_to(
+        rt: &impl Net,
+        alloc: Global,
+        clients: SocketAddrV4,
+        feeds: SocketAddrV4,
+        admission: Admission,
+    ) -> Result<MioPorts, ListenError>
+        ensures { IfOk result (λ ports. ports.sockets.peers
+            ≡ record { admission = admission; joined = 0; opened = [] }) }
+    {
+        let sockets = Sockets::listen(rt, alloc, clients, feeds, admission)?;
         let bound = sockets.bound()?;
         Ok(MioPorts {
             sockets,
@@ -50,7 +70,7 @@ impl MioPorts {
     /// Sends the bytes that were taken and not sent yet, as long as somebody takes them, for five seconds at most.
     pub fn finish(&mut self)
         ensures failures { self.new.failures ≡ self.old.failures }
-        ensures joined { self.new.sockets.joined ≡ self.old.sockets.joined }
+        ensures peers { self.new.sockets.peers ≡ self.old.sockets.peers }
     {
         self.sockets.finish();
     }
@@ -63,12 +83,13 @@ impl Ports for MioPorts {
 
     /// What happened next. A new port has a number that no port had before: the count of those that joined, which no
     /// other call changes. Readable and Writable are told of open ports alone. At most sixteen ports join between two
-    /// polls.
+    /// polls, and those alone that are admitted.
     fn next(&mut self) -> Result<Happening, PortFault>
         ensures call { Tells None None (Next result ∷ []) }
         ensures failure { CountsFailure self.old.failures self.new.failures result }
-        ensures numbers { TellsOpenPorts self.old.sockets.joined self.new.sockets.joined
+        ensures numbers { TellsOpenPorts self.old.sockets.peers.joined self.new.sockets.peers.joined
             (numbers self.new.sockets.connections.items) result }
+        ensures admits { Admits self.old.sockets.peers self.new.sockets.peers result }
         ensures rationed { RationsJoins self.old.sockets.polls self.old.sockets.joins.count
             self.new.sockets.polls self.new.sockets.joins.count result }
     {
@@ -84,7 +105,7 @@ impl Ports for MioPorts {
         ensures bound { IsGiven result (length buffer.new) }
         ensures call { Tells None None (Read port (length buffer.new) (given result buffer.new) ∷ []) }
         ensures failure { CountsFailure self.old.failures self.new.failures result }
-        ensures joined { self.new.sockets.joined ≡ self.old.sockets.joined }
+        ensures peers { self.new.sockets.peers ≡ self.old.sockets.peers }
     {
         let answer = self.sockets.read(port, buffer);
         if answer.is_err() {
@@ -98,7 +119,7 @@ impl Ports for MioPorts {
         ensures bound { IsTaken result (length bytes.now) }
         ensures call { Tells None None (Write port bytes.now result ∷ []) }
         ensures failure { CountsFailure self.old.failures self.new.failures result }
-        ensures joined { self.new.sockets.joined ≡ self.old.sockets.joined }
+        ensures peers { self.new.sockets.peers ≡ self.old.sockets.peers }
     {
         let answer = self.sockets.write(port, bytes);
         if answer.is_err() {
@@ -110,7 +131,8 @@ impl Ports for MioPorts {
     fn shut(&mut self, port: u64)
         ensures call { Tells None None (Shut port ∷ []) }
         ensures failures { self.new.failures ≡ self.old.failures }
-        ensures joined { self.new.sockets.joined ≡ self.old.sockets.joined }
+        ensures left { self.new.sockets.peers
+            ≡ record self.old.sockets.peers { opened = without port self.old.sockets.peers.opened } }
     {
         self.sockets.shut(port);
     }

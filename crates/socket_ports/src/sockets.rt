@@ -1,10 +1,13 @@
 //! Connections by numbers that are never used again, and what happens to them.
-ghost use Rattle.std.specs.Prelude.{◌≡◌, ◌<◌, ◌+◌, Err, IfErr, IfNone, IfSome, Ok, OnOk, length, true};
+ghost use Rattle.std.specs.Prelude.{◌≡◌, ◌<◌, ◌+◌, [], Err, IfErr, IfNone, IfOk, IfSome, Ok, OnOk, length, true};
 ghost use Rattle.std.specs.List.{Contains};
 ghost use Rattle.ports.specs.Calls.{IsGiven, IsTaken};
+ghost use Rattle.socket_ports.specs.Admissions.{IsAdmitted};
 ghost use Rattle.socket_ports.specs.Doors.{IsPolled, RationsJoins, joins_by};
 ghost use Rattle.socket_ports.specs.Numbers.{TellsOpenPorts, numbers};
+ghost use Rattle.socket_ports.specs.Peers.{Admits, IfJoined, IfNotJoined, IsJoined, happening_of, without};
 
+use crate::admission::Admission;
 use crate::ahead::AheadPool;
 use crate::connection::{Connection, Marks, Readiness};
 use crate::fault::ListenError;
@@ -12,6 +15,7 @@ use crate::joins::Joins;
 use crate::lingering::Lingering;
 use crate::listeners::{Accepted, Kind, LAST, Listeners, Origin, kind_of, origin_of, token_of};
 use crate::listing::Listing;
+use crate::peers::Peers;
 use crate::pool::Pool;
 use mio::event::Event;
 use mio::net::TcpStream;
@@ -23,6 +27,9 @@ use std::time::Duration;
 
 /// How many events one poll gives at most.
 const EVENTS: usize = 1_024;
+
+/// How many connections are taken at most between two polls.
+const CONNECTIONS: u8 = 16;
 
 /// How long a poll waits, in milliseconds, if there is nothing to be done.
 const WAIT: u64 = 100;
@@ -43,9 +50,9 @@ pub struct Sockets {
     /// A port joined, or bytes went, since the last poll.
     is_busy: bool,
     listeners: Listeners,
-    /// How many ports joined: the number of the next one.
-    pub joined: u64,
-    /// How many of them did since the last poll.
+    /// The ports that joined, and whose they are.
+    pub peers: Peers,
+    /// How many connections were taken since the last poll.
     pub joins: Joins,
     /// By rising number.
     pub connections: Vec<Connection>,
@@ -60,6 +67,27 @@ pub struct Sockets {
     listing: Listing,
     /// A port that is to be told writable next.
     writable: Option<u64>,
+}
+
+/// What came of taking a connection.
+#[derive(Drop)]
+enum Taken {
+    /// It joined.
+    Joined(Happening),
+    /// It may not join, and is closed.
+    Away,
+    /// None waits, or there is nothing by which it could be held.
+    Nothing,
+}
+
+/// How it is told that a port of a kind joined.
+fn joined(kind: Kind, number: u64, address: Ipv4Addr) -> Happening
+    ensures { result ≡ happening_of kind number address }
+{
+    match kind {
+        Kind::Client => Happening::Joined(number, address),
+        Kind::Feed => Happening::JoinedFeed(number),
+    }
 }
 
 fn address_of(peer: SocketAddr) -> Option<Ipv4Addr> {
@@ -102,7 +130,10 @@ impl Sockets {
         alloc: Global,
         clients: SocketAddrV4,
         feeds: SocketAddrV4,
-    ) -> Result<Sockets, ListenError> {
+        admission: Admission,
+    ) -> Result<Sockets, ListenError>
+        ensures { IfOk result (λ sockets. sockets.peers ≡ record { admission = admission; joined = 0; opened = [] }) }
+    {
         let events = Events::with_capacity(alloc, EVENTS).map_err(|_| ListenError::OutOfMemory)?;
         let happened = Vec::with_capacity(alloc, EVENTS).map_err(|_| ListenError::OutOfMemory)?;
         let pool = Pool::new(alloc).map_err(|_| ListenError::OutOfMemory)?;
@@ -117,7 +148,7 @@ impl Sockets {
             is_polled: false,
             is_busy: false,
             listeners,
-            joined: 0,
+            peers: Peers::new(alloc, admission),
             joins: Joins::new(),
             connections: Vec::new(alloc),
             near: 0,
@@ -138,7 +169,9 @@ impl Sockets {
     /// Quiet. A poll waits at most 100 ms, and not at all if bytes went, a port joined or one is to be told since the
     /// last one.
     pub fn next(&mut self) -> Result<Happening, PortFault>
-        ensures numbers { TellsOpenPorts self.old.joined self.new.joined (numbers self.new.connections.items) result }
+        ensures numbers { TellsOpenPorts self.old.peers.joined self.new.peers.joined
+            (numbers self.new.connections.items) result }
+        ensures admits { Admits self.old.peers self.new.peers result }
         ensures rationed { RationsJoins self.old.polls self.old.joins.count self.new.polls self.new.joins.count result }
     {
         self.send_gathered();
@@ -155,7 +188,7 @@ impl Sockets {
 
     /// Asks the system what happened, once all that it said before is answered.
     fn poll_if_due(&mut self) -> Result<(), PortFault>
-        ensures joined { self.new.joined ≡ self.old.joined }
+        ensures peers { self.new.peers ≡ self.old.peers }
         ensures polls { IsPolled self.old.polls self.old.joins.count self.new.polls self.new.joins.count }
     {
         if self.is_polled {
@@ -168,7 +201,7 @@ impl Sockets {
 
     /// Asks the system what happened.
     fn poll(&mut self) -> Result<(), PortFault>
-        ensures joined { self.new.joined ≡ self.old.joined }
+        ensures peers { self.new.peers ≡ self.old.peers }
         ensures polls { IsPolled self.old.polls self.old.joins.count self.new.polls self.new.joins.count }
     {
         let Some(polls) = self.polls.checked_add(1) else {
@@ -199,7 +232,7 @@ impl Sockets {
 
     /// Keeps the events of clients, or those of feeds. There is room for all events of a poll.
     fn keep_events(&mut self, kind: Kind)
-        ensures joined { self.new.joined ≡ self.old.joined }
+        ensures peers { self.new.peers ≡ self.old.peers }
         ensures polls { self.new.polls ≡ self.old.polls }
         ensures joins { self.new.joins ≡ self.old.joins }
     {
@@ -218,9 +251,10 @@ impl Sockets {
 
     /// What is still to be told of the last poll.
     fn pending(&mut self) -> Option<Happening>
-        ensures some { IfSome result
-            (λ h. TellsOpenPorts self.old.joined self.new.joined (numbers self.new.connections.items) (Ok h)) }
-        ensures none { IfNone result (self.new.joined ≡ self.old.joined) }
+        ensures some { IfSome result (λ h. TellsOpenPorts self.old.peers.joined self.new.peers.joined
+            (numbers self.new.connections.items) (Ok h)) }
+        ensures admits { IfSome result (λ h. Admits self.old.peers self.new.peers (Ok h)) }
+        ensures none { IfNone result (self.new.peers ≡ self.old.peers) }
         ensures no_join { IfSome result (λ h. joins_by (Ok h) ≡ 0) }
         ensures polls { self.new.polls ≡ self.old.polls }
         ensures joins { self.new.joins ≡ self.old.joins }
@@ -239,9 +273,10 @@ impl Sockets {
 
     /// Tells what an event says of a port.
     fn tell(&mut self, number: u64, marks: Marks) -> Option<Happening>
-        ensures some { IfSome result
-            (λ h. TellsOpenPorts self.old.joined self.new.joined (numbers self.new.connections.items) (Ok h)) }
-        ensures none { IfNone result (self.new.joined ≡ self.old.joined) }
+        ensures some { IfSome result (λ h. TellsOpenPorts self.old.peers.joined self.new.peers.joined
+            (numbers self.new.connections.items) (Ok h)) }
+        ensures admits { IfSome result (λ h. Admits self.old.peers self.new.peers (Ok h)) }
+        ensures none { IfNone result (self.new.peers ≡ self.old.peers) }
         ensures no_join { IfSome result (λ h. joins_by (Ok h) ≡ 0) }
         ensures polls { self.new.polls ≡ self.old.polls }
         ensures joins { self.new.joins ≡ self.old.joins }
@@ -260,7 +295,7 @@ impl Sockets {
 
     /// The next port of which an event tells something.
     fn next_marks(&mut self) -> Option<(u64, Marks)>
-        ensures joined { self.new.joined ≡ self.old.joined }
+        ensures peers { self.new.peers ≡ self.old.peers }
         ensures polls { self.new.polls ≡ self.old.polls }
         ensures joins { self.new.joins ≡ self.old.joins }
     {
@@ -280,7 +315,7 @@ impl Sockets {
 
     /// An event of a port came.
     fn mark(&mut self, number: u64, event: Event) -> Option<Marks>
-        ensures joined { self.new.joined ≡ self.old.joined }
+        ensures peers { self.new.peers ≡ self.old.peers }
         ensures polls { self.new.polls ≡ self.old.polls }
         ensures joins { self.new.joins ≡ self.old.joins }
     {
@@ -306,7 +341,7 @@ impl Sockets {
     /// The next port that is told though no event came of it.
     fn next_due(&mut self) -> Option<u64>
         ensures open { IfSome result (λ number. Contains (numbers self.new.connections.items) number) }
-        ensures joined { self.new.joined ≡ self.old.joined }
+        ensures peers { self.new.peers ≡ self.old.peers }
         ensures polls { self.new.polls ≡ self.old.polls }
         ensures joins { self.new.joins ≡ self.old.joins }
     {
@@ -322,7 +357,7 @@ impl Sockets {
     /// A port is told, and may be listed again. Whether it is open.
     fn unlist(&mut self, number: u64) -> bool
         ensures open { result ≡ true → Contains (numbers self.new.connections.items) number }
-        ensures joined { self.new.joined ≡ self.old.joined }
+        ensures peers { self.new.peers ≡ self.old.peers }
         ensures polls { self.new.polls ≡ self.old.polls }
         ensures joins { self.new.joins ≡ self.old.joins }
     {
@@ -337,7 +372,7 @@ impl Sockets {
     /// The next connection that waits. If the system has no descriptor left, the connection that lingers longest makes
     /// room.
     fn accept(&mut self) -> Option<(Kind, TcpStream, SocketAddr)>
-        ensures joined { self.new.joined ≡ self.old.joined }
+        ensures peers { self.new.peers ≡ self.old.peers }
         ensures polls { self.new.polls ≡ self.old.polls }
         ensures joins { self.new.joins ≡ self.old.joins }
     {
@@ -354,41 +389,65 @@ impl Sockets {
         }
     }
 
-    /// A new port, of a client or of a feed, unless sixteen joined since the last poll.
+    /// A new port, of a client or of a feed, unless sixteen connections were taken since the last poll. A connection of
+    /// somebody who may not join is closed with no byte.
     fn join(&mut self) -> Option<Happening>
-        ensures some { IfSome result
-            (λ h. TellsOpenPorts self.old.joined self.new.joined (numbers self.new.connections.items) (Ok h)) }
-        ensures none { IfNone result (self.new.joined ≡ self.old.joined) }
+        ensures some { IfSome result (λ h. TellsOpenPorts self.old.peers.joined self.new.peers.joined
+            (numbers self.new.connections.items) (Ok h)) }
+        ensures admits { IfSome result (λ h. Admits self.old.peers self.new.peers (Ok h)) }
+        ensures none { IfNone result (self.new.peers ≡ self.old.peers) }
         ensures polls { self.new.polls ≡ self.old.polls }
         ensures counts { IfSome result (λ h. self.new.joins.count ≡ self.old.joins.count + joins_by (Ok h)) }
         ensures no_count { IfNone result (self.new.joins.count ≡ self.old.joins.count) }
     {
-        if self.joins.is_full() {
-            return None;
+        'waiting: for _ in 0..CONNECTIONS {
+            if self.joins.is_full() {
+                return None;
+            }
+            match self.take() {
+                Taken::Joined(happening) => return Some(happening),
+                Taken::Away => self.joins.turn_away(),
+                Taken::Nothing => return None,
+            }
         }
-        let (kind, stream, peer) = self.accept()?;
-        match kind {
-            Kind::Client => {
-                let address = address_of(peer)?;
-                let number = self.hold(kind, stream)?;
-                Some(Happening::Joined(number, address))
-            }
-            Kind::Feed => {
-                let number = self.hold(kind, stream)?;
-                Some(Happening::JoinedFeed(number))
-            }
+        None
+    }
+
+    /// Takes the next connection that waits.
+    fn take(&mut self) -> Taken
+        requires { self.old.joins.count + self.old.joins.away < 16 }
+        ensures joined { IfJoined result (λ h. TellsOpenPorts self.old.peers.joined self.new.peers.joined
+            (numbers self.new.connections.items) (Ok h)) }
+        ensures admits { IfJoined result (λ h. Admits self.old.peers self.new.peers (Ok h)) }
+        ensures counts { IfJoined result (λ h. self.new.joins.count ≡ self.old.joins.count + joins_by (Ok h)) }
+        ensures others { IfNotJoined result ((self.new.peers ≡ self.old.peers) × (self.new.joins ≡ self.old.joins)) }
+        ensures polls { self.new.polls ≡ self.old.polls }
+    {
+        let Some((kind, stream, peer)) = self.accept() else {
+            return Taken::Nothing;
+        };
+        let Some(address) = address_of(peer) else {
+            return Taken::Nothing;
+        };
+        if !self.peers.admits(kind, address) {
+            return Taken::Away;
+        }
+        match self.hold(kind, address, stream) {
+            Some(number) => Taken::Joined(joined(kind, number, address)),
+            None => Taken::Nothing,
         }
     }
 
     /// Holds a new connection under the next number.
-    fn hold(&mut self, kind: Kind, mut stream: TcpStream) -> Option<u64>
-        requires { self.old.joins.count < 16 }
-        ensures some { IfSome result (λ n. (n ≡ self.old.joined) × (self.new.joined ≡ self.old.joined + 1)
+    fn hold(&mut self, kind: Kind, address: Ipv4Addr, mut stream: TcpStream) -> Option<u64>
+        requires room { self.old.joins.count + self.old.joins.away < 16 }
+        requires admitted { IsAdmitted self.old.peers.admission self.old.peers.opened kind address }
+        ensures some { IfSome result (λ n. IsJoined kind n address self.old.peers self.new.peers
             × (self.new.joins.count ≡ self.old.joins.count + 1)) }
-        ensures none { IfNone result ((self.new.joined ≡ self.old.joined) × (self.new.joins ≡ self.old.joins)) }
+        ensures none { IfNone result ((self.new.peers ≡ self.old.peers) × (self.new.joins ≡ self.old.joins)) }
         ensures polls { self.new.polls ≡ self.old.polls }
     {
-        let number = self.joined;
+        let number = self.peers.joined();
         if number >= LAST || stream.set_nodelay(true).is_err() {
             return None;
         }
@@ -410,14 +469,21 @@ impl Sockets {
         if self.connections.push(connection).is_err() {
             return None;
         }
-        self.joined = number + 1;
-        self.joins.add();
-        Some(number)
+        match self.peers.add(kind, address) {
+            Ok(number) => {
+                self.joins.add();
+                Some(number)
+            }
+            Err(_) => {
+                let _dropped = self.connections.pop();
+                None
+            }
+        }
     }
 
     /// Sends what a port gathered, if it is not this one.
     fn turn_to(&mut self, port: u64)
-        ensures joined { self.new.joined ≡ self.old.joined }
+        ensures peers { self.new.peers ≡ self.old.peers }
         ensures polls { self.new.polls ≡ self.old.polls }
     {
         match self.gathering {
@@ -428,7 +494,7 @@ impl Sockets {
 
     /// Sends what the last port took. If that fails, the port is told.
     fn send_gathered(&mut self)
-        ensures joined { self.new.joined ≡ self.old.joined }
+        ensures peers { self.new.peers ≡ self.old.peers }
         ensures polls { self.new.polls ≡ self.old.polls }
         ensures joins { self.new.joins ≡ self.old.joins }
     {
@@ -446,7 +512,7 @@ impl Sockets {
 
     /// Has a port told after the next poll, if there may be more to be read by then though no event comes.
     fn list_if_due(&mut self, at: usize)
-        ensures joined { self.new.joined ≡ self.old.joined }
+        ensures peers { self.new.peers ≡ self.old.peers }
         ensures polls { self.new.polls ≡ self.old.polls }
         ensures joins { self.new.joins ≡ self.old.joins }
     {
@@ -460,7 +526,7 @@ impl Sockets {
     pub fn read(&mut self, port: u64, buffer: &mut [u8]) -> Result<Got, PortFault>
         requires { 0 < length buffer.old }
         ensures bound { IsGiven result (length buffer.new) }
-        ensures joined { self.new.joined ≡ self.old.joined }
+        ensures peers { self.new.peers ≡ self.old.peers }
     {
         self.turn_to(port);
         let Some(at) = place_of(self.connections.as_slice(), self.near, port) else {
@@ -481,7 +547,7 @@ impl Sockets {
 
     pub fn write(&mut self, port: u64, bytes: &[u8]) -> Result<Put, PortFault>
         ensures bound { IsTaken result (length bytes.now) }
-        ensures joined { self.new.joined ≡ self.old.joined }
+        ensures peers { self.new.peers ≡ self.old.peers }
     {
         self.turn_to(port);
         let Some(at) = place_of(self.connections.as_slice(), self.near, port) else {
@@ -503,8 +569,9 @@ impl Sockets {
 
     /// Ends a port. Its last bytes are still sent.
     pub fn shut(&mut self, port: u64)
-        ensures { self.new.joined ≡ self.old.joined }
+        ensures { self.new.peers ≡ record self.old.peers { opened = without port self.old.peers.opened } }
     {
+        self.peers.remove(port);
         let Some(at) = place_of(self.connections.as_slice(), self.near, port) else {
             return;
         };
@@ -529,7 +596,7 @@ impl Sockets {
 
     /// Takes the events of the last poll, and tells nobody.
     fn take_events(&mut self)
-        ensures { self.new.joined ≡ self.old.joined }
+        ensures { self.new.peers ≡ self.old.peers }
     {
         self.listing.clear();
         'events: for _ in 0..EVENTS {
@@ -541,7 +608,7 @@ impl Sockets {
 
     /// Sends what was gathered, as long as somebody takes it, for five seconds at most.
     pub fn finish(&mut self)
-        ensures { self.new.joined ≡ self.old.joined }
+        ensures { self.new.peers ≡ self.old.peers }
     {
         self.send_gathered();
         'polls: for _ in 0..LAST_POLLS {

@@ -1,10 +1,12 @@
 //! Tests over sockets on loopback, with both ends in one process: the system takes connections and bytes before the
 //! server's next turn. They are of the server, the feeder and the reader, and of other people's clients: what slinktool
 //! and programs that stand on libslink send, readers that are many, slow or gone, and those that misbehave or would
-//! keep others waiting; of lines to a standard error that nobody reads; and of jobs as the words of a command line
-//! start them. Nothing but tests.
+//! keep others waiting; of addresses whose connections are not taken; of lines to a standard error that nobody reads;
+//! and of jobs as the words of a command line start them. Nothing but tests.
 #![tactic(auto)]
 
+#[cfg(test)]
+mod admission;
 #[cfg(test)]
 mod clients_by_words;
 #[cfg(test)]

@@ -138,11 +138,20 @@ where
     R: Files + Net + AllocGlobal,
     R::File: AsRawFd,
 {
+    run_server_with(rt, later, "")
+}
+
+/// The same with more words.
+fn run_server_with<R>(rt: &R, later: &'static str, more: &str) -> Result<ServerRun, Fail>
+where
+    R: Files + Net + AllocGlobal,
+    R::File: AsRawFd,
+{
     fs::write(rt, "centre.toml", OPEN.as_bytes())?;
     fs::write(rt, "errors.txt", b"")?;
     let visits = Visits::at_free_ports(rt, later)?;
     let line = format!(in rt.alloc();
-        "seedlinkd serve centre.toml --listen 127.0.0.1:{} --feed 127.0.0.1:{} --reread 1 --turns {TURNS}",
+        "seedlinkd serve centre.toml --listen 127.0.0.1:{} --feed 127.0.0.1:{} --reread 1 --turns {TURNS}{more}",
         visits.clients, visits.feeds
     )?;
     let words = words_of(rt.alloc(), line.as_str())?;
@@ -224,5 +233,25 @@ fn a_configuration_that_is_no_toml_leaves_all_as_it_is(rt: HostRuntime) -> Resul
     assert!(rt; was_sent(&run.visits.near, 2)?);
     assert!(rt; was_sent(&run.visits.far, 2)?);
     assert!(rt; run.errors.as_str().starts_with("seedlinkd: 20 Toml\n"));
+    Ok(())
+}
+
+#[test]
+fn serve_takes_feeds_of_its_list_and_so_many_clients_of_an_address(
+    rt: HostRuntime,
+) -> Result<(), Fail> {
+    let run = run_server_with(&rt, OPEN, " --feed-from 127.0.0.1 --per-address 1")?;
+    assert!(rt; run.status == ExitCode::SUCCESS);
+    assert!(rt; was_sent(&run.visits.near, 2)?);
+    assert!(rt; was_sent(&run.visits.far, 2)?);
+    Ok(())
+}
+
+#[test]
+fn serve_takes_no_feed_of_another_address(rt: HostRuntime) -> Result<(), Fail> {
+    let run = run_server_with(&rt, OPEN, " --feed-from 127.0.0.2,10.0.0.0/8")?;
+    assert!(rt; run.status == ExitCode::SUCCESS);
+    assert!(rt; !was_sent(&run.visits.near, 1)?);
+    assert!(rt; matches!(&run.visits.near, Some(near) if near.came().ends_with(ISLAND)));
     Ok(())
 }

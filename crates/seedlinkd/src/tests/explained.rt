@@ -283,6 +283,27 @@ fn unfinished(rt: &HostRuntime, job: Job<'_>) -> Result<String, Fail> {
 }
 
 #[test]
+fn a_list_of_feeders(rt: HostRuntime) -> Result<(), Fail> {
+    let serve = Job::Serve {
+        config: "none/at.all",
+        listen: "127.0.0.1:0",
+        feed: "127.0.0.1:0",
+        turns: Some(1),
+        reread: None,
+        report: None,
+        feed_from: Some("10.0.0.7, 10.0.0.0/33, localhost"),
+        per_address: None,
+        numbers: None,
+    };
+    let wanted =
+        "  cause: an access list is refused: a token has no mask behind its first slash\n  \
+        word: 10.0.0.7, 10.0.0.0/33, localhost\n  entry: 10.0.0.0/33\n  \
+        allowed: addresses and masks, separated by spaces and commas, as 10.0.0.7, 10.0.0.0/8\n";
+    assert!(rt; unfinished(&rt, serve)?.as_str() == wanted);
+    Ok(())
+}
+
+#[test]
 fn a_file_that_is_not_there(rt: HostRuntime) -> Result<(), Fail> {
     let wanted = "  cause: a file could not be opened\n  file: none/at.all\n  \
         reason: No such file or directory (os error 2)\n";

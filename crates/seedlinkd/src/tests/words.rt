@@ -94,6 +94,39 @@ fn serve_has_two_addresses_and_may_have_turns(rt: HostRuntime) -> Result<(), Fai
         turns: Some(20),
         reread: None,
         report: None,
+        feed_from: None,
+        per_address: None,
+        numbers: None,
+    };
+    assert!(rt; job == wanted);
+    Ok(())
+}
+
+#[test]
+fn serve_has_who_may_connect(rt: HostRuntime) -> Result<(), Fail> {
+    let words = strings(
+        rt.alloc(),
+        &[
+            "seedlinkd",
+            "serve",
+            "c.toml",
+            "--listen=a:1",
+            "--feed=b:2",
+            "--feed-from",
+            "10.0.0.7, 10.1.0.0/16",
+            "--per-address=3",
+        ],
+    )?;
+    let job = read_words(rt.alloc(), words.as_slice())?.job;
+    let wanted = Job::Serve {
+        config: "c.toml",
+        listen: "a:1",
+        feed: "b:2",
+        turns: None,
+        reread: None,
+        report: None,
+        feed_from: Some("10.0.0.7, 10.1.0.0/16"),
+        per_address: Some(3),
         numbers: None,
     };
     assert!(rt; job == wanted);

@@ -3,4 +3,4 @@ use Rattle.socket_ports.proofs.sockets.Sockets.next_due.Given as goal
 
 abbrev pub invariant-due : goal.invariant-due
 invariant-due l =
-    (l.self.joined ≡ l.fn.self.joined) × (l.self.polls ≡ l.fn.self.polls) × (l.self.joins ≡ l.fn.self.joins)
+    (l.self.peers ≡ l.fn.self.peers) × (l.self.polls ≡ l.fn.self.polls) × (l.self.joins ≡ l.fn.self.joins)

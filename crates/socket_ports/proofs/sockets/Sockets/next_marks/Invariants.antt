@@ -3,4 +3,4 @@ use Rattle.socket_ports.proofs.sockets.Sockets.next_marks.Given as goal
 
 abbrev pub invariant-events : goal.invariant-events
 invariant-events l =
-    (l.self.joined ≡ l.fn.self.joined) × (l.self.polls ≡ l.fn.self.polls) × (l.self.joins ≡ l.fn.self.joins)
+    (l.self.peers ≡ l.fn.self.peers) × (l.self.polls ≡ l.fn.self.polls) × (l.self.joins ≡ l.fn.self.joins)

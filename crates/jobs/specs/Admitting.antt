@@ -1,0 +1,27 @@
+-- Who may connect to a server, by the words of its command line.
+use Rattle.std.specs.Prelude.{◌≡◌, ℕ, List, Option, Some, None, Ok, Err}
+use Rattle.std.specs.Borrow.{Bor}
+use Rattle.protocol.specs.Access.{Token}
+use Rattle.access_list.specs.Tokens.{list_of}
+use Rattle.access_list.specs.declared.fault.AccessFault.{AccessFault}
+use Rattle.catalog.specs.declared.fault.ConfigFault.TheVariants.{Access}
+use Rattle.jobs.specs.declared.failure.Failure.TheVariants.{Config}
+use Rattle.jobs.specs.declared.incident.Incident.{Incident}
+use Rattle.jobs.specs.Sites.{IsListSite}
+
+-- Feeds are taken from the addresses of the list that a word spells, or from all without one.
+abbrev pub FeedsFrom : Option (Bor (List ℕ)) → Option (List Token) → Type 0
+FeedsFrom None list = list ≡ None
+FeedsFrom (Some word) None = ⊥
+FeedsFrom (Some word) (Some list) = list_of word.now ≡ Ok list
+
+-- A word spells no list, for the fault of its first invalid entry.
+pub record IsRefused (word : Bor (List ℕ)) (incident : Incident) : Type 0 where
+  pub fault : AccessFault
+  pub is : list_of word.now ≡ Err fault
+  pub failure : incident.failure ≡ Config (Access fault)
+  pub site : IsListSite word incident.site
+
+abbrev pub RefusesList : Option (Bor (List ℕ)) → Incident → Type 0
+RefusesList None incident = ⊥
+RefusesList (Some word) incident = IsRefused word incident

@@ -1,0 +1,97 @@
+//! The ports that joined, and whose the open ones are.
+ghost use Rattle.std.specs.Prelude.{◌≡◌, ◌<◌, ◌^◌, ◌↔◌, [], IsTrue, IfErr, IfOk, OnErr};
+ghost use Rattle.socket_ports.specs.Admissions.{IsAdmitted};
+ghost use Rattle.socket_ports.specs.Peers.{IsGapFor, IsJoined, IsPeerAt, Rise, without};
+
+use crate::admission::Admission;
+use crate::listeners::Kind;
+use crate::peer::Peer;
+use std::alloc::{AllocError, Global};
+use std::marker::Model;
+use std::net::Ipv4Addr;
+
+/// The ports that joined. In a contract it is whose connections are taken, how many ports joined, and whose the open
+/// ones are, by rising number.
+#[derive(Drop)]
+pub struct Peers {
+    admission: Admission,
+    joined: u64,
+    opened: Vec<Peer>,
+}
+
+impl Model for Peers {
+    ghost use Rattle.socket_ports.specs.Peers.{PeersValue, AreBelow, Rise};
+
+    ghost Value = { PeersValue };
+
+    ghost view = { λ p. record { admission = p.admission; joined = p.joined; opened = p.opened.items } };
+
+    ghost invariant = { λ p. Rise p.opened.items × AreBelow p.joined p.opened.items };
+}
+
+impl Peers {
+    /// No port has joined.
+    pub fn new(alloc: Global, admission: Admission) -> Peers
+        ensures { result ≡ record { admission = admission; joined = 0; opened = [] } }
+    {
+        Peers {
+            admission,
+            joined: 0,
+            opened: Vec::new(alloc),
+        }
+    }
+
+    /// How many ports joined: the number of the next one.
+    pub fn joined(&self) -> u64
+        ensures { result ≡ self.now.joined }
+    {
+        self.joined
+    }
+
+    /// Whether a connection from an address may join.
+    pub fn admits(&self, kind: Kind, address: Ipv4Addr) -> bool
+        ensures { IsTrue result ↔ IsAdmitted self.now.admission self.now.opened kind address }
+    {
+        self.admission.admits(self.opened.as_slice(), kind, address)
+    }
+
+    /// A connection joins under the next number, which is answered. Only memory can lack, and then nothing changes.
+    pub fn add(&mut self, kind: Kind, address: Ipv4Addr) -> Result<u64, AllocError>
+        requires room { self.old.joined < 2 ^ 63 }
+        requires admitted { IsAdmitted self.old.admission self.old.opened kind address }
+        ensures ok { IfOk result (λ number. IsJoined kind number address self.old self.new) }
+        ensures err { OnErr result (self.new ≡ self.old) }
+    {
+        let number = self.joined;
+        let peer = Peer {
+            number,
+            kind,
+            address,
+        };
+        match self.opened.push(peer) {
+            Ok(()) => {
+                self.joined = number + 1;
+                Ok(number)
+            }
+            Err(_) => Err(AllocError),
+        }
+    }
+
+    /// A port is shut: it is not open any more.
+    pub fn remove(&mut self, number: u64)
+        ensures { self.new ≡ record self.old { opened = without number self.old.opened } }
+    {
+        if let Ok(at) = place_of(self.opened.as_slice(), number) {
+            let _gone = self.opened.remove(at);
+        }
+    }
+}
+
+/// The place of a port, or the place where it belongs.
+fn place_of(opened: &[Peer], number: u64) -> Result<usize, usize>
+    requires { Rise opened.now }
+    ensures found { IfOk result (λ at. IsPeerAt opened.now number at) }
+    ensures absent { IfErr result (λ at. IsGapFor opened.now number at) }
+{
+    opened.binary_search_by_key(&number, |peer| peer.number)
+}
