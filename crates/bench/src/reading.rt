@@ -3,7 +3,7 @@ use crate::centre::record_of;
 use packet_listing::{Nowhere, read_over};
 use sl_io::{MemorySink, MemorySource};
 use sl_packet::{Seq, frame};
-use slreader::{Plan, Want};
+use slreader::{Plan, Want, Window};
 use std::alloc::Global;
 
 /// What a server sends before the packets of one want.
@@ -30,7 +30,7 @@ pub fn list_packets(alloc: Global, packets: u32) -> anyhow::Result<u64> {
     let record = record_of(alloc, 0, b"BHZ")?;
     let sent = sent(alloc, &record, packets)?;
     let mut wants = Vec::new(alloc);
-    wants.push(Want::parse(alloc, b"GE_WLF", true)?)?;
+    wants.push(Want::parse(alloc, b"GE_WLF", Window::Held { begin: None })?)?;
     let mut reader = MemorySource::in_pieces(&sent, PIECE);
     let mut lines = MemorySink::new(alloc);
     read_over(

@@ -90,7 +90,8 @@ feed_asked = refl
 abbrev read_words : List Text
 read_words = codes "seedlinkd" ∷ codes "read" ∷ codes "a" ∷ codes "GE_WLF" ∷ codes "XX_APE" ∷ codes "--fetch" ∷ []
 
-pub read_asked : job_of read_words ≡ Some (Read (codes "a") (codes "GE_WLF" ∷ codes "XX_APE" ∷ []) true None)
+pub read_asked : job_of read_words ≡ Some (Read (codes "a") (codes "GE_WLF" ∷ codes "XX_APE" ∷ [])
+    (record { fetch = true; begin = None; last = None; output = None }))
 unfolding clap_on_literals
 read_asked = refl
 
@@ -102,9 +103,26 @@ abbrev output_words : List Text
 output_words =
     codes "seedlinkd" ∷ codes "read" ∷ codes "a" ∷ codes "GE_WLF" ∷ codes "--output" ∷ codes "-" ∷ []
 
-pub output_asked : job_of output_words ≡ Some (Read (codes "a") (codes "GE_WLF" ∷ []) false (Some (codes "-")))
+pub output_asked : job_of output_words ≡ Some (Read (codes "a") (codes "GE_WLF" ∷ [])
+    (record { fetch = false; begin = None; last = None; output = Some (codes "-") }))
 unfolding clap_on_literals
 output_asked = refl
+
+abbrev window_words : List Text
+window_words =
+    codes "seedlinkd" ∷ codes "read" ∷ codes "a" ∷ codes "GE_WLF" ∷ codes "--begin" ∷ codes "2024,2,29"
+    ∷ codes "--end=2024,3,1" ∷ []
+
+pub window_asked : job_of window_words ≡ Some (Read (codes "a") (codes "GE_WLF" ∷ [])
+    (record { fetch = false; begin = Some (codes "2024,2,29"); last = Some (codes "2024,3,1"); output = None }))
+unfolding clap_on_literals
+window_asked = refl
+
+-- an end without a begin
+pub no_begin :
+    job_of (codes "seedlinkd" ∷ codes "read" ∷ codes "a" ∷ codes "GE_WLF" ∷ codes "--end=2024,3,1" ∷ []) ≡ None
+unfolding clap_on_literals
+no_begin = refl
 
 pub version_asked : fault_of program_app (codes "seedlinkd" ∷ codes "--version" ∷ []) ≡ DisplayVersion ∷ []
 unfolding clap_on_literals

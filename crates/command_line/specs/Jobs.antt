@@ -1,6 +1,6 @@
 -- What the words of a command line ask, by the definitions of `clap`: which subcommand they name, and which text or
 -- number stands at each of its arguments.
-use Rattle.std.specs.Prelude.{◌≡◌, ◌⊎◌, ◌||◌, ℕ, Bool, true, false, List, [], Option, Some, None, option_map, map}
+use Rattle.std.specs.Prelude.{◌≡◌, ◌⊎◌, ◌&&◌, ◌||◌, not, is_some, ℕ, Bool, true, false, List, [], Option, Some, None, option_map, map}
 use Rattle.std.specs.Prelude.{if◌then◌else◌, codes, nat_lt, IsSome}
 use Rattle.std.specs.Option.{option_map_or}
 use Rattle.std.specs.Str.{bytes_eq}
@@ -15,6 +15,7 @@ use Rattle.protocol.specs.Reading.{Not}
 use Rattle.protocol.specs.Time.{digits_between}
 use Rattle.command_line.specs.declared.job.Job.{Job}
 use Rattle.command_line.specs.declared.job.Job.TheVariants as job
+use Rattle.command_line.specs.declared.job.ReadOptions.{ReadOptions}
 use Rattle.command_line.specs.declared.job.WordsFault.{WordsFault}
 use Rattle.command_line.specs.declared.job.WordsFault.TheVariants.{OutOfMemory, Refused}
 
@@ -97,9 +98,14 @@ fetch_rule = record (new_rule (codes "fetch")) { long = Some (codes "fetch"); ac
 abbrev pub wants_app : App
 wants_app = with_rule (with_rule (new_app (codes "read")) (wanted (codes "SERVER"))) wants_rule
 
--- `read A:P WANT.. [--fetch] [--output FILE]`
+-- `read A:P WANT.. [--fetch] [--begin TIME] [--end TIME]`
+abbrev pub spanned_app : App
+spanned_app =
+    with_rule (with_rule (with_rule wants_app fetch_rule) (option false (codes "begin"))) (option false (codes "end"))
+
+-- `read A:P WANT.. [--fetch] [--begin TIME] [--end TIME] [--output FILE]`
 abbrev pub read_app : App
-read_app = with_verbose (with_rule (with_rule wants_app fetch_rule) (option false (codes "output")))
+read_app = with_verbose (with_rule spanned_app (option false (codes "output")))
 
 -- the program before it has arguments and subcommands, of which it wants one
 abbrev pub bare_app : App
@@ -119,6 +125,23 @@ program_app =
 
 -- ---- jobs
 
+-- the options of `read`
+pub record ReadAsked : Type 0 where
+  pub fetch : Bool
+  pub begin : Option (List ℕ)
+  pub last : Option (List ℕ)
+  pub output : Option (List ℕ)
+
+-- those that the code has
+abbrev pub options_asked : ReadOptions → ReadAsked
+options_asked o =
+    record {
+      fetch = o.fetch;
+      begin = option_map (λ text. text.now) o.begin;
+      last = option_map (λ text. text.now) o.last;
+      output = option_map (λ text. text.now) o.output;
+    }
+
 -- A job as texts and numbers.
 pub data Asked : Type 0 where
   Check : (file : List ℕ) → Asked
@@ -127,7 +150,7 @@ pub data Asked : Type 0 where
   Serve : (config listen feed : List ℕ) → (turns reread report : Option ℕ) → (feed_from : Option (List ℕ))
       → (per_address : Option ℕ) → (numbers : Option (List ℕ)) → Asked
   Feed : (server file : List ℕ) → Asked
-  Read : (server : List ℕ) → (wants : List (List ℕ)) → (fetch : Bool) → (output : Option (List ℕ)) → Asked
+  Read : (server : List ℕ) → (wants : List (List ℕ)) → (options : ReadAsked) → Asked
 
 -- the job that the code has
 abbrev pub asked : Job → Asked
@@ -138,8 +161,8 @@ asked (job.Serve config listen feed turns reread report feed_from per_address nu
     Serve config.now listen.now feed.now turns reread report (option_map (λ list. list.now) feed_from) per_address
     (option_map (λ file. file.now) numbers)
 asked (job.Feed server file) = Feed server.now file.now
-asked (job.Read server wants fetch output) =
-    Read server.now (map (λ want. want.now) wants.items) fetch (option_map (λ file. file.now) output)
+asked (job.Read server wants options) =
+    Read server.now (map (λ want. want.now) wants.items) (options_asked options)
 
 -- a job of one text, where it is there
 abbrev pub check_asked : List Row → Option Asked
@@ -198,15 +221,27 @@ feed_asked rows = with_both Feed (first_of (codes "SERVER") rows) (first_of (cod
 abbrev pub fetch_in : List Row → Bool
 fetch_in rows = option_map_or (λ text. bytes_eq text (codes "true")) (first_of (codes "fetch") rows) false
 
+-- the options of `read`, as they stand there
+abbrev pub options_in : List Row → ReadAsked
+options_in rows =
+    record {
+      fetch = fetch_in rows;
+      begin = first_of (codes "begin") rows;
+      last = first_of (codes "end") rows;
+      output = first_of (codes "output") rows;
+    }
+
+-- SeedLink can spell them: an end stands only beside a begin, and not beside `--fetch`.
+abbrev pub is_askable : ReadAsked → Bool
+is_askable o = not (is_some o.last) || (is_some o.begin && not o.fetch)
+
 -- a reader's job, where all of it is there
-abbrev pub with_wants : Bool → Option (List ℕ) → Option (List ℕ) → Option (List (List ℕ)) → Option Asked
-with_wants fetch output (Some server) (Some wants) = Some (Read server wants fetch output)
-with_wants fetch output _ _ = None
+abbrev pub with_wants : ReadAsked → Option (List ℕ) → Option (List (List ℕ)) → Option Asked
+with_wants options (Some server) (Some wants) = if is_askable options then Some (Read server wants options) else None
+with_wants options _ _ = None
 
 abbrev pub read_asked : List Row → Option Asked
-read_asked rows =
-    with_wants (fetch_in rows) (first_of (codes "output") rows) (first_of (codes "SERVER") rows)
-    (all_of (codes "WANT") rows)
+read_asked rows = with_wants (options_in rows) (first_of (codes "SERVER") rows) (all_of (codes "WANT") rows)
 
 -- the job of a subcommand with its arguments
 abbrev pub asked_by : Option (Text × List Row) → Option Asked

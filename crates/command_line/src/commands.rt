@@ -5,7 +5,7 @@ ghost use Rattle.command_line.specs.Building.{Builds};
 ghost use Rattle.command_line.specs.Jobs.{address_rule, addressed_app, bare_app, check_app, feed_app, fetch_rule};
 ghost use Rattle.command_line.specs.Jobs.{limited_app, number_rule};
 ghost use Rattle.command_line.specs.Jobs.{option};
-ghost use Rattle.command_line.specs.Jobs.{program_app, read_app, replay_app, serve_app, timed_app};
+ghost use Rattle.command_line.specs.Jobs.{program_app, read_app, spanned_app, replay_app, serve_app, timed_app};
 ghost use Rattle.command_line.specs.Jobs.{verbose_rule, view_app};
 ghost use Rattle.command_line.specs.Jobs.{wanted, wants_app, wants_rule, with_verbose};
 
@@ -320,12 +320,48 @@ fn output<'a>(alloc: Global) -> Arg<'a>
     )
 }
 
-/// `read A:P WANT.. [--fetch] [--output FILE]`.
+/// The option `--begin TIME`.
+fn begin<'a>(alloc: Global) -> Arg<'a>
+    ensures rule { rule_of result ≡ option false (codes "begin") }
+    ensures own { result.global ≡ false }
+{
+    option(
+        alloc,
+        "begin",
+        "TIME",
+        false,
+        "Reads the records that end at TIME or later, as 2024-02-29T00:00:00",
+    )
+}
+
+/// The option `--end TIME`.
+fn end<'a>(alloc: Global) -> Arg<'a>
+    ensures rule { rule_of result ≡ option false (codes "end") }
+    ensures own { result.global ≡ false }
+{
+    option(
+        alloc,
+        "end",
+        "TIME",
+        false,
+        "Reads those that start at TIME or earlier, and ends",
+    )
+}
+
+/// `read A:P WANT.. [--fetch] [--begin TIME] [--end TIME]`.
+fn spanned_command<'a>(alloc: Global) -> Built<'a>
+    ensures { Builds result spanned_app }
+{
+    let with_fetch = with_argument(wants_command(alloc), fetch(alloc));
+    let with_begin = with_argument(with_fetch, begin(alloc));
+    with_argument(with_begin, end(alloc))
+}
+
+/// `read A:P WANT.. [--fetch] [--begin TIME] [--end TIME] [--output FILE]`.
 fn read_command<'a>(alloc: Global) -> Built<'a>
     ensures { Builds result read_app }
 {
-    let with_fetch = with_argument(wants_command(alloc), fetch(alloc));
-    let with_output = with_argument(with_fetch, output(alloc));
+    let with_output = with_argument(spanned_command(alloc), output(alloc));
     with_verbose(alloc, with_output)
 }
 

@@ -40,13 +40,25 @@ pub enum Job<'a> {
         server: &'a str,
         file: &'a str,
     },
-    /// `read A:P WANT.. [--fetch] [--output FILE]`: asks a server for records.
+    /// `read A:P WANT.. ..`: asks a server for records, as its options say.
     Read {
         server: &'a str,
         wants: Vec<&'a str>,
-        fetch: bool,
-        output: Option<&'a str>,
+        options: ReadOptions<'a>,
     },
+}
+
+/// The options of `read`. An end has a begin, and doesn't stand beside `fetch`.
+#[derive(Clone, Copy, Debug, PartialEq)]
+pub struct ReadOptions<'a> {
+    /// `--fetch`: ends once the records that the server holds are read.
+    pub fetch: bool,
+    /// `--begin TIME`: records that end at that moment or later.
+    pub begin: Option<&'a str>,
+    /// `--end TIME`: records that start at that moment or earlier, and then the end.
+    pub last: Option<&'a str>,
+    /// `--output FILE`: each record is added to that file.
+    pub output: Option<&'a str>,
 }
 
 /// A job, and how much is said of what goes wrong with it.

@@ -2,12 +2,13 @@
 ghost use Rattle.std.specs.Prelude.{◌≡◌, ◌||◌, [], Some, false, IfOk, IfErr, map, option_map, string_bytes};
 ghost use Rattle.clap.specs.Words.{all_of, fault_of, first_of, found_of, kind_of, rows_of, subcommand_rows_of};
 ghost use Rattle.command_line.specs.Jobs.{HelpIs, IsJob, IsTold, asked, asked_by, check_asked, feed_asked, is_shown};
+ghost use Rattle.command_line.specs.Jobs.{is_askable, options_asked, options_in};
 ghost use Rattle.command_line.specs.Jobs.{job_of, program_app, number_in, read_asked, replay_asked, serve_asked};
 ghost use Rattle.command_line.specs.Jobs.{verbose_by, verbose_in, verbose_of, view_asked};
 ghost use Rattle.command_line.specs.declared.job.WordsFault.TheVariants.{OutOfMemory};
 
 use crate::commands::program;
-use crate::job::{Job, Request, WordsFault};
+use crate::job::{Job, ReadOptions, Request, WordsFault};
 use clap::ArgMatches;
 use clap::error::ErrorKind;
 use std::alloc::{AllocError, Global};
@@ -98,6 +99,25 @@ fn feed_job<'a>(arguments: &ArgMatches<'a>) -> Option<Job<'a>>
     Some(Job::Feed { server, file })
 }
 
+/// The options of `read`.
+fn read_options<'a>(arguments: &ArgMatches<'a>) -> ReadOptions<'a>
+    ensures { options_asked result ≡ options_in (rows_of (found_of arguments.now)) }
+{
+    ReadOptions {
+        fetch: text_at(arguments, "fetch") == Some("true"),
+        begin: text_at(arguments, "begin"),
+        last: text_at(arguments, "end"),
+        output: text_at(arguments, "output"),
+    }
+}
+
+/// Whether SeedLink can spell them: an end stands only beside a begin, and not beside `--fetch`.
+fn is_askable(options: &ReadOptions<'_>) -> bool
+    ensures { result ≡ is_askable (options_asked options.now) }
+{
+    options.last.is_none() || (options.begin.is_some() && !options.fetch)
+}
+
 fn read_job<'a>(alloc: Global, arguments: &ArgMatches<'a>) -> Result<Option<Job<'a>>, AllocError>
     ensures { IfOk result (λ job. option_map asked job ≡ read_asked (rows_of (found_of arguments.now))) }
 {
@@ -108,13 +128,14 @@ fn read_job<'a>(alloc: Global, arguments: &ArgMatches<'a>) -> Result<Option<Job<
         return Ok(None);
     };
     let wants = texts.to_vec(alloc)?;
-    let fetch = text_at(arguments, "fetch") == Some("true");
-    let output = text_at(arguments, "output");
+    let options = read_options(arguments);
+    if !is_askable(&options) {
+        return Ok(None);
+    }
     Ok(Some(Job::Read {
         server,
         wants,
-        fetch,
-        output,
+        options,
     }))
 }
 
@@ -190,12 +211,20 @@ fn refused(alloc: Global, error: clap::Error) -> WordsFault
     }
 }
 
-/// What the user is told of words that `clap` takes and that are no job: a number with a sign, or with leading zeros
-/// beyond ten digits.
-fn no_number(alloc: Global) -> WordsFault
+/// What is wrong with words that `clap` takes and that are no job: those of `read` have an end without a begin, or beside
+/// `--fetch`; others a number with a sign, or with leading zeros beyond ten digits.
+fn mistake_in(matches: &ArgMatches<'_>) -> &'static str {
+    match matches.subcommand() {
+        Some(("read", _)) => "error: --end needs --begin, and can't be used with --fetch\n",
+        _ => "error: a number is 1 to 10 decimal digits\n",
+    }
+}
+
+/// What the user is told of such words.
+fn mistaken(alloc: Global, text: &str) -> WordsFault
     ensures { HelpIs false result }
 {
-    match "error: a number is 1 to 10 decimal digits\n".to_string(alloc) {
+    match text.to_string(alloc) {
         Ok(text) => WordsFault::Refused {
             text,
             is_help: false,
@@ -227,7 +256,7 @@ pub fn read_words<'a>(alloc: Global, words: &'a [String]) -> Result<Request<'a>,
                 let is_verbose = is_verbose_anywhere(&matches);
                 Ok(Request { job, is_verbose })
             }
-            Ok(None) => Err(no_number(alloc)),
+            Ok(None) => Err(mistaken(alloc, mistake_in(&matches))),
             Err(_) => Err(WordsFault::OutOfMemory),
         },
         Err(error) => Err(refused(alloc, error)),

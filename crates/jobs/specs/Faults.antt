@@ -1,7 +1,8 @@
 -- The numbers and names by which the program reports a replay that failed, and any other failure of its own.
-use Rattle.std.specs.Prelude.{ℕ, Bool, true, false, List, codes}
+use Rattle.std.specs.Prelude.{ℕ, Bool, false, List, codes}
 use Rattle.catalog.specs.Faults.{fault_number, fault_name}
 use Rattle.feeder.specs.Sending.{send_fault_number, send_fault_name}
+use Rattle.sl_time.specs.Parsed.{fault_number as time_fault_number, fault_name as time_fault_name}
 use Rattle.slreader.specs.Faults.{reader_fault_number, reader_fault_name}
 use Rattle.packet_listing.specs.Faults.{listing_fault_number, listing_fault_name}
 use Rattle.packet_listing.specs.declared.fault.ListingFault.{ListingFault}
@@ -43,6 +44,7 @@ failure_number (failure.Serve fault) = serve_fault_number fault
 failure_number (failure.Send fault) = send_fault_number fault
 failure_number failure.Untaken = 43
 failure_number failure.Unanswered = 42
+failure_number (failure.Moment fault) = time_fault_number fault
 failure_number (failure.Want fault) = reader_fault_number fault
 failure_number (failure.Packets fault) = listing_fault_number fault
 failure_number (failure.Numbers fault) = 49
@@ -65,6 +67,7 @@ failure_name (failure.Serve fault) = serve_fault_name fault
 failure_name (failure.Send fault) = send_fault_name fault
 failure_name failure.Untaken = codes "Write"
 failure_name failure.Unanswered = codes "Read"
+failure_name (failure.Moment fault) = time_fault_name fault
 failure_name (failure.Want fault) = reader_fault_name fault
 failure_name (failure.Packets fault) = listing_fault_name fault
 failure_name (failure.Numbers fault) = codes "Numbers"

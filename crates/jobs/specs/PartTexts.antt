@@ -13,4 +13,4 @@ abbrev pub part_limit : WantPart → List ℕ
 part_limit Network = codes "1 to 2 of A to Z and 0 to 9, before _"
 part_limit Station = codes "1 to 5 of A to Z and 0 to 9, after _"
 part_limit Patterns = codes "1 to 64 patterns joined by commas, as BH?, 00BHZ.D or !E, after :"
-part_limit Number = codes "1 to 6 hexadecimal digits, after @"
+part_limit Number = codes "1 to 6 hexadecimal digits, after @; --fetch with --begin needs them, --end takes none"

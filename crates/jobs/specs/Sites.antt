@@ -13,6 +13,7 @@ use Rattle.socket_ports.specs.declared.fault.ListenError.TheVariants as error
 use Rattle.slreader.specs.declared.fault.ReaderFault.{ReaderFault}
 use Rattle.slreader.specs.declared.fault.ReaderFault.TheVariants as reader
 use Rattle.slreader.specs.WordParts.{wrong_part}
+use Rattle.slreader.specs.Words.{WindowValue}
 use Rattle.catalog.specs.declared.error.ConfigError.{ConfigError}
 use Rattle.catalog.specs.declared.fault.ConfigFault.{ConfigFault}
 use Rattle.catalog.specs.declared.fault.ConfigFault.TheVariants as config
@@ -36,9 +37,9 @@ abbrev pub word_site : Failure → Bor (List ℕ) → Site
 word_site failure word = if is_memory failure then Unnamed else Word word
 
 -- of a word that spells no want
-abbrev pub want_site : ReaderFault → Bor (List ℕ) → Site
-want_site reader.OutOfMemory word = Unnamed
-want_site _ word = Want word (wrong_part word.now)
+abbrev pub want_site : ReaderFault → WindowValue → Bor (List ℕ) → Site
+want_site reader.OutOfMemory window word = Unnamed
+want_site _ window word = Want word (wrong_part window word.now)
 
 -- of a word that spells no access list: that word, and its first entry that is invalid
 abbrev pub IsListSite : Bor (List ℕ) → Site → Type 0

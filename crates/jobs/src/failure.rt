@@ -11,6 +11,7 @@ use record_listing::FileFault;
 use server_core::ReloadFault;
 use serving::ServeFault;
 use sl_io::StreamFault;
+use sl_time::TimeFault;
 use slreader::ReaderFault;
 use socket_ports::ListenFault;
 use thiserror::Error;
@@ -63,6 +64,9 @@ pub enum Failure {
     /// The server ended a feed before it had read everything.
     #[error("the server ended the connection before it had read everything; perhaps it takes no feed from here now")]
     Untaken,
+    /// A word is no time.
+    #[error("a word is no time: {0}")]
+    Moment(TimeFault),
     /// A word is no want, or the plan is outside the reader's limits.
     #[error("{0}")]
     Want(ReaderFault),
@@ -78,7 +82,8 @@ pub enum Failure {
 }
 
 impl Failure {
-    /// The number and the name by which the program reports it: 1 to 6, 10, 11, 20 to 25, 34, 40 to 47, 49, 51 or 52.
+    /// The number and the name by which the program reports it: 1 to 6, 10, 11, 20 to 25, 34, 40 to 47, 49, 51,
+    /// 52, 60 or 61.
     pub fn report(self) -> Report
         ensures number { result.number ≡ failure_number self }
         ensures name { result.name.now ≡ failure_name self }
@@ -100,6 +105,7 @@ impl Failure {
             Failure::Send(fault) => fault.report(),
             Failure::Untaken => Report::new(43, "Write"),
             Failure::Unanswered => Report::new(42, "Read"),
+            Failure::Moment(fault) => fault.report(),
             Failure::Want(fault) => fault.report(),
             Failure::Packets(fault) => fault.report(),
             Failure::Numbers(fault) => fault.report(),

@@ -3,6 +3,7 @@ ghost use Rattle.std.specs.Prelude.{◌≡◌, ◌≢◌};
 ghost use Rattle.jobs.specs.Sites.{config_site, difference_site, feed_site, file_site, input_site, is_memory};
 ghost use Rattle.jobs.specs.Sites.{is_output};
 ghost use Rattle.jobs.specs.Sites.{listening_site, output_site, server_site, want_site, word_site};
+ghost use Rattle.slreader.specs.WantTexts.{window_value};
 ghost use Rattle.socket_ports.specs.Faults.{fault_of};
 ghost use Rattle.jobs.specs.Faults.{failure_number};
 ghost use Rattle.jobs.specs.Sites.{IsListSite};
@@ -20,7 +21,7 @@ use catalog::{ConfigError, ConfigFault, Step};
 use config_findings::{Difference, Finding as ConfigFinding, key_of, limit_of};
 use record_listing::Finding;
 use server_core::ReloadFault;
-use slreader::{ReaderFault, Want, WantPart};
+use slreader::{ReaderFault, Want, WantPart, Window};
 use socket_ports::ListenError;
 use std::fmt::{self, Display, Formatter, Write};
 use std::io;
@@ -192,14 +193,14 @@ impl<'a> Incident<'a> {
         }
     }
 
-    /// A word of the command line that is no want.
-    pub fn of_want(word: &'a str, fault: ReaderFault) -> Incident<'a>
+    /// A word of the command line that is no want in a window.
+    pub fn of_want(word: &'a str, window: Window<'_>, fault: ReaderFault) -> Incident<'a>
         ensures failure { result.failure ≡ WantFailure fault }
-        ensures site { result.site ≡ want_site fault word.entry }
+        ensures site { result.site ≡ want_site fault (window_value window.entry) word.entry }
     {
         let site = match fault {
             ReaderFault::OutOfMemory => Site::Unnamed,
-            _ => Site::Want(word, Want::wrong_part(word.as_bytes())),
+            _ => Site::Want(word, Want::wrong_part(word.as_bytes(), window)),
         };
         Incident {
             failure: Failure::Want(fault),
@@ -281,6 +282,9 @@ impl Display for Incident<'_> {
             Failure::Replay(ReplayFault::Script(line)) => writeln!(f, "  line: {line}"),
             Failure::Address => f.write_str(
                 "  allowed: an address and a port, as 127.0.0.1:18000\n",
+            ),
+            Failure::Moment(_) => f.write_str(
+                "  allowed: a time in UTC, as 2024-02-29T00:00:00 or 2024,2,29,0,0,0\n",
             ),
             Failure::Client => f.write_str("  allowed: four numbers joined by dots, as 10.0.0.7\n"),
             _ => Ok(()),

@@ -13,12 +13,14 @@ mod network;
 mod numbers;
 mod operator;
 mod part_texts;
+mod reading;
 mod reasons;
 mod replaying;
 mod standard_error;
 mod statuses;
 mod telling;
 mod viewing;
+mod windows;
 mod work;
 
 pub use endpoint::Endpoint;

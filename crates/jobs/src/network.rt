@@ -10,30 +10,25 @@ use crate::files::{config_at, open, unopened};
 use crate::incident::{Incident, Site};
 use crate::numbers::NumberFile;
 use crate::operator::{ServeOptions, serve_by};
-use crate::reasons::{AnswerCounter, ReasonKeeper};
-use crate::standard_error::StandardError as Eprinted;
+use crate::reasons::ReasonKeeper;
 use catalog::Config;
 use error_lines::StandardError;
-use packet_listing::{ListingFault, Nowhere, read_over};
-use sl_io::{Outer, Sink};
-use slreader::{Plan, Want};
+use sl_io::Outer;
 use socket_ports::{Admission, MioPorts};
-use std::alloc::Global;
-use std::fs::OpenOptions;
 use std::io;
-use std::net::{Net, OpenStream, SocketAddr, TcpStream};
+use std::net::{Net, SocketAddr, TcpStream};
 use std::os::fd::AsRawFd;
 use std::rt::Files;
 
 /// A server that a word names.
 #[derive(Clone, Copy)]
-struct Server<'a> {
-    word: &'a str,
-    endpoint: Endpoint,
+pub struct Server<'a> {
+    pub word: &'a str,
+    pub endpoint: Endpoint,
 }
 
 /// The server that a word names.
-fn server_of<'a>(word: &'a str) -> Result<Server<'a>, Incident<'a>> {
+pub fn server_of<'a>(word: &'a str) -> Result<Server<'a>, Incident<'a>> {
     match Endpoint::parse(word.as_bytes()) {
         Some(endpoint) => Ok(Server { word, endpoint }),
         None => Err(Failure::Address.in_word(word)),
@@ -46,7 +41,7 @@ pub fn connect<R: Net>(rt: &R, server: Endpoint) -> io::Result<R::Stream> {
 }
 
 /// A connection to a server that a word names.
-fn connection<'a, R: Net>(rt: &R, server: Server<'a>) -> Result<R::Stream, Incident<'a>> {
+pub fn connection<'a, R: Net>(rt: &R, server: Server<'a>) -> Result<R::Stream, Incident<'a>> {
     match connect(rt, server.endpoint) {
         Ok(stream) => Ok(stream),
         Err(reason) => Err(unconnected(server, reason)),
@@ -54,7 +49,7 @@ fn connection<'a, R: Net>(rt: &R, server: Server<'a>) -> Result<R::Stream, Incid
 }
 
 /// Why no connection could be made.
-fn unconnected<'a>(server: Server<'a>, reason: io::Error) -> Incident<'a> {
+pub fn unconnected<'a>(server: Server<'a>, reason: io::Error) -> Incident<'a> {
     Incident {
         failure: Failure::Connect,
         site: Site::Socket(server.word, reason),
@@ -149,131 +144,5 @@ pub fn feed_file<'a, R: Files + Eprint + Net>(
             Ok(())
         }
         Err(failure) => Err(failure.in_feed(path, server)),
-    }
-}
-
-/// What the words of wants ask for.
-fn wants_of<'a>(
-    alloc: Global,
-    words: &[&'a str],
-    fetch: bool,
-) -> Result<Vec<Want<'a>>, Incident<'a>> {
-    let mut wants = Vec::new(alloc);
-    for word in words {
-        let want = want_of(alloc, word, fetch)?;
-        wants
-            .push(want)
-            .map_err(|_| Incident::from(Failure::OutOfMemory))?;
-    }
-    Ok(wants)
-}
-
-/// What the word of a want asks for.
-fn want_of<'a>(alloc: Global, word: &'a str, fetch: bool) -> Result<Want<'a>, Incident<'a>> {
-    match Want::parse(alloc, word.as_bytes(), fetch) {
-        Ok(want) => Ok(want),
-        Err(fault) => Err(Incident::of_want(word, fault)),
-    }
-}
-
-/// A file to which records are added.
-fn opened_to_add<'a, R: Files>(rt: &R, path: &'a str) -> Result<R::File, Incident<'a>> {
-    let mut options = OpenOptions::new();
-    options.append(true);
-    options.create(true);
-    match options.open(rt, path) {
-        Ok(file) => Ok(file),
-        Err(reason) => Err(Incident {
-            failure: Failure::File,
-            site: Site::Unopened(path, reason),
-        }),
-    }
-}
-
-/// Lists the packets that a server sends for a plan, and writes their records.
-fn list<'a, R: Net + AllocGlobal, O: Sink, P: Sink>(
-    rt: &R,
-    server: Server<'a>,
-    plan: Plan<'_>,
-    out: &mut O,
-    records: &mut P,
-) -> Result<(), Incident<'a>> {
-    let stream = connection(rt, server)?;
-    let other = match stream.try_clone() {
-        Ok(other) => other,
-        Err(reason) => return Err(unconnected(server, reason)),
-    };
-    let mut reader = Outer::new(AnswerCounter::new(stream));
-    let mut writer = Outer::new(other);
-    match read_over(rt.alloc(), plan, &mut reader, &mut writer, out, records) {
-        Ok(_) => Ok(()),
-        Err(fault) => {
-            let failure = unlisted(fault, reader.into_inner().is_answered());
-            Err(failure.at_server(server.word))
-        }
-    }
-}
-
-/// Why packets were not listed to the end, by whether HELLO was answered before.
-fn unlisted(fault: ListingFault, is_answered: bool) -> Failure
-    ensures { result ≡ unlisted fault is_answered }
-{
-    match fault {
-        ListingFault::Read if !is_answered => Failure::Unanswered,
-        _ => Failure::Packets(fault),
-    }
-}
-
-/// Lists packets on the standard output, and writes no records.
-fn list_lines<'a, R: Print + Net + AllocGlobal>(
-    rt: &R,
-    server: Server<'a>,
-    plan: Plan<'_>,
-) -> Result<(), Incident<'a>> {
-    let mut lines = Outer::new(io::writer(rt));
-    list(rt, server, plan, &mut lines, &mut Nowhere::new())
-}
-
-/// Lists packets on the standard error, and writes their records to the standard output.
-fn list_records<'a, R: Print + Eprint + Net + AllocGlobal>(
-    rt: &R,
-    server: Server<'a>,
-    plan: Plan<'_>,
-) -> Result<(), Incident<'a>> {
-    let mut lines = Outer::new(Eprinted::new(rt));
-    let mut records = Outer::new(io::writer(rt));
-    list(rt, server, plan, &mut lines, &mut records)
-}
-
-/// Lists packets on the standard output, and adds their records to a file.
-fn list_and_add<'a, R: Files + Print + Net + AllocGlobal>(
-    rt: &R,
-    server: Server<'a>,
-    plan: Plan<'_>,
-    path: &'a str,
-) -> Result<(), Incident<'a>> {
-    let mut lines = Outer::new(io::writer(rt));
-    let mut records = Outer::new(ReasonKeeper::new(opened_to_add(rt, path)?));
-    match list(rt, server, plan, &mut lines, &mut records) {
-        Ok(()) => Ok(()),
-        Err(incident) => Err(incident.at_output(path, records.into_inner().into_reason())),
-    }
-}
-
-/// Asks a server for records, and writes a line for each packet to the standard output. With an output each record is
-/// added to that file. If the output is `-`, records go to the standard output, and lines to the standard error.
-pub fn read_server<'a, R: Files + Print + Eprint + Net + AllocGlobal>(
-    rt: &R,
-    server: &'a str,
-    wants: &[&'a str],
-    fetch: bool,
-    output: Option<&'a str>,
-) -> Result<(), Incident<'a>> {
-    let server = server_of(server)?;
-    let plan = Plan::Multi(wants_of(rt.alloc(), wants, fetch)?);
-    match output {
-        None => list_lines(rt, server, plan),
-        Some("-") => list_records(rt, server, plan),
-        Some(path) => list_and_add(rt, server, plan, path),
     }
 }

@@ -24,6 +24,7 @@ pub fn allowed_in(part: WantPart) -> &'static str
         WantPart::Network => "1 to 2 of A to Z and 0 to 9, before _",
         WantPart::Station => "1 to 5 of A to Z and 0 to 9, after _",
         WantPart::Patterns => "1 to 64 patterns joined by commas, as BH?, 00BHZ.D or !E, after :",
-        WantPart::Number => "1 to 6 hexadecimal digits, after @",
+        WantPart::Number =>
+            "1 to 6 hexadecimal digits, after @; --fetch with --begin needs them, --end takes none",
     }
 }

@@ -1,8 +1,9 @@
 //! What is done for each job.
 use crate::files::{check_file, replay_files};
 use crate::incident::Incident;
-use crate::network::{feed_file, read_server, serve_sockets};
+use crate::network::{feed_file, serve_sockets};
 use crate::operator::ServeOptions;
+use crate::reading::read_server;
 use crate::viewing::view_file;
 use command_line::Job;
 use serving::{KEEP_EVERY, Timetable};
@@ -54,8 +55,7 @@ where
         Job::Read {
             server,
             wants,
-            fetch,
-            output,
-        } => read_server(rt, server, wants.as_slice(), fetch, output),
+            options,
+        } => read_server(rt, server, wants.as_slice(), options),
     }
 }

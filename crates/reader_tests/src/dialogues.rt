@@ -3,7 +3,7 @@ ghost use Rattle.std.specs.Prelude.{◌<◌};
 
 use packet_listing::{Nowhere, read_over};
 use sl_io::{MemorySink, MemorySource};
-use slreader::{Plan, Want};
+use slreader::{Plan, Want, Window};
 use std::alloc::Global;
 use std::test::Fail;
 
@@ -116,7 +116,7 @@ static ROWS: [Row; 12] = [
 fn plan<'a>(alloc: Global, words: &[&'a [u8]]) -> Result<Plan<'a>, Fail> {
     let mut wants = Vec::new(alloc);
     for word in words {
-        wants.push(Want::parse(alloc, word, true)?)?;
+        wants.push(Want::parse(alloc, word, Window::Held { begin: None })?)?;
     }
     Ok(Plan::Multi(wants))
 }

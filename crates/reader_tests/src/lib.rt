@@ -15,4 +15,6 @@ mod order;
 #[cfg(test)]
 mod packets;
 #[cfg(test)]
+mod windows;
+#[cfg(test)]
 mod words;

@@ -5,7 +5,7 @@ use mseed_header::{ByteOrder, Fields, make};
 use packet_listing::{ListingFault, Nowhere, read_over};
 use sl_io::{DeviceFault, MemorySink, MemorySource, Sink};
 use sl_packet::{Seq, frame};
-use slreader::{Plan, Want};
+use slreader::{Plan, Want, Window};
 use std::alloc::Global;
 use std::test::Fail;
 
@@ -50,7 +50,7 @@ fn sent(alloc: Global) -> Result<Vec<u8>, Fail> {
 
 fn one_want(alloc: Global) -> Result<Plan<'static>, Fail> {
     let mut wants = Vec::new(alloc);
-    wants.push(Want::parse(alloc, b"GE_WLF", true)?)?;
+    wants.push(Want::parse(alloc, b"GE_WLF", Window::Held { begin: None })?)?;
     Ok(Plan::Multi(wants))
 }
 

@@ -1,5 +1,5 @@
 //! Words of wants.
-use slreader::{ReaderFault, Want, WantPart};
+use slreader::{ReaderFault, Want, WantPart, Window};
 use std::alloc::Global;
 use std::test::Fail;
 
@@ -45,9 +45,14 @@ static RIGHT: [(&[u8], usize); 9] = [
     ),
 ];
 
+/// The first wrong part of a word for which what is held is asked.
+fn wrong_part(word: &[u8]) -> Option<WantPart> {
+    Want::wrong_part(word, Window::Held { begin: None })
+}
+
 /// How many patterns the want of a word has, or why it is none.
 fn patterns(alloc: Global, word: &[u8]) -> Result<usize, ReaderFault> {
-    let want = Want::parse(alloc, word, true)?;
+    let want = Want::parse(alloc, word, Window::Held { begin: None })?;
     Ok(want.patterns.len())
 }
 
@@ -65,8 +70,8 @@ fn a_want_has_at_most_64_patterns(rt: HostRuntime) -> Result<(), Fail> {
     let alloc = rt.alloc();
     assert!(rt; patterns(alloc, &word_of(alloc, 63)?) == Ok(64));
     assert!(rt; patterns(alloc, &word_of(alloc, 64)?) == Err(ReaderFault::Limit));
-    assert!(rt; Want::wrong_part(&word_of(alloc, 63)?) == None);
-    assert!(rt; Want::wrong_part(&word_of(alloc, 64)?) == Some(WantPart::Patterns));
+    assert!(rt; wrong_part(&word_of(alloc, 63)?) == None);
+    assert!(rt; wrong_part(&word_of(alloc, 64)?) == Some(WantPart::Patterns));
     Ok(())
 }
 
@@ -74,7 +79,7 @@ fn a_want_has_at_most_64_patterns(rt: HostRuntime) -> Result<(), Fail> {
 fn malformed_words_are_refused(rt: HostRuntime) -> Result<(), Fail> {
     for (word, part) in &MALFORMED {
         assert!(rt; patterns(rt.alloc(), word) == Err(ReaderFault::Limit));
-        assert!(rt; Want::wrong_part(word) == Some(*part));
+        assert!(rt; wrong_part(word) == Some(*part));
     }
     assert_eq!(rt; ReaderFault::Limit.report().number, 22);
     Ok(())
@@ -84,7 +89,7 @@ fn malformed_words_are_refused(rt: HostRuntime) -> Result<(), Fail> {
 fn right_words_are_taken(rt: HostRuntime) -> Result<(), Fail> {
     for (word, count) in &RIGHT {
         assert!(rt; patterns(rt.alloc(), word) == Ok(*count));
-        assert!(rt; Want::wrong_part(word) == None);
+        assert!(rt; wrong_part(word) == None);
     }
     Ok(())
 }

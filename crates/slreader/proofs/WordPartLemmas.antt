@@ -2,15 +2,16 @@
 use Rattle.std.proofs.Common.{◌≡◌, ℕ, ◌+◌, Bool, true, false, ◌&&◌, List, [], ◌∷◌, ◌++◌, length, nat_lt, refl, sym, ap}
 use Rattle.std.proofs.Common.{◌∙◌, arith, append_assoc, length-append, Option, Some, None}
 use Rattle.std.proofs.lemmas.Bool.Decides.{nat_tests}
-use Rattle.std.specs.Prelude.{◌↔◌, IsSome, nat_le, is_some, if◌then◌else◌, option_and_then}
+use Rattle.std.specs.Prelude.{◌↔◌, IsSome, nat_le, if◌then◌else◌, option_and_then}
 use Rattle.std.specs.List.{list_all}
 use Rattle.std.proofs.lemmas.List.Folds.{list_all-append}
 use Rattle.protocol.proofs.FoundLemmas.{both}
 use Rattle.slreader.specs.declared.part.WantPart.{WantPart}
 use Rattle.slreader.specs.declared.part.WantPart.TheVariants.{Network, Station, Patterns, Number}
-use Rattle.slreader.specs.Wants.{WantValue, is_code, is_pattern, has_patterns, is_action, is_want}
-use Rattle.slreader.specs.Words.{action_of, front_of, rest_of, patterns_of, number_behind, spellable, want_of}
-use Rattle.slreader.specs.WordParts.{codes_in, has_code, wrong_part}
+use Rattle.slreader.specs.Wants.{Action, WantValue, is_code, is_pattern, has_patterns, is_action, is_want}
+use Rattle.slreader.specs.Words.{WindowValue, action_of, front_of, rest_of, patterns_of, number_behind, spellable}
+use Rattle.slreader.specs.Words.{want_of}
+use Rattle.slreader.specs.WordParts.{codes_in, has_action, has_code, is_possible, wrong_part}
 
 -- ---- patterns, one by one
 
@@ -68,64 +69,84 @@ last_cut_off room left whole p so_far is =
 
 -- ---- all parts are right exactly where the word spells a want
 
-acts : (is_fetch : Bool) (number : Option ℕ) → is_action (action_of is_fetch number) ≡ true
-acts true None = refl
-acts true (Some number) = refl
-acts false None = refl
-acts false (Some number) = refl
-
 -- the first wrong part, by its parts
-abbrev first_of : (network : List ℕ) (station : Option (List ℕ)) (patterns : List (List ℕ)) (number : Option (Option ℕ))
+abbrev first_of : (network : List ℕ) (station : Option (List ℕ)) (patterns : List (List ℕ)) (acts : Bool)
     → Option WantPart
-first_of network station patterns number =
+first_of network station patterns acts =
     if is_code 2 network
     then (
     if has_code 5 station
-    then (if has_patterns patterns then (if is_some number then None else Some Number) else Some Patterns)
+    then (if has_patterns patterns then (if acts then None else Some Number) else Some Patterns)
     else Some Station
     )
     else Some Network
 
-abbrev want_by : Bool → (network : List ℕ) (station : Option (List ℕ)) (patterns : List (List ℕ))
-    (number : Option (Option ℕ)) → Option WantValue
-want_by is_fetch network station patterns number =
+abbrev want_acting : (network : List ℕ) (station : Option (List ℕ)) (patterns : List (List ℕ)) → Action
+    → Option WantValue
+want_acting network station patterns action =
     option_and_then
-    (λ n. option_and_then
     (λ s. spellable
-    (record { network = network; station = s; patterns = patterns; action = action_of is_fetch n }))
-    station)
-    number
+    (record { network = network; station = s; patterns = patterns; action = action }))
+    station
 
-parts_law : (is_fetch : Bool) (network : List ℕ) (station : Option (List ℕ)) (patterns : List (List ℕ))
-    (number : Option (Option ℕ))
-    → (first_of network station patterns number ≡ None) ↔ IsSome (want_by is_fetch network station patterns number)
-unfolding is_want
-parts_law is_fetch network station patterns None =
+abbrev want_by : WindowValue → (network : List ℕ) (station : Option (List ℕ)) (patterns : List (List ℕ))
+    (number : Option (Option ℕ)) → Option WantValue
+want_by window network station patterns number =
+    option_and_then (λ n. option_and_then (want_acting network station patterns) (action_of window n)) number
+
+abbrev nowhere : Option WantValue
+nowhere = None
+
+never : (network : List ℕ) (station : Option (List ℕ)) (patterns : List (List ℕ))
+    → (first_of network station patterns false ≡ None) ↔ IsSome nowhere
+never network station patterns =
     both (is_code 2 network)
     (λ n. both (has_code 5 station)
     (λ s. both (has_patterns patterns) (λ p. rw (n, s, p) (λ e. absurd cc, λ none. absurd cc))
     (λ p. rw (n, s, p) (λ e. absurd cc, λ none. absurd cc)))
     (λ s. rw (n, s) (λ e. absurd cc, λ none. absurd cc)))
     (λ n. rw n (λ e. absurd cc, λ none. absurd cc))
-parts_law is_fetch network None patterns (Some number) =
+
+acting_law : (network : List ℕ) (station : Option (List ℕ)) (patterns : List (List ℕ)) (action : Action)
+    → (first_of network station patterns (is_action action) ≡ None)
+    ↔ IsSome (want_acting network station patterns action)
+unfolding is_want
+acting_law network None patterns action =
     both (is_code 2 network) (λ n. rw n (λ e. absurd cc, λ none. absurd cc))
     (λ n. rw n (λ e. absurd cc, λ none. absurd cc))
-parts_law is_fetch network (Some station) patterns (Some number) =
+acting_law network (Some station) patterns action =
     both (is_code 2 network)
     (λ n. both (is_code 5 station)
-    (λ s. both (has_patterns patterns) (λ p. rw (n, s, p, acts is_fetch number) (λ e. refl, λ some. refl))
+    (λ s. both (has_patterns patterns)
+    (λ p. both (is_action action) (λ a. rw (n, s, p, a) (λ e. refl, λ some. refl))
+    (λ a. rw (n, s, p, a) (λ e. absurd cc, λ none. absurd cc)))
     (λ p. rw (n, s, p) (λ e. absurd cc, λ none. absurd cc)))
     (λ s. rw (n, s) (λ e. absurd cc, λ none. absurd cc)))
     (λ n. rw n (λ e. absurd cc, λ none. absurd cc))
 
-pub wrong_part_law : (word : List ℕ) (is_fetch : Bool) → (wrong_part word ≡ None) ↔ IsSome (want_of is_fetch word)
+chosen_law : (network : List ℕ) (station : Option (List ℕ)) (patterns : List (List ℕ)) (action : Option Action)
+    → (first_of network station patterns (is_possible action) ≡ None)
+    ↔ IsSome (option_and_then (want_acting network station patterns) action)
+chosen_law network station patterns None = never network station patterns
+chosen_law network station patterns (Some action) = acting_law network station patterns action
+
+parts_law : (window : WindowValue) (network : List ℕ) (station : Option (List ℕ)) (patterns : List (List ℕ))
+    (number : Option (Option ℕ))
+    → (first_of network station patterns (has_action window number) ≡ None)
+    ↔ IsSome (want_by window network station patterns number)
+parts_law window network station patterns None = never network station patterns
+parts_law window network station patterns (Some number) =
+    chosen_law network station patterns (action_of window number)
+
+pub wrong_part_law : (window : WindowValue) (word : List ℕ)
+    → (wrong_part window word ≡ None) ↔ IsSome (want_of window word)
 unfolding want_of
-wrong_part_law word is_fetch =
-    parts_law is_fetch (front_of 95 (codes_in word)) (rest_of 95 (codes_in word))
+wrong_part_law window word =
+    parts_law window (front_of 95 (codes_in word)) (rest_of 95 (codes_in word))
     (patterns_of (rest_of 58 (front_of 64 word))) (number_behind (rest_of 64 word))
 
-pub wrong_part_is : (r : Option WantPart) (word : List ℕ) → r ≡ wrong_part word → (is_fetch : Bool)
-    → (r ≡ None) ↔ IsSome (want_of is_fetch word)
-wrong_part_is r word is is_fetch =
-    let law = wrong_part_law word is_fetch in
+pub wrong_part_is : (r : Option WantPart) (window : WindowValue) (word : List ℕ) → r ≡ wrong_part window word
+    → (r ≡ None) ↔ IsSome (want_of window word)
+wrong_part_is r window word is =
+    let law = wrong_part_law window word in
     (λ e. law.0 (sym is ∙ e), λ some. is ∙ law.1 some)

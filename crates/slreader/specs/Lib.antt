@@ -1,4 +1,5 @@
 pub mod Wants
+pub mod Words
 pub mod WantTexts
 pub mod Views
 pub mod Lines
@@ -10,7 +11,6 @@ pub mod Faults
 pub mod ReaderViews
 pub mod Reads
 pub mod Comings
-pub mod Words
 pub mod Whats
 pub mod Parts
 pub mod WordParts

@@ -1,13 +1,13 @@
 -- The word that spells a want: NET_STA, then possibly `:` and patterns joined by commas, then possibly `@` and a
 -- number. This project's own.
-use Rattle.std.specs.Prelude.{◌≡◌, ℕ, ◌+◌, Bool, true, false, ◌==◌, if◌then◌else◌, List, [], take, drop, position}
+use Rattle.std.specs.Prelude.{◌≡◌, ℕ, ◌+◌, ◌==◌, if◌then◌else◌, List, [], take, drop, position}
 use Rattle.std.specs.Prelude.{Option, Some, None, option_map, option_and_then}
 use Rattle.protocol.specs.Packet.{number_of}
 use Rattle.protocol.specs.Pieces.{split}
 use Rattle.slreader.specs.declared.fault.ReaderFault.{ReaderFault}
 use Rattle.slreader.specs.declared.fault.ReaderFault.TheVariants as fault
 use Rattle.slreader.specs.Wants.{Action, WantValue, is_want}
-use Rattle.slreader.specs.Wants.Action.{Data, Fetch}
+use Rattle.slreader.specs.Wants.Action.{Data, Fetch, Time}
 
 -- what stands before the first separator; all of a text that has none
 abbrev pub front_at : Option ℕ → List ℕ → List ℕ
@@ -38,10 +38,22 @@ abbrev pub number_behind : Option (List ℕ) → Option (Option ℕ)
 number_behind None = Some None
 number_behind (Some digits) = option_map Some (number_of digits)
 
--- DATA, or FETCH
-abbrev pub action_of : (is_fetch : Bool) → Option ℕ → Action
-action_of true number = Fetch number None
-action_of false number = Data number None
+-- Which records are wanted: as they come, those that are held, or those between two moments. A begin and a last are
+-- texts of moments.
+pub data WindowValue : Type 0 where
+  Following : (begin : Option (List ℕ)) → WindowValue
+  Held : (begin : Option (List ℕ)) → WindowValue
+  Between : (begin last : List ℕ) → WindowValue
+
+-- The action that asks for them, with or without a number. SeedLink 3 has TIME for a begin without a number, and nothing
+-- for an end beside a number.
+abbrev pub action_of : WindowValue → Option ℕ → Option Action
+action_of (Following None) number = Some (Data number None)
+action_of (Following (Some begin)) None = Some (Time (Some begin) None)
+action_of (Following (Some begin)) (Some number) = Some (Data (Some number) (Some begin))
+action_of (Held begin) number = Some (Fetch number begin)
+action_of (Between begin last) None = Some (Time (Some begin) (Some last))
+action_of (Between begin last) (Some number) = None
 
 -- a want, if it can be asked for
 abbrev pub spellable : WantValue → Option WantValue
@@ -55,13 +67,15 @@ want_with action codes patterns =
     (record { network = front_of 95 codes; station = station; patterns = patterns; action = action }))
     (rest_of 95 codes)
 
-abbrev pub want_numbered : (is_fetch : Bool) → (text : List ℕ) → Option ℕ → Option WantValue
-want_numbered is_fetch text number =
-    want_with (action_of is_fetch number) (front_of 58 text) (patterns_of (rest_of 58 text))
+abbrev pub want_numbered : WindowValue → (text : List ℕ) → Option ℕ → Option WantValue
+want_numbered window text number =
+    option_and_then (λ action. want_with action (front_of 58 text) (patterns_of (rest_of 58 text)))
+    (action_of window number)
 
--- the want that a word spells; None where it spells none that can be asked for. The number stands behind `@` (64).
-unfoldable pub want_of : (is_fetch : Bool) → List ℕ → Option WantValue
-want_of is_fetch text = option_and_then (want_numbered is_fetch (front_of 64 text)) (number_behind (rest_of 64 text))
+-- The want that a word spells in a window; None where it spells none that can be asked for. The number stands behind
+-- `@` (64).
+unfoldable pub want_of : WindowValue → List ℕ → Option WantValue
+want_of window text = option_and_then (want_numbered window (front_of 64 text)) (number_behind (rest_of 64 text))
 
 -- Why a word is no want: it spells none that can be asked for, or there is no memory for its patterns.
 abbrev pub IsNoWant : ReaderFault → Option WantValue → Type 0

@@ -17,6 +17,7 @@ mod spelling;
 mod stage;
 mod tally;
 mod want;
+mod window;
 mod words;
 
 pub use came::{Came, What};
@@ -25,3 +26,4 @@ pub use laws::{dialogue_decided, dialogue_in_pieces, first_of_a_piece};
 pub use part::WantPart;
 pub use reader::ReaderCore;
 pub use want::{Action, Plan, Want};
+pub use window::Window;

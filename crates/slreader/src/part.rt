@@ -1,13 +1,15 @@
 //! The parts of a word that spells a want.
-ghost use Rattle.std.specs.Prelude.{◌≡◌, ◌==◌, ◌↔◌, Bool, None, IsSome};
+ghost use Rattle.std.specs.Prelude.{◌≡◌, ◌==◌, ◌↔◌, None, IsSome};
 ghost use Rattle.std.specs.Option.{option_copied};
 ghost use Rattle.protocol.specs.Pieces.{split};
 ghost use Rattle.slreader.specs.Wants.{has_patterns as spec_has_patterns};
-ghost use Rattle.slreader.specs.WordParts.{has_code as spec_has_code, wrong_part};
-ghost use Rattle.slreader.specs.Words.{patterns_of, want_of};
+ghost use Rattle.slreader.specs.WantTexts.{window_value};
+ghost use Rattle.slreader.specs.WordParts.{has_action, has_code as spec_has_code, wrong_part};
+ghost use Rattle.slreader.specs.Words.{number_behind as spec_number_behind, patterns_of, want_of};
 
-use crate::spelling::{NETWORK, PATTERNS, STATION, is_code, is_pattern};
+use crate::spelling::{NETWORK, PATTERNS, STATION, is_action, is_code, is_pattern};
 use crate::want::Want;
+use crate::window::{Window, action_of};
 use crate::words::{front_and_rest, number_behind};
 use separators::cut_at;
 
@@ -60,12 +62,26 @@ fn may_have_patterns(list: Option<&[u8]>) -> bool
     }
 }
 
+/// Whether the number, or that there is none, makes an action of the window.
+fn has_action(window: Window<'_>, digits: Option<&[u8]>) -> bool
+    ensures { result ≡ has_action (window_value window.entry) (spec_number_behind (option_copied digits.entry)) }
+{
+    let Some(number) = number_behind(digits) else {
+        return false;
+    };
+    match action_of(window, number) {
+        Some(action) => is_action(&action),
+        None => false,
+    }
+}
+
 impl<'a> Want<'a> {
-    /// The first part of a word for which it spells no want, as the parts stand in it; None where it spells one.
+    /// The first part of a word for which it spells no want in a window, as the parts stand in it; None where it spells
+    /// one. The part Number is wrong also where there is none and the window needs one, or the other way round.
     #[tactic(auto, unfolding(crate::specs::Words::want_of))]
-    pub fn wrong_part(word: &[u8]) -> Option<WantPart>
-        ensures part { result ≡ wrong_part word.now }
-        ensures none { (is_fetch : Bool) → (result ≡ None) ↔ IsSome (want_of is_fetch word.now) }
+    pub fn wrong_part(word: &[u8], window: Window<'_>) -> Option<WantPart>
+        ensures part { result ≡ wrong_part (window_value window.entry) word.now }
+        ensures none { (result ≡ None) ↔ IsSome (want_of (window_value window.entry) word.now) }
     {
         let numbered = front_and_rest(b'@', word);
         let selected = front_and_rest(b':', numbered.front);
@@ -76,7 +92,7 @@ impl<'a> Want<'a> {
             Some(WantPart::Station)
         } else if !may_have_patterns(selected.rest) {
             Some(WantPart::Patterns)
-        } else if number_behind(numbered.rest).is_none() {
+        } else if !has_action(window, numbered.rest) {
             Some(WantPart::Number)
         } else {
             None

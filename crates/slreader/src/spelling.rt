@@ -93,7 +93,7 @@ fn is_led(has_first: bool, has_second: bool) -> bool
 }
 
 /// The arguments are texts of moments, and each has the one before it.
-fn is_action(action: &Action<'_>) -> bool
+pub(crate) fn is_action(action: &Action<'_>) -> bool
     ensures { result ≡ spec_is_action (action_value action.now) }
 {
     match action {

@@ -2,12 +2,13 @@
 ghost use Rattle.std.specs.Prelude.{◌≡◌, ◌==◌, Some, IfOk, IfErr};
 ghost use Rattle.std.specs.Option.{option_copied};
 ghost use Rattle.protocol.specs.Pieces.{split};
-ghost use Rattle.slreader.specs.WantTexts.{action_value, texts};
-ghost use Rattle.slreader.specs.Words.{action_of, front_of, number_behind, patterns_of, rest_of, want_of};
+ghost use Rattle.slreader.specs.WantTexts.{texts, window_value};
+ghost use Rattle.slreader.specs.Words.{front_of, number_behind, patterns_of, rest_of, want_of};
 ghost use Rattle.slreader.specs.Words.{IsNoWant};
 
 use crate::fault::ReaderFault;
-use crate::want::{Action, Want};
+use crate::want::Want;
+use crate::window::{Window, action_of};
 use separators::cut_at;
 use sl_packet::Seq;
 use std::alloc::{AllocError, Global};
@@ -70,39 +71,26 @@ pub(crate) fn number_behind(digits: Option<&[u8]>) -> Option<Option<Seq>>
     }
 }
 
-/// DATA, or FETCH.
-fn action_of(is_fetch: bool, number: Option<Seq>) -> Action<'static>
-    ensures { action_value result ≡ action_of is_fetch number }
-{
-    if is_fetch {
-        Action::Fetch {
-            number,
-            begin: None,
-        }
-    } else {
-        Action::Data {
-            number,
-            begin: None,
-        }
-    }
-}
-
 impl<'a> Want<'a> {
     /// The want that a word spells: the network and the station, joined by `_`; then possibly `:` and patterns,
     /// joined by commas; then possibly `@` and a number of 1 to 6 hexadecimal digits, from which on its records are
-    /// wanted. So `GE_WLF:BH?,!E@0000A3`. The action is FETCH, or DATA.
+    /// wanted. So `GE_WLF:BH?,!E@0000A3`. The action is that of the window: DATA or FETCH, or TIME if there is no
+    /// number and a begin.
     ///
-    /// It fails with Limit where the word spells no want that can be asked for, and with OutOfMemory only where there
-    /// is no memory for the patterns.
+    /// It fails with Limit where the word spells no want that can be asked for in that window, and with OutOfMemory
+    /// only where there is no memory for the patterns.
     #[tactic(auto, unfolding(crate::specs::Words::want_of))]
-    pub fn parse(alloc: Global, word: &'a [u8], is_fetch: bool) -> Result<Want<'a>, ReaderFault>
-        ensures want { IfOk result (λ want. want_of is_fetch word.now ≡ Some want) }
-        ensures fault { IfErr result (λ fault. IsNoWant fault (want_of is_fetch word.now)) }
+    pub fn parse(alloc: Global, word: &'a [u8], window: Window<'a>) -> Result<Want<'a>, ReaderFault>
+        ensures want { IfOk result (λ want. want_of (window_value window.entry) word.now ≡ Some want) }
+        ensures fault { IfErr result (λ fault. IsNoWant fault (want_of (window_value window.entry) word.now)) }
     {
         let numbered = front_and_rest(b'@', word);
         let selected = front_and_rest(b':', numbered.front);
         let codes = front_and_rest(b'_', selected.front);
         let Some(number) = number_behind(numbered.rest) else {
+            return Err(ReaderFault::Limit);
+        };
+        let Some(action) = action_of(window, number) else {
             return Err(ReaderFault::Limit);
         };
         let Some(station) = codes.rest else {
@@ -115,7 +103,7 @@ impl<'a> Want<'a> {
             network: codes.front,
             station,
             patterns,
-            action: action_of(is_fetch, number),
+            action,
         };
         if want.is_spellable() {
             Ok(want)

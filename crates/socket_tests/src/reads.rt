@@ -3,7 +3,7 @@ use jobs::Failure;
 use loopback::{Centre, at_centre, record};
 use packet_listing::{ListingFault, read_over};
 use sl_io::{MemorySink, Outer};
-use slreader::{Plan, Want};
+use slreader::{Plan, Want, Window};
 use std::alloc::Global;
 use std::io;
 use std::io::{Read, Write};
@@ -38,7 +38,7 @@ fn feed<R: Net>(rt: &R, centre: &mut Centre) -> Result<(), Fail> {
 fn plan<'a>(alloc: Global, words: &[&'a [u8]]) -> Result<Plan<'a>, Fail> {
     let mut wants = Vec::new(alloc);
     for word in words {
-        wants.push(Want::parse(alloc, word, true)?)?;
+        wants.push(Want::parse(alloc, word, Window::Held { begin: None })?)?;
     }
     Ok(Plan::Multi(wants))
 }

@@ -1,7 +1,7 @@
 //! The lines that explain a fault.
 use super::replays::config;
 use catalog::Config;
-use command_line::Job;
+use command_line::{Job, ReadOptions};
 use config_findings::{finding_of, first_difference};
 use jobs::{Failure, Incident, replay, run_job};
 use record_listing::check_records;
@@ -364,9 +364,18 @@ static WANTS: [(&str, &str); 4] = [
     ),
     (
         "GE_APE@XYZ",
-        "  word: GE_APE@XYZ\n  part: number\n  allowed: 1 to 6 hexadecimal digits, after @\n",
+        "  word: GE_APE@XYZ\n  part: number\n  \
+            allowed: 1 to 6 hexadecimal digits, after @; --fetch with --begin needs them, --end takes none\n",
     ),
 ];
+
+/// What the server holds is asked for.
+const HELD: ReadOptions<'static> = ReadOptions {
+    fetch: true,
+    begin: None,
+    last: None,
+    output: None,
+};
 
 #[test]
 fn a_want_that_is_refused(rt: HostRuntime) -> Result<(), Fail> {
@@ -377,13 +386,45 @@ fn a_want_that_is_refused(rt: HostRuntime) -> Result<(), Fail> {
         let read = Job::Read {
             server: "127.0.0.1:1",
             wants,
-            fetch: true,
-            output: None,
+            options: HELD,
         };
         let wanted = format!(in rt.alloc();
             "  cause: this can't be asked for in SeedLink\n{lines}"
         )?;
         assert!(rt; unfinished(&rt, read)?.as_str() == wanted.as_str());
+    }
+    Ok(())
+}
+
+/// Words of moments that are refused, and the lines that explain it.
+static MOMENTS: [(&str, &str); 2] = [
+    (
+        "29.2.2024",
+        "  cause: a word is no time: the text has not the shape of a time\n  word: 29.2.2024\n  \
+            allowed: a time in UTC, as 2024-02-29T00:00:00 or 2024,2,29,0,0,0\n",
+    ),
+    (
+        "2023-02-29T00:00:00Z",
+        "  cause: a word is no time: a number of the time is out of range, or there is no such date\n  \
+            word: 2023-02-29T00:00:00Z\n  \
+            allowed: a time in UTC, as 2024-02-29T00:00:00 or 2024,2,29,0,0,0\n",
+    ),
+];
+
+#[test]
+fn a_moment_that_is_refused(rt: HostRuntime) -> Result<(), Fail> {
+    for (word, lines) in &MOMENTS {
+        let mut wants = Vec::new(rt.alloc());
+        wants.push("GE_WLF")?;
+        let read = Job::Read {
+            server: "127.0.0.1:1",
+            wants,
+            options: ReadOptions {
+                begin: Some(*word),
+                ..HELD
+            },
+        };
+        assert!(rt; unfinished(&rt, read)?.as_str() == *lines);
     }
     Ok(())
 }
@@ -395,8 +436,7 @@ fn a_server_that_is_not_there(rt: HostRuntime) -> Result<(), Fail> {
     let read = Job::Read {
         server: "127.0.0.1:1",
         wants,
-        fetch: true,
-        output: None,
+        options: HELD,
     };
     assert!(rt;
         unfinished(&rt, read)?.as_str()

@@ -1,5 +1,5 @@
 //! Words of the command line.
-use command_line::{Job, WordsFault, read_words};
+use command_line::{Job, ReadOptions, WordsFault, read_words};
 use std::alloc::{AllocError, Global};
 use std::test::Fail;
 
@@ -216,21 +216,19 @@ fn is_among(wants: &[&str], want: &str) -> bool {
     wants.iter().any(|word| *word == want)
 }
 
-/// Whether it is the reader's job with both wants, `--fetch` and the standard output.
-fn is_read(job: &Job<'_>) -> bool {
+/// Whether it is the reader's job with both wants and those options.
+fn is_read(job: &Job<'_>, wanted: ReadOptions<'_>) -> bool {
     match job {
         Job::Read {
             server,
             wants,
-            fetch,
-            output,
+            options,
         } => {
             *server == "a:1"
                 && wants.len() == 2
                 && is_among(wants.as_slice(), "GE_WLF")
                 && is_among(wants.as_slice(), "XX_APE")
-                && *fetch
-                && *output == Some("-")
+                && *options == wanted
         }
         _ => false,
     }
@@ -252,7 +250,39 @@ fn read_has_wants_and_options(rt: HostRuntime) -> Result<(), Fail> {
         ],
     )?;
     let job = read_words(rt.alloc(), words.as_slice())?.job;
-    assert!(rt; is_read(&job));
+    let wanted = ReadOptions {
+        fetch: true,
+        begin: None,
+        last: None,
+        output: Some("-"),
+    };
+    assert!(rt; is_read(&job, wanted));
+    Ok(())
+}
+
+#[test]
+fn read_has_a_begin_and_an_end(rt: HostRuntime) -> Result<(), Fail> {
+    let words = strings(
+        rt.alloc(),
+        &[
+            "seedlinkd",
+            "read",
+            "a:1",
+            "GE_WLF",
+            "XX_APE",
+            "--begin",
+            "2024,2,29",
+            "--end=2024-03-01T00:00:00",
+        ],
+    )?;
+    let job = read_words(rt.alloc(), words.as_slice())?.job;
+    let wanted = ReadOptions {
+        fetch: false,
+        begin: Some("2024,2,29"),
+        last: Some("2024-03-01T00:00:00"),
+        output: None,
+    };
+    assert!(rt; is_read(&job, wanted));
     Ok(())
 }
 
@@ -285,8 +315,18 @@ fn help_is_told(rt: HostRuntime) -> Result<(), Fail> {
 
 #[test]
 fn other_words_are_refused(rt: HostRuntime) -> Result<(), Fail> {
-    let all: [&[&str]; 12] = [
+    let all: [&[&str]; 14] = [
         &[],
+        &["seedlinkd", "read", "a:1", "GE_WLF", "--end=2024,3,1"],
+        &[
+            "seedlinkd",
+            "read",
+            "a:1",
+            "GE_WLF",
+            "--fetch",
+            "--begin=2024,2,29",
+            "--end=2024,3,1",
+        ],
         &["seedlinkd", "serve", "c.toml", "--listen", "a:1"],
         &[
             "seedlinkd",

@@ -45,4 +45,4 @@ returns-in-Ok-None-clause-err c =
 pub returns-in-Ok-None-clause-told : goal.returns-in-Ok-None-clause-told
 returns-in-Ok-None-clause-told c =
     let none = c.in-Ok-try_get_matches_from.ensures.kinds (ap is_simple_and_free c.in-Ok.ensures ∙ program_is_simple) in
-    left_over _ _ (sym (ap₂ fault_of c.in-Ok.ensures refl) ∙ none) c.no_number.ensures
+    left_over _ _ (sym (ap₂ fault_of c.in-Ok.ensures refl) ∙ none) c.mistaken.ensures

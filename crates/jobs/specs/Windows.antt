@@ -1,0 +1,28 @@
+-- The moments of the command line, and the window that they make.
+use Rattle.std.specs.Prelude.{◌≡◌, ◌⊎◌, Bool, true, false, ℕ, List, Option, Some, None, Err, is_some}
+use Rattle.protocol.specs.Time.{time_of}
+use Rattle.sl_time.specs.Parsed.{parsed}
+use Rattle.sl_time.specs.declared.command.TimeFault.{TimeFault}
+use Rattle.iso_time.specs.Spelled.{command_text}
+use Rattle.slreader.specs.Words.{WindowValue}
+use Rattle.slreader.specs.Words.WindowValue.{Following, Held, Between}
+use Rattle.jobs.specs.declared.failure.Failure.{Failure}
+use Rattle.jobs.specs.declared.failure.Failure.TheVariants.{Moment, OutOfMemory}
+
+-- The text is the one that stands for the word, and spells a time.
+abbrev pub IsMoment : List ℕ → List ℕ → Type 0
+IsMoment word text = (text ≡ command_text word) × (is_some (time_of text) ≡ true)
+
+-- The word spells no time, for that reason; or there was no memory for it.
+abbrev pub IsNoMoment : List ℕ → Failure → Type 0
+IsNoMoment word failure =
+    (failure ≡ OutOfMemory)
+    ⊎ ((fault : TimeFault) × (failure ≡ Moment fault) × (parsed (command_text word) ≡ Err fault))
+
+-- the window of a begin and an end, and of whether what is held is asked for. An end has a begin.
+abbrev pub window_by : (begin last : Option (List ℕ)) → (is_fetch : Bool) → WindowValue
+window_by (Some begin) (Some last) is_fetch = Between begin last
+window_by (Some begin) None true = Held (Some begin)
+window_by (Some begin) None false = Following (Some begin)
+window_by None last true = Held None
+window_by None last false = Following None
