@@ -5,7 +5,6 @@ It prints a line a figure, and fails if one is above its limit. The counts hardl
 """
 
 import re
-import resource
 import signal
 import subprocess
 import sys
@@ -13,7 +12,8 @@ import tempfile
 import time
 
 import load
-import wire
+from programs import RunningProgram, config_file, raise_descriptor_limit, serve_words
+from wire import CONFIG
 
 READERS = 16
 IDLE = 5_000
@@ -30,13 +30,13 @@ def each(config, idle=0):
     records = 4_000
     with tempfile.NamedTemporaryFile(suffix=".callgrind") as out:
         before = ["valgrind", "--tool=callgrind", "-q", f"--callgrind-out-file={out.name}"]
-        with wire.Arm(wire.serve_words(config), before) as arm:
-            one = load.Load(*arm.ports, READERS, records, idle)
-            subprocess.run(["callgrind_control", "-z", str(arm.program.pid)], capture_output=True, check=True)
-            one.run(300)
-            arm.program.send_signal(signal.SIGINT)
-            arm.program.wait()
-            one.close()
+        with RunningProgram(serve_words(config), before) as server:
+            run = load.Load(*server.ports, READERS, records, idle)
+            subprocess.run(["callgrind_control", "-z", str(server.program.pid)], capture_output=True, check=True)
+            run.run(300)
+            server.program.send_signal(signal.SIGINT)
+            server.program.wait()
+            run.close()
         total = int(re.search(rb"^(?:summary|totals): (\d+)", out.read(), re.M).group(1))
     return total / records / READERS
 
@@ -62,17 +62,17 @@ class Traced:
 
     def count(self, call):
         """How often it made a call, by the table of `strace -c`; `total` is all calls."""
-        return sum(int(it.split()[3]) for it in self.text.splitlines() if it.split()[-1:] == [call])
+        return sum(int(line.split()[3]) for line in self.text.splitlines() if line.split()[-1:] == [call])
 
 
 def under_load(config):
     """Write calls for 16 packets, and read calls for 16 records."""
     records = 20_000
-    with wire.Arm(wire.serve_words(config)) as arm:
-        one = load.Load(*arm.ports, READERS, records)
-        with Traced(arm.program, "-c") as traced:
-            one.run()
-        one.close()
+    with RunningProgram(serve_words(config)) as server:
+        run = load.Load(*server.ports, READERS, records)
+        with Traced(server.program, "-c") as traced:
+            run.run()
+        run.close()
     writes, reads = traced.count("sendto") + traced.count("write"), traced.count("recvfrom") + traced.count("read")
     return writes / (READERS * records / 16), reads / (records / 16)
 
@@ -87,13 +87,13 @@ def waits_between(calls):
 
 def at_rest(config):
     """System calls a second with 1,000 clients that wait, and waits between a record that comes alone and its packet."""
-    with wire.Arm(wire.serve_words(config)) as arm:
-        idle = [load.idle_client(arm.ports[0]) for _ in range(1_000)]
-        waiting, feed = load.reader(arm.ports[0]), load.dial(arm.ports[1])
+    with RunningProgram(serve_words(config)) as server:
+        idle = [load.idle_client(server.client_port) for _ in range(1_000)]
+        waiting, feed = load.reader(server.client_port), load.dial(server.feed_port)
         time.sleep(0.5)
-        with Traced(arm.program, "-c") as counted:
+        with Traced(server.program, "-c") as counted:
             time.sleep(SECONDS)
-        with Traced(arm.program) as traced:
+        with Traced(server.program) as traced:
             feed.sendall(load.record(0))
             time.sleep(0.5)
         for client in [*idle, waiting, feed]:
@@ -102,14 +102,12 @@ def at_rest(config):
 
 
 def main():
-    resource.setrlimit(resource.RLIMIT_NOFILE, (resource.getrlimit(resource.RLIMIT_NOFILE)[1],) * 2)
-    with tempfile.NamedTemporaryFile("w", suffix=".toml") as config:
-        config.write(wire.CONFIG)
-        config.flush()
+    raise_descriptor_limit()
+    with config_file(CONFIG) as config:
         print(f"{'each':>10} {'at most':>8}  work")
-        writes, reads = under_load(config.name)
-        calm, waits = at_rest(config.name)
-        alone, crowded = each(config.name), each(config.name, IDLE)
+        writes, reads = under_load(config)
+        calm, waits = at_rest(config)
+        alone, crowded = each(config), each(config, IDLE)
         good = [
             told(alone, 2_500, f"instructions, a packet handed on, {READERS} readers"),
             told(crowded, int(alone * 1.3), f"the same with {IDLE} idle clients"),

@@ -9,15 +9,12 @@ SCALE=0.05 tries it with few clients and no limits.
 """
 
 import os
-import resource
 import statistics
-import subprocess
 import sys
-import tempfile
 import time
 
 import load
-from wire import TOP, Arm, serve_words
+from programs import RunningProgram, build, config_file, raise_descriptor_limit, serve_words
 
 SCALE = float(os.environ.get("SCALE", "1"))
 CONFIG = """title = "Crowds"
@@ -68,13 +65,13 @@ def newcomer(port):
 
 def newcomers(words, sleepers):
     """The milliseconds of a processor of a client that comes and asks for a station while so many are open."""
-    with Arm(words) as arm:
-        asleep = [sleeper(arm.ports[0]) for _ in range(sleepers)]
+    with RunningProgram(words) as server:
+        asleep = [sleeper(server.client_port) for _ in range(sleepers)]
         count = scaled(2000)
-        before = arm.cpu()
+        before = server.cpu_seconds()
         for _ in range(count):
-            newcomer(arm.ports[0])
-        used = arm.cpu() - before
+            newcomer(server.client_port)
+        used = server.cpu_seconds() - before
         for client in asleep:
             client.close()
     return used / count * 1e3
@@ -92,12 +89,12 @@ def taken(reader):
 
 def latency(words, sleepers):
     """The median of the milliseconds from a lone record's sending until the last of 16 readers has it."""
-    with Arm(words) as arm:
-        asleep = [sleeper(arm.ports[0]) for _ in range(sleepers)]
-        readers = [load.reader(arm.ports[0]) for _ in range(16)]
+    with RunningProgram(words) as server:
+        asleep = [sleeper(server.client_port) for _ in range(sleepers)]
+        readers = [load.reader(server.client_port) for _ in range(16)]
         for reader in readers:
             reader.setblocking(True)
-        feed = load.dial(arm.ports[1])
+        feed = load.dial(server.feed_port)
         time.sleep(0.4)
         seen = []
         for number in range(scaled(1000)):
@@ -115,13 +112,13 @@ def latency(words, sleepers):
 def streamed(words, sleepers):
     """Packets a second to 16 readers while so many clients sleep, and the microseconds of a processor that a packet took."""
     records = scaled(40_000)
-    with Arm(words) as arm:
-        asleep = [sleeper(arm.ports[0]) for _ in range(sleepers)]
-        one = load.Load(*arm.ports, 16, records)
-        before = arm.cpu()
-        took = one.run()
-        used = arm.cpu() - before
-        one.close()
+    with RunningProgram(words) as server:
+        asleep = [sleeper(server.client_port) for _ in range(sleepers)]
+        run = load.Load(*server.ports, 16, records)
+        before = server.cpu_seconds()
+        took = run.run()
+        used = server.cpu_seconds() - before
+        run.close()
         for client in asleep:
             client.close()
     return 16 * records / took, used / (16 * records) * 1e6
@@ -151,7 +148,7 @@ def row_stream(words):
     for _ in range(7 if SCALE == 1 else 1):
         for count, seen in runs.items():
             seen.append(streamed(words, count))
-    (rate, cost), (rate_many, cost_many) = ([statistics.median(it) for it in zip(*seen)] for seen in runs.values())
+    (rate, cost), (rate_many, cost_many) = (map(statistics.median, zip(*seen)) for seen in runs.values())
     slower = told(rate / rate_many, 1 / 0.97, f"times fewer packets a second than {rate:.0f}: 16 readers, 5,000 asleep")
     return all([slower, told(cost_many / cost, 1.05, f"times {cost:.3f} us of a processor a packet, 5,000 asleep")])
 
@@ -159,11 +156,9 @@ def row_stream(words):
 ROWS = {"newcomers": row_newcomers, "latency": row_latency, "stream": row_stream}
 
 if __name__ == "__main__":
-    resource.setrlimit(resource.RLIMIT_NOFILE, (resource.getrlimit(resource.RLIMIT_NOFILE)[1],) * 2)
-    subprocess.run([f"{TOP}/seedlinkd", "--help"], stdout=subprocess.DEVNULL, check=True)
-    with tempfile.NamedTemporaryFile("w", suffix=".toml") as config:
-        config.write(CONFIG)
-        config.flush()
+    raise_descriptor_limit()
+    build()
+    with config_file(CONFIG) as config:
         print(f"{'figure':>10} {'at most':>8}  what")
-        kept = [ROWS[name](serve_words(config.name)) for name in sys.argv[1:] or ROWS]
+        kept = [ROWS[name](serve_words(config)) for name in sys.argv[1:] or ROWS]
     sys.exit(0 if all(kept) else 1)

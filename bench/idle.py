@@ -5,7 +5,6 @@ has no descriptors left for its clients.
 It starts servers on loopback and ends them, prints a line a figure, and fails if one is above its limit. It needs strace.
 """
 
-import os
 import re
 import resource
 import socket
@@ -14,28 +13,26 @@ import sys
 import tempfile
 import time
 
-from wire import free_ports
+from programs import TOP, RunningProgram, build, serve_words
 
-TOP = os.path.dirname(os.path.dirname(os.path.realpath(__file__)))
-PROGRAM = f"{TOP}/crates/seedlinkd/out/seedlinkd"
+CONFIG = f"{TOP}/examples/loopback.toml"
 GREETING = b"SeedLink v3.0 (station access)\r\n"
 SECONDS = 4
 
 
-def serving(ports, descriptors=1024):
+def serving(descriptors=1024):
     """A server that ends by itself after two minutes without work, and may open so many descriptors."""
-    listen, feed = (f"127.0.0.1:{port}" for port in ports)
-    words = [PROGRAM, "serve", f"{TOP}/examples/loopback.toml", "--listen", listen, "--feed", feed, "--turns", "1200"]
-    limits = lambda: resource.setrlimit(resource.RLIMIT_NOFILE, (descriptors, descriptors))
-    server = subprocess.Popen(words, preexec_fn=limits)
-    time.sleep(0.5)
-    return server
+
+    def limit():
+        resource.setrlimit(resource.RLIMIT_NOFILE, (descriptors, descriptors))
+
+    return RunningProgram(serve_words(CONFIG, "--turns", "1200"), prepare=limit)
 
 
 def calls_a_second(server):
     """How many system calls a server makes, by `strace` over some seconds."""
     with tempfile.NamedTemporaryFile(suffix=".calls") as counted:
-        tracer = subprocess.Popen(["strace", "-f", "-c", "-U", "calls,name", "-o", counted.name, "-p", str(server.pid)], stderr=subprocess.DEVNULL)
+        tracer = subprocess.Popen(["strace", "-f", "-c", "-U", "calls,name", "-o", counted.name, "-p", str(server.program.pid)], stderr=subprocess.DEVNULL)
         time.sleep(SECONDS)
         tracer.terminate()
         tracer.wait()
@@ -68,48 +65,34 @@ def told(figure, least, most, what):
 
 
 def idle():
-    server = serving(free_ports())
-    try:
+    with serving() as server:
         return told(calls_a_second(server), 1, 20, "system calls a second of an idle server")
-    finally:
-        server.kill()
-        server.wait()
 
 
 def lingering():
     """Clients that said BYE and do not close their end: the server waits for them, and does nothing meanwhile."""
-    ports = free_ports()
-    server = serving(ports)
-    try:
-        clients = [say_hello(ports[0]) for _ in range(10)]
+    with serving() as server:
+        clients = [say_hello(server.client_port) for _ in range(10)]
         answered = told(greeted(clients), 10, 10, "clients are answered, and say BYE")
         for client in clients:
             client.sendall(b"BYE\r")
         time.sleep(1)
         return all([answered, told(calls_a_second(server), 1, 20, "system calls a second while their ends stay open")])
-    finally:
-        server.kill()
-        server.wait()
 
 
 def crowded():
     """100 clients at a server that may have 64 descriptors."""
-    ports = free_ports()
-    server = serving(ports, descriptors=64)
-    try:
-        clients = [say_hello(ports[0]) for _ in range(100)]
+    with serving(descriptors=64) as server:
+        clients = [say_hello(server.client_port) for _ in range(100)]
         answered = told(greeted(clients), 40, 64, "of 100 clients are answered by a server with 64 descriptors")
         calm = told(calls_a_second(server), 1, 60, "system calls a second while the others wait")
         for client in clients:
             client.close()
-        last = say_hello(ports[0])
+        last = say_hello(server.client_port)
         goes_on = told(greeted([last]), 1, 1, "client is answered after they left")
-        return all([answered, calm, goes_on, server.poll() is None])
-    finally:
-        server.kill()
-        server.wait()
+        return all([answered, calm, goes_on, server.is_running()])
 
 
 if __name__ == "__main__":
-    subprocess.run([f"{TOP}/seedlinkd", "--help"], stdout=subprocess.DEVNULL, check=True)
+    build()
     sys.exit(0 if all([idle(), lingering(), crowded()]) else 1)

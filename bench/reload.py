@@ -9,13 +9,12 @@ not hold.
 import os
 import re
 import socket
-import subprocess
 import sys
 import tempfile
 import time
 
 import load
-import wire
+from programs import RunningProgram, build, serve_words
 
 CONFIG = """title = "Reload"
 
@@ -87,10 +86,10 @@ def told(holds, what):
     return holds
 
 
-def run(path, ports, server, errors):
+def run(path, server, errors):
     """Plays it all. Whether all was as it has to be."""
-    feed = load.dial(ports[1])
-    near, far = reader(ports[0], NEAR), reader(ports[0], FAR)
+    feed = load.dial(server.feed_port)
+    near, far = reader(server.client_port, NEAR), reader(server.client_port, FAR)
     stream = load.stream_of(0, 3 * HALF)
     records = [load.record(it) for it in range(3 * HALF)]
     length = HALF * load.PACKET
@@ -102,13 +101,13 @@ def run(path, ports, server, errors):
     is_cut = len(last) % load.PACKET == 0 and 0 < len(last) < length and stream[length:].startswith(last)
     seen.append(told(is_cut, f"the client at {FAR} gets whole packets up to its cut"))
     seen.append(told(taken(near, length) == stream[length : 2 * length], f"the client at {NEAR} gets the next records"))
-    seen.append(told(is_refused(ports[0], FAR), f"a client at {FAR} that comes now does not see the station"))
+    seen.append(told(is_refused(server.client_port, FAR), f"a client at {FAR} that comes now does not see the station"))
     put_and_wait(path, "title =")
     put_and_wait(path, CONFIG.format(capacity=4096, access=EVERYBODY))
     feed.sendall(b"".join(records[2 * HALF :]))
     seen.append(told(taken(near, length) == stream[2 * length :], "it goes on after two texts that are refused"))
-    seen.append(told(is_refused(ports[0], FAR), "and the lists are as they were"))
-    server.kill()
+    seen.append(told(is_refused(server.client_port, FAR), "and the lists are as they were"))
+    server.program.kill()
     errors.seek(0)
     lines = errors.read().decode().splitlines()
     for line in ("seedlinkd: 20 Toml", "seedlinkd: 34 Different"):
@@ -118,20 +117,16 @@ def run(path, ports, server, errors):
     return all(seen)
 
 
-if __name__ == "__main__":
+def main():
+    build()
     with tempfile.TemporaryDirectory() as folder:
         config = f"{folder}/reload.toml"
         put(config, CONFIG.format(capacity=8192, access=EVERYBODY))
-        ports = wire.free_ports()
-        words = [*wire.serve_words(config)(*ports), "--turns", "100000", "--reread", "3", "--report", "4"]
-        # into a file, since a pipe that nobody reads would hold the server up once it is full
-        with open(f"{folder}/errors", "w+b") as errors:
-            server = subprocess.Popen(words, stderr=errors)
-            try:
-                for port in ports:
-                    wire.listens(port)
-                holds = run(config, ports, server, errors)
-            finally:
-                server.kill()
-                server.wait()
-    sys.exit(0 if holds else 1)
+        words = serve_words(config, "--turns", "100000", "--reread", "3", "--report", "4")
+        # into a file, since a pipe that nobody reads would soon be full
+        with open(f"{folder}/errors", "w+b") as errors, RunningProgram(words, errors=errors) as server:
+            return run(config, server, errors)
+
+
+if __name__ == "__main__":
+    sys.exit(0 if main() else 1)

@@ -8,17 +8,16 @@ reader that keeps up misses none. After the first minute the server's memory may
 have left it has as many descriptors as before they came. It prints what was done and fails if any of this does not hold.
 """
 
-import os
 import random
 import select
 import socket
 import struct
 import sys
-import tempfile
 import time
 
 import load
-import wire
+from programs import RunningProgram, config_file, serve_words
+from wire import CONFIG
 
 STEADY = 8
 VISITORS = 40
@@ -82,8 +81,8 @@ class Reader:
 
 
 class Soak:
-    def __init__(self, arm, seconds):
-        self.arm = arm
+    def __init__(self, server, seconds):
+        self.server = server
         self.seconds = seconds
         self.chance = random.Random(20_261_124)
         self.start = time.monotonic()
@@ -121,7 +120,7 @@ class Soak:
         stalls = self.chance.uniform(2, 20) if self.chance.randrange(8) == 0 else 0.0
         lasts = stalls + self.chance.uniform(0, 5)
         self.came["stalled"] += stalls > 0
-        self.add(Reader(self.arm.ports[0], words, False, lasts, stalls), self.visitors)
+        self.add(Reader(self.server.client_port, words, False, lasts, stalls), self.visitors)
 
     def leave(self, reader):
         """A visitor goes, in one of four ways."""
@@ -145,7 +144,7 @@ class Soak:
         if self.feed is None:
             if slowest < self.fed - 1:
                 return
-            self.feed = load.dial(self.arm.ports[1])
+            self.feed = load.dial(self.server.feed_port)
             self.feed.setblocking(False)
             self.feeds += 1
         for _ in range(8):
@@ -163,12 +162,6 @@ class Soak:
             except BlockingIOError:
                 return
 
-    def measure(self):
-        """The memory of the server in KiB, and its descriptors."""
-        with open(f"/proc/{self.arm.program.pid}/status", encoding="ascii") as status:
-            size = next(int(it.split()[1]) for it in status if it.startswith("VmRSS"))
-        return size, len(os.listdir(f"/proc/{self.arm.program.pid}/fd"))
-
     def step(self):
         now = time.monotonic()
         for reader in [it for it in self.visitors if now > it.ends_at]:
@@ -181,7 +174,7 @@ class Soak:
                 reader.take()
         self.give()
         if now - self.start > len(self.sizes):
-            self.sizes.append(self.measure()[0])
+            self.sizes.append(self.server.resident_kib())
 
     def end(self):
         """All records that are on their way come to the steady readers, and then everybody leaves."""
@@ -206,28 +199,24 @@ class Soak:
             self.by_descriptor[descriptor].take()
 
     def run(self):
-        before = self.measure()[1]
+        before = self.server.descriptors()
         for _ in range(STEADY):
             words = b"STATION WLF GE\rDATA\rEND\r"
-            self.add(Reader(self.arm.ports[0], words, True, 1e9), self.steady)
+            self.add(Reader(self.server.client_port, words, True, 1e9), self.steady)
         time.sleep(0.5)
         while time.monotonic() - self.start < self.seconds:
             self.step()
         self.end()
         time.sleep(3)
-        left = self.measure()[1] - before
-        return left
+        return self.server.descriptors() - before
 
 
 def main():
     seconds = int(sys.argv[1]) if len(sys.argv) > 1 else 600
-    with tempfile.NamedTemporaryFile("w", suffix=".toml") as config:
-        config.write(wire.CONFIG.replace("65536", "8192"))
-        config.flush()
-        with wire.Arm(wire.serve_words(config.name)) as arm:
-            soak = Soak(arm, seconds)
-            left = soak.run()
-            is_running = arm.program.poll() is None
+    with config_file(CONFIG.replace("65536", "8192")) as config, RunningProgram(serve_words(config)) as server:
+        soak = Soak(server, seconds)
+        left = soak.run()
+        is_running = server.is_running()
     warm = min(60, len(soak.sizes) // 2)
     first, growth = soak.sizes[warm], max(soak.sizes[warm:]) - soak.sizes[warm]
     print(f"{seconds} s, {soak.fed} records by {soak.feeds} feeds, {soak.packets} packets to {STEADY} steady readers and others")

@@ -14,17 +14,15 @@ names of rows only these are played: calm crowd babble100 babble1000 scan1 scan5
 
 import os
 import re
-import resource
 import select
 import socket
 import statistics
 import subprocess
 import sys
-import tempfile
 import time
 
 import load
-import wire
+from programs import HERE, RunningProgram, build, config_file, raise_descriptor_limit, serve_words
 
 SECONDS = 8
 RATE = 200
@@ -55,38 +53,16 @@ def pin(processor):
     return lambda: os.sched_setaffinity(0, {processor})
 
 
-class Server:
-    """A server on a processor of its own, for as long as a `with` lasts."""
-
-    def __init__(self, config, *words, errors=subprocess.DEVNULL, before=(), address="127.0.0.1"):
-        self.config, self.words, self.errors, self.before, self.address = config, words, errors, before, address
-
-    def __enter__(self):
-        self.listen, self.feed = wire.free_ports()
-        words = ["serve", self.config, "--listen", f"{self.address}:{self.listen}", "--feed", f"{self.address}:{self.feed}"]
-        self.program = subprocess.Popen([*self.before, wire.PROGRAM, *words, *self.words], stdout=subprocess.DEVNULL, stderr=self.errors, preexec_fn=pin(SERVER))
-        if self.address == "127.0.0.1":
-            for port in (self.listen, self.feed):
-                wire.listens(port)
-        else:
-            time.sleep(1)
-        return self
-
-    def __exit__(self, *_):
-        self.program.kill()
-        self.program.wait()
-
-    def resident(self):
-        """Its resident memory in MiB."""
-        with open(f"/proc/{self.program.pid}/status", encoding="ascii") as lines:
-            return int(re.search(r"VmRSS:\s+(\d+)", lines.read()).group(1)) / 1024
+def serving(config, *options, errors=subprocess.DEVNULL, before=(), address=HERE):
+    """A server on a processor of its own."""
+    return RunningProgram(serve_words(config, *options, address=address), before, errors, pin(SERVER), address == HERE)
 
 
 class Stranger:
     """One of the strangers below, in a process on a processor of its own. It says when it has begun."""
 
     def __init__(self, name, server, *words):
-        self.words = [sys.executable, os.path.realpath(__file__), "--play", name, str(server.listen), str(server.feed), *map(str, words)]
+        self.words = [sys.executable, os.path.realpath(__file__), "--play", name, str(server.client_port), str(server.feed_port), *map(str, words)]
 
     def __enter__(self):
         self.program = subprocess.Popen(self.words, stdout=subprocess.PIPE, stdin=subprocess.PIPE, preexec_fn=pin(STRANGER))
@@ -104,8 +80,8 @@ class Watch:
 
     def __init__(self, server):
         self.server = server
-        self.readers = [load.reader(server.listen) for _ in range(READERS)]
-        self.feeds = [load.dial(server.feed)]
+        self.readers = [load.reader(server.client_port) for _ in range(READERS)]
+        self.feeds = [load.dial(server.feed_port)]
         self.next = 0
         self.sent, self.took, self.silence = {}, [], 0.0
         self.rest = [b""] * READERS
@@ -159,7 +135,7 @@ class Watch:
         start = time.monotonic()
         for it in range(seconds * RATE):
             if it == seconds * RATE // 2:
-                self.feeds.append(load.dial(self.server.feed))
+                self.feeds.append(load.dial(self.server.feed_port))
                 self.new_feed = self.next
             self.listen(start + it / RATE)
             self.send(self.feeds[-1])
@@ -295,15 +271,13 @@ CALM = (20, 20, 100, 0)
 
 
 def with_config(stations, play):
-    with tempfile.NamedTemporaryFile("w", suffix=".toml") as config:
-        config.write(config_text(stations))
-        config.flush()
-        return play(config.name)
+    with config_file(config_text(stations)) as config:
+        return play(config)
 
 
 def simple(what, limits, *stranger):
     def play(config):
-        with Server(config) as server:
+        with serving(config) as server:
             return watched(what, server, limits, *stranger)
 
     return with_config(0, play)
@@ -311,12 +285,12 @@ def simple(what, limits, *stranger):
 
 def fill(server):
     """Fills the stations that are scanned."""
-    feed = load.dial(server.feed)
+    feed = load.dial(server.feed_port)
     for it in range(STATIONS):
         for at in range(0, HELD, 1_024):
             feed.sendall(b"".join(record_of(f"S{it:02d}", number) for number in range(at, at + 1_024)))
     feed.close()
-    client = load.dial(server.listen)
+    client = load.dial(server.client_port)
     client.sendall(b"STATION S%02d GE\rFETCH %06X\rEND\r" % (STATIONS - 1, HELD - 1))
     while b"END" not in client.recv(1 << 16):
         pass
@@ -325,7 +299,7 @@ def fill(server):
 
 def scan(count, limits):
     def play(config):
-        with Server(config) as server:
+        with serving(config) as server:
             fill(server)
             return watched(f"{count} client{'s' * (count > 1)} that scan 16 full stations", server, limits, "scan", count)
 
@@ -343,7 +317,7 @@ def stuck():
                 os.write(writing, b"." * 4_096)
         except BlockingIOError:
             os.set_blocking(writing, True)
-        with Server(config, "--report", "1", errors=writing) as server:
+        with serving(config, "--report", "1", errors=writing) as server:
             os.close(writing)
             is_well = watched("a standard error that is full, and a report each turn", server, CALM)
             os.close(reading)
@@ -356,10 +330,10 @@ def half_close():
     """HELLO, and then the sending half is closed: how many of 100 clients are not answered."""
 
     def play(config):
-        with Server(config) as server:
+        with serving(config) as server:
             answered = 0
             for it in range(100):
-                client = load.dial(server.listen)
+                client = load.dial(server.client_port)
                 time.sleep(0.002 * (it % 5))
                 client.sendall(b"HELLO\r")
                 client.shutdown(socket.SHUT_WR)
@@ -380,7 +354,7 @@ def kernel_memory():
 
 
 def feed_at_once(server, count):
-    feed = load.dial(server.feed)
+    feed = load.dial(server.feed_port)
     feed.sendall(b"".join(load.record(it) for it in range(count)))
     time.sleep(5)
     feed.close()
@@ -390,7 +364,7 @@ def hoard():
     """200 followers that never read: how much memory the system keeps for them."""
 
     def play(config):
-        with Server(config) as server, Stranger("hoard", server, 200):
+        with serving(config) as server, Stranger("hoard", server, 200):
             before = kernel_memory()
             feed_at_once(server, 30_000)
             return told("MiB of the system's, for 200 followers that never read", (kernel_memory() - before,), (120,))
@@ -402,10 +376,10 @@ def followers():
     """8,000 followers are sent 64 records and take them: how much memory stays."""
 
     def play(config):
-        with Server(config) as server:
-            clients = [load.reader(server.listen) for _ in range(8_000)]
+        with serving(config) as server:
+            clients = [load.reader(server.client_port) for _ in range(8_000)]
             time.sleep(1)
-            before = server.resident()
+            before = server.resident_kib()
             feed_at_once(server, 64)
             wanted = load.stream_of(0, 64)
             for client in clients:
@@ -413,7 +387,7 @@ def followers():
                 if client.recv(len(wanted), socket.MSG_WAITALL) != wanted:
                     raise SystemExit("a follower is sent something else")
             time.sleep(1)
-            return told("MiB of memory that stays after 8,000 followers were sent 64 records", (server.resident() - before,), (20,))
+            return told("MiB of memory that stays after 8,000 followers were sent 64 records", ((server.resident_kib() - before) / 1024,), (20,))
 
     return with_config(0, play)
 
@@ -425,8 +399,8 @@ def run(*words):
 def cut_off(config, rooms):
     """Sixteen feeds come from the other room, and its line goes down: the seconds until another feed is taken."""
     ports = f"ip netns exec {rooms[0]}".split()
-    with Server(config, before=ports, address="10.77.54.1") as server:
-        words = [*f"ip netns exec {rooms[1]}".split(), sys.executable, os.path.realpath(__file__), "--play", "dead", str(server.listen), str(server.feed)]
+    with serving(config, before=ports, address="10.77.54.1") as server:
+        words = [*f"ip netns exec {rooms[1]}".split(), sys.executable, os.path.realpath(__file__), "--play", "dead", str(server.client_port), str(server.feed_port)]
         feeds = subprocess.Popen(words, stdout=subprocess.PIPE)
         try:
             feeds.stdout.readline()
@@ -434,7 +408,7 @@ def cut_off(config, rooms):
             run("ip", "-n", rooms[1], "link", "set", "there", "down")
             start = time.monotonic()
             while time.monotonic() - start < 240:
-                ask = f"import socket; c = socket.create_connection(('10.77.54.1', {server.feed}), 5); c.settimeout(1.5); print(len(c.recv(1)))"
+                ask = f"import socket; c = socket.create_connection(('10.77.54.1', {server.feed_port}), 5); c.settimeout(1.5); print(len(c.recv(1)))"
                 asked = subprocess.run([*ports, sys.executable, "-c", ask], capture_output=True, check=False)
                 if b"timed out" in asked.stderr or b"TimeoutError" in asked.stderr:
                     return time.monotonic() - start
@@ -480,11 +454,11 @@ ROWS = {
 }
 
 if __name__ == "__main__":
-    resource.setrlimit(resource.RLIMIT_NOFILE, (resource.getrlimit(resource.RLIMIT_NOFILE)[1],) * 2)
+    raise_descriptor_limit()
     if sys.argv[1:2] == ["--play"]:
         PLAYS[sys.argv[2]](*(int(it) for it in sys.argv[3:]))
         sys.exit(0)
-    subprocess.run([f"{wire.TOP}/seedlinkd", "--help"], stdout=subprocess.DEVNULL, check=True)
+    build()
     os.sched_setaffinity(0, {WATCH})
     print(f"{'median':>9} {'99th':>9} {'silence':>9} {'missing':>9}  in ms, or what the row says", flush=True)
     results = [ROWS[name]() for name in sys.argv[1:] or ROWS]

@@ -54,7 +54,7 @@ put 644 "$parts/completion.bash" usr/share/bash-completion/completions/seedlinkd
 put 644 "$parts/lintian-overrides" usr/share/lintian/overrides/seedlinkd
 put 644 docs/PROFILE.md usr/share/doc/seedlinkd/PROFILE.md
 put 644 docs/OPERATING.md usr/share/doc/seedlinkd/OPERATING.md
-for example in examples/* examples/records/*; do
+for example in examples/* examples/records/* examples/many_servers/*; do
     if [ -x "$example" ] && [ -f "$example" ]; then put 755 "$example" "usr/share/doc/seedlinkd/$example"
     elif [ -f "$example" ]; then put 644 "$example" "usr/share/doc/seedlinkd/$example"; fi
 done
