@@ -101,14 +101,13 @@ fn hex_digit(byte: u8) -> Option<u32>
     }
 }
 
+/// The sixteen hexadecimal digits, in upper case.
+static LETTERS: [u8; 16] = *b"0123456789ABCDEF";
+
 /// The hexadecimal digit of a number below 16, in upper case.
 fn digit(value: u32) -> u8
     requires { value < 16 }
     ensures { result ≡ digit value }
 {
-    if value < 10 {
-        b'0' + value as u8
-    } else {
-        b'A' + (value as u8 - 10)
-    }
+    LETTERS[value as usize]
 }
