@@ -244,9 +244,9 @@ ROWS = (
     Row(percent(small("selectors"), 120), "the same in a pool that holds 1,024", small("pool"), "at most 1.2 times the figure above"),
     Row(2_500, "a packet read, cut out and listed by the reader", small("listing")),
     # calls of a server whose rings are full
-    Row(1_100, "arrive at one of 1,024 stations, a full ring of 4,096", small_ring),
+    Row(900, "arrive at one of 1,024 stations, a full ring of 4,096", small_ring),
     Row(percent(small_ring, 105), "the same, a full ring of 65,536", rounds("arrive", 65_536), "at most 1.05 times that"),
-    Row(1_200, "an offer and the taking of it, FETCH of a full ring of 65,536", rounds("packets", 1, 65_536)),
+    Row(900, "an offer and the taking of it, FETCH of a full ring of 65,536", rounds("packets", 1, 65_536)),
     Row(2_200, "the same with 32 requests, records coming round", rounds("packets", 32, 65_536)),
     Row(6_000, "the same with 255 requests, full rings of 256", rounds("packets", 255, 256)),
     Row(900, "an offer that is Idle, 32 requests, full rings of 65,536", rounds("idle", 32, 65_536)),
@@ -256,12 +256,12 @@ ROWS = (
     Row(20, "a record of a full ring that none of 64 selectors lets pass", unwanted(64)),
     Row(20, "the same, of a TIME that is still to come", unwanted(0)),
     Row(2_048, "a piece of 1,024 bytes without an end of line that a client sends", rounds("garbage")),
-    Row(500, "Config::place_of of the last of 1,024 stations", rounds("found")),
+    Row(200, "Config::place_of of the last two of 1,024 stations", rounds("found")),
     # STATION, which has to take as long for a station that is hidden as for one that is not there
     Row(1_500, "STATION of the 200th of 1,024 stations that a client names, its answer taken", named),
-    Row(plus(unknown, 64), "STATION of a station that is hidden, its answer taken", hidden,
-        lambda: f"at most 64 more than of one that is not there: {unknown()}"),
-    Row(plus(hidden, 64), "STATION of a station that is not there", unknown, "at most 64 more than that"),
+    Row(plus(unknown, 50), "STATION of a station that is hidden, its answer taken", hidden,
+        lambda: f"at most 50 more than of one that is not there: {unknown()}"),
+    Row(plus(hidden, 50), "STATION of a station that is not there", unknown, "at most 50 more than that"),
     # a record that comes alone, and clients that wait
     Row(2_500, "a lone record at one of 255 stations that one client follows, and its packet", lone(255, 10),
         lambda: f"at one of one: {lone(1, 1_000)()}"),
@@ -269,7 +269,7 @@ ROWS = (
     Row(120, "whether a client is ready that is not marked", rounds("ready")),
     Row(1_500, "more for an arrival while 10,000 clients wait at another station", waiting,
         lambda: f"than with none: {rounds('apart', 0)()}"),
-    Row(20, "a client that sleeps, of 9,999, in a turn that hands another one a packet", sleeper,
+    Row(2, "a client that sleeps, of 9,999, in a turn that hands another one a packet", sleeper,
         lambda: f"a turn with 100: {rounds('sleepers', 100, last=100)()}"),
     # a reload for clients of whom nothing changes
     Row(300, "a reload, a client of 10,000 for whom nothing changes, 1 of 1,024 lists", reload_each(1)),

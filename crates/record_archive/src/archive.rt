@@ -51,6 +51,13 @@ impl<F: Folders> Archive<F> {
         &self.folders
     }
 
+    /// Its folders, once no more records come.
+    pub fn into_folders(self) -> F
+        ensures { result ≡ self.folders }
+    {
+        self.folders
+    }
+
     /// How many records were written that stand in no file, up to 2^64 - 1.
     pub fn unplaced(&self) -> u64
         ensures { result ≡ self.now.unplaced }
