@@ -9,6 +9,7 @@ mod faults;
 mod feeding;
 mod files;
 mod incident;
+mod misspelled;
 mod network;
 mod numbers;
 mod operator;

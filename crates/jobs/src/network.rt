@@ -8,6 +8,7 @@ use crate::failure::Failure;
 use crate::feeding::{SentFeed, send_feed};
 use crate::files::{config_at, open, unopened};
 use crate::incident::{Incident, Site};
+use crate::misspelled::checked_config_at;
 use crate::numbers::NumberFile;
 use crate::operator::{ServeOptions, serve_by};
 use crate::reasons::ReasonKeeper;
@@ -71,8 +72,9 @@ fn listen_at<'a, R: Net + AllocGlobal>(
     }
 }
 
-/// Serves clients and feeds as the options say, and then sends what was not sent yet.
-pub fn serve_sockets<'a, R: Files + Net + AllocGlobal>(
+/// Serves clients and feeds as the options say, and then sends what was not sent yet. If faults are explained, the keys
+/// of the configuration that are not known are named first.
+pub fn serve_sockets<'a, R: Files + Eprint + Net + AllocGlobal>(
     rt: &R,
     listen: &'a str,
     feed: &'a str,
@@ -84,7 +86,11 @@ where
     let clients = server_of(listen)?;
     let feeds = server_of(feed)?;
     let admission = admission_of(rt.alloc(), options.feed_from, options.per_address)?;
-    let mut config = config_at(rt, options.path)?;
+    let mut config = if options.is_verbose {
+        checked_config_at(rt, options.path)?
+    } else {
+        config_at(rt, options.path)?
+    };
     let numbers = numbers_for(rt, options.numbers, &mut config)?;
     let ports = listen_at(rt, clients, feeds, admission)?;
     let errors = StandardError::open(rt);

@@ -11,6 +11,7 @@ ghost use Rattle.view_listing.specs.Seen.{seen_text};
 use crate::failure::Failure;
 use crate::files::{config_in, text_at};
 use crate::incident::Incident;
+use crate::misspelled::tell_unknown_keys;
 use access_list::address;
 use catalog::Config;
 use sl_io::{Outer, Sink, StreamFault, write_all};
@@ -85,8 +86,8 @@ fn write_view<R: Print + AllocGlobal>(
     }
 }
 
-/// The same of the configuration in a file.
-fn view_at<'a, R: Files + Print + AllocGlobal>(
+/// The same of the configuration in a file, whose unknown keys are named before.
+fn view_at<'a, R: Files + Print + Eprint + AllocGlobal>(
     rt: &R,
     path: &'a str,
     address: Option<Ipv4Addr>,
@@ -99,6 +100,7 @@ fn view_at<'a, R: Files + Print + AllocGlobal>(
         Ok(config) => config,
         Err(incident) => return Err(incident),
     };
+    tell_unknown_keys(rt, path, &config, text.as_slice())?;
     match write_view(rt, &config, text.as_slice(), address) {
         Ok(()) => Ok(()),
         Err(fault) => Err(Failure::Check(fault).in_file(path)),
@@ -106,8 +108,8 @@ fn view_at<'a, R: Files + Print + AllocGlobal>(
 }
 
 /// Writes what an address sees of the configuration in a file, or without an address all stations with whom they are
-/// open to. The address is judged before the file is opened.
-pub fn view_file<'a, R: Files + Print + AllocGlobal>(
+/// open to. Keys that are not known are named on the standard error. The address is judged before the file is opened.
+pub fn view_file<'a, R: Files + Print + Eprint + AllocGlobal>(
     rt: &R,
     path: &'a str,
     word: Option<&'a str>,

@@ -6,6 +6,7 @@ use std::alloc::Global;
 use std::net::Ipv4Addr;
 use std::test::Fail;
 use test_centre::CENTRE;
+use unknown_keys::unknown_keys;
 
 /// Lists of a server and of its first station, and what its line says of whom they admit.
 static LISTS: [(&str, &str, &str); 6] = [
@@ -62,5 +63,44 @@ fn a_station_has_its_list(rt: HostRuntime) -> Result<(), Fail> {
         let lines = holders(rt.alloc(), text.as_bytes())?;
         assert!(rt; lines.bytes() == line.as_bytes(), "at {server}{station}");
     }
+    Ok(())
+}
+
+/// A configuration with keys that are not known, of which one has bytes that can't be shown.
+static MISSPELLED: &[u8] = br#"titel = "T"
+title = "T"
+max_connection = 3
+"a b\n\u00e9" = 1
+[[station]]
+network = "GE"
+code = "APE"
+description = ""
+capacity = 3
+first = "A"
+access = ""
+[[station]]
+network = "XX"
+code = "WLF"
+acces = ".."
+description = ""
+capacity = 3
+title = "T"
+[limits]
+station = 1
+"#;
+
+#[test]
+fn keys_that_are_not_known_are_named(rt: HostRuntime) -> Result<(), Fail> {
+    let config = Config::read(rt.alloc(), MISSPELLED)?;
+    let lines = unknown_keys(rt.alloc(), &config, MISSPELLED)?;
+    assert!(rt;
+        lines.as_slice()
+            == b"seedlinkd: unknown key a?b???\nseedlinkd: unknown key limits\nseedlinkd: unknown key max_connection\n\
+            seedlinkd: unknown key titel\nseedlinkd: unknown key acces, station 2 XX WLF\n\
+            seedlinkd: unknown key title, station 2 XX WLF\n"
+                .as_slice()
+    );
+    let config = Config::read(rt.alloc(), CENTRE)?;
+    assert!(rt; unknown_keys(rt.alloc(), &config, CENTRE)?.is_empty());
     Ok(())
 }

@@ -1,0 +1,2 @@
+pub mod OwnerLemmas
+pub mod StationLemmas

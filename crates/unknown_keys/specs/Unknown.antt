@@ -1,0 +1,81 @@
+-- The keys of a configuration that are not known, and the lines that name them.
+-- The configuration's keys are this project's own. Left out: in which order the text has them.
+use Rattle.std.specs.Prelude.{ℕ, ◌+◌, ◌||◌, nat_lt, Bool, if◌then◌else◌, List, [], ◌∷◌, ◌++◌, map, flat_map, codes}
+use Rattle.std.specs.Prelude.{decimal, Option, Some, None, option_and_then}
+use Rattle.std.specs.Str.{bytes_eq}
+use Rattle.toml.specs.Data.{Members, no_members, member, as_table, at, get_member}
+use Rattle.protocol.specs.Catalog.{Station}
+use Rattle.unknown_keys.specs.declared.owner.Owner.{Owner}
+use Rattle.unknown_keys.specs.declared.owner.Owner.TheVariants as owner
+
+-- whose keys a table has: those of the whole server, or of a station, which is the so manieth from 1 on
+pub data Whose : Type 0 where
+  TheServer : Whose
+  TheStation : (number : ℕ) → Station → Whose
+
+-- the same as the code has it
+abbrev pub whose : Owner → Whose
+whose owner.Server = TheServer
+whose (owner.Station number station) = TheStation number station.now.station
+
+-- ---- which keys are known
+
+abbrev pub is_server_key : List ℕ → Bool
+is_server_key key =
+    bytes_eq key (codes "title") || (bytes_eq key (codes "access")
+    || (bytes_eq key (codes "max_connections") || bytes_eq key (codes "station")))
+
+abbrev pub is_station_key : List ℕ → Bool
+is_station_key key =
+    bytes_eq key (codes "network") || (bytes_eq key (codes "code") || (bytes_eq key (codes "description")
+    || (bytes_eq key (codes "capacity") || (bytes_eq key (codes "first") || bytes_eq key (codes "access")))))
+
+-- a key is one that the whole server, or a station, has
+abbrev pub is_known : Whose → List ℕ → Bool
+is_known TheServer key = is_server_key key
+is_known (TheStation number station) key = is_station_key key
+
+-- the keys of a table that are not, in its order
+abbrev pub unknown_in : Whose → Members → List (List ℕ)
+unknown_in o no_members = []
+unknown_in o (member key value rest) = if is_known o key then unknown_in o rest else key ∷ unknown_in o rest
+
+-- ---- how they are named
+
+-- a byte as it is shown
+abbrev pub shown : ℕ → ℕ
+shown b = if nat_lt b 33 || nat_lt 126 b then 63 else b
+
+-- the words that name whose a key is
+abbrev pub owner_words : Whose → List ℕ
+owner_words TheServer = []
+owner_words (TheStation number s) = codes ", station " ++ decimal number ++ 32 ∷ s.network ++ 32 ∷ s.code
+
+-- the line of a key, with its end
+abbrev pub key_line : Whose → List ℕ → List ℕ
+key_line o key = codes "seedlinkd: unknown key " ++ map shown key ++ owner_words o ++ 10 ∷ []
+
+-- the lines of a table's keys
+abbrev pub owner_lines : Whose → Members → List ℕ
+owner_lines o members = flat_map (key_line o) (unknown_in o members)
+
+-- the table of the station at a place
+abbrev pub station_table : Members → ℕ → Option Members
+station_table keys place = option_and_then as_table (option_and_then (at place) (get_member (codes "station") keys))
+
+-- the lines of a station's keys
+abbrev pub lines_if : Whose → Option Members → List ℕ
+lines_if o None = []
+lines_if o (Some members) = owner_lines o members
+
+abbrev pub station_lines : Members → ℕ → Station → List ℕ
+station_lines keys place s = lines_if (TheStation (place + 1) s) (station_table keys place)
+
+-- the lines of the keys of stations from a place on
+abbrev pub stations_from : Members → ℕ → List Station → List ℕ
+stations_from keys place [] = []
+stations_from keys place (s ∷ ss) = station_lines keys place s ++ stations_from keys (place + 1) ss
+
+-- the lines of all keys that are not known
+abbrev pub unknown_text : Members → List Station → List ℕ
+unknown_text keys ss = owner_lines TheServer keys ++ stations_from keys 0 ss

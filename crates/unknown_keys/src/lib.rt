@@ -1,0 +1,8 @@
+//! The keys of a configuration that are not known: they are ignored, and so may be misspelled ones.
+#![tactic(auto)]
+
+mod lines;
+mod owner;
+mod unknown;
+
+pub use unknown::unknown_keys;

@@ -1,0 +1,99 @@
+//! The keys that are not known.
+ghost use Rattle.std.specs.Prelude.{◌≡◌, ◌<◌, ◌^◌, ◌++◌, IfOk, IfSome, OnOk, map, option_map};
+ghost use Rattle.std.specs.Str.{IsUtf8};
+ghost use Rattle.toml.specs.Parse.{parse_document};
+ghost use Rattle.toml.specs.Data.{get_member};
+ghost use Rattle.toml.specs.View.{table_view, view};
+ghost use Rattle.protocol.specs.Catalog.{stations_of};
+ghost use Rattle.unknown_keys.specs.Unknown.{owner_lines, station_lines, station_table, stations_from};
+ghost use Rattle.unknown_keys.specs.Unknown.{unknown_text, whose};
+
+use crate::lines::put_line;
+use crate::owner::Owner;
+use catalog::{Config, Station};
+use std::alloc::{AllocError, Global};
+use toml::{Table, Value};
+
+/// The lines of the keys of a table that are not known.
+fn put_unknown(text: &mut Vec<u8>, table: &Table, owner: Owner<'_>) -> Result<(), AllocError>
+    ensures { OnOk result (text.new.items ≡ text.old.items ++ owner_lines (whose owner.entry) (table_view table.now)) }
+{
+    for (key, _value) in table.iter() {
+        let name = key.as_str();
+        if !owner.knows(name) {
+            put_line(text, name, owner)?;
+        }
+    }
+    Ok(())
+}
+
+/// The value at a key.
+fn value_of<'a>(table: &'a Table, key: &str) -> Option<&'a Value>
+    ensures { option_map (λ v. view v.now) result ≡ get_member key.now (table_view table.now) }
+{
+    table.get(key)
+}
+
+/// The table of the station at a place.
+fn station_table<'a>(table: &'a Table, place: usize) -> Option<&'a Table>
+    ensures { option_map (λ t. table_view t.now) result ≡ station_table (table_view table.now) place }
+{
+    match value_of(table, "station") {
+        Some(stations) => match stations.get(place) {
+            Some(station) => station.as_table(),
+            None => None,
+        },
+        None => None,
+    }
+}
+
+/// The lines of a station's keys that are not known.
+fn put_station(
+    text: &mut Vec<u8>,
+    table: &Table,
+    place: usize,
+    station: &Station,
+) -> Result<(), AllocError>
+    requires { place < 2 ^ 63 }
+    ensures { OnOk result (text.new.items
+        ≡ text.old.items ++ station_lines (table_view table.now) place station.now.station) }
+{
+    match station_table(table, place) {
+        Some(keys) => put_unknown(text, keys, Owner::Station(place + 1, station)),
+        None => Ok(()),
+    }
+}
+
+/// The lines of all stations' keys that are not known.
+#[tactic(auto, using(crate::proofs::StationLemmas::station_lemmas))]
+fn put_stations(text: &mut Vec<u8>, stations: &[Station], table: &Table) -> Result<(), AllocError>
+    ensures { OnOk result (text.new.items ≡ text.old.items
+        ++ stations_from (table_view table.now) 0 (map (λ e. e.station) stations.now)) }
+{
+    for (place, station) in stations.iter().enumerate() {
+        put_station(text, table, place, station)?;
+    }
+    Ok(())
+}
+
+/// The keys of a configuration's text that are not known, which reading it ignores, a line each: first those of the
+/// whole server, then those of each station with its number, from 1 on, and its codes; those of one table in the order
+/// of their bytes. Bytes of a key that are not visible ones of ASCII stand there as `?`. Only memory can lack.
+pub fn unknown_keys(alloc: Global, config: &Config, text: &[u8]) -> Result<Vec<u8>, AllocError>
+    ensures { IfOk result (λ lines. IsUtf8 text.now → IfSome (parse_document text.now)
+        (λ keys. lines.items ≡ unknown_text keys (stations_of config.now))) }
+{
+    let mut lines = Vec::new(alloc);
+    match toml::table_from_slice(alloc, text) {
+        Ok(table) => {
+            put_unknown(&mut lines, &table, Owner::Server)?;
+            put_stations(&mut lines, config.stations(), &table)?;
+        }
+        Err(error) => {
+            if error.is_memory() {
+                return Err(AllocError);
+            }
+        }
+    }
+    Ok(lines)
+}
