@@ -91,7 +91,7 @@ abbrev read_words : List Text
 read_words = codes "seedlinkd" ∷ codes "read" ∷ codes "a" ∷ codes "GE_WLF" ∷ codes "XX_APE" ∷ codes "--fetch" ∷ []
 
 pub read_asked : job_of read_words ≡ Some (Read (codes "a") (codes "GE_WLF" ∷ codes "XX_APE" ∷ [])
-    (record { fetch = true; begin = None; last = None; output = None }))
+    (record { fetch = true; begin = None; last = None; retry = None; output = None }))
 unfolding clap_on_literals
 read_asked = refl
 
@@ -104,7 +104,7 @@ output_words =
     codes "seedlinkd" ∷ codes "read" ∷ codes "a" ∷ codes "GE_WLF" ∷ codes "--output" ∷ codes "-" ∷ []
 
 pub output_asked : job_of output_words ≡ Some (Read (codes "a") (codes "GE_WLF" ∷ [])
-    (record { fetch = false; begin = None; last = None; output = Some (codes "-") }))
+    (record { fetch = false; begin = None; last = None; retry = None; output = Some (codes "-") }))
 unfolding clap_on_literals
 output_asked = refl
 
@@ -114,7 +114,7 @@ window_words =
     ∷ codes "--end=2024,3,1" ∷ []
 
 pub window_asked : job_of window_words ≡ Some (Read (codes "a") (codes "GE_WLF" ∷ [])
-    (record { fetch = false; begin = Some (codes "2024,2,29"); last = Some (codes "2024,3,1"); output = None }))
+    (record { fetch = false; begin = Some (codes "2024,2,29"); last = Some (codes "2024,3,1"); retry = None; output = None }))
 unfolding clap_on_literals
 window_asked = refl
 
@@ -123,6 +123,14 @@ pub no_begin :
     job_of (codes "seedlinkd" ∷ codes "read" ∷ codes "a" ∷ codes "GE_WLF" ∷ codes "--end=2024,3,1" ∷ []) ≡ None
 unfolding clap_on_literals
 no_begin = refl
+
+abbrev retry_words : List Text
+retry_words = codes "seedlinkd" ∷ codes "read" ∷ codes "a,b" ∷ codes "GE_WLF" ∷ codes "--retry" ∷ codes "5" ∷ []
+
+pub retry_asked : job_of retry_words ≡ Some (Read (codes "a,b") (codes "GE_WLF" ∷ [])
+    (record { fetch = false; begin = None; last = None; retry = Some 5; output = None }))
+unfolding clap_on_literals
+retry_asked = refl
 
 pub version_asked : fault_of program_app (codes "seedlinkd" ∷ codes "--version" ∷ []) ≡ DisplayVersion ∷ []
 unfolding clap_on_literals

@@ -103,9 +103,13 @@ abbrev pub spanned_app : App
 spanned_app =
     with_rule (with_rule (with_rule wants_app fetch_rule) (option false (codes "begin"))) (option false (codes "end"))
 
--- `read A:P WANT.. [--fetch] [--begin TIME] [--end TIME] [--output FILE]`
+-- `read A:P,.. WANT.. [--fetch] [--begin TIME] [--end TIME] [--retry N]`
+abbrev pub retrying_app : App
+retrying_app = with_rule spanned_app (turns_rule (codes "retry"))
+
+-- `read A:P,.. WANT.. [--fetch] [--begin TIME] [--end TIME] [--retry N] [--output FILE]`
 abbrev pub read_app : App
-read_app = with_verbose (with_rule spanned_app (option false (codes "output")))
+read_app = with_verbose (with_rule retrying_app (option false (codes "output")))
 
 -- the program before it has arguments and subcommands, of which it wants one
 abbrev pub bare_app : App
@@ -130,6 +134,7 @@ pub record ReadAsked : Type 0 where
   pub fetch : Bool
   pub begin : Option (List ℕ)
   pub last : Option (List ℕ)
+  pub retry : Option ℕ
   pub output : Option (List ℕ)
 
 -- those that the code has
@@ -139,6 +144,7 @@ options_asked o =
       fetch = o.fetch;
       begin = option_map (λ text. text.now) o.begin;
       last = option_map (λ text. text.now) o.last;
+      retry = o.retry;
       output = option_map (λ text. text.now) o.output;
     }
 
@@ -221,24 +227,31 @@ feed_asked rows = with_both Feed (first_of (codes "SERVER") rows) (first_of (cod
 abbrev pub fetch_in : List Row → Bool
 fetch_in rows = option_map_or (λ text. bytes_eq text (codes "true")) (first_of (codes "fetch") rows) false
 
--- the options of `read`, as they stand there
-abbrev pub options_in : List Row → ReadAsked
-options_in rows =
-    record {
+-- the options of `read`, as they stand there, where the number of seconds is one
+abbrev pub options_with : Option (Option ℕ) → List Row → Option ReadAsked
+options_with None rows = None
+options_with (Some retry) rows =
+    Some (record {
       fetch = fetch_in rows;
       begin = first_of (codes "begin") rows;
       last = first_of (codes "end") rows;
+      retry = retry;
       output = first_of (codes "output") rows;
-    }
+    })
 
--- SeedLink can spell them: an end stands only beside a begin, and not beside `--fetch`.
+abbrev pub options_in : List Row → Option ReadAsked
+options_in rows = options_with (turns_in (codes "retry") rows) rows
+
+-- SeedLink can spell them: an end stands only beside a begin, not beside `--fetch`, and not beside `--retry`, since what
+-- lies before an end can't be asked for by a number.
 abbrev pub is_askable : ReadAsked → Bool
-is_askable o = not (is_some o.last) || (is_some o.begin && not o.fetch)
+is_askable o = not (is_some o.last) || (is_some o.begin && not o.fetch && not (is_some o.retry))
 
 -- a reader's job, where all of it is there
-abbrev pub with_wants : ReadAsked → Option (List ℕ) → Option (List (List ℕ)) → Option Asked
-with_wants options (Some server) (Some wants) = if is_askable options then Some (Read server wants options) else None
-with_wants options _ _ = None
+abbrev pub with_wants : Option ReadAsked → Option (List ℕ) → Option (List (List ℕ)) → Option Asked
+with_wants (Some options) (Some server) (Some wants) =
+    if is_askable options then Some (Read server wants options) else None
+with_wants _ _ _ = None
 
 abbrev pub read_asked : List Row → Option Asked
 read_asked rows = with_wants (options_in rows) (first_of (codes "SERVER") rows) (all_of (codes "WANT") rows)

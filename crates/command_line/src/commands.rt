@@ -5,7 +5,7 @@ ghost use Rattle.command_line.specs.Building.{Builds};
 ghost use Rattle.command_line.specs.Jobs.{address_rule, addressed_app, bare_app, check_app, feed_app, fetch_rule};
 ghost use Rattle.command_line.specs.Jobs.{limited_app, number_rule};
 ghost use Rattle.command_line.specs.Jobs.{option};
-ghost use Rattle.command_line.specs.Jobs.{program_app, read_app, spanned_app, replay_app, serve_app, timed_app};
+ghost use Rattle.command_line.specs.Jobs.{program_app, read_app, retrying_app, spanned_app, replay_app, serve_app, timed_app};
 ghost use Rattle.command_line.specs.Jobs.{verbose_rule, view_app};
 ghost use Rattle.command_line.specs.Jobs.{wanted, wants_app, wants_rule, with_verbose};
 
@@ -301,7 +301,7 @@ fn wants_command<'a>(alloc: Global) -> Built<'a>
         alloc,
         command,
         "SERVER",
-        "Address and port for clients, as 127.0.0.1:18000",
+        "Addresses and ports for clients, as 127.0.0.1:18000,127.0.0.2:18000",
     );
     with_argument(with_server, wants(alloc))
 }
@@ -357,11 +357,23 @@ fn spanned_command<'a>(alloc: Global) -> Built<'a>
     with_argument(with_begin, end(alloc))
 }
 
-/// `read A:P WANT.. [--fetch] [--begin TIME] [--end TIME] [--output FILE]`.
+/// `read A:P,.. WANT.. [--fetch] [--begin TIME] [--end TIME] [--retry N]`.
+fn retrying_command<'a>(alloc: Global) -> Built<'a>
+    ensures { Builds result retrying_app }
+{
+    with_turns(
+        alloc,
+        spanned_command(alloc),
+        "retry",
+        "Asks again after N seconds when no server is there, 1 to 1000000000",
+    )
+}
+
+/// `read A:P,.. WANT.. [--fetch] [--begin TIME] [--end TIME] [--retry N] [--output FILE]`.
 fn read_command<'a>(alloc: Global) -> Built<'a>
     ensures { Builds result read_app }
 {
-    let with_output = with_argument(spanned_command(alloc), output(alloc));
+    let with_output = with_argument(retrying_command(alloc), output(alloc));
     with_verbose(alloc, with_output)
 }
 

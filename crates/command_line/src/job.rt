@@ -48,7 +48,7 @@ pub enum Job<'a> {
     },
 }
 
-/// The options of `read`. An end has a begin, and doesn't stand beside `fetch`.
+/// The options of `read`. An end has a begin, and doesn't stand beside `fetch` or `retry`.
 #[derive(Clone, Copy, Debug, PartialEq)]
 pub struct ReadOptions<'a> {
     /// `--fetch`: ends once the records that the server holds are read.
@@ -57,6 +57,8 @@ pub struct ReadOptions<'a> {
     pub begin: Option<&'a str>,
     /// `--end TIME`: records that start at that moment or earlier, and then the end.
     pub last: Option<&'a str>,
+    /// `--retry N`: a server that is gone is asked again after so many seconds, 1 to 1,000,000,000.
+    pub retry: Option<usize>,
     /// `--output FILE`: each record is added to that file.
     pub output: Option<&'a str>,
 }

@@ -99,28 +99,33 @@ fn feed_job<'a>(arguments: &ArgMatches<'a>) -> Option<Job<'a>>
     Some(Job::Feed { server, file })
 }
 
-/// The options of `read`.
-fn read_options<'a>(arguments: &ArgMatches<'a>) -> ReadOptions<'a>
-    ensures { options_asked result ≡ options_in (rows_of (found_of arguments.now)) }
+/// The options of `read`; None where the text of a number of seconds is none.
+fn read_options<'a>(arguments: &ArgMatches<'a>) -> Option<ReadOptions<'a>>
+    ensures { option_map options_asked result ≡ options_in (rows_of (found_of arguments.now)) }
 {
-    ReadOptions {
+    let retry = turns_in(arguments, "retry")?;
+    Some(ReadOptions {
         fetch: text_at(arguments, "fetch") == Some("true"),
         begin: text_at(arguments, "begin"),
         last: text_at(arguments, "end"),
+        retry,
         output: text_at(arguments, "output"),
-    }
+    })
 }
 
-/// Whether SeedLink can spell them: an end stands only beside a begin, and not beside `--fetch`.
+/// Whether SeedLink can spell them: an end stands only beside a begin, and not beside `--fetch` or `--retry`.
 fn is_askable(options: &ReadOptions<'_>) -> bool
     ensures { result ≡ is_askable (options_asked options.now) }
 {
-    options.last.is_none() || (options.begin.is_some() && !options.fetch)
+    options.last.is_none() || (options.begin.is_some() && !options.fetch && options.retry.is_none())
 }
 
 fn read_job<'a>(alloc: Global, arguments: &ArgMatches<'a>) -> Result<Option<Job<'a>>, AllocError>
     ensures { IfOk result (λ job. option_map asked job ≡ read_asked (rows_of (found_of arguments.now))) }
 {
+    let Some(options) = read_options(arguments) else {
+        return Ok(None);
+    };
     let Some(server) = text_at(arguments, "SERVER") else {
         return Ok(None);
     };
@@ -128,7 +133,6 @@ fn read_job<'a>(alloc: Global, arguments: &ArgMatches<'a>) -> Result<Option<Job<
         return Ok(None);
     };
     let wants = texts.to_vec(alloc)?;
-    let options = read_options(arguments);
     if !is_askable(&options) {
         return Ok(None);
     }
@@ -212,10 +216,13 @@ fn refused(alloc: Global, error: clap::Error) -> WordsFault
 }
 
 /// What is wrong with words that `clap` takes and that are no job: those of `read` have an end without a begin, or beside
-/// `--fetch`; others a number with a sign, or with leading zeros beyond ten digits.
+/// `--fetch` or `--retry`, or a number of seconds with a sign or with leading zeros beyond ten digits; others such a
+/// number of turns.
 fn mistake_in(matches: &ArgMatches<'_>) -> &'static str {
     match matches.subcommand() {
-        Some(("read", _)) => "error: --end needs --begin, and can't be used with --fetch\n",
+        Some(("read", _)) =>
+            "error: --end needs --begin, and can't be used with --fetch or --retry; a number of seconds is 1 to 10 \
+             decimal digits\n",
         _ => "error: a number is 1 to 10 decimal digits\n",
     }
 }

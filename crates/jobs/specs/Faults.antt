@@ -1,5 +1,5 @@
 -- The numbers and names by which the program reports a replay that failed, and any other failure of its own.
-use Rattle.std.specs.Prelude.{ℕ, Bool, false, List, codes}
+use Rattle.std.specs.Prelude.{ℕ, ◌==◌, ◌&&◌, ◌||◌, not, Bool, true, false, List, codes}
 use Rattle.catalog.specs.Faults.{fault_number, fault_name}
 use Rattle.feeder.specs.Sending.{send_fault_number, send_fault_name}
 use Rattle.sl_time.specs.Parsed.{fault_number as time_fault_number, fault_name as time_fault_name}
@@ -72,7 +72,21 @@ failure_name (failure.Want fault) = reader_fault_name fault
 failure_name (failure.Packets fault) = listing_fault_name fault
 failure_name (failure.Numbers fault) = codes "Numbers"
 
--- why packets were not listed to the end, by whether HELLO was answered
-abbrev pub unlisted : ListingFault → Bool → Failure
-unlisted listing.Read false = failure.Unanswered
-unlisted fault _ = failure.Packets fault
+-- the connection ended before the end of the transfer, by whether HELLO was answered
+abbrev pub lost : (is_answered : Bool) → Failure
+lost true = failure.Packets listing.Read
+lost false = failure.Unanswered
+
+-- why packets were not listed to the end, by whether HELLO was answered, and whether the connection took no command
+abbrev pub unlisted : ListingFault → (is_answered is_cut : Bool) → Failure
+unlisted listing.Read is_answered is_cut = lost is_answered
+unlisted listing.Write is_answered true = lost is_answered
+unlisted fault is_answered is_cut = failure.Packets fault
+
+-- Another connection may mend it: none could be made (47), or it ended before the end of the transfer (42).
+abbrev pub is_mendable : Failure → Bool
+is_mendable failure = failure_number failure == 42 || failure_number failure == 47
+
+-- another server is asked after it, or the first one again
+abbrev pub goes_on : Failure → (is_last is_retried : Bool) → Bool
+goes_on failure is_last is_retried = is_mendable failure && (is_retried || not is_last)

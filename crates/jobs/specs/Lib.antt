@@ -8,3 +8,4 @@ pub mod Replaying
 pub mod Serving
 pub mod Sites
 pub mod Windows
+pub mod Places

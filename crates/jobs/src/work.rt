@@ -3,16 +3,16 @@ use crate::files::{check_file, replay_files};
 use crate::incident::Incident;
 use crate::network::{feed_file, serve_sockets};
 use crate::operator::ServeOptions;
-use crate::reading::read_server;
+use crate::reading::read_servers;
 use crate::viewing::view_file;
 use command_line::Job;
 use serving::{KEEP_EVERY, Timetable};
 use std::net::Net;
 use std::os::fd::AsRawFd;
-use std::rt::Files;
+use std::rt::{Clock, Files};
 
 /// Does what a job asks. With `is_verbose` faults that don't end it are explained.
-pub fn run_job<'a, R: Files + Print + Eprint + Net + AllocGlobal>(
+pub fn run_job<'a, R: Files + Print + Eprint + Clock + Net + AllocGlobal>(
     rt: &R,
     job: Job<'a>,
     is_verbose: bool,
@@ -56,6 +56,6 @@ where
             server,
             wants,
             options,
-        } => read_server(rt, server, wants.as_slice(), options),
+        } => read_servers(rt, server, wants.as_slice(), options, is_verbose),
     }
 }

@@ -1,3 +1,5 @@
 pub mod ReadLaws
 pub mod PieceLaws
 pub mod OrderLaws
+pub mod CountLaws
+pub mod FurtherLaws

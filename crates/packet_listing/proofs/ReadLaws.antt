@@ -198,7 +198,7 @@ listed-on r r1 r2 o o1 o2 o3 left left1 left2 sent sent1 lines lines1 lines2 rec
 -- ---- the end
 
 -- what was read behind the end, as if it were left
-put-back : (left1 left2 : Option (List ℕ)) (bytes behind : List ℕ) → Consumes left1 left2 (bytes ++ behind)
+pub put-back : (left1 left2 : Option (List ℕ)) (bytes behind : List ℕ) → Consumes left1 left2 (bytes ++ behind)
     → Consumes left1 (prepend_known behind left2) bytes
 put-back None left2 bytes behind h = tt
 put-back (Some x) None bytes behind h = absurd h

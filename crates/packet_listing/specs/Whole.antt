@@ -4,6 +4,8 @@ use Rattle.std.specs.Prelude.{◌≡◌, ℕ, Bool, true, false, List, [], ◌�
 use Rattle.std.specs.Io.KnownBytes.{Appends, Consumes}
 use Rattle.sl_io.specs.Known.{AppendsBeginning}
 use Rattle.slreader.specs.declared.fault.ReaderFault.TheVariants.{Limit, OutOfMemory, NotAPacket, AllRefused, BadReply}
+use Rattle.slreader.specs.Tallies.{TallyValue}
+use Rattle.slreader.specs.Wants.{PlanValue, is_plan}
 use Rattle.slreader.specs.Dialogue.{Given, ReaderValue, Stage, given_from, read_on}
 use Rattle.slreader.specs.Dialogue.Given.{Hello, Refused, Packet, End}
 use Rattle.slreader.specs.Dialogue.Stage.{Over, Failed}
@@ -97,3 +99,21 @@ pub record RecordsFirst (r : ReaderValue) (refusals : List (List ℕ))
   pub rest : List ℕ
   pub begun : more ++ rest ≡ records_given later
   pub kept : Appends records records' (records_given listed ++ more)
+
+-- ---- how far the reader is
+
+-- A beginning of what came leads to that tally, and the records of all that it gives were written.
+pub record CountsWritten (r : ReaderValue) (tally : TallyValue) (records records' : Option (List ℕ)) : Type 0 where
+  pub came : List ℕ
+  pub counted : tally ≡ (read_on r came).tally
+  pub kept : Appends records records' (records_given (given_from r came))
+
+-- A plan is not begun: there is no memory for it, or it can't be asked for.
+abbrev pub IsNotBegunBy : ListingFault → PlanValue → Type 0
+IsNotBegunBy (Reader Limit) plan = is_plan plan ≡ false
+IsNotBegunBy (Reader OutOfMemory) plan = ⊤
+IsNotBegunBy (Reader NotAPacket) plan = ⊥
+IsNotBegunBy (Reader AllRefused) plan = ⊥
+IsNotBegunBy (Reader BadReply) plan = ⊥
+IsNotBegunBy Read plan = ⊥
+IsNotBegunBy Write plan = ⊥

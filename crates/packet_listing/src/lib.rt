@@ -9,4 +9,4 @@ mod texts;
 
 pub use fault::ListingFault;
 pub use nowhere::Nowhere;
-pub use reading::read_over;
+pub use reading::{read_further, read_over};

@@ -1,6 +1,6 @@
 //! A reader over a connection.
 ghost use Rattle.std.specs.Prelude.{◌≡◌, ◌≢◌, ◌⊎◌, ◌+◌, ◌<◌, ◌≤◌, [], drop, length, IfOk, OnOk, OnErr, IfErr};
-ghost use Rattle.std.specs.Prelude.{IfSome};
+ghost use Rattle.std.specs.Prelude.{IfSome, if◌then◌else◌};
 ghost use Rattle.std.specs.Prelude.{IfNone, MatchOption, take, true, false};
 ghost use Rattle.std.specs.Io.KnownBytes.{Appends, Consumes, Keeps};
 ghost use Rattle.sl_io.specs.Counts.{IsMore, StopsWriting};
@@ -10,15 +10,17 @@ ghost use Rattle.slreader.specs.Dialogue.Stage.{Failed};
 ghost use Rattle.slreader.specs.Views.{plan_value};
 ghost use Rattle.slreader.specs.Wants.{is_plan};
 ghost use Rattle.packet_listing.specs.declared.fault.ListingFault.TheVariants.{Reader};
-ghost use Rattle.packet_listing.specs.Lines.{refusals_of};
+ghost use Rattle.packet_listing.specs.Lines.{nothing_told, refusals_of};
 ghost use Rattle.packet_listing.specs.Pieces.{FailsIn, Takes, TellsFirst, WritesRecordsFirst};
-ghost use Rattle.packet_listing.specs.Whole.{Ends, RecordsFirst, StopsAt, is_told_before};
+ghost use Rattle.slreader.specs.GoingOn.{begun_at, plan_on};
+ghost use Rattle.packet_listing.specs.Whole.{IsNotBegunBy};
+ghost use Rattle.packet_listing.specs.Whole.{CountsWritten, Ends, RecordsFirst, StopsAt, is_told_before};
 ghost use Rattle.packet_listing.specs.Stops.{EndsReading, EndsReads, IsQuiet, StopsListing};
 
 use crate::fault::ListingFault;
 use crate::output::Output;
 use sl_io::{Sink, Source, WriteFault, write_all};
-use slreader::{Plan, ReaderCore, ReaderFault, What};
+use slreader::{Plan, ReaderCore, ReaderFault, Tally, Want, What};
 use std::alloc::{AllocError, Global};
 
 /// How many bytes are read at most by one call.
@@ -129,6 +131,7 @@ fn read_block<R: Source>(reader: &mut R, block: &mut [u8]) -> Option<usize>
 
 /// Sends what was asked last: an answer may come before its command was sent.
 fn finish<W: Sink>(core: &mut ReaderCore, writer: &mut W) -> Result<(), ListingFault>
+    ensures counted { OnOk result (core.new.tally ≡ core.old.tally) }
     ensures written { OnOk result (Appends (W.written writer.old) (W.written writer.new)
         (drop core.old.sent core.old.asked)) }
     ensures quiet { OnOk result (IsQuiet (W.failures writer.old) (W.failures writer.new)
@@ -165,6 +168,10 @@ fn read_blocks<R: Source, W: Sink, O: Sink, P: Sink>(
         (O.written out.old) (O.written out.new) (P.written records.old) (P.written records.new)) }
     ensures order { RecordsFirst core.old output.old.refusals (R.left reader.old) (R.left reader.new)
         (O.written out.old) (O.written out.new) (P.written records.old) (P.written records.new) }
+    ensures counted { OnOk result
+        (CountsWritten core.old core.new.tally (P.written records.old) (P.written records.new)) }
+    ensures counts { IfErr result (λ fault. is_told_before fault ≡ true
+        → CountsWritten core.old core.new.tally (P.written records.old) (P.written records.new)) }
     ensures plan { IfErr result (λ fault. fault ≢ Reader Limit) }
     ensures stopped { IfErr result (λ fault. StopsListing fault
         (EndsReads (R.failures reader.old) (R.failures reader.new)
@@ -292,4 +299,128 @@ pub fn read_over<R: Source, W: Sink, O: Sink, P: Sink>(
         ),
         Err(fault) => Err(ListingFault::Reader(fault)),
     }
+}
+
+/// Whether all of what was given is told at an outcome: it is the end, or no fault of the plan, of memory or of a write.
+fn is_told(outcome: &Result<(), ListingFault>) -> bool
+    ensures ok { OnOk outcome.now (result ≡ true) }
+    ensures fault { IfErr outcome.now (λ fault. result ≡ is_told_before fault) }
+{
+    match outcome {
+        Ok(()) => true,
+        Err(ListingFault::Read) => true,
+        Err(ListingFault::Write) => false,
+        Err(ListingFault::Reader(ReaderFault::Limit)) => false,
+        Err(ListingFault::Reader(ReaderFault::OutOfMemory)) => false,
+        Err(ListingFault::Reader(_)) => true,
+    }
+}
+
+/// A reader by the plan by which wants go on, which counts on, and its output.
+fn begin(
+    alloc: Global,
+    wants: &[Want<'_>],
+    tally: &Tally,
+) -> Result<(ReaderCore, Output), ListingFault>
+    ensures core { IfOk result (λ begun. begun.0 ≡ begun_at (plan_on tally.now wants.now) tally.now) }
+    ensures output { IfOk result (λ begun. begun.1 ≡ nothing_told (plan_on tally.now wants.now)) }
+    ensures fault { IfErr result (λ fault. IsNotBegunBy fault (plan_on tally.now wants.now)) }
+{
+    let Ok(plan) = Plan::going_on(alloc, wants, tally) else {
+        return Err(ListingFault::Reader(ReaderFault::OutOfMemory));
+    };
+    let Ok(counted) = tally.copy(alloc) else {
+        return Err(ListingFault::Reader(ReaderFault::OutOfMemory));
+    };
+    let Ok(output) = Output::new(alloc, &plan) else {
+        return Err(ListingFault::Reader(ReaderFault::OutOfMemory));
+    };
+    match ReaderCore::going_on(alloc, plan, counted) {
+        Ok(core) => Ok((core, output)),
+        Err(ReaderFault::Limit) => Err(ListingFault::Reader(ReaderFault::Limit)),
+        Err(_) => Err(ListingFault::Reader(ReaderFault::OutOfMemory)),
+    }
+}
+
+/// What a reader counted takes a tally's place, if all of what was given is told.
+fn count(tally: &mut Tally, core: ReaderCore, is_told: bool)
+    ensures { tally.new ≡ (if is_told then core.tally else tally.old) }
+{
+    if is_told {
+        *tally = core.into_tally();
+    }
+}
+
+/// Asks a server for what wants want after the packets that were counted, and lists what it sends, as `read_over` does
+/// with the plan by which they go on. At the end of the transfer, and at every fault of the dialogue or of reading, the
+/// tally counts exactly the packets whose records were written, beside those that it had counted before; so the next
+/// server may be asked to go on. At another fault it stays as it was.
+pub fn read_further<R: Source, W: Sink, O: Sink, P: Sink>(
+    alloc: Global,
+    wants: &[Want<'_>],
+    tally: &mut Tally,
+    reader: &mut R,
+    writer: &mut W,
+    out: &mut O,
+    records: &mut P,
+) -> Result<(), ListingFault>
+    ensures ends { OnOk result
+        (Ends (begun_at (plan_on tally.old wants.now) tally.old) (refusals_of (plan_on tally.old wants.now))
+        (R.left reader.old) (R.left reader.new) (W.written writer.old) (W.written writer.new)
+        (O.written out.old) (O.written out.new) (P.written records.old) (P.written records.new)) }
+    ensures told { IfErr result (λ fault. is_told_before fault ≡ true →
+        StopsAt fault (begun_at (plan_on tally.old wants.now) tally.old) (refusals_of (plan_on tally.old wants.now))
+        (R.left reader.old) (R.left reader.new) (W.written writer.old) (W.written writer.new)
+        (O.written out.old) (O.written out.new) (P.written records.old) (P.written records.new)) }
+    ensures counted { OnOk result (CountsWritten (begun_at (plan_on tally.old wants.now) tally.old) tally.new
+        (P.written records.old) (P.written records.new)) }
+    ensures counts { IfErr result (λ fault. is_told_before fault ≡ true →
+        CountsWritten (begun_at (plan_on tally.old wants.now) tally.old) tally.new
+        (P.written records.old) (P.written records.new)) }
+    ensures kept { IfErr result (λ fault. is_told_before fault ≡ false → tally.new ≡ tally.old) }
+    ensures order { RecordsFirst (begun_at (plan_on tally.old wants.now) tally.old)
+        (refusals_of (plan_on tally.old wants.now)) (R.left reader.old) (R.left reader.new)
+        (O.written out.old) (O.written out.new) (P.written records.old) (P.written records.new) }
+    ensures plan { IfErr result (λ fault. fault ≡ Reader Limit → is_plan (plan_on tally.old wants.now) ≡ false) }
+    ensures stopped { IfErr result (λ fault. StopsListing fault
+        (EndsReads (R.failures reader.old) (R.failures reader.new)
+        (R.calls reader.old) (R.calls reader.new) (R.left reader.new))
+        (R.failures reader.new ≡ R.failures reader.old)
+        (IsQuiet (W.failures writer.old) (W.failures writer.new) (W.empty_writes writer.old)
+        (W.empty_writes writer.new)
+        × IsQuiet (O.failures out.old) (O.failures out.new) (O.empty_writes out.old) (O.empty_writes out.new)
+        × IsQuiet (P.failures records.old) (P.failures records.new)
+        (P.empty_writes records.old) (P.empty_writes records.new))
+        ((StopsWriting (W.failures writer.old) (W.failures writer.new)
+        (W.empty_writes writer.old) (W.empty_writes writer.new)
+        × IsQuiet (O.failures out.old) (O.failures out.new) (O.empty_writes out.old) (O.empty_writes out.new)
+        × IsQuiet (P.failures records.old) (P.failures records.new)
+        (P.empty_writes records.old) (P.empty_writes records.new))
+        ⊎ (IsQuiet (W.failures writer.old) (W.failures writer.new)
+        (W.empty_writes writer.old) (W.empty_writes writer.new)
+        × ((StopsWriting (O.failures out.old) (O.failures out.new) (O.empty_writes out.old) (O.empty_writes out.new)
+        × IsQuiet (P.failures records.old) (P.failures records.new)
+        (P.empty_writes records.old) (P.empty_writes records.new))
+        ⊎ (IsQuiet (O.failures out.old) (O.failures out.new) (O.empty_writes out.old) (O.empty_writes out.new)
+        × StopsWriting (P.failures records.old) (P.failures records.new)
+        (P.empty_writes records.old) (P.empty_writes records.new)))))) }
+{
+    let Ok(mut block) = vec![in alloc; 0; BLOCK] else {
+        return Err(ListingFault::Reader(ReaderFault::OutOfMemory));
+    };
+    let (mut core, mut output) = match begin(alloc, wants, tally) {
+        Ok(begun) => begun,
+        Err(fault) => return Err(fault),
+    };
+    let outcome = read_blocks(
+        &mut core,
+        &mut output,
+        &mut block,
+        reader,
+        writer,
+        out,
+        records,
+    );
+    count(tally, core, is_told(&outcome));
+    outcome
 }

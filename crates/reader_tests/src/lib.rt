@@ -9,6 +9,8 @@ mod dialogues;
 #[cfg(test)]
 mod failures;
 #[cfg(test)]
+mod going_on;
+#[cfg(test)]
 mod largest_plan;
 #[cfg(test)]
 mod order;

@@ -13,7 +13,7 @@ use std::test::Fail;
 const NEGOTIATED: &[u8] = b"SeedLink v3\r\n\r\nOK\r\nOK\r\n";
 
 /// A record of GE and a station, with 100 samples.
-fn record(station: &[u8]) -> Result<[u8; 512], Fail> {
+pub fn record(station: &[u8]) -> Result<[u8; 512], Fail> {
     Ok(make(&Fields {
         sequence: 1,
         quality: b'D',

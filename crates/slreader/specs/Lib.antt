@@ -14,3 +14,4 @@ pub mod Comings
 pub mod Whats
 pub mod Parts
 pub mod WordParts
+pub mod GoingOn

@@ -47,11 +47,11 @@ impl Dialogue {
     ghost use Rattle.std.specs.Prelude.{◌≡◌, ◌≤◌, ◌+◌, length, drop, IfOk};
     ghost use Rattle.slreader.specs.Views.{plan_value};
     ghost use Rattle.slreader.specs.Tallies.{next_of};
-    ghost use Rattle.slreader.specs.Dialogue.{begun};
+    ghost use Rattle.slreader.specs.GoingOn.{begun_at};
 
-    /// A reader that was sent nothing.
-    pub(crate) fn new(alloc: Global, plan: &Plan<'_>) -> Result<Dialogue, AllocError>
-        ensures { IfOk result (λ d. d ≡ begun (plan_value plan.now)) }
+    /// A reader that was sent nothing, and counts on.
+    pub(crate) fn new(alloc: Global, plan: &Plan<'_>, tally: Tally) -> Result<Dialogue, AllocError>
+        ensures { IfOk result (λ d. d ≡ begun_at (plan_value plan.now) tally) }
     {
         let lines = commands_of(alloc, plan)?;
         let Some(room) = size_behind(HELLO.len() + 1, &lines) else {
@@ -68,7 +68,7 @@ impl Dialogue {
             agenda: Agenda::new(lines),
             kept: plan.len(),
             outbox,
-            tally: Tally::new(alloc, plan)?,
+            tally,
         })
     }
 
@@ -92,6 +92,20 @@ impl Dialogue {
         ensures { result ≡ self.now.tally.records }
     {
         self.tally.records()
+    }
+
+    /// What was counted.
+    pub(crate) fn tally(&self) -> &Tally
+        ensures { result.now ≡ self.now.tally }
+    {
+        &self.tally
+    }
+
+    /// The same, of a reader that is let go.
+    pub(crate) fn into_tally(self) -> Tally
+        ensures { result ≡ self.tally }
+    {
+        self.tally
     }
 
     /// Where a want goes on.

@@ -2,6 +2,7 @@
 use crate::came::{Came, what_of};
 use crate::dialogue::Dialogue;
 use crate::fault::ReaderFault;
+use crate::tally::Tally;
 use crate::want::Plan;
 use sl_packet::Seq;
 use std::alloc::Global;
@@ -35,6 +36,7 @@ impl ReaderCore {
     ghost use Rattle.slreader.specs.Wants.{is_plan};
     ghost use Rattle.slreader.specs.Views.{plan_value};
     ghost use Rattle.slreader.specs.Tallies.{next_of};
+    ghost use Rattle.slreader.specs.GoingOn.{begun_at};
     ghost use Rattle.slreader.specs.Dialogue.{begun, outcome_of, read_first};
     ghost use Rattle.slreader.specs.Comings.{came_outcome, IsNotBegun, Leaves};
     ghost use Rattle.slreader.specs.Whats.{Reads};
@@ -47,10 +49,23 @@ impl ReaderCore {
         ensures plan { OnOk result (is_plan (plan_value plan.entry) ≡ true) }
         ensures fault { IfErr result (λ fault. IsNotBegun fault (plan_value plan.entry)) }
     {
+        match Tally::new(alloc, &plan) {
+            Ok(tally) => ReaderCore::going_on(alloc, plan, tally),
+            Err(_) if plan.is_spellable() => Err(ReaderFault::OutOfMemory),
+            Err(_) => Err(ReaderFault::Limit),
+        }
+    }
+
+    /// The same, of a reader that counts on: its packets are counted beside those that were given before.
+    pub fn going_on(alloc: Global, plan: Plan<'_>, tally: Tally) -> Result<ReaderCore, ReaderFault>
+        ensures begun { IfOk result (λ r. r ≡ begun_at (plan_value plan.entry) tally) }
+        ensures plan { OnOk result (is_plan (plan_value plan.entry) ≡ true) }
+        ensures fault { IfErr result (λ fault. IsNotBegun fault (plan_value plan.entry)) }
+    {
         if !plan.is_spellable() {
             return Err(ReaderFault::Limit);
         }
-        match Dialogue::new(alloc, &plan) {
+        match Dialogue::new(alloc, &plan, tally) {
             Ok(dialogue) => Ok(ReaderCore {
                 dialogue,
                 packet: [0; PACKET],
@@ -99,6 +114,20 @@ impl ReaderCore {
         ensures { result ≡ self.now.tally.records }
     {
         self.dialogue.records()
+    }
+
+    /// What was counted: how many packets were given, and how far each want is.
+    pub fn tally(&self) -> &Tally
+        ensures { result.now ≡ self.now.tally }
+    {
+        self.dialogue.tally()
+    }
+
+    /// The same, of a reader that is let go.
+    pub fn into_tally(self) -> Tally
+        ensures { result ≡ self.tally }
+    {
+        self.dialogue.into_tally()
     }
 
     /// The number after that of the last packet of the want's station, by the packets whose records can be read; in a

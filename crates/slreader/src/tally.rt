@@ -1,22 +1,43 @@
 //! What is counted of the packets.
-ghost use Rattle.std.specs.Prelude.{◌≡◌, ◌++◌, slice_range, map, IfOk, OnOk};
+ghost use Rattle.std.specs.Prelude.{◌≡◌, ◌++◌, slice_range, map, option_map, IfOk, OnOk};
 ghost use Rattle.slreader.specs.Tallies.{has_codes as spec_has_codes, packet_facts, packet_number, passed};
+ghost use Rattle.slreader.specs.Tallies.{reached_at};
 ghost use Rattle.slreader.specs.Tallies.{resume_of};
 ghost use Rattle.slreader.specs.Tallies.{resumes_of as spec_resumes_of};
 
 use crate::want::{Plan, Want};
 use mseed_header::{Header, read};
 use sl_packet::Seq;
+use sl_time::Tick;
 use std::alloc::{AllocError, Global};
 use std::marker::Model;
 
-/// The number from which a want goes on: the one after the last packet of its station, or of any station.
+/// The last packet of a want.
+#[derive(Clone, Copy, Debug, PartialEq, Eq)]
+pub struct Reached {
+    /// Its number.
+    pub number: Seq,
+    /// The end of its record, if that can be read.
+    pub end: Option<Tick>,
+}
+
+impl Model for Reached {
+    ghost use Rattle.slreader.specs.Tallies.{ReachedValue};
+
+    ghost Value = { ReachedValue };
+
+    ghost view = { λ r. record { number = r.number; end = r.end } };
+
+    ghost inverse = { λ r. record { number = r.number; end = r.end } };
+}
+
+/// How far a want is: the last packet of its station, or of any station.
 #[derive(Drop)]
 pub(crate) struct Resume {
     is_any: bool,
     network: Vec<u8>,
     station: Vec<u8>,
-    next: Option<Seq>,
+    last: Option<Reached>,
 }
 
 impl Model for Resume {
@@ -25,7 +46,7 @@ impl Model for Resume {
     ghost Value = { ResumeValue };
 
     ghost view = { λ r.
-        record { is_any = r.is_any; network = r.network.items; station = r.station.items; next = r.next } };
+        record { is_any = r.is_any; network = r.network.items; station = r.station.items; last = r.last } };
 }
 
 /// Whether a record has those codes; one that can't be read has none.
@@ -36,6 +57,18 @@ fn has_codes(network: &[u8], station: &[u8], header: &Option<Header<'_>>) -> boo
         Some(header) => header.network() == network && header.station() == station,
         None => false,
     }
+}
+
+/// The packet with that number and that record.
+fn reached_at(header: &Option<Header<'_>>, number: &Option<Seq>) -> Option<Reached>
+    ensures { result ≡ option_map (reached_at header.now) number.now }
+{
+    let number = (*number)?;
+    let end = match header {
+        Some(header) => Some(header.end()),
+        None => None,
+    };
+    Some(Reached { number, end })
 }
 
 impl Resume {
@@ -49,7 +82,19 @@ impl Resume {
             is_any,
             network: Vec::from_slice(alloc, want.network)?,
             station: Vec::from_slice(alloc, want.station)?,
-            next: None,
+            last: None,
+        })
+    }
+
+    /// Another one that says the same.
+    fn copy(&self, alloc: Global) -> Result<Resume, AllocError>
+        ensures { IfOk result (λ r. r ≡ self.now) }
+    {
+        Ok(Resume {
+            is_any: self.is_any,
+            network: Vec::from_slice(alloc, &self.network)?,
+            station: Vec::from_slice(alloc, &self.station)?,
+            last: self.last,
         })
     }
 
@@ -58,10 +103,7 @@ impl Resume {
         ensures { self.new ≡ passed number.now header.now self.old }
     {
         if self.is_any || has_codes(&self.network, &self.station, header) {
-            self.next = match number {
-                Some(number) => Some(number.next()),
-                None => None,
-            };
+            self.last = reached_at(header, number);
         }
     }
 }
@@ -113,9 +155,19 @@ fn put_resumes(
     Ok(())
 }
 
-/// How many packets were given, and where each want goes on.
+/// Adds what others say.
+fn put_copies(alloc: Global, resumes: &mut Vec<Resume>, others: &[Resume]) -> Result<(), AllocError>
+    ensures { OnOk result (resumes.new.items ≡ resumes.old.items ++ others.now) }
+{
+    for other in others {
+        resumes.push(other.copy(alloc)?)?;
+    }
+    Ok(())
+}
+
+/// How many packets were given, and how far each want is. It goes on from one connection to the next.
 #[derive(Drop)]
-pub(crate) struct Tally {
+pub struct Tally {
     records: u64,
     resumes: Vec<Resume>,
 }
@@ -129,11 +181,13 @@ impl Model for Tally {
 }
 
 impl Tally {
-    ghost use Rattle.slreader.specs.Tallies.{counted, next_of, tally_of};
+    ghost use Rattle.std.specs.Prelude.{◌≡◌, IfOk};
+    ghost use Rattle.slreader.specs.Tallies.{counted, next_of, reached_of, tally_of};
     ghost use Rattle.slreader.specs.Views.{plan_value};
+    ghost use Rattle.slreader.specs.Wants.PlanValue.{Multi};
 
     /// Before the first packet.
-    pub(crate) fn new(alloc: Global, plan: &Plan<'_>) -> Result<Tally, AllocError>
+    pub fn new(alloc: Global, plan: &Plan<'_>) -> Result<Tally, AllocError>
         ensures { IfOk result (λ t. t ≡ tally_of (plan_value plan.now)) }
     {
         let mut resumes = Vec::new(alloc);
@@ -143,6 +197,30 @@ impl Tally {
         }
         Ok(Tally {
             records: 0,
+            resumes,
+        })
+    }
+
+    /// Before the first packet of several wants.
+    pub fn before(alloc: Global, wants: &[Want<'_>]) -> Result<Tally, AllocError>
+        ensures { IfOk result (λ t. t ≡ tally_of (Multi wants.now)) }
+    {
+        let mut resumes = Vec::new(alloc);
+        put_resumes(alloc, &mut resumes, false, wants)?;
+        Ok(Tally {
+            records: 0,
+            resumes,
+        })
+    }
+
+    /// Another one that says the same.
+    pub fn copy(&self, alloc: Global) -> Result<Tally, AllocError>
+        ensures { IfOk result (λ t. t ≡ self.now) }
+    {
+        let mut resumes = Vec::new(alloc);
+        put_copies(alloc, &mut resumes, &self.resumes)?;
+        Ok(Tally {
+            records: self.records,
             resumes,
         })
     }
@@ -160,18 +238,29 @@ impl Tally {
     }
 
     /// How many packets were given, at most 2^64 - 1.
-    pub(crate) fn records(&self) -> u64
+    pub fn records(&self) -> u64
         ensures { result ≡ self.now.records }
     {
         self.records
     }
 
-    /// Where a want goes on.
-    pub(crate) fn next(&self, want: usize) -> Option<Seq>
-        ensures { result ≡ next_of self.now want }
+    /// The last packet of the want's station, of those whose records can be read; of a plan of one want the last
+    /// packet. None before the first, and for a want that is not there.
+    pub fn reached(&self, want: usize) -> Option<Reached>
+        ensures { result ≡ reached_of self.now want }
     {
         match self.resumes.get(want) {
-            Some(resume) => resume.next,
+            Some(resume) => resume.last,
+            None => None,
+        }
+    }
+
+    /// The number after that of the last packet.
+    pub fn next(&self, want: usize) -> Option<Seq>
+        ensures { result ≡ next_of self.now want }
+    {
+        match self.reached(want) {
+            Some(last) => Some(last.number.next()),
             None => None,
         }
     }

@@ -374,6 +374,7 @@ const HELD: ReadOptions<'static> = ReadOptions {
     fetch: true,
     begin: None,
     last: None,
+    retry: None,
     output: None,
 };
 

@@ -254,6 +254,7 @@ fn read_has_wants_and_options(rt: HostRuntime) -> Result<(), Fail> {
         fetch: true,
         begin: None,
         last: None,
+        retry: None,
         output: Some("-"),
     };
     assert!(rt; is_read(&job, wanted));
@@ -280,6 +281,33 @@ fn read_has_a_begin_and_an_end(rt: HostRuntime) -> Result<(), Fail> {
         fetch: false,
         begin: Some("2024,2,29"),
         last: Some("2024-03-01T00:00:00"),
+        retry: None,
+        output: None,
+    };
+    assert!(rt; is_read(&job, wanted));
+    Ok(())
+}
+
+#[test]
+fn read_has_servers_and_seconds(rt: HostRuntime) -> Result<(), Fail> {
+    let words = strings(
+        rt.alloc(),
+        &[
+            "seedlinkd",
+            "read",
+            "a:1",
+            "GE_WLF",
+            "XX_APE",
+            "--retry",
+            "5",
+        ],
+    )?;
+    let job = read_words(rt.alloc(), words.as_slice())?.job;
+    let wanted = ReadOptions {
+        fetch: false,
+        begin: None,
+        last: None,
+        retry: Some(5),
         output: None,
     };
     assert!(rt; is_read(&job, wanted));
@@ -315,8 +343,18 @@ fn help_is_told(rt: HostRuntime) -> Result<(), Fail> {
 
 #[test]
 fn other_words_are_refused(rt: HostRuntime) -> Result<(), Fail> {
-    let all: [&[&str]; 14] = [
+    let all: [&[&str]; 16] = [
         &[],
+        &["seedlinkd", "read", "a:1", "GE_WLF", "--retry=0"],
+        &[
+            "seedlinkd",
+            "read",
+            "a:1",
+            "GE_WLF",
+            "--retry=5",
+            "--begin=2024,2,29",
+            "--end=2024,3,1",
+        ],
         &["seedlinkd", "read", "a:1", "GE_WLF", "--end=2024,3,1"],
         &[
             "seedlinkd",

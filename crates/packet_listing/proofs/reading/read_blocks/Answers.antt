@@ -5,6 +5,7 @@ use Rattle.std.proofs.KnownBytes.{Keeps-refl}
 use Rattle.sl_io.proofs.TotalLemmas.{Made-more}
 use Rattle.packet_listing.specs.Pieces.{Takes}
 use Rattle.packet_listing.proofs.ReadLaws.{led-no-limit, listed-sent, goes-on-listed, ends, stops, fails, not-memory}
+use Rattle.packet_listing.proofs.CountLaws.{counts-listed, counts-ended, counts-failed}
 use Rattle.packet_listing.proofs.OrderLaws.{listed-first, written-first, all-written}
 use Rattle.packet_listing.proofs.reading.read_blocks.Goals as goal
 
@@ -92,3 +93,29 @@ returns-in-Err-taken-clause-order g c =
 
 pub returns-clause-order : goal.returns-clause-order
 returns-clause-order g c = listed-first _ _ _ _ _ _ _ _ _ _ _ _ _ c.reads.invariant.listed (Keeps-refl _)
+
+pub returns-in-None-clause-counts : goal.returns-in-None-clause-counts
+returns-in-None-clause-counts g c = λ _.
+    let t = listed-sent _ _ _ _ _ _ _ _ _ _ _ _ _ _ c.reads.invariant.listed c.in-Ok.ensures.written
+    c.in-Ok.ensures.sent in
+    counts-listed _ _ _ _ _ _ _ _ _ _ _ _ t
+
+pub returns-in-Ok-true-clause-counted : goal.returns-in-Ok-true-clause-counted
+returns-in-Ok-true-clause-counted g c =
+    let t = listed-sent _ _ _ _ _ _ _ _ _ _ _ _ _ _ c.reads.invariant.listed c.in-Ok.ensures.written
+    c.in-Ok.ensures.sent in
+    on-ok _ _ c.finish.result c.finish.ensures.counted (λ same.
+    counts-ended _ _ _ _ _ _ _ _ _ _ _ _ _ _ _ _ _ _ _ t
+    (subst (Takes _ _ _ _ _) c.in-Ok-true.field-0-test c.in-Ok-true.ensures.taken) c.in-Some.ensures.consumed
+    c.in-Ok-write_output.ensures.lines c.in-Ok-write_output.ensures.records c.in-Ok-write_output.ensures.cleared _ same)
+
+pub returns-in-Err-taken-clause-counts : goal.returns-in-Err-taken-clause-counts
+returns-in-Err-taken-clause-counts g c = λ told.
+    let t = listed-sent _ _ _ _ _ _ _ _ _ _ _ _ _ _ c.reads.invariant.listed c.in-Ok.ensures.written
+    c.in-Ok.ensures.sent in
+    counts-failed c.in-Err-taken.fault _ _ _ _ _ _ _ _ _ _ _ _ _ _ _ _ _ _ _ t
+    (c.in-Err-taken.ensures.failed (not-memory c.in-Err-taken.fault told)) c.in-Some.ensures.consumed
+    c.in-Ok-write_output.ensures.lines c.in-Ok-write_output.ensures.records c.in-Ok-write_output.ensures.cleared
+
+pub returns-clause-counts : goal.returns-clause-counts
+returns-clause-counts g c = λ _. counts-listed _ _ _ _ _ _ _ _ _ _ _ _ c.reads.invariant.listed

@@ -1,0 +1,80 @@
+-- Laws over a reading that goes on: what is counted of it.
+use Rattle.std.proofs.Common.{◌≡◌, ◌∙◌, ℕ, List, Bool, true, false, Ok, Err, refl, sym, subst}
+use Rattle.std.specs.Prelude.{IfErr, OnOk, Option, Result, if◌then◌else◌}
+use Rattle.slreader.specs.Dialogue.{ReaderValue}
+use Rattle.slreader.specs.declared.fault.ReaderFault.TheVariants.{Limit, OutOfMemory, NotAPacket, AllRefused, BadReply}
+use Rattle.slreader.specs.Tallies.{TallyValue}
+use Rattle.slreader.specs.Wants.{PlanValue, is_plan}
+use Rattle.packet_listing.specs.declared.fault.ListingFault.{ListingFault}
+use Rattle.packet_listing.specs.declared.fault.ListingFault.TheVariants.{Reader, Read, Write}
+use Rattle.packet_listing.specs.Stops.{StopsListing}
+use Rattle.packet_listing.specs.Whole.{CountsWritten, IsNotBegunBy, is_told_before}
+
+-- A plan that is not begun tells nothing.
+pub untold : (fault : ListingFault) (plan : PlanValue) → IsNotBegunBy fault plan → is_told_before fault ≡ false
+untold (Reader Limit) plan h = refl
+untold (Reader OutOfMemory) plan h = refl
+untold (Reader NotAPacket) plan h = absurd h
+untold (Reader AllRefused) plan h = absurd h
+untold (Reader BadReply) plan h = absurd h
+untold Read plan h = absurd h
+untold Write plan h = absurd h
+
+pub never : {A : Type 0} → (b : Bool) → b ≡ false → b ≡ true → A
+never b is_not is = let bad : true ≡ false = sym is ∙ is_not in absurd cc
+
+pub limited : (fault : ListingFault) (plan : PlanValue) → IsNotBegunBy fault plan → fault ≡ Reader Limit
+    → is_plan plan ≡ false
+limited (Reader Limit) plan h is = h
+limited (Reader OutOfMemory) plan h is = absurd cc
+limited (Reader NotAPacket) plan h is = absurd h
+limited (Reader AllRefused) plan h is = absurd h
+limited (Reader BadReply) plan h is = absurd h
+limited Read plan h is = absurd h
+limited Write plan h is = absurd h
+
+taken : (b : Bool) (t old new : TallyValue) → new ≡ (if b then t else old) → b ≡ true → new ≡ t
+taken true t old new is so = is
+taken false t old new is so = absurd cc
+
+left : (b : Bool) (t old new : TallyValue) → new ≡ (if b then t else old) → b ≡ false → new ≡ old
+left true t old new is so = absurd cc
+left false t old new is so = is
+
+as-counted : (q q' : ReaderValue) (t new : TallyValue) (records records' : Option (List ℕ)) → q ≡ q' → new ≡ t
+    → CountsWritten q t records records' → CountsWritten q' new records records'
+as-counted q q' t new records records' same is h =
+    subst (λ x. CountsWritten x new records records') same
+    (subst (λ x. CountsWritten q x records records') (sym is) h)
+
+-- what was counted at the end is the tally
+pub counted-ok : {V : Type 0} → (q q' : ReaderValue) (records records' : Option (List ℕ)) (r : Result V ListingFault)
+    (b : Bool) (t old new : TallyValue) → q ≡ q' → OnOk r (b ≡ true) → new ≡ (if b then t else old)
+    → OnOk r (CountsWritten q t records records') → OnOk r (CountsWritten q' new records records')
+counted-ok q q' records records' (Ok v) b t old new same so is h =
+    as-counted q q' t new records records' same (taken b t old new is so) h
+counted-ok q q' records records' (Err fault) b t old new same so is h = tt
+
+-- and at a fault at which all is told
+pub counted-err : {V : Type 0} → (q q' : ReaderValue) (records records' : Option (List ℕ)) (r : Result V ListingFault)
+    (b : Bool) (t old new : TallyValue) → q ≡ q' → IfErr r (λ fault. b ≡ is_told_before fault)
+    → new ≡ (if b then t else old)
+    → IfErr r (λ fault. is_told_before fault ≡ true → CountsWritten q t records records')
+    → IfErr r (λ fault. is_told_before fault ≡ true → CountsWritten q' new records records')
+counted-err q q' records records' (Ok v) b t old new same told is h = tt
+counted-err q q' records records' (Err fault) b t old new same told is h =
+    λ so. as-counted q q' t new records records' same (taken b t old new is (told ∙ so)) (h so)
+
+-- at another one it stays
+pub kept-err : {V : Type 0} → (r : Result V ListingFault) (b : Bool) (t old new : TallyValue)
+    → IfErr r (λ fault. b ≡ is_told_before fault) → new ≡ (if b then t else old)
+    → IfErr r (λ fault. is_told_before fault ≡ false → new ≡ old)
+kept-err (Ok v) b t old new told is = tt
+kept-err (Err fault) b t old new told is = λ so. left b t old new is (told ∙ so)
+
+-- nothing failed where a plan is not begun
+pub stops-quietly : (fault : ListingFault) (plan : PlanValue) (ended no_read_failed quiet stopped : Type 0)
+    → IsNotBegunBy fault plan → no_read_failed → quiet → StopsListing fault ended no_read_failed quiet stopped
+stops-quietly (Reader other) plan ended no_read_failed quiet stopped h read written = (read, written)
+stops-quietly Read plan ended no_read_failed quiet stopped h read written = absurd h
+stops-quietly Write plan ended no_read_failed quiet stopped h read written = absurd h
