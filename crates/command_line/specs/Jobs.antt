@@ -105,7 +105,7 @@ spanned_app =
 
 -- `read A:P,.. WANT.. [--fetch] [--begin TIME] [--end TIME] [--retry N]`
 abbrev pub retrying_app : App
-retrying_app = with_rule spanned_app (turns_rule (codes "retry"))
+retrying_app = with_rule spanned_app (number_rule (codes "retry"))
 
 -- `read A:P,.. WANT.. [--fetch] [--begin TIME] [--end TIME] [--retry N] [--output FILE]`
 abbrev pub read_app : App
@@ -240,7 +240,7 @@ options_with (Some retry) rows =
     })
 
 abbrev pub options_in : List Row → Option ReadAsked
-options_in rows = options_with (turns_in (codes "retry") rows) rows
+options_in rows = options_with (number_in (codes "retry") rows) rows
 
 -- SeedLink can spell them: an end stands only beside a begin, not beside `--fetch`, and not beside `--retry`, since what
 -- lies before an end can't be asked for by a number.

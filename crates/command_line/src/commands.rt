@@ -361,7 +361,7 @@ fn spanned_command<'a>(alloc: Global) -> Built<'a>
 fn retrying_command<'a>(alloc: Global) -> Built<'a>
     ensures { Builds result retrying_app }
 {
-    with_turns(
+    with_number(
         alloc,
         spanned_command(alloc),
         "retry",

@@ -103,7 +103,7 @@ fn feed_job<'a>(arguments: &ArgMatches<'a>) -> Option<Job<'a>>
 fn read_options<'a>(arguments: &ArgMatches<'a>) -> Option<ReadOptions<'a>>
     ensures { option_map options_asked result ≡ options_in (rows_of (found_of arguments.now)) }
 {
-    let retry = turns_in(arguments, "retry")?;
+    let retry = number_in(arguments, "retry")?;
     Some(ReadOptions {
         fetch: text_at(arguments, "fetch") == Some("true"),
         begin: text_at(arguments, "begin"),

@@ -10,7 +10,8 @@ ghost use Rattle.unknown_keys.specs.Unknown.{unknown_text, whose};
 
 use crate::lines::put_line;
 use crate::owner::Owner;
-use catalog::{Config, Station};
+use catalog::keys::table_of;
+use catalog::{Config, ConfigFault, Station};
 use std::alloc::{AllocError, Global};
 use toml::{Table, Value};
 
@@ -84,16 +85,13 @@ pub fn unknown_keys(alloc: Global, config: &Config, text: &[u8]) -> Result<Vec<u
         (λ keys. lines.items ≡ unknown_text keys (stations_of config.now))) }
 {
     let mut lines = Vec::new(alloc);
-    match toml::table_from_slice(alloc, text) {
+    match table_of(alloc, text) {
         Ok(table) => {
             put_unknown(&mut lines, &table, Owner::Server)?;
             put_stations(&mut lines, config.stations(), &table)?;
         }
-        Err(error) => {
-            if error.is_memory() {
-                return Err(AllocError);
-            }
-        }
+        Err(ConfigFault::OutOfMemory) => return Err(AllocError),
+        Err(_) => {}
     }
     Ok(lines)
 }
