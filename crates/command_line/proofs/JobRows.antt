@@ -91,7 +91,7 @@ abbrev read_words : List Text
 read_words = codes "seedlinkd" ∷ codes "read" ∷ codes "a" ∷ codes "GE_WLF" ∷ codes "XX_APE" ∷ codes "--fetch" ∷ []
 
 pub read_asked : job_of read_words ≡ Some (Read (codes "a") (codes "GE_WLF" ∷ codes "XX_APE" ∷ [])
-    (record { fetch = true; begin = None; last = None; retry = None; output = None }))
+    (record { fetch = true; begin = None; last = None; retry = None; archive = None; output = None }))
 unfolding clap_on_literals
 read_asked = refl
 
@@ -104,7 +104,7 @@ output_words =
     codes "seedlinkd" ∷ codes "read" ∷ codes "a" ∷ codes "GE_WLF" ∷ codes "--output" ∷ codes "-" ∷ []
 
 pub output_asked : job_of output_words ≡ Some (Read (codes "a") (codes "GE_WLF" ∷ [])
-    (record { fetch = false; begin = None; last = None; retry = None; output = Some (codes "-") }))
+    (record { fetch = false; begin = None; last = None; retry = None; archive = None; output = Some (codes "-") }))
 unfolding clap_on_literals
 output_asked = refl
 
@@ -114,7 +114,14 @@ window_words =
     ∷ codes "--end=2024,3,1" ∷ []
 
 pub window_asked : job_of window_words ≡ Some (Read (codes "a") (codes "GE_WLF" ∷ [])
-    (record { fetch = false; begin = Some (codes "2024,2,29"); last = Some (codes "2024,3,1"); retry = None; output = None }))
+    (record {
+      fetch = false;
+      begin = Some (codes "2024,2,29");
+      last = Some (codes "2024,3,1");
+      retry = None;
+      archive = None;
+      output = None;
+    }))
 unfolding clap_on_literals
 window_asked = refl
 
@@ -128,9 +135,31 @@ abbrev retry_words : List Text
 retry_words = codes "seedlinkd" ∷ codes "read" ∷ codes "a,b" ∷ codes "GE_WLF" ∷ codes "--retry" ∷ codes "5" ∷ []
 
 pub retry_asked : job_of retry_words ≡ Some (Read (codes "a,b") (codes "GE_WLF" ∷ [])
-    (record { fetch = false; begin = None; last = None; retry = Some 5; output = None }))
+    (record { fetch = false; begin = None; last = None; retry = Some 5; archive = None; output = None }))
 unfolding clap_on_literals
 retry_asked = refl
+
+abbrev archive_words : List Text
+archive_words = codes "seedlinkd" ∷ codes "read" ∷ codes "a" ∷ codes "GE_WLF" ∷ codes "--archive" ∷ codes "/sds" ∷ []
+
+pub archive_asked : job_of archive_words ≡ Some (Read (codes "a") (codes "GE_WLF" ∷ [])
+    (record {
+      fetch = false;
+      begin = None;
+      last = None;
+      retry = None;
+      archive = Some (codes "/sds");
+      output = None;
+    }))
+unfolding clap_on_literals
+archive_asked = refl
+
+-- an archive beside an output
+pub one_or_the_other :
+    job_of (codes "seedlinkd" ∷ codes "read" ∷ codes "a" ∷ codes "GE_WLF" ∷ codes "--archive=d" ∷ codes "--output=f" ∷ [])
+    ≡ None
+unfolding clap_on_literals
+one_or_the_other = refl
 
 pub version_asked : fault_of program_app (codes "seedlinkd" ∷ codes "--version" ∷ []) ≡ DisplayVersion ∷ []
 unfolding clap_on_literals

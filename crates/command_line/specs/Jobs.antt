@@ -107,9 +107,13 @@ spanned_app =
 abbrev pub retrying_app : App
 retrying_app = with_rule spanned_app (number_rule (codes "retry"))
 
--- `read A:P,.. WANT.. [--fetch] [--begin TIME] [--end TIME] [--retry N] [--output FILE]`
+-- `read A:P,.. WANT.. [--fetch] [--begin TIME] [--end TIME] [--retry N] [--archive DIR]`
+abbrev pub archiving_app : App
+archiving_app = with_rule retrying_app (option false (codes "archive"))
+
+-- `read A:P,.. WANT.. [--fetch] [--begin TIME] [--end TIME] [--retry N] [--archive DIR] [--output FILE]`
 abbrev pub read_app : App
-read_app = with_verbose (with_rule retrying_app (option false (codes "output")))
+read_app = with_verbose (with_rule archiving_app (option false (codes "output")))
 
 -- the program before it has arguments and subcommands, of which it wants one
 abbrev pub bare_app : App
@@ -135,6 +139,7 @@ pub record ReadAsked : Type 0 where
   pub begin : Option (List ℕ)
   pub last : Option (List ℕ)
   pub retry : Option ℕ
+  pub archive : Option (List ℕ)
   pub output : Option (List ℕ)
 
 -- those that the code has
@@ -145,6 +150,7 @@ options_asked o =
       begin = option_map (λ text. text.now) o.begin;
       last = option_map (λ text. text.now) o.last;
       retry = o.retry;
+      archive = option_map (λ text. text.now) o.archive;
       output = option_map (λ text. text.now) o.output;
     }
 
@@ -236,6 +242,7 @@ options_with (Some retry) rows =
       begin = first_of (codes "begin") rows;
       last = first_of (codes "end") rows;
       retry = retry;
+      archive = first_of (codes "archive") rows;
       output = first_of (codes "output") rows;
     })
 
@@ -244,8 +251,12 @@ options_in rows = options_with (number_in (codes "retry") rows) rows
 
 -- SeedLink can spell them: an end stands only beside a begin, not beside `--fetch`, and not beside `--retry`, since what
 -- lies before an end can't be asked for by a number.
+abbrev pub is_spelled : ReadAsked → Bool
+is_spelled o = not (is_some o.last) || (is_some o.begin && not o.fetch && not (is_some o.retry))
+
+-- Besides, records go into an archive or to an output, and not to both.
 abbrev pub is_askable : ReadAsked → Bool
-is_askable o = not (is_some o.last) || (is_some o.begin && not o.fetch && not (is_some o.retry))
+is_askable o = is_spelled o && not (is_some o.archive && is_some o.output)
 
 -- a reader's job, where all of it is there
 abbrev pub with_wants : Option ReadAsked → Option (List ℕ) → Option (List (List ℕ)) → Option Asked

@@ -5,7 +5,8 @@ ghost use Rattle.command_line.specs.Building.{Builds};
 ghost use Rattle.command_line.specs.Jobs.{address_rule, addressed_app, bare_app, check_app, feed_app, fetch_rule};
 ghost use Rattle.command_line.specs.Jobs.{limited_app, number_rule};
 ghost use Rattle.command_line.specs.Jobs.{option};
-ghost use Rattle.command_line.specs.Jobs.{program_app, read_app, retrying_app, spanned_app, replay_app, serve_app, timed_app};
+ghost use Rattle.command_line.specs.Jobs.{archiving_app, program_app, read_app, retrying_app, spanned_app, replay_app};
+ghost use Rattle.command_line.specs.Jobs.{serve_app, timed_app};
 ghost use Rattle.command_line.specs.Jobs.{verbose_rule, view_app};
 ghost use Rattle.command_line.specs.Jobs.{wanted, wants_app, wants_rule, with_verbose};
 
@@ -369,11 +370,32 @@ fn retrying_command<'a>(alloc: Global) -> Built<'a>
     )
 }
 
-/// `read A:P,.. WANT.. [--fetch] [--begin TIME] [--end TIME] [--retry N] [--output FILE]`.
+/// The option `--archive DIR`.
+fn archive<'a>(alloc: Global) -> Arg<'a>
+    ensures rule { rule_of result ≡ option false (codes "archive") }
+    ensures own { result.global ≡ false }
+{
+    option(
+        alloc,
+        "archive",
+        "DIR",
+        false,
+        "Adds each record to the file of its stream and day below DIR",
+    )
+}
+
+/// `read A:P,.. WANT.. [--fetch] [--begin TIME] [--end TIME] [--retry N] [--archive DIR]`.
+fn archiving_command<'a>(alloc: Global) -> Built<'a>
+    ensures { Builds result archiving_app }
+{
+    with_argument(retrying_command(alloc), archive(alloc))
+}
+
+/// `read A:P,.. WANT.. [--fetch] [--begin TIME] [--end TIME] [--retry N] [--archive DIR] [--output FILE]`.
 fn read_command<'a>(alloc: Global) -> Built<'a>
     ensures { Builds result read_app }
 {
-    let with_output = with_argument(retrying_command(alloc), output(alloc));
+    let with_output = with_argument(archiving_command(alloc), output(alloc));
     with_verbose(alloc, with_output)
 }
 

@@ -59,6 +59,8 @@ pub struct ReadOptions<'a> {
     pub last: Option<&'a str>,
     /// `--retry N`: a server that is gone is asked again after so many seconds, 1 to 1,000,000,000.
     pub retry: Option<usize>,
+    /// `--archive DIR`: each record is added to the file of its stream and day. Not beside `output`.
+    pub archive: Option<&'a str>,
     /// `--output FILE`: each record is added to that file.
     pub output: Option<&'a str>,
 }

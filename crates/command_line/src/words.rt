@@ -2,7 +2,7 @@
 ghost use Rattle.std.specs.Prelude.{◌≡◌, ◌||◌, [], Some, false, IfOk, IfErr, map, option_map, string_bytes};
 ghost use Rattle.clap.specs.Words.{all_of, fault_of, first_of, found_of, kind_of, rows_of, subcommand_rows_of};
 ghost use Rattle.command_line.specs.Jobs.{HelpIs, IsJob, IsTold, asked, asked_by, check_asked, feed_asked, is_shown};
-ghost use Rattle.command_line.specs.Jobs.{is_askable, options_asked, options_in};
+ghost use Rattle.command_line.specs.Jobs.{is_askable, is_spelled, options_asked, options_in};
 ghost use Rattle.command_line.specs.Jobs.{job_of, program_app, number_in, read_asked, replay_asked, serve_asked};
 ghost use Rattle.command_line.specs.Jobs.{verbose_by, verbose_in, verbose_of, view_asked};
 ghost use Rattle.command_line.specs.declared.job.WordsFault.TheVariants.{OutOfMemory};
@@ -109,15 +109,23 @@ fn read_options<'a>(arguments: &ArgMatches<'a>) -> Option<ReadOptions<'a>>
         begin: text_at(arguments, "begin"),
         last: text_at(arguments, "end"),
         retry,
+        archive: text_at(arguments, "archive"),
         output: text_at(arguments, "output"),
     })
 }
 
 /// Whether SeedLink can spell them: an end stands only beside a begin, and not beside `--fetch` or `--retry`.
+fn is_spelled(options: &ReadOptions<'_>) -> bool
+    ensures { result ≡ is_spelled (options_asked options.now) }
+{
+    options.last.is_none() || (options.begin.is_some() && !options.fetch && options.retry.is_none())
+}
+
+/// Whether they can stand together: SeedLink can spell them, and records go to an archive or to an output alone.
 fn is_askable(options: &ReadOptions<'_>) -> bool
     ensures { result ≡ is_askable (options_asked options.now) }
 {
-    options.last.is_none() || (options.begin.is_some() && !options.fetch && options.retry.is_none())
+    is_spelled(options) && (options.archive.is_none() || options.output.is_none())
 }
 
 fn read_job<'a>(alloc: Global, arguments: &ArgMatches<'a>) -> Result<Option<Job<'a>>, AllocError>
@@ -216,13 +224,13 @@ fn refused(alloc: Global, error: clap::Error) -> WordsFault
 }
 
 /// What is wrong with words that `clap` takes and that are no job: those of `read` have an end without a begin, or beside
-/// `--fetch` or `--retry`, or a number of seconds with a sign or with leading zeros beyond ten digits; others such a
+/// `--fetch` or `--retry`, an archive beside an output, or a number of seconds with a sign or with leading zeros beyond ten digits; others such a
 /// number of turns.
 fn mistake_in(matches: &ArgMatches<'_>) -> &'static str {
     match matches.subcommand() {
         Some(("read", _)) =>
-            "error: --end needs --begin, and can't be used with --fetch or --retry; a number of seconds is 1 to 10 \
-             decimal digits\n",
+            "error: --end needs --begin, and can't be used with --fetch or --retry; --archive can't be used with \
+             --output; a number of seconds is 1 to 10 decimal digits\n",
         _ => "error: a number is 1 to 10 decimal digits\n",
     }
 }

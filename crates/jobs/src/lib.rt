@@ -3,6 +3,7 @@
 #![tactic(auto)]
 
 mod admitting;
+mod archiving;
 mod endpoint;
 mod failure;
 mod faults;

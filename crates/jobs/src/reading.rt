@@ -3,6 +3,7 @@ ghost use Rattle.std.specs.Prelude.{◌≡◌};
 ghost use Rattle.jobs.specs.Faults.{goes_on, is_mendable, lost, unlisted};
 ghost use Rattle.jobs.specs.Places.{is_last_place, place_after};
 
+use crate::archiving::{archive_at, at_archive, tell_unplaced};
 use crate::failure::Failure;
 use crate::incident::{Incident, Site};
 use crate::network::{Server, connection, server_of, unconnected};
@@ -15,7 +16,7 @@ use packet_listing::{ListingFault, Nowhere, read_further};
 use sl_io::{Outer, Sink};
 use slreader::{Tally, Want, Window};
 use std::alloc::Global;
-use std::fs::OpenOptions;
+use std::fs::{File, OpenOptions};
 use std::net::{Net, OpenStream};
 use std::rt::{Clock, Files};
 use std::time::Duration;
@@ -38,14 +39,14 @@ fn servers_of<'a>(alloc: Global, word: &'a str) -> Result<Vec<Server<'a>>, Incid
 struct Reading<'a, 'w> {
     servers: Vec<Server<'a>>,
     wants: Vec<Want<'w>>,
-    /// After how long the first server is asked again, when all of them are gone.
+    /// After how long the next server is asked, or the first one again, if none is to be left out for good.
     pause: Option<Duration>,
     is_verbose: bool,
 }
 
 impl<'a> Reading<'a, '_> {
-    /// Tells a failure after which the next server is asked, and waits before the first one is asked again. It fails
-    /// with a failure that ends the reading.
+    /// Tells a failure after which the next server is asked, and waits before that: a server that is a moment behind the
+    /// last one would hand out records again. It fails with a failure that ends the reading.
     fn pass_over<R: Eprint + Clock>(
         &self,
         rt: &R,
@@ -56,9 +57,8 @@ impl<'a> Reading<'a, '_> {
             return Err(incident);
         }
         tell_incident(rt, incident, self.is_verbose);
-        match self.pause {
-            Some(pause) if is_last => thread::sleep(rt, pause),
-            _ => {}
+        if let Some(pause) = self.pause {
+            thread::sleep(rt, pause);
         }
         Ok(())
     }
@@ -265,9 +265,26 @@ fn list_and_add<'a, R: Files + Print + Eprint + Clock + Net + AllocGlobal>(
     }
 }
 
+/// Lists packets on the standard output, and adds their records to an archive.
+fn list_and_archive<'a, R: Files<File = File> + Print + Eprint + Clock + Net + AllocGlobal>(
+    rt: &R,
+    reading: &Reading<'a, '_>,
+    top: &'a str,
+) -> Result<(), Incident<'a>> {
+    let mut lines = Outer::new(io::writer(rt));
+    let mut archive = archive_at(rt, top)?;
+    let read = list_on(rt, reading, &mut lines, &mut archive);
+    tell_unplaced(rt, &archive);
+    match read {
+        Ok(()) => Ok(()),
+        Err(incident) => Err(at_archive(incident, archive, top)),
+    }
+}
+
 /// Asks servers for records, and writes a line for each packet to the standard output. With an output each record is
-/// added to that file. If the output is `-`, records go to the standard output, and lines to the standard error.
-pub fn read_servers<'a, R: Files + Print + Eprint + Clock + Net + AllocGlobal>(
+/// added to that file. If the output is `-`, records go to the standard output, and lines to the standard error. With an
+/// archive each record is added to the file of its stream and day there.
+pub fn read_servers<'a, R: Files<File = File> + Print + Eprint + Clock + Net + AllocGlobal>(
     rt: &R,
     servers: &'a str,
     wants: &[&'a str],
@@ -282,9 +299,10 @@ pub fn read_servers<'a, R: Files + Print + Eprint + Clock + Net + AllocGlobal>(
         pause: options.retry.map(|count| Duration::from_secs(count as u64)),
         is_verbose,
     };
-    match options.output {
-        None => list_lines(rt, &reading),
-        Some("-") => list_records(rt, &reading),
-        Some(path) => list_and_add(rt, &reading, path),
+    match (options.archive, options.output) {
+        (Some(top), _) => list_and_archive(rt, &reading, top),
+        (None, None) => list_lines(rt, &reading),
+        (None, Some("-")) => list_records(rt, &reading),
+        (None, Some(path)) => list_and_add(rt, &reading, path),
     }
 }

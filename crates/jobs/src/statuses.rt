@@ -9,6 +9,7 @@ use crate::incident::Incident;
 use crate::telling::tell_incident;
 use crate::work::run_job;
 use command_line::{Request, WordsFault, read_words};
+use std::fs::File;
 use std::net::Net;
 use std::os::fd::AsRawFd;
 use std::process::ExitCode;
@@ -61,7 +62,7 @@ pub fn told<R: Print + Eprint>(rt: &R, text: &str, is_help: bool) -> ExitCode
 
 /// Does the job that the words of a command line ask, of which the first is the program's name. If they are a job, the
 /// status is 0 or 1, as `status_of` has it, or 1 if memory for the words ran out. It is never 0 if they are a mistake.
-pub fn obey<R: Files + Print + Eprint + Clock + Net + AllocGlobal>(
+pub fn obey<R: Files<File = File> + Print + Eprint + Clock + Net + AllocGlobal>(
     rt: &R,
     words: &[String],
 ) -> ExitCode

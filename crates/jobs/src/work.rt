@@ -7,12 +7,13 @@ use crate::reading::read_servers;
 use crate::viewing::view_file;
 use command_line::Job;
 use serving::{KEEP_EVERY, Timetable};
+use std::fs::File;
 use std::net::Net;
 use std::os::fd::AsRawFd;
 use std::rt::{Clock, Files};
 
 /// Does what a job asks. With `is_verbose` faults that don't end it are explained.
-pub fn run_job<'a, R: Files + Print + Eprint + Clock + Net + AllocGlobal>(
+pub fn run_job<'a, R: Files<File = File> + Print + Eprint + Clock + Net + AllocGlobal>(
     rt: &R,
     job: Job<'a>,
     is_verbose: bool,

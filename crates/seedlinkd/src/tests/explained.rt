@@ -375,6 +375,7 @@ const HELD: ReadOptions<'static> = ReadOptions {
     begin: None,
     last: None,
     retry: None,
+    archive: None,
     output: None,
 };
 

@@ -255,6 +255,7 @@ fn read_has_wants_and_options(rt: HostRuntime) -> Result<(), Fail> {
         begin: None,
         last: None,
         retry: None,
+        archive: None,
         output: Some("-"),
     };
     assert!(rt; is_read(&job, wanted));
@@ -282,6 +283,7 @@ fn read_has_a_begin_and_an_end(rt: HostRuntime) -> Result<(), Fail> {
         begin: Some("2024,2,29"),
         last: Some("2024-03-01T00:00:00"),
         retry: None,
+        archive: None,
         output: None,
     };
     assert!(rt; is_read(&job, wanted));
@@ -308,6 +310,7 @@ fn read_has_servers_and_seconds(rt: HostRuntime) -> Result<(), Fail> {
         begin: None,
         last: None,
         retry: Some(5),
+        archive: None,
         output: None,
     };
     assert!(rt; is_read(&job, wanted));
