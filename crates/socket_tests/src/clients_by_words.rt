@@ -4,7 +4,7 @@ use jobs::obey;
 use loopback::{Actor, CENTRE, Centre, Stage, record};
 use std::alloc::Global;
 use std::cell::RefCell;
-use std::fs;
+use std::fs::{self, File};
 use std::net::Net;
 use std::os::fd::AsRawFd;
 use std::process::ExitCode;
@@ -40,7 +40,7 @@ struct Outcome {
 /// Does the job of a command line, in which PORT is a port of the server.
 fn outcome_of<R>(rt: &R, server: &RefCell<Server>, line: &str, port: u16) -> Result<Outcome, Fail>
 where
-    R: Files + Net + AllocGlobal,
+    R: Files<File = File> + Net + AllocGlobal,
     R::File: AsRawFd,
 {
     let port = format!(in rt.alloc(); "{port}")?;
@@ -69,7 +69,7 @@ fn two_records(alloc: Global) -> Result<Vec<u8>, Fail> {
 /// A server that was fed two records by the job `feed`, and the port for its clients.
 fn fed_server<R>(rt: &R) -> Result<(RefCell<Server>, u16), Fail>
 where
-    R: Files + Net + AllocGlobal,
+    R: Files<File = File> + Net + AllocGlobal,
     R::File: AsRawFd,
 {
     let records = two_records(rt.alloc())?;
@@ -114,5 +114,34 @@ fn read_writes_records_to_the_standard_output_and_lines_to_the_standard_error(
     assert_eq!(rt; read.errors.as_str(), LINES);
     let records = two_records(rt.alloc())?;
     assert!(rt; read.output.as_slice() == records.as_slice());
+    Ok(())
+}
+
+#[test]
+fn read_adds_records_to_the_archive_by_stream_and_day(rt: HostRuntime) -> Result<(), Fail> {
+    let (server, port) = fed_server(&rt)?;
+    let line = "seedlinkd read 127.0.0.1:PORT GE_APE --fetch --archive sds";
+    for _ in 0..2 {
+        let read = outcome_of(&rt, &server, line, port)?;
+        assert!(rt; read.status == ExitCode::SUCCESS);
+        assert!(rt; read.output.as_slice() == LINES.as_bytes());
+    }
+    let kept = fs::read(&rt, "sds/2024/GE/APE/BHZ.D/GE.APE..BHZ.D.2024.060")?;
+    let once = two_records(rt.alloc())?;
+    assert!(rt; kept.as_slice().strip_prefix(once.as_slice()) == Some(once.as_slice()));
+    Ok(())
+}
+
+#[test]
+fn read_fails_at_an_archive_that_somebody_else_adds_to(rt: HostRuntime) -> Result<(), Fail> {
+    let (server, port) = fed_server(&rt)?;
+    let line = "seedlinkd read 127.0.0.1:PORT GE_APE --fetch --archive sds";
+    let first = outcome_of(&rt, &server, line, port)?;
+    assert!(rt; first.status == ExitCode::SUCCESS);
+    let lock = File::open(&rt, "sds/.lock")?;
+    assert!(rt; lock.try_lock().is_ok());
+    let second = outcome_of(&rt, &server, line, port)?;
+    assert!(rt; second.status != ExitCode::SUCCESS && second.output.is_empty());
+    assert_eq!(rt; second.errors.as_str(), "seedlinkd: 44 File\n");
     Ok(())
 }

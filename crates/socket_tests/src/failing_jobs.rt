@@ -5,7 +5,7 @@ use loopback::{Actor, Stage, any_port};
 use socket_ports::MioPorts;
 use std::alloc::Global;
 use std::cell::RefCell;
-use std::fs;
+use std::fs::{self, File};
 use std::net::Net;
 use std::os::fd::AsRawFd;
 use std::process::ExitCode;
@@ -145,7 +145,7 @@ fn with_ports(alloc: Global, text: &str, taken: u16, free: u16) -> Result<String
 /// Whether a row's command line ends with status 1 and reports what the row says.
 fn fails_so<R>(rt: &R, row: &Row, taken: u16, free: u16) -> Result<bool, Fail>
 where
-    R: Files + Net + AllocGlobal,
+    R: Files<File = File> + Net + AllocGlobal,
     R::File: AsRawFd,
 {
     let line = with_ports(rt.alloc(), row.words, taken, free)?;

@@ -5,7 +5,7 @@ use loopback::{Actor, GREETING, Stage, Visitor, any_port, packet, record};
 use socket_ports::MioPorts;
 use std::alloc::Global;
 use std::cell::RefCell;
-use std::fs;
+use std::fs::{self, File};
 use std::net::{Ipv4Addr, Net};
 use std::os::fd::AsRawFd;
 use std::process::ExitCode;
@@ -103,7 +103,7 @@ fn seen<R: Net + AllocGlobal>(
     }
 }
 
-impl<R: Files + Net + AllocGlobal> Actor<R> for Visits {
+impl<R: Files<File = File> + Net + AllocGlobal> Actor<R> for Visits {
     fn act(&mut self, rt: &R, opened: u32) {
         // The first reading is before the server listens.
         if opened == 0 {
@@ -135,7 +135,7 @@ struct ServerRun {
 /// Runs a server that reads its configuration again after each turn, as the words of a command line start it.
 fn run_server<R>(rt: &R, later: &'static str) -> Result<ServerRun, Fail>
 where
-    R: Files + Net + AllocGlobal,
+    R: Files<File = File> + Net + AllocGlobal,
     R::File: AsRawFd,
 {
     run_server_with(rt, later, "")
@@ -144,7 +144,7 @@ where
 /// The same with more words.
 fn run_server_with<R>(rt: &R, later: &'static str, more: &str) -> Result<ServerRun, Fail>
 where
-    R: Files + Net + AllocGlobal,
+    R: Files<File = File> + Net + AllocGlobal,
     R::File: AsRawFd,
 {
     fs::write(rt, "centre.toml", OPEN.as_bytes())?;
