@@ -5,5 +5,5 @@ mod commands;
 mod job;
 mod words;
 
-pub use job::{Job, Request, WordsFault};
+pub use job::{Every, Job, Request, WordsFault};
 pub use words::read_words;

@@ -13,6 +13,7 @@ mod misspelled;
 mod network;
 mod numbers;
 mod operator;
+mod pace;
 mod part_texts;
 mod reasons;
 mod replaying;

@@ -12,7 +12,7 @@ use command_line::{Request, WordsFault, read_words};
 use std::net::Net;
 use std::os::fd::AsRawFd;
 use std::process::ExitCode;
-use std::rt::Files;
+use std::rt::{Clock, Files};
 
 /// The status of words that the program does not take.
 const REFUSED: u8 = 2;
@@ -61,7 +61,10 @@ pub fn told<R: Print + Eprint>(rt: &R, text: &str, is_help: bool) -> ExitCode
 
 /// Does the job that the words of a command line ask, of which the first is the program's name. If they are a job, the
 /// status is 0 or 1, as `status_of` has it, or 1 if memory for the words ran out. It is never 0 if they are a mistake.
-pub fn obey<R: Files + Print + Eprint + Net + AllocGlobal>(rt: &R, words: &[String]) -> ExitCode
+pub fn obey<R: Files + Print + Eprint + Clock + Net + AllocGlobal>(
+    rt: &R,
+    words: &[String],
+) -> ExitCode
 where
     R::File: AsRawFd,
     ensures job { IsJob (map string_bytes words.now) → (exit_status result ≡ 0) ⊎ (exit_status result ≡ 1) }
