@@ -4,7 +4,8 @@ use Rattle.clap.specs.Words.{Text, fault_of}
 use Rattle.clap.specs.declared.error.ErrorKind.TheVariants.{DisplayVersion, MissingRequiredArgument, UnknownArgument}
 use Rattle.clap.specs.declared.error.ErrorKind.TheVariants.{ValueValidation}
 use Rattle.clap.proofs.OnLiterals.{clap_on_literals}
-use Rattle.command_line.specs.Jobs.{job_of, program_app, verbose_of}
+use Rattle.command_line.specs.declared.job.Every.TheVariants.{Seconds, Turns}
+use Rattle.command_line.specs.Jobs.{every_of, job_of, program_app, verbose_of}
 use Rattle.command_line.specs.Jobs.Asked.{Check, Replay, Serve, Feed, Read}
 
 abbrev replay_words : List Text
@@ -56,9 +57,31 @@ reread_words =
     ∷ codes "--listen=a" ∷ []
 
 pub reread_asked : job_of reread_words
-    ≡ Some (Serve (codes "c") (codes "a") (codes "b") None (Some 600) (Some 9) None None None)
+    ≡ Some (Serve (codes "c") (codes "a") (codes "b") None (Some (Turns 600)) (Some (Turns 9)) None None
+    None)
 unfolding clap_on_literals
 reread_asked = refl
+
+abbrev seconds_words : List Text
+seconds_words =
+    codes "seedlinkd" ∷ codes "serve" ∷ codes "--report=9" ∷ codes "--reread" ∷ codes "60s" ∷ codes "c"
+    ∷ codes "--feed=b"
+    ∷ codes "--listen=a" ∷ []
+
+pub seconds_asked : job_of seconds_words
+    ≡ Some (Serve (codes "c") (codes "a") (codes "b") None (Some (Seconds 60)) (Some (Turns 9)) None None None)
+unfolding clap_on_literals
+seconds_asked = refl
+
+-- how often, in other words
+pub no_seconds : every_of (codes "s") ≡ None
+no_seconds = refl
+
+pub seconds_and_more : every_of (codes "60sec") ≡ None
+seconds_and_more = refl
+
+pub half_a_second : every_of (codes "0.5s") ≡ None
+half_a_second = refl
 
 abbrev numbers_words : List Text
 numbers_words =

@@ -1,7 +1,8 @@
 -- What the words of a command line ask, by the definitions of `clap`: which subcommand they name, and which text or
 -- number stands at each of its arguments.
 use Rattle.std.specs.Prelude.{◌≡◌, ◌⊎◌, ◌&&◌, ◌||◌, not, is_some, ℕ, Bool, true, false, List, [], Option, Some, None, option_map, map}
-use Rattle.std.specs.Prelude.{if◌then◌else◌, codes, nat_lt, IsSome}
+use Rattle.std.specs.Prelude.{◌∷◌, ◌+◌, ◌==◌, if◌then◌else◌, codes, drop, nat_lt, option_and_then, position, take}
+use Rattle.std.specs.Prelude.{IsSome}
 use Rattle.std.specs.Option.{option_map_or}
 use Rattle.std.specs.Str.{bytes_eq}
 use Rattle.clap.specs.Lexer.{usize_max}
@@ -13,6 +14,8 @@ use Rattle.clap.specs.declared.error.ErrorKind.{ErrorKind}
 use Rattle.clap.specs.declared.error.ErrorKind.TheVariants.{DisplayHelp, DisplayVersion}
 use Rattle.protocol.specs.Reading.{Not}
 use Rattle.protocol.specs.Time.{digits_between}
+use Rattle.command_line.specs.declared.job.Every.{Every}
+use Rattle.command_line.specs.declared.job.Every.TheVariants.{Turns, Seconds}
 use Rattle.command_line.specs.declared.job.Job.{Job}
 use Rattle.command_line.specs.declared.job.Job.TheVariants as job
 use Rattle.command_line.specs.declared.job.ReadOptions.{ReadOptions}
@@ -65,18 +68,18 @@ addressed_app =
     with_rule (with_rule (with_rule (new_app (codes "serve")) (wanted (codes "CONFIG")))
     (option true (codes "listen"))) (option true (codes "feed"))
 
--- that with `[--turns N] [--reread N] [--report N]`: serve's command with its counts of turns
+-- that with `[--turns N] [--reread N|Ns] [--report N|Ns]`: serve's command with when it does what
 abbrev pub timed_app : App
 timed_app =
-    with_rule (with_rule (with_rule addressed_app (number_rule (codes "turns"))) (number_rule (codes "reread")))
-    (number_rule (codes "report"))
+    with_rule (with_rule (with_rule addressed_app (number_rule (codes "turns"))) (option false (codes "reread")))
+    (option false (codes "report"))
 
 -- that with `[--feed-from LIST] [--per-address N]`: who may connect
 abbrev pub limited_app : App
 limited_app = with_rule (with_rule timed_app (option false (codes "feed-from"))) (number_rule (codes "per-address"))
 
--- `serve CONFIG --listen A:P --feed A:P [--turns N] [--reread N] [--report N] [--feed-from LIST] [--per-address N]
--- [--numbers FILE]`
+-- `serve CONFIG --listen A:P --feed A:P [--turns N] [--reread N|Ns] [--report N|Ns] [--feed-from LIST]
+-- [--per-address N] [--numbers FILE]`
 abbrev pub serve_app : App
 serve_app = with_verbose (with_rule limited_app (option false (codes "numbers")))
 
@@ -159,7 +162,8 @@ pub data Asked : Type 0 where
   Check : (file : List ℕ) → Asked
   Replay : (config : List ℕ) → (script : List ℕ) → Asked
   View : (config : List ℕ) → (address : Option (List ℕ)) → Asked
-  Serve : (config listen feed : List ℕ) → (turns reread report : Option ℕ) → (feed_from : Option (List ℕ))
+  Serve : (config listen feed : List ℕ) → (turns : Option ℕ) → (reread report : Option Every)
+      → (feed_from : Option (List ℕ))
       → (per_address : Option ℕ) → (numbers : Option (List ℕ)) → Asked
   Feed : (server file : List ℕ) → Asked
   Read : (server : List ℕ) → (wants : List (List ℕ)) → (options : ReadAsked) → Asked
@@ -198,23 +202,46 @@ abbrev pub view_asked : List Row → Option Asked
 view_asked rows = with_config (first_of (codes "ADDRESS") rows) (first_of (codes "CONFIG") rows)
 
 -- a number from 1 to 1,000,000,000
-abbrev pub checked_number : Option ℕ → Option (Option ℕ)
-checked_number None = None
-checked_number (Some n) = if nat_lt n 1 || nat_lt 1000000000 n then None else Some (Some n)
+abbrev pub in_range : ℕ → Option ℕ
+in_range n = if nat_lt n 1 || nat_lt 1000000000 n then None else Some n
 
--- the number that a text of 1 to 10 decimal digits spells; no number where the option is left out
-abbrev pub number_of : Option (List ℕ) → Option (Option ℕ)
-number_of None = Some None
-number_of (Some text) = checked_number (digits_between 1 10 text)
+-- the number that a text of 1 to 10 decimal digits spells
+abbrev pub number_of : List ℕ → Option ℕ
+number_of text = option_and_then in_range (digits_between 1 10 text)
+
+-- what an option has, by what its text spells; nothing where the option is left out
+abbrev pub spelled : {A : Type 0} → (List ℕ → Option A) → Option (List ℕ) → Option (Option A)
+spelled read None = Some None
+spelled read (Some text) = option_map Some (read text)
 
 -- the number that an option has
 abbrev pub number_in : Text → List Row → Option (Option ℕ)
-number_in name rows = number_of (first_of name rows)
+number_in name rows = spelled number_of (first_of name rows)
+
+abbrev pub is_s : ℕ → Bool
+is_s b = b == 115
+
+-- so many seconds, if nothing is behind the s
+abbrev pub seconds_if : List ℕ → List ℕ → Option Every
+seconds_if [] digits = option_map Seconds (number_of digits)
+seconds_if (b ∷ bs) digits = None
+
+-- how often, by the place of the first s: a number of seconds is before it, and without one it is of turns
+abbrev pub every_at : List ℕ → Option ℕ → Option Every
+every_at text None = option_map Turns (number_of text)
+every_at text (Some s) = seconds_if (drop (s + 1) text) (take s text)
+
+abbrev pub every_of : List ℕ → Option Every
+every_of text = every_at text (position is_s text)
+
+-- how often an option says
+abbrev pub every_in : Text → List Row → Option (Option Every)
+every_in name rows = spelled every_of (first_of name rows)
 
 -- a server's job, where all of it is there
 abbrev pub with_server : Option (List ℕ) → Option (List ℕ) → Option (List ℕ) →
-    Option (Option ℕ) → Option (Option ℕ) → Option (Option ℕ) → Option (List ℕ) → Option (Option ℕ) → Option (List ℕ)
-    → Option Asked
+    Option (Option ℕ) → Option (Option Every) → Option (Option Every) → Option (List ℕ) → Option (Option ℕ)
+    → Option (List ℕ) → Option Asked
 with_server (Some config) (Some listen) (Some feed) (Some turns) (Some reread) (Some report) feed_from
     (Some per_address) numbers =
     Some (Serve config listen feed turns reread report feed_from per_address numbers)
@@ -223,7 +250,7 @@ with_server _ _ _ _ _ _ feed_from _ numbers = None
 abbrev pub serve_asked : List Row → Option Asked
 serve_asked rows =
     with_server (first_of (codes "CONFIG") rows) (first_of (codes "listen") rows) (first_of (codes "feed") rows)
-    (number_in (codes "turns") rows) (number_in (codes "reread") rows) (number_in (codes "report") rows)
+    (number_in (codes "turns") rows) (every_in (codes "reread") rows) (every_in (codes "report") rows)
     (first_of (codes "feed-from") rows) (number_in (codes "per-address") rows) (first_of (codes "numbers") rows)
 
 abbrev pub feed_asked : List Row → Option Asked

@@ -175,7 +175,14 @@ fn addressed_command<'a>(alloc: Global) -> Built<'a>
     )
 }
 
-/// Serve's command with its counts of turns: `[--turns N] [--reread N] [--report N]`.
+/// A command with an option `--name N` or `--name Ns`.
+fn with_every<'a>(alloc: Global, command: Built<'a>, name: &'a str, help: &'a str) -> Built<'a>
+    ensures { (app : App) → Builds command.entry app → Builds result (with_rule app (option false name.entry.now)) }
+{
+    with_argument(command, option(alloc, name, "N|Ns", false, help))
+}
+
+/// Serve's command with when it does what: `[--turns N] [--reread N|Ns] [--report N|Ns]`.
 fn timed_command<'a>(alloc: Global) -> Built<'a>
     ensures { Builds result timed_app }
 {
@@ -185,17 +192,17 @@ fn timed_command<'a>(alloc: Global) -> Built<'a>
         "turns",
         "Ends after N turns, 1 to 1000000000",
     );
-    let with_reread = with_number(
+    let with_reread = with_every(
         alloc,
         with_end,
         "reread",
-        "Reads CONFIG again every N turns, 1 to 1000000000",
+        "Reads CONFIG again every N turns, or every N seconds as 60s",
     );
-    with_number(
+    with_every(
         alloc,
         with_reread,
         "report",
-        "Writes a line on standard error every N turns, 1 to 1000000000",
+        "Writes a line on standard error every N turns, or every N seconds as 60s",
     )
 }
 
@@ -240,8 +247,8 @@ fn numbers<'a>(alloc: Global) -> Arg<'a>
     )
 }
 
-/// `serve CONFIG --listen A:P --feed A:P [--turns N] [--reread N] [--report N] [--feed-from LIST] [--per-address N]
-/// [--numbers FILE]`.
+/// `serve CONFIG --listen A:P --feed A:P [--turns N] [--reread N|Ns] [--report N|Ns] [--feed-from LIST]
+/// [--per-address N] [--numbers FILE]`.
 fn serve_command<'a>(alloc: Global) -> Built<'a>
     ensures { Builds result serve_app }
 {

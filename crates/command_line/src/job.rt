@@ -1,6 +1,15 @@
 //! What the program can be asked to do.
 use thiserror::Error;
 
+/// How often something is done.
+#[derive(Clone, Copy, Debug, PartialEq, Eq, Drop)]
+pub enum Every {
+    /// Every so many turns.
+    Turns(usize),
+    /// Every so many seconds.
+    Seconds(usize),
+}
+
 /// What the program is asked to do, with the texts of the command line as they stand there.
 #[derive(Debug, PartialEq, Drop)]
 pub enum Job<'a> {
@@ -19,18 +28,19 @@ pub enum Job<'a> {
         config: &'a str,
         address: Option<&'a str>,
     },
-    /// `serve CONFIG --listen A:P --feed A:P [--turns N] [--reread N] [--report N] [--feed-from LIST] [--per-address N]
-    /// [--numbers FILE]`: a server over sockets. Each number is 1 to 1,000,000,000. Without `turns` the server runs
-    /// until it is ended from outside. Every `reread` turns it reads its configuration again, and every `report` turns
-    /// it tells what it has done. It takes feeds from the addresses of LIST alone, and at most `per_address` clients of
-    /// one address. Its stations begin with the numbers in FILE, which keeps numbers for the next run.
+    /// `serve CONFIG --listen A:P --feed A:P [--turns N] [--reread N|Ns] [--report N|Ns] [--feed-from LIST]
+    /// [--per-address N] [--numbers FILE]`: a server over sockets. Each number is 1 to 1,000,000,000. Without `turns`
+    /// the server runs until it is ended from outside. As often as `reread` says it reads its configuration again, and
+    /// as often as `report` says it tells what it has done. It takes feeds from the addresses of LIST alone, and at most
+    /// `per_address` clients of one address. Its stations begin with the numbers in FILE, which keeps numbers for the
+    /// next run.
     Serve {
         config: &'a str,
         listen: &'a str,
         feed: &'a str,
         turns: Option<usize>,
-        reread: Option<usize>,
-        report: Option<usize>,
+        reread: Option<Every>,
+        report: Option<Every>,
         feed_from: Option<&'a str>,
         per_address: Option<usize>,
         numbers: Option<&'a str>,

@@ -2,15 +2,17 @@
 ghost use Rattle.std.specs.Prelude.{◌≡◌, ◌||◌, [], Some, false, IfOk, IfErr, map, option_map, string_bytes};
 ghost use Rattle.clap.specs.Words.{all_of, fault_of, first_of, found_of, kind_of, rows_of, subcommand_rows_of};
 ghost use Rattle.command_line.specs.Jobs.{HelpIs, IsJob, IsTold, asked, asked_by, check_asked, feed_asked, is_shown};
-ghost use Rattle.command_line.specs.Jobs.{is_askable, is_spelled, options_asked, options_in};
-ghost use Rattle.command_line.specs.Jobs.{job_of, program_app, number_in, read_asked, replay_asked, serve_asked};
+ghost use Rattle.command_line.specs.Jobs.{every_in, every_of, is_askable, is_spelled, job_of, number_in, number_of};
+ghost use Rattle.command_line.specs.Jobs.{options_asked, options_in, program_app, read_asked, replay_asked};
+ghost use Rattle.command_line.specs.Jobs.{seconds_if, serve_asked};
 ghost use Rattle.command_line.specs.Jobs.{verbose_by, verbose_in, verbose_of, view_asked};
 ghost use Rattle.command_line.specs.declared.job.WordsFault.TheVariants.{OutOfMemory};
 
 use crate::commands::program;
-use crate::job::{Job, ReadOptions, Request, WordsFault};
+use crate::job::{Every, Job, ReadOptions, Request, WordsFault};
 use clap::ArgMatches;
 use clap::error::ErrorKind;
+use separators::cut_at;
 use std::alloc::{AllocError, Global};
 
 /// The text of an argument, where it has one.
@@ -51,6 +53,17 @@ fn view_job<'a>(arguments: &ArgMatches<'a>) -> Option<Job<'a>>
     Some(Job::View { config, address })
 }
 
+/// The number from 1 to 1,000,000,000 that a text spells.
+fn number_of(text: &[u8]) -> Option<usize>
+    ensures { result ≡ number_of text.now }
+{
+    let number = decimal::number(text, 1, 10)?;
+    if number < 1 || number > 1_000_000_000 {
+        return None;
+    }
+    Some(number)
+}
+
 /// The number that an option has: the inner None where it is left out, and None where the text is no number of its
 /// range.
 fn number_in<'a>(arguments: &ArgMatches<'a>, name: &str) -> Option<Option<usize>>
@@ -59,11 +72,49 @@ fn number_in<'a>(arguments: &ArgMatches<'a>, name: &str) -> Option<Option<usize>
     let Some(text) = text_at(arguments, name) else {
         return Some(None);
     };
-    let number = decimal::number(text.as_bytes(), 1, 10)?;
-    if number < 1 || number > 1_000_000_000 {
+    match number_of(text.as_bytes()) {
+        Some(number) => Some(Some(number)),
+        None => None,
+    }
+}
+
+/// So many seconds, if nothing is behind the `s`.
+fn seconds_if(behind: &[u8], digits: &[u8]) -> Option<Every>
+    ensures { result ≡ seconds_if behind.now digits.now }
+{
+    if !behind.is_empty() {
         return None;
     }
-    Some(Some(number))
+    match number_of(digits) {
+        Some(number) => Some(Every::Seconds(number)),
+        None => None,
+    }
+}
+
+/// How often a text says: `N` is every so many turns, and `Ns` every so many seconds.
+fn every_of(text: &[u8]) -> Option<Every>
+    ensures { result ≡ every_of text.now }
+{
+    match cut_at(text, b's') {
+        Some((digits, behind)) => seconds_if(behind, digits),
+        None => match number_of(text) {
+            Some(number) => Some(Every::Turns(number)),
+            None => None,
+        },
+    }
+}
+
+/// How often an option says: the inner None where it is left out, and None where the text does not say it.
+fn every_in<'a>(arguments: &ArgMatches<'a>, name: &str) -> Option<Option<Every>>
+    ensures { result ≡ every_in name.now (rows_of (found_of arguments.now)) }
+{
+    let Some(text) = text_at(arguments, name) else {
+        return Some(None);
+    };
+    match every_of(text.as_bytes()) {
+        Some(every) => Some(Some(every)),
+        None => None,
+    }
 }
 
 fn serve_job<'a>(arguments: &ArgMatches<'a>) -> Option<Job<'a>>
@@ -73,8 +124,8 @@ fn serve_job<'a>(arguments: &ArgMatches<'a>) -> Option<Job<'a>>
     let listen = text_at(arguments, "listen")?;
     let feed = text_at(arguments, "feed")?;
     let turns = number_in(arguments, "turns")?;
-    let reread = number_in(arguments, "reread")?;
-    let report = number_in(arguments, "report")?;
+    let reread = every_in(arguments, "reread")?;
+    let report = every_in(arguments, "report")?;
     let feed_from = text_at(arguments, "feed-from");
     let per_address = number_in(arguments, "per-address")?;
     let numbers = text_at(arguments, "numbers");
@@ -224,14 +275,14 @@ fn refused(alloc: Global, error: clap::Error) -> WordsFault
 }
 
 /// What is wrong with words that `clap` takes and that are no job: those of `read` have an end without a begin, or beside
-/// `--fetch` or `--retry`, an archive beside an output, or a number of seconds with a sign or with leading zeros beyond ten digits; others such a
-/// number of turns.
+/// `--fetch` or `--retry`, an archive beside an output, or a number with a sign or with leading zeros beyond ten digits;
+/// others such a number, or what says not how often something is done.
 fn mistake_in(matches: &ArgMatches<'_>) -> &'static str {
     match matches.subcommand() {
         Some(("read", _)) =>
             "error: --end needs --begin, and can't be used with --fetch or --retry; --archive can't be used with \
-             --output; a number of seconds is 1 to 10 decimal digits\n",
-        _ => "error: a number is 1 to 10 decimal digits\n",
+             --output; N is 1 to 1000000000 in 1 to 10 decimal digits\n",
+        _ => "error: N is 1 to 1000000000 in 1 to 10 decimal digits, and an s behind it stands for seconds\n",
     }
 }
 

@@ -3,9 +3,11 @@ pub mod Endpoints
 pub mod Faults
 pub mod Feeding
 pub mod Output
+pub mod Paces
 pub mod PartTexts
 pub mod Replaying
 pub mod Serving
 pub mod Sites
 pub mod Windows
 pub mod Places
+pub mod Words

@@ -14,6 +14,7 @@ mod misspelled;
 mod network;
 mod numbers;
 mod operator;
+mod pace;
 mod part_texts;
 mod reading;
 mod reasons;

@@ -19,7 +19,7 @@ use socket_ports::{Admission, MioPorts};
 use std::io;
 use std::net::{Net, SocketAddr, TcpStream};
 use std::os::fd::AsRawFd;
-use std::rt::Files;
+use std::rt::{Clock, Files};
 
 /// A server that a word names.
 #[derive(Clone, Copy)]
@@ -74,7 +74,7 @@ fn listen_at<'a, R: Net + AllocGlobal>(
 
 /// Serves clients and feeds as the options say, and then sends what was not sent yet. If faults are explained, the keys
 /// of the configuration that are not known are named first.
-pub fn serve_sockets<'a, R: Files + Eprint + Net + AllocGlobal>(
+pub fn serve_sockets<'a, R: Files + Eprint + Clock + Net + AllocGlobal>(
     rt: &R,
     listen: &'a str,
     feed: &'a str,

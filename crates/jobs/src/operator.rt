@@ -10,14 +10,16 @@ use crate::failure::Failure;
 use crate::files::config_at;
 use crate::incident::{Incident, Site};
 use crate::numbers::NumberFile;
+use crate::pace::Pace;
 use catalog::Config;
 use config_findings::{Difference, first_difference};
 use error_lines::{Device, ErrorLines, Line};
 use ports::Ports;
 use protocol::report::Report;
-use serving::{Activity, Ahead, Between, Refusal, ServeFault, Timetable, serve_between};
+use serving::{Activity, Ahead, Between, Due, Refusal, ServeFault, Timetable, serve_between};
 use std::fmt::Write;
-use std::rt::Files;
+use std::rt::{Clock, Files};
+use std::time::Duration;
 
 /// Whom a server takes, what it does between its turns, and how it tells it.
 #[derive(Clone, Copy)]
@@ -31,6 +33,9 @@ pub struct ServeOptions<'a> {
     /// How many clients of one address are taken; any number without one.
     pub per_address: Option<usize>,
     pub timetable: Timetable,
+    /// Every how many seconds the configuration is read again, and it is reported what was done.
+    pub reread_seconds: Option<usize>,
+    pub report_seconds: Option<usize>,
     /// Whether a configuration that is not taken is explained.
     pub is_verbose: bool,
 }
@@ -41,6 +46,10 @@ pub struct ServeOptions<'a> {
 pub struct Operator<'r, 'a, R, D> {
     rt: &'r R,
     path: &'a str,
+    /// When the server began, by the system's clock, and what is done by it.
+    began: Duration,
+    reread: Pace,
+    report: Pace,
     numbers: Option<NumberFile<'a>>,
     /// Whether numbers were kept, and else where they could not be.
     has_kept: bool,
@@ -60,6 +69,19 @@ impl<'r, 'a, R, D: Device> Operator<'r, 'a, R, D> {
     }
 }
 
+impl<'r, 'a, R: Clock, D> Operator<'r, 'a, R, D> {
+    /// How many milliseconds have passed since the server began; none if the system can't tell the time.
+    fn passed(&self) -> u64 {
+        match self.rt.monotonic() {
+            Ok(now) => {
+                let passed = now.saturating_sub(self.began).as_millis();
+                u64::try_from(passed).unwrap_or(u64::MAX)
+            }
+            Err(_) => 0,
+        }
+    }
+}
+
 /// The line `seedlinkd: N Name` of an incident, and on request the lines that explain it. What is too long is left out.
 fn line_of(incident: &Incident<'_>, is_verbose: bool) -> Line {
     let Report { number, name } = incident.failure.report();
@@ -74,11 +96,20 @@ fn line_of(incident: &Incident<'_>, is_verbose: bool) -> Line {
     line
 }
 
-impl<'r, 'a, R: Files + AllocGlobal, D: Device> Between for Operator<'r, 'a, R, D> {
+impl<'r, 'a, R: Files + Clock + AllocGlobal, D: Device> Between for Operator<'r, 'a, R, D> {
     type Fault = Incident<'a>;
 
-    // What a file holds, and what the standard error takes, no contract can say.
+    // What a clock tells, a file holds and the standard error takes, no contract can say.
     ghost asked = { λ _. None };
+
+    /// By one look at the clock.
+    fn due(&mut self) -> Due {
+        let now = self.passed();
+        Due {
+            reread: self.reread.comes(now),
+            report: self.report.comes(now),
+        }
+    }
 
     fn configuration(&mut self) -> Result<Config, Incident<'a>> {
         let mut config = config_at(self.rt, self.path)?;
@@ -130,7 +161,7 @@ impl<'r, 'a, R: Files + AllocGlobal, D: Device> Between for Operator<'r, 'a, R, 
 
 /// Runs a new server with the configuration that was read from a file over ports, as the options say, with lines to a
 /// device and the numbers in a file, if there is one, and gives the ports back.
-pub fn serve_by<'a, R: Files + AllocGlobal, P: Ports + Drop, D: Device + Drop>(
+pub fn serve_by<'a, R: Files + Clock + AllocGlobal, P: Ports + Drop, D: Device + Drop>(
     rt: &R,
     config: Config,
     ports: P,
@@ -149,9 +180,13 @@ pub fn serve_by<'a, R: Files + AllocGlobal, P: Ports + Drop, D: Device + Drop>(
             site: Site::Unnamed,
         });
     };
+    let began = rt.monotonic().unwrap_or(Duration::ZERO);
     let mut operator = Operator {
         rt,
         path: options.path,
+        began,
+        reread: Pace::new(options.reread_seconds),
+        report: Pace::new(options.report_seconds),
         numbers,
         has_kept: false,
         unkept: Site::Unnamed,

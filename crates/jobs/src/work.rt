@@ -1,16 +1,63 @@
 //! What is done for each job.
+ghost use Rattle.std.specs.Prelude.{◌≡◌, ◌||◌, is_some, option_and_then};
+ghost use Rattle.jobs.specs.Words.{seconds_of, turns_of};
+
 use crate::files::{check_file, replay_files};
 use crate::incident::Incident;
 use crate::network::{feed_file, serve_sockets};
 use crate::operator::ServeOptions;
 use crate::reading::read_servers;
 use crate::viewing::view_file;
-use command_line::Job;
+use command_line::{Every, Job};
 use serving::{KEEP_EVERY, Timetable};
 use std::fs::File;
 use std::net::Net;
 use std::os::fd::AsRawFd;
 use std::rt::{Clock, Files};
+
+/// The turns after which something is done, if it goes by turns.
+fn turns_in(every: Option<Every>) -> Option<usize>
+    ensures { result ≡ option_and_then turns_of every }
+{
+    match every {
+        Some(Every::Turns(turns)) => Some(turns),
+        _ => None,
+    }
+}
+
+/// The seconds after which it is done, if it goes by seconds.
+fn seconds_in(every: Option<Every>) -> Option<usize>
+    ensures { result ≡ option_and_then seconds_of every }
+{
+    match every {
+        Some(Every::Seconds(seconds)) => Some(seconds),
+        _ => None,
+    }
+}
+
+/// When a server does what, by the words of a command line: by turns, by time, and with a file of numbers once so many
+/// records came.
+fn timetable_of(
+    turns: Option<usize>,
+    reread: Option<Every>,
+    report: Option<Every>,
+    numbers: Option<&str>,
+) -> Timetable
+    ensures turns { result.turns ≡ turns }
+    ensures reread { result.reread ≡ option_and_then turns_of reread }
+    ensures report { result.report ≡ option_and_then turns_of report }
+    ensures timed { result.timed ≡ (is_some (option_and_then seconds_of reread)
+        || is_some (option_and_then seconds_of report)) }
+    ensures keep { is_some result.keep ≡ is_some numbers.entry }
+{
+    Timetable {
+        turns,
+        reread: turns_in(reread),
+        report: turns_in(report),
+        timed: seconds_in(reread).is_some() || seconds_in(report).is_some(),
+        keep: numbers.map(|_| KEEP_EVERY),
+    }
+}
 
 /// Does what a job asks. With `is_verbose` faults that don't end it are explained.
 pub fn run_job<'a, R: Files<File = File> + Print + Eprint + Clock + Net + AllocGlobal>(
@@ -36,18 +83,15 @@ where
             per_address,
             numbers,
         } => {
-            let timetable = Timetable {
-                turns,
-                reread,
-                report,
-                keep: numbers.map(|_| KEEP_EVERY),
-            };
+            let timetable = timetable_of(turns, reread, report, numbers);
             let options = ServeOptions {
                 path: config,
                 numbers,
                 feed_from,
                 per_address,
                 timetable,
+                reread_seconds: seconds_in(reread),
+                report_seconds: seconds_in(report),
                 is_verbose,
             };
             serve_sockets(rt, listen, feed, options)

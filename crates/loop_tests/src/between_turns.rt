@@ -1,7 +1,7 @@
 //! What a server asks and reports between its turns, over ports and answers in memory.
 use catalog::Config;
 use ports::{MemoryPorts, Script};
-use serving::{Activity, Made, MemoryBetween, Refusal, Timetable, serve_between};
+use serving::{Activity, Due, Made, MemoryBetween, Refusal, Timetable, serve_between};
 use std::alloc::Global;
 use std::test::Fail;
 use test_centre::{CENTRE, FOREST_CLOSED, ISLAND_LARGER};
@@ -18,6 +18,19 @@ static ASKED: [&str; 7] = [
     "report",
 ];
 
+/// What is asked in four turns of one at which after the second turn it is time to read it, after the third to report,
+/// and after the fourth both.
+static ASKED_BY_TIME: [&str; 8] = [
+    "looked",
+    "looked",
+    "configuration",
+    "looked",
+    "report",
+    "looked",
+    "configuration",
+    "report",
+];
+
 /// The configurations that are read, the last first.
 fn readings(alloc: Global) -> Result<Vec<Result<Config, u8>>, Fail> {
     let mut readings = Vec::new(alloc);
@@ -30,6 +43,7 @@ fn readings(alloc: Global) -> Result<Vec<Result<Config, u8>>, Fail> {
 /// What a call was, in words. A report of a server at which nobody has come is a report.
 fn words_of(made: &Made) -> &'static str {
     match made {
+        Made::Looked(_) => "looked",
         Made::Configuration(Ok(_)) => "configuration",
         Made::Configuration(Err(_)) => "no configuration",
         Made::Refused(Refusal::Different) => "different",
@@ -53,28 +67,63 @@ fn words_of(made: &Made) -> &'static str {
     }
 }
 
-/// Runs a server at whose ports nothing happens, and answers what it asked between its turns.
-fn asked(alloc: Global) -> Result<MemoryBetween, Fail> {
-    let mut between = MemoryBetween::new(alloc, readings(alloc)?);
+/// Runs a server at whose ports nothing happens, and keeps what it asked between its turns.
+fn run_over(alloc: Global, between: &mut MemoryBetween, timetable: Timetable) -> Result<(), Fail> {
     let ports = MemoryPorts::new(alloc, Script::new(Vec::new(alloc), Vec::new(alloc)));
-    let timetable = Timetable {
-        turns: Some(7),
-        reread: Some(2),
-        report: Some(3),
-        keep: None,
-    };
     let config = Config::read(alloc, CENTRE)?;
-    let _ports = serve_between(alloc, config, ports, &mut between, timetable)?;
-    Ok(between)
+    let _ports = serve_between(alloc, config, ports, between, timetable)?;
+    Ok(())
+}
+
+/// Whether these calls were made, in words.
+fn were_made(between: &MemoryBetween, wanted: &[&'static str]) -> bool {
+    let made = between.made();
+    made.len() == wanted.len()
+        && made
+            .iter()
+            .zip(wanted)
+            .all(|(call, words)| words_of(call) == *words)
 }
 
 #[test]
 fn a_server_asks_and_reports_when_it_is_due(rt: HostRuntime) -> Result<(), Fail> {
-    let between = asked(rt.alloc())?;
-    let made = between.made();
-    assert_eq!(rt; made.len(), ASKED.len());
-    for (call, words) in made.iter().zip(&ASKED) {
-        assert_eq!(rt; words_of(call), *words);
+    let mut between = MemoryBetween::new(rt.alloc(), readings(rt.alloc())?);
+    let timetable = Timetable {
+        turns: Some(7),
+        reread: Some(2),
+        report: Some(3),
+        timed: false,
+        keep: None,
+    };
+    run_over(rt.alloc(), &mut between, timetable)?;
+    assert!(rt; were_made(&between, &ASKED));
+    Ok(())
+}
+
+/// What is due by time after each of four turns, the last first.
+fn times(alloc: Global) -> Result<Vec<Due>, Fail> {
+    let mut due = Vec::new(alloc);
+    for (reread, report) in [(true, true), (false, true), (true, false), (false, false)] {
+        due.push(Due { reread, report })?;
     }
+    Ok(due)
+}
+
+#[test]
+fn a_server_asks_and_reports_when_it_is_time(rt: HostRuntime) -> Result<(), Fail> {
+    let mut readings = Vec::new(rt.alloc());
+    for _ in 0..2 {
+        readings.push(Ok(Config::read(rt.alloc(), FOREST_CLOSED)?))?;
+    }
+    let mut between = MemoryBetween::new(rt.alloc(), readings).with_due(times(rt.alloc())?);
+    let timetable = Timetable {
+        turns: Some(4),
+        reread: None,
+        report: None,
+        timed: true,
+        keep: None,
+    };
+    run_over(rt.alloc(), &mut between, timetable)?;
+    assert!(rt; were_made(&between, &ASKED_BY_TIME));
     Ok(())
 }

@@ -59,6 +59,7 @@ fn served(
         turns: Some(6),
         reread: None,
         report: None,
+        timed: false,
         keep: Some(keep),
     };
     let ports = serve_between(alloc, config, ports, &mut between, timetable)?;

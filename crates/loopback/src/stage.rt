@@ -9,7 +9,8 @@ use std::io;
 use std::io::{ErrorKind, Read};
 use std::net::{Net, OpenListener, OpenStream, Shutdown, SocketAddr};
 use std::os::fd::{AsRawFd, RawFd};
-use std::rt::Files;
+use std::rt::{Clock, Files};
+use std::time::Duration;
 
 /// The path by which a server opens its standard error a second time, and the file that it finds there.
 const STANDARD_ERROR: &str = "/proc/self/fd/2";
@@ -34,13 +35,14 @@ pub trait Actor<R> {
 }
 
 /// A runtime with an actor, which keeps what is written to the standard output and the standard error. Lines of a
-/// server that opens its standard error a second time go to the file `errors.txt`, which has to be there. All else is
-/// the runtime's.
+/// server that opens its standard error a second time go to the file `errors.txt`, which has to be there. Its clock
+/// goes on by a second with each look. All else is the runtime's.
 #[derive(Drop)]
 pub struct Stage<'a, R, A> {
     rt: &'a R,
     actor: &'a RefCell<A>,
     opened: Cell<u32>,
+    looks: Cell<u64>,
     output: RefCell<Vec<u8>>,
     errors: RefCell<String>,
 }
@@ -52,6 +54,7 @@ impl<'a, R: AllocGlobal, A> Stage<'a, R, A> {
             rt,
             actor,
             opened: Cell::new(0),
+            looks: Cell::new(0),
             output: RefCell::new(Vec::new(rt.alloc())),
             errors: RefCell::new(String::new(rt.alloc())),
         }
@@ -110,6 +113,18 @@ impl<'a, R: AllocGlobal, A> Eprint for Stage<'a, R, A> {
 
     fn eprintln<D: Display + Drop>(&self, value: D) -> io::Result<()> {
         self.keep_error(value, "\n")
+    }
+}
+
+impl<'a, R, A> Clock for Stage<'a, R, A> {
+    fn monotonic(&self) -> io::Result<Duration> {
+        let looks = self.looks.get();
+        self.looks.set(looks.wrapping_add(1));
+        Ok(Duration::from_secs(looks))
+    }
+
+    fn since_1970(&self) -> io::Result<Duration> {
+        self.monotonic()
     }
 }
 

@@ -1,6 +1,6 @@
 -- How far kept numbers are ahead.
 use Rattle.std.proofs.Common.{◌≡◌, ℕ, zero, suc, ◌+◌, ◌-◌, ◌*◌, ◌%◌, ◌/◌, ◌<◌, ◌≤◌, List, [], ◌∷◌, ◌++◌, length, map}
-use Rattle.std.proofs.Common.{if◌then◌else◌, get_or, take, slice_get, Option, Some, None, refl, sym, ap, subst, ◌∙◌}
+use Rattle.std.proofs.Common.{if◌then◌else◌, get_or, take, slice_get, Some, None, refl, sym, ap, ◌∙◌}
 use Rattle.std.proofs.Common.{arith}
 use Rattle.std.proofs.Math.Nat.{add-mul-mod_self_left, mod-add-div}
 use Rattle.std.proofs.lemmas.List.{take_all}
@@ -12,7 +12,6 @@ use Rattle.protocol.specs.World.{Event, config_after, reloaded}
 use Rattle.protocol.specs.World.Event.{Open, Bytes, Take, Close, Arrive, Reload}
 use Rattle.protocol.proofs.Configs.{configurations_compared, reloaded_not, reloaded_where}
 use Rattle.protocol.proofs.FoundLemmas.{both}
-use Rattle.held_records.specs.Rings.{numbers_after}
 use Rattle.serving.specs.Ahead.{number_ahead, numbers_ahead, room}
 use Rattle.serving.specs.Keeping.{IsAhead}
 

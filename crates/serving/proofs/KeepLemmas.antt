@@ -1,5 +1,5 @@
 -- What is kept along a run.
-use Rattle.std.proofs.Common.{◌≡◌, ℕ, zero, suc, ◌+◌, ◌-◌, ◌*◌, ◌<◌, ◌≤◌, Bool, true, false, if◌then◌else◌, List, []}
+use Rattle.std.proofs.Common.{◌≡◌, ℕ, suc, ◌+◌, ◌-◌, ◌*◌, ◌≤◌, Bool, true, false, if◌then◌else◌, List, []}
 use Rattle.std.proofs.Common.{◌∷◌, ◌++◌, length, refl, sym, ap, subst, ◌∙◌, arith, append_assoc, append-nil}
 use Rattle.std.proofs.Common.{length-append, Option, Some, None, Result, Ok, Err, nat_lt, get_or}
 use Rattle.std.specs.Option.{option_map_or}
@@ -24,9 +24,10 @@ use Rattle.serving.specs.Keeping.{AreAhead, BeginsTurn, IsAhead, Kept, KeepsAhea
 use Rattle.serving.specs.Keeping.{kept_with}
 use Rattle.serving.specs.Keeping.{nothing_kept}
 use Rattle.serving.specs.Keeping.BeginsTurn.{no_turn, of_made, of_failed}
-use Rattle.serving.specs.Runs.{KeepsIf, RereadsIf, Runs, Stops, refusals, reloads, reports_if, unkept}
+use Rattle.serving.specs.declared.between.Due.{Due}
+use Rattle.serving.specs.Runs.{KeepsIf, LooksIf, RereadsIf, Runs, Stops, refusals, reloads, reports_if, unkept}
 use Rattle.serving.specs.Runs.Runs.{begins, turned, failed}
-use Rattle.serving.specs.Timetables.{is_due, is_keep_due}
+use Rattle.serving.specs.Timetables.{is_keep_due}
 use Rattle.serving.proofs.ActLemmas.{world-append}
 use Rattle.serving.proofs.RunLemmas.{world-turned}
 use Rattle.serving.proofs.AheadLemmas.{ahead-at, ahead-stays}
@@ -117,6 +118,12 @@ module _ {F : Type 0} where
   report-before true w v a b ys p e = let told = told-before a b _ ys p e in
       record { xs = told.xs; was = told.was; is = told.is }
   report-before false w v a b ys p e = told-before a b [] ys p e
+
+  look-before : (timed : Bool) (by_time : Due) (a b : Option (List (Asked F))) (ys : List (Asked F))
+      → LooksIf timed a by_time b → b ≡ Some ys → Before a ys []
+  look-before true by_time a b ys p e = let told = told-before a b _ ys p e in
+      record { xs = told.xs; was = told.was; is = told.is }
+  look-before false by_time a b ys p e = record { xs = ys; was = sym p.1 ∙ e; is = refl }
 
   -- A stop brings no record.
   reloads-bring : (config : Config) (w : World) (answer : Result Config F)
@@ -266,17 +273,19 @@ module _ (config : Config) (every : ℕ) where
       → Follows config every (world_then (config_after config es) w' stop).history kept' (kept_by ys))
   stop-follows t done es w' v' v'' h kept kept' a b stop ys x is e grows few =
       let k : Config = config_after config es in
-      let r = report-before (is_due t.report done) (world_then k w' stop) v'' x.between b ys x.report e in
-      let s = reread-before (is_due t.reread done) k w' v' v'' x.first x.between stop r.xs x.reread r.was in
-      let m = keep-follows (is_keep_due t kept (length w'.history)) t es w' h kept kept' a x.first s.xs refl is x.keep
-      s.was grows few in
+      let r = report-before x.due.report (world_then k w' stop) v'' x.between b ys x.report e in
+      let s = reread-before x.due.reread k w' v' v'' x.first x.between stop r.xs x.reread r.was in
+      let m = keep-follows (is_keep_due t kept (length w'.history)) t es w' h kept kept' x.looked x.first s.xs refl is
+      x.keep s.was grows few in
+      let o = look-before t.timed x.finds.by_time a x.looked m.0 x.finds.looks m.1 in
       let same : kept_by ys ≡ kept_by s.xs = r.is ∙ s.is in (
-        m.0,
-        m.1,
+        o.xs,
+        o.was,
         λ f.
             subst (λ l. Follows config every l kept' (kept_by ys))
-            (sym (reread-brings (is_due t.reread done) k w' v' v'' x.first x.between stop x.reread))
-            (subst (Follows config every w'.history kept') (sym same) (m.2 f)),
+            (sym (reread-brings x.due.reread k w' v' v'' x.first x.between stop x.reread))
+            (subst (Follows config every w'.history kept') (sym same)
+            (m.2 (subst (Follows config every h kept) (sym o.is) f))),
       )
 
 module _ {F : Type 0} (t : Timetable) (every : ℕ) (config : Config) (w : World) (first : LoopValue)

@@ -1,5 +1,5 @@
 -- Runs, turn after turn.
-use Rattle.std.proofs.Common.{◌≡◌, ℕ, suc, if◌then◌else◌, ◌<◌, ◌≤◌, arith, Bool, true, false, Result, Ok, Err, List}
+use Rattle.std.proofs.Common.{◌≡◌, ℕ, suc, ◌<◌, ◌≤◌, arith, Bool, true, false, Result, Ok, Err, List}
 use Rattle.std.proofs.Common.{length, [], ◌∷◌, ◌++◌, refl, sym, ap, subst, ◌∙◌, Option}
 use Rattle.protocol.specs.Catalog.{Config}
 use Rattle.protocol.specs.World.{World}
@@ -8,8 +8,9 @@ use Rattle.ports.specs.Calls.{Tells}
 use Rattle.event_loop.specs.Deeds.{Deed, calls_in, world_beyond}
 use Rattle.event_loop.proofs.DeedLemmas.{Tells-nil}
 use Rattle.event_loop.specs.Turns.{HandsAsAlone}
+use Rattle.serving.specs.declared.running.Stopped.{Stopped}
 use Rattle.serving.specs.declared.timetable.Timetable.{Timetable}
-use Rattle.serving.specs.Timetables.{is_due, failures_kept, turns_of}
+use Rattle.serving.specs.Timetables.{failures_kept, turns_of}
 use Rattle.serving.specs.Asked.{Asked}
 use Rattle.serving.specs.Acts.{Act, all_calls, config_then, world_then, HandsThroughout}
 use Rattle.serving.specs.Acts.Act.{Turning}
@@ -22,12 +23,9 @@ use Rattle.serving.proofs.ActLemmas.{tells-turning, tells-silent}
 use Rattle.serving.proofs.ActLemmas.{hands-nothing, hands-turning, hands-reloading, hands-then}
 
 -- how many failed turns are counted after a stop
-kept-none : (t : Timetable) (done : ℕ) → failures_kept t done 0 ≡ 0
-kept-none t done = same (is_due t.reread done) 0
-  where
-    same : (due : Bool) (n : ℕ) → (if due then n else n) ≡ n
-    same true n = refl
-    same false n = refl
+kept-none : (reread : Bool) → failures_kept reread 0 ≡ 0
+kept-none true = refl
+kept-none false = refl
 
 module _ (config : Config) (w : World) (acts : List Act) (deeds : List Deed) where
   abbrev here : Config
@@ -108,15 +106,15 @@ module _ {F : Type 0} (t : Timetable) (config : Config) (w : World) (first : Loo
     abbrev with : List Deed → List Act
     with deeds = r.acts ++ Turning deeds ∷ []
 
-    module _ (v'' : LoopValue) (kept' : ℕ) (b : Option (List (Asked F)))
-        (stop : (k : Config) (u : World) → StandsAt v'.server k u → SomeStop t (suc done) k u v' kept a v'' kept' b)
+    module _ (v'' : LoopValue) (left : Stopped) (b : Option (List (Asked F)))
+        (stop : (k : Config) (u : World) → StandsAt v'.server k u → SomeStop t (suc done) k u v' kept a v'' left b)
         (few : failures' < 16) where
       after : (deeds : List Deed) → (s : SomeStop t (suc done) (config_then config (with deeds))
-          (world_then config w (with deeds)) v' kept a v'' kept' b) →
-          Runs t config w first first_asked (suc done) (failures_kept t (suc done) failures') kept'
+          (world_then config w (with deeds)) v' kept a v'' left b) →
+          Runs t config w first first_asked (suc done) (failures_kept left.reread failures') left.kept
           (with deeds ++ s.acts) v'' b →
           Tells v.calls v'.calls (calls_in deeds) → HandsAsAlone now at deeds →
-          RanSo t config w first first_asked (suc done) (failures_kept t (suc done) failures') kept' v'' b
+          RanSo t config w first first_asked (suc done) (failures_kept left.reread failures') left.kept v'' b
       after deeds s runs tells hands =
           let k : Config = config_then config (with deeds) in
           let u : World = world_then config w (with deeds) in
@@ -124,9 +122,9 @@ module _ {F : Type 0} (t : Timetable) (config : Config) (w : World) (first : Loo
             acts = with deeds ++ s.acts;
             runs = runs;
             tells = tells-silent first.calls v'.calls v''.calls (with deeds) s.acts
-                (stop-calls (is_due t.reread (suc done)) k u v' v'' s.stops.first s.stops.between s.acts
+                (stop-calls s.stops.due.reread k u v' v'' s.stops.first s.stops.between s.acts
                 s.stops.reread)
-                (stop-keeps (is_due t.reread (suc done)) k u v' v'' s.stops.first s.stops.between s.acts
+                (stop-keeps s.stops.due.reread k u v' v'' s.stops.first s.stops.between s.acts
                 s.stops.reread)
                 (tells-turning first.calls v.calls v'.calls r.acts deeds r.tells tells);
             stands = subst (λ c. StandsAt v''.server c (world_then config w (with deeds ++ s.acts)))
@@ -135,32 +133,32 @@ module _ {F : Type 0} (t : Timetable) (config : Config) (w : World) (first : Loo
                 (sym (world-append config w (with deeds) s.acts))
                 s.stands);
             isolation = hands-then config w (with deeds) s.acts (hands-turned config w r.acts deeds r.isolation hands)
-                (hands-stop (is_due t.reread (suc done)) k u v' v'' s.stops.first s.stops.between s.acts
+                (hands-stop s.stops.due.reread k u v' v'' s.stops.first s.stops.between s.acts
                 s.stops.reread);
           }
 
       by-turn : OneTurn failures failures' now at v v' →
-          RanSo t config w first first_asked (suc done) (failures_kept t (suc done) failures') kept' v'' b
+          RanSo t config w first first_asked (suc done) (failures_kept left.reread failures') left.kept v'' b
       by-turn (made answer e x refused) =
           let s : SomeStop t (suc done) (config_then config (with x.deeds)) (world_then config w (with x.deeds))
-          v' kept a v'' kept' b =
+          v' kept a v'' left b =
           stop _ _ (stands-turned config w r.acts x.deeds v'.server x.does.stands) in
           after x.deeds s
-          (subst (λ n. Runs t config w first first_asked (suc done) n kept' (with x.deeds ++ s.acts) v'' b)
-          (sym (ap (failures_kept t (suc done)) e ∙ kept-none t (suc done)))
+          (subst (λ n. Runs t config w first first_asked (suc done) n left.kept (with x.deeds ++ s.acts) v'' b)
+          (sym (ap (failures_kept left.reread) e ∙ kept-none left.reread))
           (turned v' answer s.acts r.runs x refused s.stops))
           x.does.tells x.isolation
       by-turn (not_made e x refused) =
           let s : SomeStop t (suc done) (config_then config (with x.deeds)) (world_then config w (with x.deeds))
-          v' kept a v'' kept' b =
+          v' kept a v'' left b =
           stop _ _ (stands-turned config w r.acts x.deeds v'.server x.does.stands) in
           after x.deeds s
-          (subst (λ n. Runs t config w first first_asked (suc done) n kept' (with x.deeds ++ s.acts) v'' b)
-          (sym (ap (failures_kept t (suc done)) e))
+          (subst (λ n. Runs t config w first first_asked (suc done) n left.kept (with x.deeds ++ s.acts) v'' b)
+          (sym (ap (failures_kept left.reread) e ∙ ap (λ r. failures_kept r (suc failures)) (sym s.was)))
           (failed v' s.acts r.runs x refused (subst (λ n. n < 16) e few) s.stops))
           x.does.tells x.isolation
 
-    module _ (left : done < turns_of t) (few : failures < 16) (many : 16 ≤ failures') where
+    module _ (some_left : done < turns_of t) (few : failures < 16) (many : 16 ≤ failures') where
       fifteen : failures' ≡ suc failures → failures ≡ 15
       fifteen e = omega arith
 
@@ -169,7 +167,7 @@ module _ {F : Type 0} (t : Timetable) (config : Config) (w : World) (first : Loo
       by-last (not_made e x refused) =
           record {
             done = done;
-            some_left = left;
+            some_left = some_left;
             kept = kept;
             before = v;
             ran = record {
@@ -187,18 +185,18 @@ module _ {F : Type 0} (t : Timetable) (config : Config) (w : World) (first : Loo
           }
 
   -- a turn more, with the stop after it
-  pub ran-on : (done next failures failures' last last' : ℕ) (v v' v'' : LoopValue)
+  pub ran-on : (done next failures failures' last : ℕ) (left : Stopped) (v v' v'' : LoopValue)
       (a b : Option (List (Asked F))) → next ≡ suc done →
       RanSo t config w first first_asked done failures last v a →
       ((k : Config) (u : World) → StandsAt v.server k u → OneTurn failures failures' k u v v') →
-      ((k : Config) (u : World) → StandsAt v'.server k u → SomeStop t next k u v' last a v'' last' b) →
-      failures' < 16 → (kept : ℕ) → kept ≡ failures_kept t next failures' →
-      RanSo t config w first first_asked next kept last' v'' b
-  ran-on done next failures failures' last last' v v' v'' a b e r turn stop few kept is =
-      subst (λ n. RanSo t config w first first_asked next n last' v'' b) (sym is)
-      (subst (λ n. RanSo t config w first first_asked n (failures_kept t n failures') last' v'' b) (sym e)
-      (by-turn done failures failures' last v v' a r v'' last' b
-      (λ k u there. subst (λ n. SomeStop t n k u v' last a v'' last' b) e (stop k u there)) few
+      ((k : Config) (u : World) → StandsAt v'.server k u → SomeStop t next k u v' last a v'' left b) →
+      failures' < 16 → (kept : ℕ) → kept ≡ failures_kept left.reread failures' →
+      RanSo t config w first first_asked next kept left.kept v'' b
+  ran-on done next failures failures' last left v v' v'' a b e r turn stop few kept is =
+      subst (λ n. RanSo t config w first first_asked next n left.kept v'' b) (sym is)
+      (subst (λ n. RanSo t config w first first_asked n (failures_kept left.reread failures') left.kept v'' b) (sym e)
+      (by-turn done failures failures' last v v' a r v'' left b
+      (λ k u there. subst (λ n. SomeStop t n k u v' last a v'' left b) e (stop k u there)) few
       (turn _ _ r.stands)))
 
   -- the sixteenth in a row that failed

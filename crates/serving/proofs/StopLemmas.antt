@@ -7,17 +7,18 @@ use Rattle.protocol.specs.World.Event.{Reload}
 use Rattle.server_core.specs.ServerValues.{StandsAt}
 use Rattle.event_loop.specs.Hearing.{clients_in, feeds_in}
 use Rattle.serving.specs.declared.activity.Activity.{Activity}
+use Rattle.serving.specs.declared.between.Due.{Due}
 use Rattle.serving.specs.declared.between.Refusal.TheVariants.{Unread, Different, Unkept}
 use Rattle.serving.specs.declared.timetable.Timetable.{Timetable}
 use Rattle.serving.specs.Ahead.{numbers_ahead}
-use Rattle.serving.specs.Timetables.{is_due, is_keep_due}
+use Rattle.serving.specs.Timetables.{is_keep_due}
 use Rattle.serving.specs.Asked.{Asked, Tells}
 use Rattle.serving.specs.Asked.Asked.{Configuration, Keeps, Refuses, Reports}
 use Rattle.serving.specs.Acts.{config_then, world_then}
 use Rattle.serving.specs.Acts.Act.{Reloading}
 use Rattle.event_loop.specs.Loops.{LoopValue}
-use Rattle.serving.specs.Runs.{refusals, KeepsIf, KeepsNow, RereadsIf, SomeReread, SomeStop, activity_of}
-use Rattle.serving.specs.Runs.{reports_if}
+use Rattle.serving.specs.Runs.{refusals, KeepsIf, KeepsNow, SomeReread, SomeStop, activity_of}
+use Rattle.serving.specs.Runs.{FindsDue, reports_if}
 
 pub Tells-nil : {F : Type 0} (a : Option (List (Asked F))) → Tells a a []
 Tells-nil None = tt
@@ -129,44 +130,52 @@ module _ {F : Type 0} (config : Config) (w : World) (kept : ℕ) (a b : Option (
       → KeepsIf due config w kept a arrivals b
   kept-now due_is arrivals is x = subst (λ d. KeepsIf d config w kept a arrivals b) (sym due_is) (x, is)
 
-module _ {F : Type 0} (t : Timetable) (done : ℕ) (config : Config) (w : World) (v v' : LoopValue) (kept kept' : ℕ)
-    (before a b : Option (List (Asked F)))
-    (keeps : KeepsIf (is_keep_due t kept (length w.history)) config w kept before kept' a) where
-  pub stops-silent : (due : Bool) → due ≡ is_due t.reread done → is_due t.report done ≡ false →
-      SomeReread due config w v a v' b → SomeStop t done config w v kept before v' kept' b
-  stops-silent due e silent x =
+module _ {F : Type 0} (t : Timetable) (done : ℕ) (due : Due) (config : Config) (w : World) (v v' : LoopValue)
+    (kept kept' : ℕ) (before looked a b : Option (List (Asked F))) (finds : FindsDue t done before due looked)
+    (keeps : KeepsIf (is_keep_due t kept (length w.history)) config w kept looked kept' a) where
+  pub stops-silent : due.report ≡ false → SomeReread due.reread config w v a v' b →
+      SomeStop t done config w v kept before v' (record { kept = kept'; reread = due.reread }) b
+  stops-silent silent x =
       record {
         acts = x.acts;
         stops = record {
+          due = due;
+          looked = looked;
           first = a;
           between = b;
+          finds = finds;
           keep = keeps;
-          reread = subst (λ d. RereadsIf d config w v a x.acts v' b) e x.rereads;
+          reread = x.rereads;
           report = subst (λ d. Tells b b (reports_if d (world_then config w x.acts) v')) (sym silent) (Tells-nil b);
         };
+        was = refl;
         stands = x.stands;
       }
 
-  pub stops-told : (due : Bool) → due ≡ is_due t.reread done → is_due t.report done ≡ true →
-      (x : SomeReread due config w v a v' b) → (c : Option (List (Asked F))) (told : Activity) →
+  pub stops-told : due.report ≡ true → (x : SomeReread due.reread config w v a v' b)
+      → (c : Option (List (Asked F))) (told : Activity) →
       Tells b c (Reports told ∷ []) →
       told.clients ≡ clients_in v'.seats → told.feeds ≡ feeds_in v'.seats →
       ((k : Config) (u : World) → StandsAt v'.server k u → told.records ≡ length u.history)
       → told.refused ≡ v'.refused →
-      SomeStop t done config w v kept before v' kept' c
-  stops-told due e loud x c told tells clients feeds records refused =
+      SomeStop t done config w v kept before v' (record { kept = kept'; reread = due.reread }) c
+  stops-told loud x c told tells clients feeds records refused =
       let u : World = world_then config w x.acts in
       let is : told ≡ activity_of u v' =
       activity-is told u v' clients feeds (records (config_then config x.acts) u x.stands) refused in
       record {
         acts = x.acts;
         stops = record {
+          due = due;
+          looked = looked;
           first = a;
           between = b;
+          finds = finds;
           keep = keeps;
-          reread = subst (λ d. RereadsIf d config w v a x.acts v' b) e x.rereads;
+          reread = x.rereads;
           report = subst (λ d. Tells b c (reports_if d u v')) (sym loud)
               (subst (λ (y : Activity). Tells b c (Reports y ∷ [])) is tells);
         };
+        was = refl;
         stands = x.stands;
       }

@@ -1,9 +1,7 @@
 -- The numbers that are kept for a later run, ahead of those that are given: a number that was given before is then not
 -- held after it.
 -- SeedLink 3, sequence numbers. Left out: where they are kept.
-use Rattle.std.specs.Prelude.{◌≡◌, ℕ, ◌+◌, ◌*◌, ◌%◌, ◌<◌, ◌≤◌, List, [], ◌∷◌, ◌++◌, length, map, slice_index, Option}
-use Rattle.std.specs.Prelude.{Some}
-use Rattle.std.specs.Prelude.{None, Ok, Err}
+use Rattle.std.specs.Prelude.{ℕ, ◌+◌, ◌%◌, List, map}
 use Rattle.protocol.specs.Packet.{numbers}
 use Rattle.protocol.specs.Catalog.{Config}
 use Rattle.protocol.specs.History.{Arrival}

@@ -2,10 +2,13 @@
 use Rattle.std.specs.Prelude.{◌≡◌, ℕ, List, ◌++◌, Option, Some, None, Result}
 use Rattle.protocol.specs.Catalog.{Config}
 use Rattle.serving.specs.declared.activity.Activity.{Activity}
+use Rattle.serving.specs.declared.between.Due.{Due}
 use Rattle.serving.specs.declared.between.Refusal.{Refusal}
 
 -- a call with its answer
 pub data Asked (F : Type 0) : Type 0 where
+  -- what is due by time
+  Looks : Due → Asked F
   Configuration : Result Config F → Asked F
   Refuses : Refusal F → Asked F
   Reports : Activity → Asked F

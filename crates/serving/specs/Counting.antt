@@ -6,11 +6,12 @@ use Rattle.event_loop.specs.Loops.{LoopValue}
 use Rattle.serving.specs.declared.timetable.Timetable.{Timetable}
 use Rattle.serving.specs.Timetables.{is_due, turns_of}
 use Rattle.serving.specs.Asked.{Asked}
-use Rattle.serving.specs.Asked.Asked.{Configuration, Keeps, Refuses, Reports}
+use Rattle.serving.specs.Asked.Asked.{Configuration, Keeps, Looks, Refuses, Reports}
 use Rattle.serving.specs.Runs.{Ran}
 
 -- A call asks for the configuration.
 abbrev pub is_ask : {F : Type 0} → Asked F → Bool
+is_ask (Looks due) = false
 is_ask (Configuration answer) = true
 is_ask (Refuses refusal) = false
 is_ask (Reports activity) = false
@@ -25,7 +26,8 @@ abbrev pub due_in : Option ℕ → ℕ → ℕ
 due_in every zero = 0
 due_in every (suc done) = due_in every done + (if is_due every (suc done) then 1 else 0)
 
--- In a run of all its turns the configuration is asked for as often as the timetable says.
+-- In a run of all its turns, of which none goes by time, the configuration is asked for as often as the timetable says.
 abbrev pub AsksAsDue : Type 0 → Type 0
 AsksAsDue F = (t : Timetable) (config : Config) (w : World) (first last : LoopValue) (asked asked' : List (Asked F)) →
-    Ran t config w first (Some asked) last (Some asked') → asks asked' ≡ asks asked + due_in t.reread (turns_of t)
+    t.timed ≡ false → Ran t config w first (Some asked) last (Some asked')
+    → asks asked' ≡ asks asked + due_in t.reread (turns_of t)

@@ -13,7 +13,7 @@ use Rattle.event_loop.specs.Loops.{LoopValue, TurnMade, TurnFailed}
 use Rattle.serving.specs.declared.timetable.Timetable.{Timetable}
 use Rattle.serving.specs.Ahead.{numbers_ahead, room}
 use Rattle.serving.specs.Asked.{Asked}
-use Rattle.serving.specs.Asked.Asked.{Configuration, Keeps, Refuses, Reports}
+use Rattle.serving.specs.Asked.Asked.{Configuration, Keeps, Looks, Refuses, Reports}
 use Rattle.serving.specs.Acts.{Act, config_then, world_then}
 use Rattle.serving.specs.Runs.{Runs}
 
@@ -34,6 +34,7 @@ just_kept ns = record { numbers = Some ns; fails = 0 }
 
 -- with one more call
 abbrev pub kept_with : {F : Type 0} → Kept → Asked F → Kept
+kept_with k (Looks due) = k
 kept_with k (Configuration answer) = k
 kept_with k (Refuses refusal) = k
 kept_with k (Reports activity) = k

@@ -1,13 +1,14 @@
 -- The calls that answers in memory kept.
 use Rattle.std.specs.Prelude.{ℕ, if◌then◌else◌, List, map, Option, Some, None}
 use Rattle.serving.specs.declared.memory_between.Made.{Made}
-use Rattle.serving.specs.declared.memory_between.Made.TheVariants.{Configuration, Refused, Report, Keep}
+use Rattle.serving.specs.declared.memory_between.Made.TheVariants.{Looked, Configuration, Refused, Report, Keep}
 use Rattle.serving.specs.declared.memory_between.MemoryBetween.{MemoryBetween}
 use Rattle.serving.specs.Asked.{Asked}
-use Rattle.serving.specs.Asked.Asked.{Configuration as AskedConfiguration, Refuses, Reports, Keeps}
+use Rattle.serving.specs.Asked.Asked.{Configuration as AskedConfiguration, Looks, Refuses, Reports, Keeps}
 
 -- a call
 abbrev pub made_value : Made → Asked ℕ
+made_value (Looked due) = Looks due
 made_value (Configuration answer) = AskedConfiguration answer
 made_value (Refused refusal) = Refuses refusal
 made_value (Report activity) = Reports activity

@@ -1,6 +1,6 @@
 -- What a run of a server is: its turns, and what is asked and told between them.
 -- Runs are this project's own. Left out: time.
-use Rattle.std.specs.Prelude.{◌≡◌, ℕ, suc, ◌<◌, ◌-◌, ◌^◌, Bool, true, false, if◌then◌else◌, List, [], ◌∷◌, ◌++◌}
+use Rattle.std.specs.Prelude.{◌≡◌, ℕ, suc, ◌<◌, Bool, true, false, if◌then◌else◌, List, [], ◌∷◌, ◌++◌}
 use Rattle.std.specs.Prelude.{length, Option, Some, None, Result, Ok, Err}
 use Rattle.protocol.specs.Catalog.{Config, is_same_but_for_access}
 use Rattle.protocol.specs.World.{World}
@@ -11,13 +11,15 @@ use Rattle.event_loop.specs.Deeds.{refused_more}
 use Rattle.event_loop.specs.Hearing.{clients_in, feeds_in}
 use Rattle.event_loop.specs.Loops.{LoopValue, TurnMade, TurnFailed}
 use Rattle.serving.specs.declared.activity.Activity.{Activity}
+use Rattle.serving.specs.declared.between.Due.{Due}
 use Rattle.serving.specs.declared.between.Refusal.TheVariants.{Unread, Different, Unkept}
+use Rattle.serving.specs.declared.running.Stopped.{Stopped}
 use Rattle.serving.specs.declared.timetable.Timetable.{Timetable}
 use Rattle.serving.specs.Ahead.{numbers_ahead}
-use Rattle.serving.specs.Timetables.{is_due, is_keep_due, failures_kept, turns_of}
+use Rattle.serving.specs.Timetables.{due_after, failures_kept, is_keep_due, nothing_due, turns_of}
 use Rattle.serving.specs.declared.between.NoConfiguration.{NoConfiguration}
 use Rattle.serving.specs.Asked.{Asked, Tells}
-use Rattle.serving.specs.Asked.Asked.{Configuration, Keeps, Refuses, Reports}
+use Rattle.serving.specs.Asked.Asked.{Configuration, Keeps, Looks, Refuses, Reports}
 use Rattle.serving.specs.Acts.{Act, all_calls, config_then, world_then, HandsThroughout}
 use Rattle.serving.specs.Acts.Act.{Turning, Reloading}
 
@@ -85,21 +87,37 @@ activity_of w v = record {
 abbrev pub reports_if : {F : Type 0} → Bool → World → LoopValue → List (Asked F)
 reports_if due w v = if due then Reports (activity_of w v) ∷ [] else []
 
--- What the timetable says was done after so many turns.
+-- It was asked what is due by time, if it is to be; else nothing is.
+abbrev pub LooksIf : {F : Type 0} → Bool → Option (List (Asked F)) → Due → Option (List (Asked F)) → Type 0
+LooksIf true asked by_time asked' = Tells asked asked' (Looks by_time ∷ [])
+LooksIf false asked by_time asked' = (by_time ≡ nothing_due) × (asked' ≡ asked)
+
+-- That is due after so many turns.
+pub record FindsDue {F : Type 0} (t : Timetable) (done : ℕ) (asked : Option (List (Asked F))) (due : Due)
+    (asked' : Option (List (Asked F))) : Type 0 where
+  pub by_time : Due
+  pub looks : LooksIf t.timed asked by_time asked'
+  pub is : due ≡ due_after t done by_time
+
+-- What is due after so many turns was done.
 pub record Stops {F : Type 0} (t : Timetable) (done : ℕ) (config : Config) (w : World) (v : LoopValue) (kept : ℕ)
     (asked : Option (List (Asked F))) (acts : List Act) (v' : LoopValue) (kept' : ℕ)
     (asked' : Option (List (Asked F))) : Type 0 where
+  pub due : Due
+  pub looked : Option (List (Asked F))
   pub first : Option (List (Asked F))
   pub between : Option (List (Asked F))
-  pub keep : KeepsIf (is_keep_due t kept (length w.history)) config w kept asked kept' first
-  pub reread : RereadsIf (is_due t.reread done) config w v first acts v' between
-  pub report : Tells between asked' (reports_if (is_due t.report done) (world_then config w acts) v')
+  pub finds : FindsDue t done asked due looked
+  pub keep : KeepsIf (is_keep_due t kept (length w.history)) config w kept looked kept' first
+  pub reread : RereadsIf due.reread config w v first acts v' between
+  pub report : Tells between asked' (reports_if due.report (world_then config w acts) v')
 
 pub record SomeStop {F : Type 0} (t : Timetable) (done : ℕ) (config : Config) (w : World) (v : LoopValue) (kept : ℕ)
-    (asked : Option (List (Asked F))) (v' : LoopValue) (kept' : ℕ) (asked' : Option (List (Asked F)))
+    (asked : Option (List (Asked F))) (v' : LoopValue) (stop : Stopped) (asked' : Option (List (Asked F)))
     : Type 0 where
   pub acts : List Act
-  pub stops : Stops t done config w v kept asked acts v' kept' asked'
+  pub stops : Stops t done config w v kept asked acts v' stop.kept asked'
+  pub was : stops.due.reread ≡ stop.reread
   pub stands : StandsAt v'.server (config_then config acts) (world_then config w acts)
 
 -- ---- turns
@@ -135,9 +153,9 @@ pub data Runs {F : Type 0} (t : Timetable) (config : Config) (w : World) (first 
       Runs t config w first first_asked done failures kept acts v asked →
       (x : TurnFailed (config_then config acts) 64 (world_then config w acts) v v') →
       v'.refused ≡ v.refused → suc failures < 16 →
-      Stops t (suc done) (config_then config (acts ++ Turning x.deeds ∷ []))
-      (world_then config w (acts ++ Turning x.deeds ∷ [])) v' kept asked stop v'' kept' asked'' →
-      Runs t config w first first_asked (suc done) (failures_kept t (suc done) (suc failures)) kept'
+      (s : Stops t (suc done) (config_then config (acts ++ Turning x.deeds ∷ []))
+      (world_then config w (acts ++ Turning x.deeds ∷ [])) v' kept asked stop v'' kept' asked'') →
+      Runs t config w first first_asked (suc done) (failures_kept s.due.reread (suc failures)) kept'
       ((acts ++ Turning x.deeds ∷ []) ++ stop) v'' asked''
 
 -- A run so far: the calls on ports are its acts', the server stands for the world after it, and each client's port took
@@ -177,7 +195,7 @@ pub record GaveUp {F : Type 0} (t : Timetable) (config : Config) (w : World) (fi
 
 -- so many turns, with no stop between them
 abbrev pub block_of : ℕ → Timetable
-block_of turns = record { turns = Some turns; reread = None; report = None; keep = None }
+block_of turns = record { turns = Some turns; reread = None; report = None; timed = false; keep = None }
 
 -- All turns of a block were made.
 abbrev pub RanBlock : ℕ → Config → World → LoopValue → LoopValue → Type 0

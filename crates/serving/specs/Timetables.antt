@@ -1,7 +1,8 @@
--- When a server stops between its turns. Timetables are this project's own. Left out: time.
-use Rattle.std.specs.Prelude.{ℕ, zero, suc, ◌-◌, ◌%◌, ◌^◌, ◌==◌, nat_lt, Bool, false, if◌then◌else◌, Option, Some, None}
-use Rattle.std.specs.Prelude.{unwrap_or}
+-- When a server stops between its turns. Timetables are this project's own. Left out: how time passes.
+use Rattle.std.specs.Prelude.{ℕ, zero, suc, ◌-◌, ◌%◌, ◌^◌, ◌==◌, ◌||◌, nat_lt, Bool, false, if◌then◌else◌, Option, Some}
+use Rattle.std.specs.Prelude.{None, unwrap_or}
 use Rattle.std.specs.Option.{option_map_or}
+use Rattle.serving.specs.declared.between.Due.{Due}
 use Rattle.serving.specs.declared.timetable.Timetable.{Timetable}
 
 -- after how many turns a run ends
@@ -18,7 +19,17 @@ is_due (Some (suc n)) done = done % suc n == 0
 abbrev pub is_keep_due : Timetable → (kept arrivals : ℕ) → Bool
 is_keep_due t kept arrivals = option_map_or (λ every. nat_lt every (arrivals - kept)) t.keep false
 
--- how many failed turns in a row still count after so many turns: they are counted anew once the configuration was read
--- again
-abbrev pub failures_kept : Timetable → ℕ → ℕ → ℕ
-failures_kept t done failures = if is_due t.reread done then 0 else failures
+-- nothing is due by time
+abbrev pub nothing_due : Due
+nothing_due = record { reread = false; report = false }
+
+-- what is due after so many turns, where by time that is due
+abbrev pub due_after : Timetable → ℕ → Due → Due
+due_after t done by_time = record {
+  reread = is_due t.reread done || by_time.reread;
+  report = is_due t.report done || by_time.report;
+}
+
+-- how many failed turns in a row still count after a stop: they are counted anew once the configuration was asked for
+abbrev pub failures_kept : Bool → ℕ → ℕ
+failures_kept reread failures = if reread then 0 else failures

@@ -2,7 +2,7 @@
 ghost use Rattle.std.specs.Prelude.{List, [], ◌∷◌, None};
 ghost use Rattle.std.specs.declared.option.Option.{Option};
 ghost use Rattle.serving.specs.Asked.{Asked, Tells};
-ghost use Rattle.serving.specs.Asked.Asked.{Configuration, Keeps, Refuses, Reports};
+ghost use Rattle.serving.specs.Asked.Asked.{Configuration, Keeps, Looks, Refuses, Reports};
 ghost use Rattle.serving.specs.Ahead.{ahead_of};
 
 use crate::activity::Activity;
@@ -20,6 +20,15 @@ pub enum Refusal<F> {
     Unkept(F),
 }
 
+/// What is due by time.
+#[derive(Clone, Copy, Debug, PartialEq, Eq, Drop)]
+pub struct Due {
+    /// The configuration is to be read again.
+    pub reread: bool,
+    /// It is to be reported what was done.
+    pub report: bool,
+}
+
 /// Whoever answers a server between its turns. It may tell all calls that were made, with their answers.
 pub trait Between {
     /// Why there is no configuration.
@@ -27,6 +36,10 @@ pub trait Between {
 
     // All calls and their answers, if they are told.
     ghost asked: { Self → Option (List (Asked Self.Fault)) };
+
+    /// What is due by time, after a turn. What is answered so is done before the next turn.
+    fn due(&mut self) -> Due
+        ensures call { Tells (asked self.old) (asked self.new) (Looks result ∷ []) };
 
     /// The configuration as it is now.
     fn configuration(&mut self) -> Result<Config, Self::Fault>
@@ -49,7 +62,8 @@ pub trait Between {
 #[derive(Clone, Copy, Debug, PartialEq, Eq, Drop)]
 pub struct NoConfiguration;
 
-/// Nothing between turns: there is never another configuration, and reports and numbers go nowhere.
+/// Nothing between turns: nothing is due by time, there is never another configuration, and reports and numbers go
+/// nowhere.
 #[derive(Clone, Copy, Debug, PartialEq, Eq, Drop)]
 pub struct NothingBetween;
 
@@ -57,6 +71,13 @@ impl Between for NothingBetween {
     type Fault = NoConfiguration;
 
     ghost asked = { λ _. None };
+
+    fn due(&mut self) -> Due {
+        Due {
+            reread: false,
+            report: false,
+        }
+    }
 
     fn configuration(&mut self) -> Result<Config, NoConfiguration> {
         Err(NoConfiguration)

@@ -14,7 +14,7 @@ mod timetable;
 
 pub use activity::Activity;
 pub use ahead::{Ahead, KEEP_EVERY};
-pub use between::{Between, NoConfiguration, NothingBetween, Refusal};
+pub use between::{Between, Due, NoConfiguration, NothingBetween, Refusal};
 pub use faults::ServeFault;
 pub use memory_between::{Made, MemoryBetween};
 pub use new_server::{serve, serve_between};

@@ -2,12 +2,12 @@
 ghost use Rattle.std.specs.Prelude.{◌≡◌, Some, [], ◌∷◌, IfOk};
 ghost use Rattle.serving.specs.Made.{told, made_value};
 ghost use Rattle.serving.specs.Asked.{Tells};
-ghost use Rattle.serving.specs.Asked.Asked.{Configuration, Keeps, Refuses, Reports};
+ghost use Rattle.serving.specs.Asked.Asked.{Configuration, Keeps, Looks, Refuses, Reports};
 ghost use Rattle.serving.specs.Ahead.{ahead_of};
 
 use crate::activity::Activity;
 use crate::ahead::Ahead;
-use crate::between::{Between, Refusal};
+use crate::between::{Between, Due, Refusal};
 use catalog::Config;
 use sl_packet::Seq;
 use std::alloc::{AllocError, Global};
@@ -15,19 +15,22 @@ use std::alloc::{AllocError, Global};
 /// A call that was made, and its answer.
 #[derive(Drop)]
 pub enum Made {
+    Looked(Due),
     Configuration(Result<Config, u8>),
     Refused(Refusal<u8>),
     Report(Activity),
     Keep(Vec<Seq>, Result<(), u8>),
 }
 
-/// Answers in memory: they follow a script, the last first, and keep each call with its answer. Numbers are kept unless
-/// they were told otherwise. Once there was no memory to keep a call, they tell their calls no more.
+/// Answers in memory: they follow a script, the last first, and keep each call with its answer. Nothing is due by time,
+/// and numbers are kept, unless they were told otherwise. Once there was no memory to keep a call, they tell their calls
+/// no more.
 #[derive(Drop)]
 pub struct MemoryBetween {
     alloc: Global,
     script: Vec<Result<Config, u8>>,
     unkept: Vec<bool>,
+    due: Vec<Due>,
     made: Vec<Made>,
     lost: bool,
 }
@@ -41,6 +44,7 @@ impl MemoryBetween {
             alloc,
             script,
             unkept: Vec::new(alloc),
+            due: Vec::new(alloc),
             made: Vec::new(alloc),
             lost: false,
         }
@@ -51,6 +55,13 @@ impl MemoryBetween {
         ensures calls { told result ≡ told self }
     {
         MemoryBetween { unkept, ..self }
+    }
+
+    /// What is due by time after each turn, the last first. Once that is over, nothing is.
+    pub fn with_due(self, due: Vec<Due>) -> MemoryBetween
+        ensures calls { told result ≡ told self }
+    {
+        MemoryBetween { due, ..self }
     }
 
     /// All calls that were kept, in order, with their answers.
@@ -67,6 +78,19 @@ impl MemoryBetween {
         match self.script.pop() {
             Some(answer) => answer,
             None => Err(0),
+        }
+    }
+
+    // What is due next.
+    fn due_next(&mut self) -> Due
+        ensures same { told self.new ≡ told self.old }
+    {
+        match self.due.pop() {
+            Some(due) => due,
+            None => Due {
+                reread: false,
+                report: false,
+            },
         }
     }
 
@@ -93,6 +117,14 @@ impl Between for MemoryBetween {
     type Fault = u8;
 
     ghost asked = { told };
+
+    fn due(&mut self) -> Due
+        ensures call { Tells (told self.old) (told self.new) (Looks result ∷ []) }
+    {
+        let due = self.due_next();
+        self.remember(Made::Looked(due));
+        due
+    }
 
     fn configuration(&mut self) -> Result<Config, u8>
         ensures call { Tells (told self.old) (told self.new) (Configuration result ∷ []) }

@@ -5,12 +5,12 @@ ghost use Rattle.protocol.specs.World.{World};
 ghost use Rattle.server_core.specs.ServerValues.{StandsAt};
 ghost use Rattle.event_loop.specs.Hearing.{clients_in, feeds_in};
 ghost use Rattle.serving.specs.Runs.{Ran, GaveUp, RanBlock, GaveUpBlock, KeepsIf, KeepsNow, OneTurn, SomeReread};
-ghost use Rattle.serving.specs.Runs.{SomeStop};
-ghost use Rattle.serving.specs.Timetables.{is_keep_due, turns_of};
+ghost use Rattle.serving.specs.Runs.{FindsDue, SomeStop};
+ghost use Rattle.serving.specs.Timetables.{failures_kept, is_keep_due, turns_of};
 
 use crate::activity::Activity;
 use crate::ahead::Ahead;
-use crate::between::{Between, NothingBetween, Refusal};
+use crate::between::{Between, Due, NothingBetween, Refusal};
 use crate::timetable::Timetable;
 use event_loop::{Loop, LoopFault};
 use ports::Ports;
@@ -88,27 +88,62 @@ fn keep<P: Ports, B: Between>(
     arrivals
 }
 
+/// What is due after so many turns: by their number and, if the timetable says that it is asked for, by time.
+fn due_after<B: Between>(between: &mut B, timetable: &Timetable, done: u64) -> Due
+    ensures { FindsDue timetable.now done (B.asked between.old) result (B.asked between.new) }
+{
+    let by_time = if timetable.timed {
+        between.due()
+    } else {
+        Due {
+            reread: false,
+            report: false,
+        }
+    };
+    timetable.due_after(done, by_time)
+}
+
+/// What a stop between two turns leaves.
+#[derive(Clone, Copy, Drop)]
+pub struct Stopped {
+    /// How many records had arrived when the numbers were kept last.
+    pub kept: u64,
+    /// The configuration was asked for.
+    pub reread: bool,
+}
+
 /// Does what is to be done after so many turns, where so many records had arrived when the numbers were kept last.
-/// Answers how many had when they are kept last now.
 fn stop<P: Ports, B: Between>(
     server: &mut Loop<P>,
     between: &mut B,
     timetable: &Timetable,
     done: u64,
     kept: u64,
-) -> u64
+) -> Stopped
     ensures stops { (config : ProtocolConfig) (w : World) → StandsAt server.old.server config w →
         SomeStop timetable.now done config w server.old kept (B.asked between.old) server.new result
         (B.asked between.new) }
     ensures seats { server.new.seats ≡ server.old.seats }
     ensures most { server.new.most ≡ server.old.most }
 {
+    let due = due_after(between, timetable, done);
     let kept = keep(server, between, timetable, kept);
-    reread(server, between, timetable.rereads(done));
-    if timetable.reports(done) {
+    reread(server, between, due.reread);
+    if due.report {
         between.report(Activity::of(server));
     }
-    kept
+    Stopped {
+        kept,
+        reread: due.reread,
+    }
+}
+
+/// How many failed turns in a row still count after a stop: none if the configuration was asked for.
+fn failures_kept(reread: bool, failures: u8) -> u8
+    ensures value { result ≡ failures_kept reread failures }
+    ensures few { result ≤ failures }
+{
+    if reread { 0 } else { failures }
 }
 
 /// Has a server go on until the turns of its timetable are done, and does between them what the timetable says. A turn
@@ -142,8 +177,9 @@ pub fn run<P: Ports, B: Between>(
             return Err(LoopFault);
         }
         done += 1;
-        kept = stop(server, between, &timetable, done, kept);
-        failures = timetable.failures_kept(done, failed);
+        let stopped = stop(server, between, &timetable, done, kept);
+        kept = stopped.kept;
+        failures = failures_kept(stopped.reread, failed);
     }
     Ok(())
 }

@@ -1,10 +1,14 @@
 //! When a server stops between its turns.
-ghost use Rattle.std.specs.Prelude.{◌≡◌, ◌≤◌, Some, None};
-ghost use Rattle.serving.specs.Timetables.{is_due, is_keep_due, failures_kept, turns_of};
+ghost use Rattle.std.specs.Prelude.{◌≡◌, Some, None, false};
+ghost use Rattle.serving.specs.Timetables.{due_after, is_due, is_keep_due, turns_of};
+
+use crate::between::Due;
 
 /// After how many turns a server ends, and at which multiples of a number of turns it reads its configuration again and
 /// reports what it has done. Without a number of turns it ends after 2^64 - 1; without another number, or if that is 0,
 /// it never stops for it.
+///
+/// If it is `timed`, it is asked after each turn what is due by time, and that is done too.
 ///
 /// With `keep` it has the numbers of its stations kept, once more than so many records arrived since they were kept.
 #[derive(Clone, Copy, Debug, PartialEq, Eq, Drop)]
@@ -12,18 +16,20 @@ pub struct Timetable {
     pub turns: Option<usize>,
     pub reread: Option<usize>,
     pub report: Option<usize>,
+    pub timed: bool,
     pub keep: Option<usize>,
 }
 
 impl Timetable {
     /// So many turns, with no stop between them.
     pub fn of_turns(turns: u64) -> Timetable
-        ensures { result ≡ record { turns = Some turns; reread = None; report = None; keep = None } }
+        ensures { result ≡ record { turns = Some turns; reread = None; report = None; timed = false; keep = None } }
     {
         Timetable {
             turns: Some(turns as usize),
             reread: None,
             report: None,
+            timed: false,
             keep: None,
         }
     }
@@ -38,18 +44,14 @@ impl Timetable {
         }
     }
 
-    /// Whether the configuration is to be read again after so many turns.
-    pub fn rereads(&self, done: u64) -> bool
-        ensures { result ≡ is_due self.now.reread done }
+    /// What is due after so many turns, where by time that is due.
+    pub fn due_after(&self, done: u64, by_time: Due) -> Due
+        ensures { result ≡ due_after self.now done by_time }
     {
-        is_due(self.reread, done)
-    }
-
-    /// Whether it is to be reported, after so many turns, what was done.
-    pub fn reports(&self, done: u64) -> bool
-        ensures { result ≡ is_due self.now.report done }
-    {
-        is_due(self.report, done)
+        Due {
+            reread: is_due(self.reread, done) || by_time.reread,
+            report: is_due(self.report, done) || by_time.report,
+        }
     }
 
     /// Whether the numbers are to be kept again, once so many records arrived, of which so many had when they were
@@ -61,14 +63,6 @@ impl Timetable {
             None => false,
             Some(every) => (every as u64) < arrivals.saturating_sub(kept),
         }
-    }
-
-    /// How many failed turns in a row still count after so many turns: none if the configuration was read again then.
-    pub fn failures_kept(&self, done: u64, failures: u8) -> u8
-        ensures value { result ≡ failures_kept self.now done failures }
-        ensures few { result ≤ failures }
-    {
-        if self.rereads(done) { 0 } else { failures }
     }
 }
 

@@ -132,16 +132,16 @@ struct ServerRun {
     errors: String,
 }
 
-/// Runs a server that reads its configuration again after each turn, as the words of a command line start it.
+/// Runs a server that reads its configuration again after each turn.
 fn run_server<R>(rt: &R, later: &'static str) -> Result<ServerRun, Fail>
 where
     R: Files<File = File> + Net + AllocGlobal,
     R::File: AsRawFd,
 {
-    run_server_with(rt, later, "")
+    run_server_with(rt, later, "--reread 1")
 }
 
-/// The same with more words.
+/// Runs a server with more words, as those of a command line start it.
 fn run_server_with<R>(rt: &R, later: &'static str, more: &str) -> Result<ServerRun, Fail>
 where
     R: Files<File = File> + Net + AllocGlobal,
@@ -151,7 +151,7 @@ where
     fs::write(rt, "errors.txt", b"")?;
     let visits = Visits::at_free_ports(rt, later)?;
     let line = format!(in rt.alloc();
-        "seedlinkd serve centre.toml --listen 127.0.0.1:{} --feed 127.0.0.1:{} --reread 1 --turns {TURNS}{more}",
+        "seedlinkd serve centre.toml --listen 127.0.0.1:{} --feed 127.0.0.1:{} --turns {TURNS} {more}",
         visits.clients, visits.feeds
     )?;
     let words = words_of(rt.alloc(), line.as_str())?;
@@ -240,7 +240,11 @@ fn a_configuration_that_is_no_toml_leaves_all_as_it_is(rt: HostRuntime) -> Resul
 fn serve_takes_feeds_of_its_list_and_so_many_clients_of_an_address(
     rt: HostRuntime,
 ) -> Result<(), Fail> {
-    let run = run_server_with(&rt, OPEN, " --feed-from 127.0.0.1 --per-address 1")?;
+    let run = run_server_with(
+        &rt,
+        OPEN,
+        "--reread 1 --feed-from 127.0.0.1 --per-address 1",
+    )?;
     assert!(rt; run.status == ExitCode::SUCCESS);
     assert!(rt; was_sent(&run.visits.near, 2)?);
     assert!(rt; was_sent(&run.visits.far, 2)?);
@@ -249,9 +253,20 @@ fn serve_takes_feeds_of_its_list_and_so_many_clients_of_an_address(
 
 #[test]
 fn serve_takes_no_feed_of_another_address(rt: HostRuntime) -> Result<(), Fail> {
-    let run = run_server_with(&rt, OPEN, " --feed-from 127.0.0.2,10.0.0.0/8")?;
+    let run = run_server_with(&rt, OPEN, "--reread 1 --feed-from 127.0.0.2,10.0.0.0/8")?;
     assert!(rt; run.status == ExitCode::SUCCESS);
     assert!(rt; !was_sent(&run.visits.near, 1)?);
     assert!(rt; matches!(&run.visits.near, Some(near) if near.came().ends_with(ISLAND)));
+    Ok(())
+}
+
+#[test]
+fn a_reread_by_seconds_is_a_reread(rt: HostRuntime) -> Result<(), Fail> {
+    let run = run_server_with(&rt, CLOSED, "--reread 1s --report 13s")?;
+    assert!(rt; run.status == ExitCode::SUCCESS);
+    assert!(rt; was_sent(&run.visits.near, 2)?);
+    assert!(rt; was_sent(&run.visits.far, 1)?);
+    assert_eq!(rt; run.errors.as_str().lines().count(), 2);
+    assert!(rt; run.errors.as_str().starts_with("seedlinkd: clients "));
     Ok(())
 }

@@ -1,5 +1,5 @@
 //! Words of the command line.
-use command_line::{Job, ReadOptions, WordsFault, read_words};
+use command_line::{Every, Job, ReadOptions, WordsFault, read_words};
 use std::alloc::{AllocError, Global};
 use std::test::Fail;
 
@@ -133,13 +133,13 @@ fn serve_has_who_may_connect(rt: HostRuntime) -> Result<(), Fail> {
     Ok(())
 }
 
-/// What is read of `serve` with an option that counts turns, and a text for it: `turns`, `reread` and `report`. None
-/// where the words are refused.
-fn counts(
+/// What is read of `serve` with an option and a text for it: `turns`, `reread` and `report`. None where the words are
+/// refused.
+fn times(
     alloc: Global,
     option: &str,
     text: &str,
-) -> Result<Option<[Option<usize>; 3]>, AllocError> {
+) -> Result<Option<(Option<usize>, Option<Every>, Option<Every>)>, AllocError> {
     let words = strings(
         alloc,
         &[
@@ -161,40 +161,74 @@ fn counts(
             reread,
             report,
             ..
-        } => Ok(Some([turns, reread, report])),
+        } => Ok(Some((turns, reread, report))),
         _ => Ok(None),
     }
 }
 
-/// The option that is given, with its place among the three.
-static COUNTING: [(&str, usize); 3] = [("--turns", 0), ("--reread", 1), ("--report", 2)];
+/// Texts that are no number of turns, and none of seconds.
+static NO_NUMBERS: [&str; 8] = [
+    "0",
+    "1000000001",
+    "00000000600",
+    "+1",
+    "-1",
+    "",
+    "1.5",
+    "often",
+];
+
+/// Texts that are a number of turns.
+static NUMBERS: [(&str, usize); 3] = [("1", 1), ("1000000000", 1_000_000_000), ("0000000600", 600)];
 
 #[test]
-fn counts_of_turns_are_1_to_1000000000(rt: HostRuntime) -> Result<(), Fail> {
-    for (option, place) in &COUNTING {
-        for (text, number) in [("1", 1), ("1000000000", 1_000_000_000), ("0000000600", 600)] {
-            let mut wanted = [None; 3];
-            wanted[*place % 3] = Some(number);
-            assert!(rt;
-                counts(rt.alloc(), option, text)? == Some(wanted),
-                "{option} {text}"
-            );
-        }
-        for text in [
-            "0",
-            "1000000001",
-            "00000000600",
-            "+1",
-            "-1",
-            "",
-            "1.5",
-            "often",
-        ] {
-            assert!(rt;
-                counts(rt.alloc(), option, text)?.is_none(),
-                "{option} {text}"
-            );
-        }
+fn a_server_ends_after_1_to_1000000000_turns(rt: HostRuntime) -> Result<(), Fail> {
+    for (text, number) in &NUMBERS {
+        let wanted = Some((Some(*number), None, None));
+        assert!(rt; times(rt.alloc(), "--turns", text)? == wanted, "{text}");
+    }
+    for text in &NO_NUMBERS {
+        assert!(rt; times(rt.alloc(), "--turns", text)?.is_none(), "{text}");
+    }
+    assert!(rt; times(rt.alloc(), "--turns", "60s")?.is_none());
+    Ok(())
+}
+
+#[test]
+fn a_reread_goes_by_turns_or_seconds(rt: HostRuntime) -> Result<(), Fail> {
+    for (text, number) in &NUMBERS {
+        let wanted = Some((None, Some(Every::Turns(*number)), None));
+        assert!(rt; times(rt.alloc(), "--reread", text)? == wanted, "{text}");
+        let text = format!(in rt.alloc(); "{text}s")?;
+        let wanted = Some((None, Some(Every::Seconds(*number)), None));
+        assert!(rt;
+            times(rt.alloc(), "--reread", text.as_str())? == wanted,
+            "{text}"
+        );
+    }
+    for text in &NO_NUMBERS {
+        assert!(rt; times(rt.alloc(), "--reread", text)?.is_none(), "{text}");
+    }
+    Ok(())
+}
+
+#[test]
+fn a_report_goes_by_turns_or_seconds(rt: HostRuntime) -> Result<(), Fail> {
+    let by_turns = times(rt.alloc(), "--report", "600")?;
+    assert!(rt; by_turns == Some((None, None, Some(Every::Turns(600)))));
+    let by_seconds = times(rt.alloc(), "--report", "60s")?;
+    assert!(rt; by_seconds == Some((None, None, Some(Every::Seconds(60)))));
+    for text in [
+        "s",
+        "0s",
+        "60ss",
+        "60s ",
+        "60sec",
+        "1m",
+        " 60s",
+        "1000000001s",
+    ] {
+        assert!(rt; times(rt.alloc(), "--report", text)?.is_none(), "{text}");
     }
     Ok(())
 }

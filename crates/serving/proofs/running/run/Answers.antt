@@ -23,11 +23,11 @@ going-preserved g c =
     record {
       ran = λ config w stands.
           ran-on c.args.timetable config w c.args.server.now (asked c.args.between.now)
-          c.going.done _ c.going.failures c.one_turn-failed.result c.going.kept c.stop-kept.result
-          c.going.server c.one_turn-failed.new.server c.stop-kept.new.server
-          (asked c.going.between) (asked c.stop-kept.new.between)
+          c.going.done _ c.going.failures c.one_turn-failed.result c.going.kept c.stop-stopped.result
+          c.going.server c.one_turn-failed.new.server c.stop-stopped.new.server
+          (asked c.going.between) (asked c.stop-stopped.new.between)
           (add-one c.going.done) (c.going.invariant.ran config w stands)
-          c.one_turn-failed.ensures.turn c.stop-kept.ensures.stops c.if-failed-ge-FAILURES.false
+          c.one_turn-failed.ensures.turn c.stop-stopped.ensures.stops c.if-failed-ge-FAILURES.false
           c.failures_kept-failures.result c.failures_kept-failures.ensures.value;
       few_failures = omega (arith, c.failures_kept-failures.ensures.few, c.if-failed-ge-FAILURES.false);
       counted = omega (
@@ -37,10 +37,10 @@ going-preserved g c =
         c.going.invariant.counted,
       );
       within = omega (arith, c.going-test.true);
-      few_clients = λ few. rw (c.stop-kept.ensures.seats, c.stop-kept.ensures.most)
+      few_clients = λ few. rw (c.stop-stopped.ensures.seats, c.stop-stopped.ensures.most)
           c.one_turn-failed.ensures.few_clients;
-      few_feeds = λ few. rw c.stop-kept.ensures.seats c.one_turn-failed.ensures.few_feeds;
-      most = c.stop-kept.ensures.most ∙ c.one_turn-failed.ensures.most ∙ c.going.invariant.most;
+      few_feeds = λ few. rw c.stop-stopped.ensures.seats c.one_turn-failed.ensures.few_feeds;
+      most = c.stop-stopped.ensures.most ∙ c.one_turn-failed.ensures.most ∙ c.going.invariant.most;
     }
 
 pub returns-then-failed-ge-FAILURES-clause-gave_up : goal.returns-then-failed-ge-FAILURES-clause-gave_up
