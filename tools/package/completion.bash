@@ -13,7 +13,7 @@ _seedlinkd() {
         case $command in
             "") options+=" --version" ;;
             serve) options+=" --listen --feed --turns --reread --report --feed-from --per-address --numbers" ;;
-            read) options+=" --fetch --begin --end --retry --output" ;;
+            read) options+=" --fetch --begin --end --retry --archive --output" ;;
         esac
         mapfile -t COMPREPLY < <(compgen -W "$options" -- "$current")
     elif [ -z "$command" ]; then
