@@ -1,7 +1,8 @@
 #!/bin/bash
 # Tries examples/many_servers on this machine: a broker, three servers that follow one stream, feeders that publish 200,000 records
-# of 50 stations, and readers at each server. Meanwhile one server is killed and started again, the broker is stopped and started
-# again, and a reader changes over twice. Every reader has to get each record once, in order, with the same numbers at all servers.
+# of 50 stations, and readers at each server. Meanwhile two servers are killed and started again, one after the other, the broker is
+# stopped and started again, and a reader that knows all servers changes over twice by itself. Every reader has to get each record
+# once, in order, with the same numbers at all servers.
 #
 #     tools/try_many_servers.sh
 #
@@ -80,27 +81,34 @@ program_of() {
         tr '\0' ' ' <"/proc/$child/cmdline" | grep -q " serve " && echo "$child"
     done
 }
-# A reader with a name at a server, which goes on after the lines that it has.
+# A reader with a name at a server, which goes on after the lines that it has. With several servers it asks the next one, a second
+# later, when one is gone.
 start_reader() {
-    local wants
+    local wants it addresses= retry=()
+    for it in "${@:2}"; do addresses+="${addresses:+,}127.0.0.1:${listen[$it]}"; done
+    [ "$#" -eq 2 ] || retry=(--retry 1)
     mapfile -t wants < <("$records" wants "$stations" "$room/$1.lines")
-    "$program" read "127.0.0.1:${listen[$2]}" "${wants[@]}" >>"$room/$1.lines" 2>>"$room/$1.said" &
+    "$program" read "$addresses" "${wants[@]}" "${retry[@]}" >>"$room/$1.lines" 2>>"$room/$1.said" &
     reader[$1]=$!
     running+=($!)
 }
-end_reader() {
-    kill "${reader[$1]}"
-    wait "${reader[$1]}" 2>/dev/null
+# Kills a server, and waits until what belongs to it has ended, also the reader that knows it alone.
+kill_server() {
+    kill -KILL "$(program_of "${server[$1]}")"
+    wait "${reader[$2]}" 2>/dev/null
+    await "the end of what belongs to server $1" has_ended "${server[$1]}"
+    say "server $1 is killed; reader $2 has $(wc -l <"$room/$2.lines") records, and reader D $(wc -l <"$room/D.lines")"
+}
+start_again() {
+    start_server "$1"
+    await "server $1" has_caught_up "$1"
+    say "server $1 was started again, and has been fed all that the stream held"
 }
 # A reader that has ended goes on at a server: a second later, so that the server has all that the reader has.
 go_on() {
     sleep 1
     start_reader "$1" "$2"
     say "reader $1 goes on at server $2, with $(wc -l <"$room/$1.lines") records"
-}
-change_over() {
-    end_reader "$1"
-    go_on "$1" "$2"
 }
 # A sum over all records that a server holds, in its order.
 held_by() {
@@ -148,22 +156,16 @@ await "servers 1 and 2" has_caught_up 1
 await "servers 1 and 2" has_caught_up 2
 start_reader A 1
 start_reader B 2
-start_reader D 1
 sleep 4
 start_server 3
 await "server 3" has_caught_up 3
 start_reader C 3
-say "three servers, readers A, B and C at each, and D at server 1"
+start_reader D 2 3 1
+say "three servers, readers A, B and C at each, and D, which knows all, at server 2"
 
 await "records" has_lines 40000 "$room/A.lines"
-kill -KILL "$(program_of "${server[2]}")"
-wait "${reader[B]}" 2>/dev/null
-await "the end of what belongs to server 2" has_ended "${server[2]}"
-say "server 2 is killed; reader B has $(wc -l <"$room/B.lines") records"
-change_over D 3
-start_server 2
-await "server 2" has_caught_up 2
-say "server 2 was started again, and has been fed all that the stream held"
+kill_server 2 B
+start_again 2
 go_on B 2
 
 await "records" has_lines 90000 "$room/A.lines"
@@ -173,7 +175,9 @@ sleep 5
 start_broker
 say "the broker is started again"
 await "records" has_lines 130000 "$room/A.lines"
-change_over D 2
+kill_server 3 C
+start_again 3
+go_on C 3
 
 for it in "${feeders[@]}"; do wait "$it" || fail "a feeder was told that not all was confirmed"; done
 say "the feeders were told that all is confirmed"
@@ -184,6 +188,8 @@ for it in A B C D; do
     cmp "$room/A.lines" "$room/$it.lines" || fail "readers A and $it have other lines"
 done
 say "the lines of all four readers are the same bytes"
+[ "$(grep -c '^seedlinkd: 4[27] ' "$room/D.said")" -ge 2 ] || fail "reader D did not lose two servers"
+say "reader D lost two servers: $(tr '\n' ';' <"$room/D.said")"
 held=$(held_by 1)
 [ "$held" = "$(held_by 2)" ] && [ "$held" = "$(held_by 3)" ] || fail "the servers hold other records"
 say "the three servers hold the same $total records in the same order"

@@ -282,7 +282,8 @@ fn mistake_in(matches: &ArgMatches<'_>) -> &'static str {
         Some(("read", _)) =>
             "error: --end needs --begin, and can't be used with --fetch or --retry; --archive can't be used with \
              --output; N is 1 to 1000000000 in 1 to 10 decimal digits\n",
-        _ => "error: N is 1 to 1000000000 in 1 to 10 decimal digits, and an s behind it stands for seconds\n",
+        _ =>
+            "error: N is 1 to 1000000000 in 1 to 10 decimal digits, and an s behind it stands for seconds\n",
     }
 }
 
