@@ -144,10 +144,9 @@ impl<'a, R: Files<File = File>> DiskFolders<'a, R> {
         }
         let mut opened = self.opened(folder, path.as_str())?;
         append(&mut opened, bytes)?;
-        match self.open.put(path, opened) {
-            Ok(_) => Ok(()),
-            Err(_) => Err(no_memory()),
-        }
+        // The record stands in the file, whether or not there is memory to keep that open.
+        let _kept = self.open.put(path, opened);
+        Ok(())
     }
 }
 
