@@ -74,7 +74,7 @@ pub tallied-append : (t : Tally) (ds es : List Deed) → tallied t (ds ++ es) �
 tallied-append t [] es = refl
 tallied-append t (d ∷ ds) es = tallied-append (tally t d) ds es
 
-faithful-append : (config : Config) (w : World) (ds es : List Deed) → AreFaithful config w ds →
+pub faithful-append : (config : Config) (w : World) (ds es : List Deed) → AreFaithful config w ds →
     AreFaithful config (world_beyond config w ds) es → AreFaithful config w (ds ++ es)
 faithful-append config w [] es p q = q
 faithful-append config w (d ∷ ds) es p q = (

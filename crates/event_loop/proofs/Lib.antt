@@ -14,3 +14,4 @@ mod SleepLemmas
 mod LeaveLemmas
 mod AwakeLemmas
 mod FewLemmas
+pub mod OfferingLemmas

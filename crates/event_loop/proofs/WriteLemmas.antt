@@ -104,16 +104,6 @@ lent-waiting config w k bytes e = by (client_at w k) (e ∙ ap (option_map (λ c
 
 -- ---- steps
 
-pub write-refused : (config : Config) (w : World) (k : ℕ) (calls : Option (List Call)) (server : ServerValue)
-    (t : Tally) (s : Seat) → StandsAt server config w → s.writable ≡ false
-    → Once (ClientWrites config k) config w calls calls server t t s s Stop
-write-refused config w k calls server t s stands shown =
-    record {
-      deeds = [];
-      does = record { tells = Tells-nil calls; stands = stands; counted = refl; faithful = tt };
-      how = λ n. not_writable shown;
-    }
-
 pub write-idle : (config : Config) (w : World) (k : ℕ) (calls : Option (List Call)) (server' : ServerValue) (t : Tally)
     (s : Seat) → s.writable ≡ true → Found w k (Some Idle) → StandsAt server' config (step config w (Take k 0))
     → Once (ClientWrites config k) config w calls calls server' t t s s Stop
@@ -215,6 +205,18 @@ write-unwritable config w k (suc n) calls server' t s shown stands =
       does = record { tells = Tells-nil calls; stands = stands; counted = refl; faithful = tt };
       how = not_writable shown;
     }
+
+-- No write is allowed.
+pub write-none-left : (config : Config) (w : World) (k limit : ℕ) (calls : Option (List Call)) (server' : ServerValue)
+    (t : Tally) (s : Seat) → limit ≡ 0 → StandsAt server' config w
+    → Whole (ClientWrites config k) limit config w calls calls server' t t s (Some s)
+write-none-left config w k limit calls server' t s none stands =
+    subst (λ n. Whole (ClientWrites config k) n config w calls calls server' t t s (Some s)) (sym none)
+    (record {
+      deeds = [];
+      does = record { tells = Tells-nil calls; stands = stands; counted = refl; faithful = tt };
+      how = enough;
+    })
 
 -- An offer that would find nothing is as good as made.
 pub write-spared : (config : Config) (w : World) (k limit : ℕ) (calls : Option (List Call)) (server' : ServerValue)

@@ -8,3 +8,4 @@ pub mod Tables
 pub mod Faithful
 pub mod Loops
 pub mod Sleeping
+pub mod Offering

@@ -8,15 +8,16 @@ ghost use Rattle.ports.specs.Calls.{Tells};
 ghost use Rattle.ports.specs.Calls.Call.{Shut};
 ghost use Rattle.server_core.specs.Marks.{LeavesOthers};
 ghost use Rattle.server_core.specs.Refusals.{offer_of};
-ghost use Rattle.server_core.specs.ServerValues.{StandsAt};
+ghost use Rattle.server_core.specs.ServerValues.{MayTake, StandsAt};
 ghost use Rattle.server_core.specs.declared.client.Offer.TheVariants.{Idle};
 ghost use Rattle.event_loop.specs.Deeds.{Tally};
 ghost use Rattle.event_loop.specs.Passes.{ClientReads, ClientWrites, client_at, room_in};
 ghost use Rattle.event_loop.specs.Going.{Once, Whole, if_open};
+ghost use Rattle.event_loop.specs.Offering.{Hands, IfTook, IfWrites, IsOffered, WritesOn};
 
 use crate::seat::{Role, Seat};
 use ports::{Got, PortFault, Ports, Put};
-use server_core::{Client, Offer, Server};
+use server_core::{Client, Gone, Offer, Server};
 
 /// How a pass goes on after a step.
 #[derive(Clone, Copy, Debug, PartialEq, Eq, Drop)]
@@ -135,55 +136,132 @@ pub fn read_client<P: Ports>(
     true
 }
 
-/// One write to a client's port, of all that waits for the client.
-fn write_once<P: Ports>(server: &mut Server, ports: &mut P, client: Client, seat: &mut Seat) -> Went
+/// What came of handing a client's port all that waits for the client.
+#[derive(Clone, Copy)]
+enum Handing {
+    /// The port took so many bytes, one at least.
+    Took(usize),
+    /// Nothing more is handed in this turn.
+    Stopped,
+    /// The port is shut.
+    Closed,
+}
+
+/// All that waits for a client is handed to its port, once the client was offered something and this was found.
+fn hand<P: Ports>(
+    server: &mut Server,
+    ports: &mut P,
+    client: Client,
+    seat: &mut Seat,
+    found: Result<Offer, Gone>,
+) -> Handing
     requires role { seat.old.role ≡ Role.Client client }
-    ensures goes { (t : Tally) (config : Config) (w : World) → StandsAt server.old config w →
+    requires writable { seat.old.writable ≡ true }
+    ensures hands { (t : Tally) (config : Config) (w : World) → IsOffered config w client found server.old →
+        Hands config client w (P.calls ports.old) (P.calls ports.new) server.new t seat.old seat.new found result }
+    ensures unchanged { IfTook result (λ count. (server.new ≡ server.old) × (seat.new ≡ seat.old)) }
+    ensures waits { IfTook result (MayTake server.new client) }
+    ensures role { seat.new.role ≡ Role.Client client }
+    ensures port { seat.new.port ≡ seat.old.port }
+    ensures others { LeavesOthers client server.old server.new }
+{
+    let Ok(offer) = found else {
+        shut(server, ports, client, seat.port);
+        return Handing::Closed;
+    };
+    match offer {
+        Offer::Bytes => {}
+        Offer::Idle => return Handing::Stopped,
+        Offer::Ended => {
+            shut(server, ports, client, seat.port);
+            return Handing::Closed;
+        }
+    }
+    match server.waiting(client) {
+        Ok(bytes) => {
+            if bytes.is_empty() {
+                return Handing::Stopped;
+            }
+            let Ok(put) = ports.write(seat.port, bytes) else {
+                shut(server, ports, client, seat.port);
+                return Handing::Closed;
+            };
+            match put {
+                Put::Took(count) => {
+                    if count == 0 {
+                        return Handing::Stopped;
+                    }
+                    Handing::Took(count)
+                }
+                Put::Later => {
+                    seat.writable = false;
+                    Handing::Stopped
+                }
+            }
+        }
+        Err(_) => Handing::Stopped,
+    }
+}
+
+/// How a pass goes on after a write.
+#[derive(Clone, Copy)]
+enum Next {
+    /// With the next write: the client was offered what comes next, and this was found.
+    Write(Result<Offer, Gone>),
+    /// Not in this turn.
+    Stop,
+    /// Never: the port is shut.
+    Over,
+}
+
+/// One write to a client's port, of all that waits for the client, after which it is offered what comes next.
+fn write_on<P: Ports>(
+    server: &mut Server,
+    ports: &mut P,
+    client: Client,
+    seat: &mut Seat,
+    found: Result<Offer, Gone>,
+) -> Next
+    requires role { seat.old.role ≡ Role.Client client }
+    requires writable { seat.old.writable ≡ true }
+    ensures goes { (t : Tally) (config : Config) (w : World) → IsOffered config w client found server.old →
+        WritesOn config client w (P.calls ports.old) (P.calls ports.new) server.new t seat.old seat.new result }
+    ensures role { seat.new.role ≡ Role.Client client }
+    ensures writable { IfWrites result (seat.new.writable ≡ true) }
+    ensures port { seat.new.port ≡ seat.old.port }
+    ensures others { LeavesOthers client server.old server.new }
+{
+    match hand(server, ports, client, seat, found) {
+        Handing::Took(count) => Next::Write(server.go_on(client, count)),
+        Handing::Stopped => Next::Stop,
+        Handing::Closed => Next::Over,
+    }
+}
+
+/// The last write of a pass, after which the client is offered nothing.
+fn write_last<P: Ports>(
+    server: &mut Server,
+    ports: &mut P,
+    client: Client,
+    seat: &mut Seat,
+    found: Result<Offer, Gone>,
+) -> Went
+    requires role { seat.old.role ≡ Role.Client client }
+    requires writable { seat.old.writable ≡ true }
+    ensures goes { (t : Tally) (config : Config) (w : World) → IsOffered config w client found server.old →
         Once (ClientWrites config client) config w (P.calls ports.old)
         (P.calls ports.new) server.new t t seat.old seat.new result }
     ensures role { seat.new.role ≡ Role.Client client }
     ensures port { seat.new.port ≡ seat.old.port }
     ensures others { LeavesOthers client server.old server.new }
 {
-    if !seat.writable {
-        return Went::Stop;
-    }
-    match server.offer(client) {
-        Ok(Offer::Bytes) => {}
-        Ok(Offer::Idle) => return Went::Stop,
-        Ok(Offer::Ended) => {
-            shut(server, ports, client, seat.port);
-            return Went::Over;
+    match hand(server, ports, client, seat, found) {
+        Handing::Took(count) => {
+            let _ = server.took(client, count);
+            Went::On
         }
-        Err(_) => {
-            shut(server, ports, client, seat.port);
-            return Went::Over;
-        }
-    }
-    match server.waiting(client) {
-        Ok(bytes) => {
-            if bytes.is_empty() {
-                return Went::Stop;
-            }
-            match ports.write(seat.port, bytes) {
-                Ok(Put::Took(count)) => {
-                    if count == 0 {
-                        return Went::Stop;
-                    }
-                    let _ = server.took(client, count);
-                    Went::On
-                }
-                Ok(Put::Later) => {
-                    seat.writable = false;
-                    Went::Stop
-                }
-                Err(PortFault) => {
-                    shut(server, ports, client, seat.port);
-                    Went::Over
-                }
-            }
-        }
-        Err(_) => Went::Stop,
+        Handing::Stopped => Went::Stop,
+        Handing::Closed => Went::Over,
     }
 }
 
@@ -198,6 +276,45 @@ fn finds_nothing(server: &Server, client: Client) -> bool
     match server.marked(client) {
         Ok(marked) => !marked,
         Err(_) => false,
+    }
+}
+
+/// The writes of a pass over a client's port that may be written to, up to so many, one at least; whether the port
+/// stays open. The client is offered something once more after each write but the last.
+fn write_all<P: Ports>(
+    server: &mut Server,
+    ports: &mut P,
+    client: Client,
+    seat: &mut Seat,
+    limit: usize,
+) -> bool
+    requires role { seat.old.role ≡ Role.Client client }
+    requires writable { seat.old.writable ≡ true }
+    requires some { 0 < limit }
+    ensures goes { (t : Tally) (config : Config) (w : World) → StandsAt server.old config w →
+        Whole (ClientWrites config client) limit config w (P.calls ports.old)
+        (P.calls ports.new) server.new t t seat.old
+        (if_open result seat.new) }
+    ensures role { seat.new.role ≡ Role.Client client }
+    ensures port { seat.new.port ≡ seat.old.port }
+    ensures others { LeavesOthers client server.old server.new }
+{
+    let mut found = server.offer(client);
+    let mut left = limit;
+    'writes: while left > 1 {
+        match write_on(server, ports, client, seat, found) {
+            Next::Write(next) => {
+                found = next;
+                left -= 1;
+            }
+            Next::Stop => return true,
+            Next::Over => return false,
+        }
+    }
+    match write_last(server, ports, client, seat, found) {
+        Went::On => true,
+        Went::Stop => true,
+        Went::Over => false,
     }
 }
 
@@ -220,19 +337,11 @@ pub fn write_client<P: Ports>(
     ensures port { seat.new.port ≡ seat.old.port }
     ensures others { LeavesOthers client server.old server.new }
 {
-    if !seat.writable {
+    if !seat.writable || limit == 0 {
         return true;
     }
     if finds_nothing(server, client) {
         return true;
     }
-    let mut left = limit;
-    'writes: while left > 0 {
-        match write_once(server, ports, client, seat) {
-            Went::On => left -= 1,
-            Went::Stop => return true,
-            Went::Over => return false,
-        }
-    }
-    true
+    write_all(server, ports, client, seat, limit)
 }

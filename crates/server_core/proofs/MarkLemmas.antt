@@ -1,5 +1,6 @@
 -- Which clients an offer may find something for, while clients come, go on and leave, and records arrive.
-use Rattle.std.proofs.Common.{◌≡◌, ℕ, ◌<◌, ◌==◌, ◌||◌, ◌&&◌, Bool, true, false, not, List, [], ◌∷◌, Option, Some, None}
+use Rattle.std.proofs.Common.{◌≡◌, ℕ, ◌<◌, ◌≤◌, ◌==◌, ◌||◌, ◌&&◌, Bool, true, false, not, List, []}
+use Rattle.std.proofs.Common.{◌∷◌, Option, Some, None}
 use Rattle.std.proofs.Common.{option_map, drop, length, map, slice_get, refl, sym, ap, ap₂, subst, ◌∙◌, arith, zero}
 use Rattle.std.proofs.Common.{suc, eqb-true}
 use Rattle.std.specs.Prelude.{◌≢◌, IsSome, is_some}
@@ -30,7 +31,7 @@ use Rattle.server_core.specs.declared.client.Offer.{Offer}
 use Rattle.server_core.specs.declared.client.Offer.TheVariants.{Bytes, Ended, Idle}
 use Rattle.server_core.specs.declared.marks.Marks.{Marks}
 use Rattle.server_core.specs.Marks.{Anywhere, AreMarked, Elsewhere, HasRooms, IsIdle, IsMarkedAt, Keeps, KeepsRequests}
-use Rattle.server_core.specs.Marks.{RoomBy, asked, bit_by, idle_in}
+use Rattle.server_core.specs.Marks.{RoomBy, asked, bit_by, idle_in, sends_after}
 use Rattle.server_core.specs.Refusals.{is_idle, offer_of, offer_when}
 use Rattle.server_core.specs.ServerValues.{HoldsOf, OpenClient, SlotGoesOn, goes_on, client_of_open, open_client_of}
 use Rattle.server_core.specs.ServerValues.{open_client}
@@ -181,41 +182,134 @@ is-found-idle Idle e = refl
 is-found-idle Bytes e = absurd cc
 is-found-idle Ended e = absurd cc
 
+found-idle : (found : Offer) → is_idle found ≡ true → found ≡ Idle
+found-idle Idle e = refl
+found-idle Bytes e = absurd cc
+found-idle Ended e = absurd cc
+
+-- One that stays in a transfer, or leaves it, is in one exactly if its state is one.
+still-sends : (slot : ℕ) (old : Marks) (config : Config) (rings : RingsValue) (a r : SessionValue) (new : Bool)
+    → IsMarkedAt config rings old slot a → KeepsRequests a r
+    → new ≡ (bit_of old.sending slot && is_transfer r.state) → new ≡ is_transfer r.state
+still-sends slot old config rings a r new is kept e = e ∙ both (is_transfer r.state)
+    (λ y. rw (is.sends ∙ (kept.kept y).0) refl)
+    (λ n. rw n (last-false (bit_of old.sending slot)) ∙ sym n)
+  where
+    last-false : (b : Bool) → (b && false) ≡ false
+    last-false true = refl
+    last-false false = refl
+
+-- What waits for a client is no sign of one that is idle.
+pub idle-waits : (config : Config) (rings : RingsValue) (s : SessionValue) → IsIdle config rings s → s.waiting ≡ []
+idle-waits config rings s is = by s.state is.by_state
+  where
+    by : (t : State) → idle_in config rings s t → s.waiting ≡ []
+    by Negotiating idle = idle
+    by (Listing made) idle = idle.0
+    by Starting idle = absurd idle
+    by (Transfer next) idle = idle.nothing_waits
+    by Ending idle = absurd idle
+
 module _ (config : Config) (rings : RingsValue) (old new : Marks) (before after : Slab SessionValue) (slot : ℕ)
     (a r : SessionValue)
     (are : AreMarked config rings old before) (there : get before slot ≡ Some a)
-    (updates : Updates before after slot (Some r)) (keeps : Keeps (Elsewhere slot) old new)
-    (sends : bit_of new.sending slot ≡ is_transfer r.state) where
+    (updates : Updates before after slot (Some r)) (keeps : Keeps (Elsewhere slot) old new) where
   room-there : HasRooms new slot
   room-there = kept-rooms (Elsewhere slot) old new slot keeps (let is = are.held slot a there in is.room)
 
-  pub marked-offered : (found : Offer) → bit_of new.marked slot ≡ not (is_idle found) → new.rows.items ≡ old.rows.items
-      → KeepsRequests a r → (found ≡ Idle → IsIdle config rings r) → AreMarked config rings new after
-  marked-offered found mark same kept idle =
+  -- It was offered something. For one that was idle nothing is found.
+  pub marked-offered : (found : Offer) → bit_of new.marked slot ≡ (bit_of old.marked slot && not (is_idle found))
+      → bit_of new.sending slot ≡ (bit_of old.sending slot && is_transfer r.state) → new.rows.items ≡ old.rows.items
+      → KeepsRequests a r → (found ≡ Idle → IsIdle config rings r)
+      → (IsIdle config rings a → is_idle found ≡ true) → AreMarked config rings new after
+  marked-offered found mark sends same kept idle nothing =
+      let is = are.held slot a there in
       marked-goes config rings old new before after slot keeps are r updates (record {
         room = room-there;
-        idle = λ unmarked. idle (is-found-idle found (sym mark ∙ unmarked));
-        sends = sends;
-        asks = still-asks config rings old new slot a r same kept (are.held slot a there);
+        idle = λ unmarked. both (bit_of old.marked slot)
+            (λ y. idle (is-found-idle found (sym (ap (λ b. b && not (is_idle found)) y) ∙ sym mark ∙ unmarked)))
+            (λ n. idle (found-idle found (nothing (is.idle n))));
+        sends = still-sends slot old config rings a r _ is kept sends;
+        asks = still-asks config rings old new slot a r same kept is;
       })
 
-  pub marked-heard : (settled : Settled) → bit_of new.marked slot ≡ true
-      → (settled ≡ Rest → new.rows.items ≡ old.rows.items) → (settled ≡ Rest → KeepsRequests a r) →
-      (settled ≡ Start → (place : ℕ) → place < length new.rows.items
+  still-or-new : (settled : Settled) → (settled ≡ Rest → new.rows.items ≡ old.rows.items)
+      → (settled ≡ Rest → KeepsRequests a r)
+      → (settled ≡ Start → (place : ℕ) → place < length new.rows.items
       → bit_by (slice_get new.rows.items place) slot ≡ asked place (chosen_of r.mode))
-      → AreMarked config rings new after
-  marked-heard settled mark same kept started =
-      marked-goes config rings old new before after slot keeps are r updates (record {
-        room = room-there;
-        idle = λ unmarked. absurd (let q : true ≡ false = sym mark ∙ unmarked in cc);
-        sends = sends;
-        asks = by settled refl;
-      })
+      → is_transfer r.state ≡ true → (place : ℕ) → place < length new.rows.items
+      → bit_by (slice_get new.rows.items place) slot ≡ asked place (chosen_of r.mode)
+  still-or-new settled same kept started = by settled refl
     where
       by : (t : Settled) → settled ≡ t → is_transfer r.state ≡ true → (place : ℕ) → place < length new.rows.items
           → bit_by (slice_get new.rows.items place) slot ≡ asked place (chosen_of r.mode)
       by Rest e = still-asks config rings old new slot a r (same e) (kept e) (are.held slot a there)
       by Start e = λ in-transfer. started e
+
+  pub marked-heard : (settled : Settled) → bit_of new.marked slot ≡ true → bit_of new.sending slot ≡ is_transfer r.state
+      → (settled ≡ Rest → new.rows.items ≡ old.rows.items) → (settled ≡ Rest → KeepsRequests a r) →
+      (settled ≡ Start → (place : ℕ) → place < length new.rows.items
+      → bit_by (slice_get new.rows.items place) slot ≡ asked place (chosen_of r.mode))
+      → AreMarked config rings new after
+  marked-heard settled mark sends same kept started =
+      marked-goes config rings old new before after slot keeps are r updates (record {
+        room = room-there;
+        idle = λ unmarked. absurd (let q : true ≡ false = sym mark ∙ unmarked in cc);
+        sends = sends;
+        asks = still-or-new settled same kept started;
+      })
+
+  sends-by : (t : Settled) → bit_of new.sending slot ≡ sends_after t (bit_of old.sending slot) (is_transfer r.state)
+      → (t ≡ Rest → KeepsRequests a r) → bit_of new.sending slot ≡ is_transfer r.state
+  sends-by Rest now kept = still-sends slot old config rings a r _ (are.held slot a there) (kept refl) now
+  sends-by Start now kept = now
+
+  -- Bytes that waited for it were handed, and it was offered something.
+  pub marked-went-on : (settled : Settled) (found : Offer) (count : ℕ) → 0 < count → count ≤ length a.waiting
+      → bit_of new.marked slot ≡ (bit_of old.marked slot && not (is_idle found))
+      → bit_of new.sending slot ≡ sends_after settled (bit_of old.sending slot) (is_transfer r.state)
+      → (settled ≡ Rest → new.rows.items ≡ old.rows.items) → (settled ≡ Rest → KeepsRequests a r) →
+      (settled ≡ Start → (place : ℕ) → place < length new.rows.items
+      → bit_by (slice_get new.rows.items place) slot ≡ asked place (chosen_of r.mode))
+      → (found ≡ Idle → IsIdle config rings r) → AreMarked config rings new after
+  marked-went-on settled found count some waits mark sends same kept started idle =
+      let is = are.held slot a there in
+      marked-goes config rings old new before after slot keeps are r updates (record {
+        room = room-there;
+        idle = λ unmarked. both (bit_of old.marked slot)
+            (λ y. idle (is-found-idle found (sym (ap (λ b. b && not (is_idle found)) y) ∙ sym mark ∙ unmarked)))
+            (λ n. absurd (
+            let none : length a.waiting ≡ 0 = ap length (idle-waits config rings a (is.idle n)) in omega arith));
+        sends = sends-by settled sends kept;
+        asks = still-or-new settled same kept started;
+      })
+
+  -- Bytes that waited for it were handed.
+  pub marked-took : (settled : Settled) (count : ℕ) → 0 < count → count ≤ length a.waiting
+      → bit_of new.marked slot ≡ bit_of old.marked slot
+      → bit_of new.sending slot ≡ sends_after settled (bit_of old.sending slot) (is_transfer r.state)
+      → (settled ≡ Rest → new.rows.items ≡ old.rows.items) → (settled ≡ Rest → KeepsRequests a r) →
+      (settled ≡ Start → (place : ℕ) → place < length new.rows.items
+      → bit_by (slice_get new.rows.items place) slot ≡ asked place (chosen_of r.mode))
+      → AreMarked config rings new after
+  marked-took settled count some waits mark sends same kept started =
+      let is = are.held slot a there in
+      marked-goes config rings old new before after slot keeps are r updates (record {
+        room = room-there;
+        idle = λ unmarked. absurd (
+            let none : length a.waiting ≡ 0 = ap length (idle-waits config rings a (is.idle (sym mark ∙ unmarked))) in
+            omega arith);
+        sends = sends-by settled sends kept;
+        asks = still-or-new settled same kept started;
+      })
+
+-- what a session that took, and then was offered something, keeps
+pub keeps-twice : (a m r : SessionValue) → KeepsRequests a m → KeepsRequests m r → KeepsRequests a r
+keeps-twice a m r one other = record {
+  kept = λ sends.
+      let last = other.kept sends in
+      let first = one.kept last.0 in (first.0, last.1 ∙ first.1);
+}
 
 -- A session that is looked at keeps its mark, where it is marked.
 pub marked-looked : (config : Config) (rings : RingsValue) (marks : Marks) (before after : Slab SessionValue) (slot : ℕ)

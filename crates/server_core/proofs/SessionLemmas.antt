@@ -12,6 +12,7 @@ use Rattle.session_state.specs.Sessions.{SessionValue, client_in}
 use Rattle.server_core.specs.declared.clients.Clients.{Clients}
 use Rattle.server_core.specs.Clients.{IsTable, session_of, sessions_of, addresses_of, slot_in}
 use Rattle.server_core.specs.ServerValues.{ServerValue, SlotGoesOn, StandsAt, client_of_open, open_client, taking}
+use Rattle.server_core.specs.ServerValues.{open_client_at}
 use Rattle.server_core.proofs.NumberLemmas.{slot_in-below}
 use Rattle.server_core.proofs.SlotLemmas.{goes-by-number, nowhere-goes, session-is, session-nowhere, session-there}
 use Rattle.server_core.proofs.SlotLemmas.{sessions-counted}
@@ -105,6 +106,14 @@ module _ (g : Config) (rings : RingsValue) (c : Clients) (number : ℕ) (config 
   seen-there slot table there stands =
       ap (λ (o : Option (Option SessionValue)). client_of_open (open_client g w.history o))
       (sym (session-there c number slot table there)) ∙ open_client_seen (serving g rings c) number config w stands
+
+  pub opened-there : (slot : ℕ) → IsTable c → slot_in c.opened.items number ≡ Some slot
+      → StandsAt (serving g rings c) config w
+      → open_client g w.history (Some (get c.slots slot)) ≡ open_client_at (slice_get w.connections number)
+  opened-there slot table there stands =
+      ap (open_client g w.history) (sym (session-there c number slot table there))
+      ∙ subst (λ x. open_client x w.history (slice_get (sessions_of c) number)
+      ≡ open_client_at (slice_get w.connections number)) (sym stands.config_is) (stands.clients number)
 
   pub seen-nowhere : slot_in c.opened.items number ≡ None → StandsAt (serving g rings c) config w
       → None ≡ client_of (slice_get w.connections number)

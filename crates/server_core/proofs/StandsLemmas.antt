@@ -17,7 +17,9 @@ use Rattle.catalog.specs.Places.{view_in}
 use Rattle.protocol.specs.History.{Arrival}
 use Rattle.server_core.specs.ServerValues.{taking, ServerValue, client_of_open, open_client_of, OpenClient, open_client}
 use Rattle.server_core.specs.ServerValues.{open_client_with, open_client_at, address_with, address_at, addressed}
-use Rattle.server_core.specs.ServerValues.{goes_on, StandsAt, OnlyGoesOn, SlotGoesOn}
+use Rattle.server_core.specs.ServerValues.{goes_on, handing, StandsAt, OnlyGoesOn, SlotGoesOn}
+use Rattle.server_core.specs.declared.client.Offer.{Offer}
+use Rattle.server_core.specs.Refusals.{offer_of}
 
 open_client_with-changed : (f : View → Client → Client) (v : View) (o : Option Client)
     → open_client_with v (option_map (f v) o) ≡ goes_on f (open_client_with v o)
@@ -88,32 +90,69 @@ set_apart (y ∷ xs) zero (suc j) x apart = refl
 set_apart (y ∷ xs) (suc k) zero x apart = refl
 set_apart (y ∷ xs) (suc k) (suc j) x apart = set_apart xs k j x (λ e. apart (ap suc e))
 
+some_waits : (ws : List ℕ) (n : ℕ) → 0 < n → n ≤ length ws → is_nothing ws ≡ false
+some_waits [] n some fits = absurd (omega arith)
+some_waits (b ∷ ws) n some fits = refl
+
+-- the client of a session of which some bytes that wait were taken
+taken-of : (config : Config) (h : List Arrival) (n : ℕ) (a m : SessionValue) → 0 < n → n ≤ length a.waiting
+    → client_in config h m ≡ after_take (session_view config a) h (client_in config h a) n
+    → client_in config h m ≡ taking h n (session_view config a) (client_in config h a)
+unfolding taking
+taken-of config h n a m some fits client = client
+    ∙ ap (λ c. after_take (session_view config a) h c n)
+    (offered-waiting h (client_in config h a) (some_waits a.waiting n some fits))
+
 -- an open session of which some bytes that wait were taken
 pub some-took : (config : Config) (h : List Arrival) (old new : Slab SessionValue) (slot n : ℕ) (a r : SessionValue)
     → get old slot ≡ Some a → Updates old new slot (Some r) → 0 < n → n ≤ length a.waiting
     → client_in config h r ≡ after_take (session_view config a) h (client_in config h a) n → r.places ≡ a.places
     → SlotGoesOn config h old new slot (taking h n)
-unfolding taking
 some-took config h old new slot n a r there updates some fits client places =
-    let waits : client_in config h a
-    ≡ offered h (client_in config h a) =
-    offered-waiting h (client_in config h a) (some_waits a.waiting n some fits) in
     let seat : open_client_of config h r
     ≡ record {
       view = session_view config a;
-      client = after_take (session_view config a) h (offered h (client_in config h a)) n;
+      client = taking h n (session_view config a) (client_in config h a);
     } =
     ap₂ (λ (p : List ℕ) (q : Client). let t : OpenClient = record { view = view_in config p; client = q } in t) places
-    (client ∙ ap (λ c. after_take (session_view config a) h c n) waits) in
+    (taken-of config h n a r some fits client) in
     record {
       here = ap (λ o. open_client config h (Some o)) updates.changed ∙ ap Some seat
-          ∙ ap (λ o. goes_on (λ v c. after_take v h (offered h c) n) (open_client config h (Some o))) (sym there);
+          ∙ ap (λ o. goes_on (taking h n) (open_client config h (Some o))) (sym there);
       others = updates.others;
     }
-  where
-    some_waits : (ws : List ℕ) (n : ℕ) → 0 < n → n ≤ length ws → is_nothing ws ≡ false
-    some_waits [] n some fits = absurd (omega arith)
-    some_waits (b ∷ ws) n some fits = refl
+
+-- and for which what comes next was made to wait then
+pub some-handed : (config : Config) (h : List Arrival) (old new : Slab SessionValue) (slot n : ℕ)
+    (a m r : SessionValue) → get old slot ≡ Some a → Updates old new slot (Some r) → 0 < n → n ≤ length a.waiting
+    → client_in config h m ≡ after_take (session_view config a) h (client_in config h a) n → m.places ≡ a.places
+    → client_in config h r ≡ offered h (client_in config h m) → r.places ≡ m.places
+    → SlotGoesOn config h old new slot (handing h n)
+some-handed config h old new slot n a m r there updates some fits client places next still =
+    let seat : open_client_of config h r
+    ≡ record {
+      view = session_view config a;
+      client = handing h n (session_view config a) (client_in config h a);
+    } =
+    ap₂ (λ (p : List ℕ) (q : Client). let t : OpenClient = record { view = view_in config p; client = q } in t)
+    (still ∙ places) (next ∙ ap (offered h) (taken-of config h n a m some fits client)) in
+    record {
+      here = ap (λ o. open_client config h (Some o)) updates.changed ∙ ap Some seat
+          ∙ ap (λ o. goes_on (handing h n) (open_client config h (Some o))) (sym there);
+      others = updates.others;
+    }
+
+-- what the offer finds
+pub handed-answer : (config : Config) (h : List Arrival) (old : Slab SessionValue) (slot n : ℕ) (a m : SessionValue)
+    (found : Offer) → get old slot ≡ Some a → 0 < n → n ≤ length a.waiting
+    → client_in config h m ≡ after_take (session_view config a) h (client_in config h a) n
+    → found ≡ offer_of (offered h (client_in config h m))
+    → Some found ≡ option_map (λ c. offer_of (offered h c))
+    (client_of_open (goes_on (taking h n) (open_client config h (Some (get old slot)))))
+handed-answer config h old slot n a m found there some fits client is =
+    ap Some (is ∙ ap (λ c. offer_of (offered h c)) (taken-of config h n a m some fits client))
+    ∙ ap (λ o. option_map (λ c. offer_of (offered h c))
+    (client_of_open (goes_on (taking h n) (open_client config h (Some o))))) (sym there)
 
 client_of-open : (x : Option Connection) → client_of x ≡ client_of_open (open_client_at x)
 client_of-open None = refl

@@ -9,6 +9,7 @@ use Rattle.protocol.specs.World.Event.{Take}
 use Rattle.protocol.proofs.Connections.{slice_get-at_same}
 use Rattle.server_core.specs.declared.client.Offer.{Offer}
 use Rattle.server_core.specs.Refusals.{offer_of, offer_when}
+use Rattle.server_core.specs.ServerValues.{client_of_open, goes_on, handing, open_client_at, open_client_with, taking}
 use Rattle.server_core.specs.Runs.{first_waiting, is_over_by}
 use Rattle.server_core.proofs.OfferLemmas.{offered-waiting}
 
@@ -65,6 +66,58 @@ offer-then-take config w k n some =
     (at-twice w.connections k (offer w.history) (λ v c. after_take v w.history (offered w.history c) n)
     (λ x c there client. ap (λ y. after_take x.view w.history y n)
     (sym (offered-waiting w.history (offered w.history c) (some c (ap client_of there ∙ client))))))
+
+-- two changes of one connection, as one
+at-composed : (cs : List Connection) (k : ℕ) (f g : View → Client → Client)
+    → at (at cs k (changed f)) k (changed g) ≡ at cs k (changed (λ v c. g v (f v c)))
+at-composed [] k f g = refl
+at-composed (x ∷ cs) zero f g = ap (λ o. record x { client = o } ∷ cs) (by x.client)
+  where
+    by : (o : Option Client) → option_map (g x.view) (option_map (f x.view) o)
+        ≡ option_map (λ c. g x.view (f x.view c)) o
+    by None = refl
+    by (Some c) = refl
+at-composed (x ∷ cs) (suc k) f g = ap (λ ys. x ∷ ys) (at-composed cs k f g)
+
+-- a Take, and an offer after it
+pub take-then-offer : (config : Config) (w : World) (k n : ℕ)
+    → record w { connections = at w.connections k (changed (handing w.history n)) }
+    ≡ step config (step config w (Take k n)) (Take k 0)
+unfolding taking
+take-then-offer config w k n =
+    ap (λ cs. record w { connections = cs })
+    (sym (at-composed w.connections k (λ v c. after_take v w.history (offered w.history c) n) (offer w.history)))
+
+-- the client after a Take
+pub taken-there : (config : Config) (w : World) (k n : ℕ)
+    → client_of (slice_get (step config w (Take k n)).connections k)
+    ≡ client_of_open (goes_on (taking w.history n) (open_client_at (slice_get w.connections k)))
+unfolding taking
+taken-there config w k n =
+    ap client_of (slice_get-at_same w.connections k (changed (λ v c. after_take v w.history (offered w.history c) n)))
+    ∙ by (slice_get w.connections k)
+  where
+    inner : (v : View) (o : Option Client)
+        → option_map (λ c. after_take v w.history (offered w.history c) n) o
+        ≡ client_of_open (goes_on (λ u c. after_take u w.history (offered w.history c) n) (open_client_with v o))
+    inner v None = refl
+    inner v (Some c) = refl
+
+    by : (o : Option Connection)
+        → client_of (option_map (changed (λ v c. after_take v w.history (offered w.history c) n)) o)
+        ≡ client_of_open (goes_on (λ u c. after_take u w.history (offered w.history c) n) (open_client_at o))
+    by None = refl
+    by (Some x) = inner x.view x.client
+
+-- A client that is not there is not there after it went on.
+pub gone-still : (f : View → Client → Client) (x : Option Connection) → None ≡ client_of x
+    → None ≡ client_of_open (goes_on f (open_client_at x))
+gone-still f None e = refl
+gone-still f (Some x) e = by x.client e
+  where
+    by : (o : Option Client) → None ≡ o → None ≡ client_of_open (goes_on f (open_client_with x.view o))
+    by None e = refl
+    by (Some c) e = absurd cc
 
 -- What changes the k-th client in nothing changes nothing.
 pub same-at : (cs : List Connection) (k : ℕ) (f : View → Client → Client)

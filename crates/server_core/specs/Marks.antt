@@ -11,6 +11,8 @@ use Rattle.protocol.specs.Catalog.{Config, listing}
 use Rattle.held_records.specs.Rings.{RingsValue}
 use Rattle.session_state.specs.declared.choices.Entry.{Entry}
 use Rattle.session_state.specs.NamedValues.{Choice}
+use Rattle.session_state.specs.declared.session.Settled.{Settled}
+use Rattle.session_state.specs.declared.session.Settled.TheVariants.{Rest, Start}
 use Rattle.session_state.specs.declared.session.State.{State}
 use Rattle.session_state.specs.declared.session.State.TheVariants.{Negotiating, Listing, Starting, Transfer, Ending}
 use Rattle.session_state.specs.Choices.{all_at_start, chosen_of}
@@ -48,6 +50,11 @@ bit_by (Some row) slot = bit_of row slot
 abbrev pub RoomBy : Option Row → ℕ → Type 0
 RoomBy None slot = Unit {0}
 RoomBy (Some row) slot = HasRoom row slot
+
+-- whether a client is in a transfer, by whether one was to start, and it was in one before, and its state is one
+abbrev pub sends_after : Settled → (was is : Bool) → Bool
+sends_after Rest was is = was && is
+sends_after Start was is = is
 
 -- at every slot
 abbrev pub Anywhere : ℕ → Type 0

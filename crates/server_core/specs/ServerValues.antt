@@ -1,5 +1,6 @@
 -- What a server stands for: a world of clients over one history.
-use Rattle.std.specs.Prelude.{◌≡◌, ◌≢◌, ℕ, Bool, false, List, length, slice_get, slice_index_or, Option, Some, None}
+use Rattle.std.specs.Prelude.{◌≡◌, ◌≢◌, ◌<◌, ◌≤◌, ℕ, Bool, false, List, length, slice_get, slice_index_or}
+use Rattle.std.specs.Prelude.{Option, Some, None}
 use Rattle.std.specs.Prelude.{IsSome, option_map}
 use Rattle.slab.specs.Slab.{Slab, get}
 use Rattle.protocol.specs.Catalog.{Config, View}
@@ -23,6 +24,11 @@ pub record ServerValue : Type 0 where
 -- the mark of the k-th client, while that is open
 abbrev pub mark_at : ServerValue → ℕ → Option Bool
 mark_at server k = option_map (λ s. slice_index_or server.marks k false) (slice_index_or server.sessions k None)
+
+-- So many of the bytes that wait for the k-th client, one at least, can be taken.
+abbrev pub MayTake : ServerValue → (k count : ℕ) → Type 0
+MayTake server k count = (s : SessionValue) → slice_get server.sessions k ≡ Some (Some s)
+    → (0 < count) × (count ≤ length s.waiting)
 
 -- an open connection's view and client
 pub record OpenClient : Type 0 where
@@ -120,3 +126,7 @@ pub record SlotGoesOn (config : Config) (h : List Arrival) (old new : Slab Sessi
 -- the client after a Take; contracts need not look into it
 unfoldable pub taking : List Arrival → ℕ → View → Client → Client
 taking h n v c = after_take v h (offered h c) n
+
+-- the client after a Take, and what comes next made to wait
+abbrev pub handing : List Arrival → ℕ → View → Client → Client
+handing h n v c = offered h (taking h n v c)

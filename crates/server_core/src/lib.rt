@@ -7,9 +7,8 @@ mod clients;
 pub mod events;
 mod marks;
 mod reviewing;
-mod seats;
 pub mod server;
-mod serving;
+mod slots;
 
 pub use arrivals::ArriveFault;
 pub use client::{Client, Gone, Offer, Refusal, ReloadFault};

@@ -5,7 +5,7 @@ ghost use Rattle.session_state.specs.Choices.{chosen_of};
 ghost use Rattle.session_state.specs.declared.session.Settled.TheVariants.{Rest, Start};
 ghost use Rattle.transfer.specs.Choosing.{is_transfer};
 ghost use Rattle.server_core.specs.Refusals.{is_idle};
-ghost use Rattle.server_core.specs.Marks.{Anywhere, Elsewhere, HasRooms, Keeps, asked, bit_by};
+ghost use Rattle.server_core.specs.Marks.{Anywhere, Elsewhere, HasRooms, Keeps, asked, bit_by, sends_after};
 
 use crate::client::Offer;
 use session_state::{Session, Settled, State};
@@ -102,17 +102,81 @@ impl Marks {
         self.marked.set(slot);
     }
 
-    /// The client in a slot was offered what comes next. Where nothing was found, none will be before something comes.
-    pub fn offered(&mut self, slot: usize, session: &Session, found: Offer)
-        requires { HasRooms self.old slot }
-        ensures marked { bit_of self.new.marked slot ≡ not (is_idle found) }
-        ensures sends { bit_of self.new.sending slot ≡ is_transfer session.now.state }
+    /// The client in a slot is in no transfer any more, or stays in one.
+    fn stay(&mut self, slot: usize, session: &Session)
+        ensures sends { bit_of self.new.sending slot
+            ≡ (bit_of self.old.sending slot && is_transfer session.now.state) }
+        ensures marked { self.new.marked ≡ self.old.marked }
+        ensures rest { self.new.rows.items ≡ self.old.rows.items }
+        ensures kept { Keeps (Elsewhere slot) self.old self.new }
+    {
+        let sending = &mut self.sending;
+        if !is_sending(session) {
+            sending.clear(slot);
+        }
+    }
+
+    /// An offer to the client in a slot found this.
+    fn note(&mut self, slot: usize, found: Offer)
+        ensures marked { bit_of self.new.marked slot ≡ (bit_of self.old.marked slot && not (is_idle found)) }
+        ensures sending { self.new.sending ≡ self.old.sending }
         ensures rest { self.new.rows.items ≡ self.old.rows.items }
         ensures kept { Keeps (Elsewhere slot) self.old self.new }
     {
         let _ = &self.rows;
-        self.sending.put(slot, is_sending(session));
-        self.marked.put(slot, !is_nothing_found(found));
+        if is_nothing_found(found) {
+            self.marked.clear(slot);
+        }
+    }
+
+    /// The client in a slot was offered what comes next. Where nothing was found, none will be before something comes.
+    /// Else it stays marked: for one that is not nothing is found.
+    pub fn offered(&mut self, slot: usize, session: &Session, found: Offer)
+        ensures marked { bit_of self.new.marked slot ≡ (bit_of self.old.marked slot && not (is_idle found)) }
+        ensures sends { bit_of self.new.sending slot
+            ≡ (bit_of self.old.sending slot && is_transfer session.now.state) }
+        ensures rest { self.new.rows.items ≡ self.old.rows.items }
+        ensures kept { Keeps (Elsewhere slot) self.old self.new }
+    {
+        self.stay(slot, session);
+        self.note(slot, found);
+    }
+
+    /// Bytes of the client in a slot were handed. It stays marked: bytes waited for it. Where a transfer was to start,
+    /// its requests are kept.
+    pub fn took(&mut self, slot: usize, session: &Session, settled: Settled)
+        requires { HasRooms self.old slot }
+        ensures marked { bit_of self.new.marked slot ≡ bit_of self.old.marked slot }
+        ensures sends { bit_of self.new.sending slot
+            ≡ sends_after settled (bit_of self.old.sending slot) (is_transfer session.now.state) }
+        ensures started { settled ≡ Start → (place : ℕ) → place < length self.new.rows.items →
+            bit_by (slice_get self.new.rows.items place) slot ≡ asked place (chosen_of session.now.mode) }
+        ensures rest { settled ≡ Rest → self.new.rows.items ≡ self.old.rows.items }
+        ensures kept { Keeps (Elsewhere slot) self.old self.new }
+    {
+        match settled {
+            Settled::Rest => self.stay(slot, session),
+            Settled::Start => {
+                requests::keep(self.rows.as_mut_slice(), slot, session);
+                self.sending.put(slot, is_sending(session));
+            }
+        }
+    }
+
+    /// Bytes of the client in a slot were handed, and it was offered what comes next. Where a transfer was to start,
+    /// its requests are kept.
+    pub fn went_on(&mut self, slot: usize, session: &Session, settled: Settled, found: Offer)
+        requires { HasRooms self.old slot }
+        ensures marked { bit_of self.new.marked slot ≡ (bit_of self.old.marked slot && not (is_idle found)) }
+        ensures sends { bit_of self.new.sending slot
+            ≡ sends_after settled (bit_of self.old.sending slot) (is_transfer session.now.state) }
+        ensures started { settled ≡ Start → (place : ℕ) → place < length self.new.rows.items →
+            bit_by (slice_get self.new.rows.items place) slot ≡ asked place (chosen_of session.now.mode) }
+        ensures rest { settled ≡ Rest → self.new.rows.items ≡ self.old.rows.items }
+        ensures kept { Keeps (Elsewhere slot) self.old self.new }
+    {
+        self.took(slot, session, settled);
+        self.note(slot, found);
     }
 
     /// The client in a slot is gone.

@@ -14,7 +14,7 @@ use crate::client::{Client, Gone, Offer, Refusal, ReloadFault};
 use crate::clients::Clients;
 use crate::marks::Marks;
 use crate::reviewing::review_all;
-use crate::seats;
+use crate::slots;
 use catalog::Config;
 use held_records::Rings;
 use session_state::Session;
@@ -59,7 +59,7 @@ impl Server {
     ghost use Rattle.session_state.specs.Sessions.{SessionValue};
     ghost use Rattle.station_ring.specs.declared.held.Summary.{Summary};
     ghost use Rattle.held_records.specs.Rings.{holdings_of};
-    ghost use Rattle.server_core.specs.ServerValues.{StandsAt, mark_at};
+    ghost use Rattle.server_core.specs.ServerValues.{MayTake, StandsAt, mark_at};
     ghost use Rattle.server_core.specs.Marks.{IsAmong, IsSpared, LeavesOthers, MarksThose, OpensNext};
     ghost use Rattle.server_core.specs.Refusals.{is_idle, room_of, receipt, offer_of};
     ghost use Rattle.server_core.specs.declared.client.Offer.TheVariants.{Idle};
@@ -117,7 +117,7 @@ impl Server {
         ensures others { LeavesOthers client self.old self.new }
     {
         match self.clients.seek(client.number()) {
-            Some(slot) => seats::receive_in(
+            Some(slot) => slots::receive_in(
                 &self.config,
                 &self.rings,
                 &mut self.clients.slots,
@@ -141,7 +141,7 @@ impl Server {
         ensures others { LeavesOthers client self.old self.new }
     {
         match self.clients.seek(client.number()) {
-            Some(slot) => seats::offer_in(
+            Some(slot) => slots::offer_in(
                 &self.config,
                 &self.rings,
                 &mut self.clients.slots,
@@ -200,7 +200,7 @@ impl Server {
         ensures others { LeavesOthers client self.old self.new }
     {
         match self.clients.seek(client.number()) {
-            Some(slot) => seats::is_ready_in(
+            Some(slot) => slots::is_ready_in(
                 &self.config,
                 &self.rings,
                 &mut self.clients.slots,
@@ -228,8 +228,7 @@ impl Server {
     /// The first bytes that wait for a client, 1 to all of them, were handed. When none is left, its further lines are
     /// obeyed.
     pub fn took(&mut self, client: Client, count: usize) -> Result<(), Gone>
-        requires { (s : SessionValue) → slice_get self.old.sessions client ≡ Some (Some s)
-            → (0 < count) × (count ≤ length s.waiting) }
+        requires { MayTake self.old client count }
         ensures stands { (config : ProtocolConfig) (w : World) → StandsAt self.old config w
             → StandsAt self.new config (step config w (Take client count)) }
         ensures answer { (config : ProtocolConfig) (w : World) → StandsAt self.old config w
@@ -237,7 +236,32 @@ impl Server {
         ensures others { LeavesOthers client self.old self.new }
     {
         match self.clients.seek(client.number()) {
-            Some(slot) => seats::took_in(
+            Some(slot) => slots::took_in(
+                &self.config,
+                &self.rings,
+                &mut self.clients.slots,
+                &mut self.marks,
+                slot,
+                count,
+            ),
+            None => Err(Gone),
+        }
+    }
+
+    /// The first bytes that wait for a client, 1 to all of them, were handed, and what comes next is made to wait: what
+    /// `took` and then `offer` do, of which the latter answers, in one look at the client.
+    pub fn go_on(&mut self, client: Client, count: usize) -> Result<Offer, Gone>
+        requires { MayTake self.old client count }
+        ensures stands { (config : ProtocolConfig) (w : World) → StandsAt self.old config w
+            → StandsAt self.new config (step config (step config w (Take client count)) (Take client 0)) }
+        ensures answer { (config : ProtocolConfig) (w : World) → StandsAt self.old config w
+            → result_ok result ≡ option_map (λ c. offer_of (offered w.history c))
+            (client_of (slice_get (step config w (Take client count)).connections client)) }
+        ensures unmarked { result ≡ Ok Idle → mark_at self.new client ≡ Some false }
+        ensures others { LeavesOthers client self.old self.new }
+    {
+        match self.clients.seek(client.number()) {
+            Some(slot) => slots::go_on_in(
                 &self.config,
                 &self.rings,
                 &mut self.clients.slots,

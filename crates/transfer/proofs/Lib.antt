@@ -18,3 +18,4 @@ pub mod FilterLemmas
 pub mod SearchLemmas
 mod RefusedLemmas
 pub mod AloneLemmas
+pub mod SentLemmas

@@ -30,7 +30,7 @@ unfolding ArePassed
 passed-all rings s passed next state = passed.all next state
 
 -- What is not wanted from one position on is not wanted from a later one on.
-unwanted-later : (c : Choice) (q next : ℕ) (x : Held) → q ≤ next → wants_held c q x ≡ false
+pub unwanted-later : (c : Choice) (q next : ℕ) (x : Held) → q ≤ next → wants_held c q x ≡ false
     → wants_held c next x ≡ false
 unwanted-later c q next x later e =
     both (nat_le next x.stamp)

@@ -8,6 +8,7 @@ use Rattle.station_ring.specs.Rings.{RingValue, held_at}
 use Rattle.catalog.specs.Places.{station_at}
 use Rattle.sl_lines.specs.declared.actions.Action.{Action}
 use Rattle.session_state.specs.Choices.{action_value}
+use Rattle.session_state.specs.NamedValues.{Choice, ahead_of}
 use Rattle.session_state.specs.declared.session.State.{State}
 use Rattle.session_state.specs.declared.session.State.TheVariants.{Transfer}
 use Rattle.station_ring.specs.declared.held.Held.{Held}
@@ -42,6 +43,17 @@ pub record HoldsThere (rings : RingsValue) (ring : RingValue) (place : ℕ) (ite
   pub ring_there : slice_get rings.rings station ≡ Some ring
   pub there : held_at ring place ≡ Some item
   pub before : item.stamp < rings.arrivals
+
+-- The record at the cursor of the named station with that index, in that station's ring: the place is the cursor's, and
+-- the cursor tells of a record.
+pub record IsAtCursor (rings : RingsValue) (choices : List Choice) (index : ℕ) (ring : RingValue)
+    (place : ℕ) : Type 0 where
+  pub choice : Choice
+  pub at : slice_get choices index ≡ Some choice
+  pub ring_there : slice_get rings.rings choice.place ≡ Some ring
+  pub place_is : choice.cursor.place ≡ place
+  pub stamp : ℕ
+  pub ahead : ahead_of choice.cursor ≡ Some stamp
 
 -- the lesser of two positions, where both are there
 abbrev pub least_of : Option ℕ → Option ℕ → Option ℕ

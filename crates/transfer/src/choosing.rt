@@ -7,8 +7,8 @@ ghost use Rattle.protocol.specs.History.{Arrival, next as next_position, is_over
 ghost use Rattle.protocol.specs.Client.{is_nothing, offered};
 ghost use Rattle.catalog.specs.Places.{station_at};
 ghost use Rattle.protocol.specs.Packet.{packet};
-ghost use Rattle.station_ring.specs.Rings.{number_at};
-ghost use Rattle.held_records.specs.Rings.{holdings_of};
+ghost use Rattle.station_ring.specs.Rings.{held_at, number_at};
+ghost use Rattle.held_records.specs.Rings.{RingsValue, holdings_of};
 ghost use Rattle.sl_lines.specs.declared.actions.Action.TheVariants.{Time};
 ghost use Rattle.session_state.specs.NamedValues.{Choice, entry_of};
 ghost use Rattle.session_state.specs.Entries.{TellsAhead};
@@ -21,8 +21,9 @@ ghost use Rattle.transfer.specs.Cursors.{ArePassed, HasLooked, HasPassedAll, IsR
 ghost use Rattle.transfer.specs.Firsts.{Glances, IsAhead, IsGlancedUpTo, IsOverview, LeadsSoFar, best_of, earlier};
 ghost use Rattle.transfer.specs.Firsts.{is_unsent};
 ghost use Rattle.transfer.specs.Sleeping.{HasNothing, MayCome, MoreMayCome, Sleeps, starts_after};
-ghost use Rattle.transfer.specs.Choosing.{answer_of, is_over_of, comes_before, is_transfer, HoldsThere};
+ghost use Rattle.transfer.specs.Choosing.{answer_of, is_over_of, comes_before, is_transfer, HoldsThere, IsAtCursor};
 
+use crate::searching::{Reached, search_from};
 use crate::wanting::{Candidate, cursor_in, has_passed_its_end, unasked};
 use catalog::Config;
 use held_records::{Rings, arrivals_by_place};
@@ -312,6 +313,8 @@ fn candidate<'a>(session: &Session, first: First, rings: &'a Rings) -> Option<Ca
     requires { IsAhead (chosen_of session.now.mode) first.index first.stamp }
     ensures index { IfSome result (λ c. c.index < length (chosen_of session.now.mode)) }
     ensures held { IfSome result (λ c. HoldsThere rings.now c.ring.now c.place c.held.now) }
+    ensures cursor { IfSome result (λ c.
+        IsAtCursor rings.now (chosen_of session.now.mode) c.index c.ring.now c.place) }
     ensures position { (next : ℕ) → OfAll (RestsIn rings.now next) (chosen_of session.now.mode)
         → option_map (λ c. c.held.now.stamp) result ≡ Some first.stamp }
 {
@@ -333,6 +336,8 @@ fn found_next<'a>(session: &mut Session, rings: &'a Rings, next: u64) -> Option<
         → OfAll (RestsIn rings.now next) (chosen_of session.new.mode) }
     ensures index { IfSome result (λ c. c.index < length (chosen_of session.new.mode)) }
     ensures held { IfSome result (λ c. HoldsThere rings.now c.ring.now c.place c.held.now) }
+    ensures cursor { IfSome result (λ c.
+        IsAtCursor rings.now (chosen_of session.new.mode) c.index c.ring.now c.place) }
     ensures position { HasPassedAll rings.now next session.old
         → (config : ProtocolConfig) (h : List Arrival) → rings.now ≡ holdings_of config h →
         option_map (λ c. c.held.now.stamp) result
@@ -423,20 +428,33 @@ fn is_complete(entries: &[Entry], rings: &Rings) -> bool
     true
 }
 
-/// A request passes what it doesn't want.
-fn pass_one(session: &mut Session, rings: &Rings, index: usize, next: u64)
-    requires { index < length (chosen_of session.old.mode) }
+/// The request whose record ahead was sent passes that one, which is not looked at again, and what it doesn't want
+/// after it.
+fn pass_sent(session: &mut Session, found: Candidate<'_>, next: u64)
+    requires there { held_at found.ring.now found.place ≡ Some found.held.now }
+    requires index { found.index < length (chosen_of session.old.mode) }
+    requires sent { found.held.now.stamp < next }
     ensures same { but_for_cursors session.new ≡ but_for_cursors session.old }
-    ensures passed { HasPassedAll rings.now next session.old → HasPassedAll rings.now next session.new }
+    ensures passed { (rings : RingsValue) (from : ℕ) → from ≤ found.entry.held.now.stamp
+        → IsAtCursor rings (chosen_of session.old.mode) found.entry.index found.entry.ring.now found.entry.place
+        → OfAll (RestsIn rings from) (chosen_of session.old.mode)
+        → HasPassedAll rings next session.old → HasPassedAll rings next session.new }
 {
-    let cursor = cursor_of(session, index, rings, next);
-    session.pass(index, cursor);
+    found.ring.holds_its_last();
+    let _end = found.ring.pushes();
+    let from = Reached {
+        place: found.place + 1,
+        ended: session.choice(found.index).cursor.ended,
+    };
+    let cursor = search_from(found.ring, session, found.index, next, from);
+    session.pass(found.index, cursor);
 }
 
 /// The packet of a held record is made to wait, and its request passes it.
 fn send(session: &mut Session, rings: &Rings, found: Candidate<'_>)
     requires there { HoldsThere rings.now found.ring.now found.place found.held.now }
     requires index { found.index < length (chosen_of session.old.mode) }
+    requires cursor { IsAtCursor rings.now (chosen_of session.old.mode) found.index found.ring.now found.place }
     ensures session { but_for_cursors session.new ≡ but_for_cursors
         (record session.old {
           state = Transfer (found.entry.held.now.stamp + 1);
@@ -451,7 +469,7 @@ fn send(session: &mut Session, rings: &Rings, found: Candidate<'_>)
     let number = found.ring.number_at(found.place);
     let next = found.held.stamp + 1;
     session.put_packet(number, &found.held.bytes, next);
-    pass_one(session, rings, found.index, next);
+    pass_sent(session, found, next);
 }
 
 /// In a transfer, while nothing waits: of all held records that some request wants, and that arrived after the last

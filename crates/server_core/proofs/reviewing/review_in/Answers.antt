@@ -51,7 +51,7 @@ returns-then-review-clause-marked c =
     (with_value c.args.slots.now c.args.slot c.review.new.session) c.args.slot c.in-Some.session.now
     c.review.new.session
     c.requires.marked there (wrote c.args.slots.now c.args.slot c.in-Some.session.now c.review.new.session there)
-    c.heard.ensures.kept c.heard.ensures.sends Rest c.heard.ensures.marked c.heard.ensures.rest
+    c.heard.ensures.kept Rest c.heard.ensures.marked c.heard.ensures.sends c.heard.ensures.rest
     (λ e. subst (KeepsRequests c.in-Some.session.now) (sym c.review.ensures.session)
     (cut-requests c.args.config.now a c.in-Some.session.now differs)) c.heard.ensures.started
 
