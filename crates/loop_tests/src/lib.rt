@@ -1,4 +1,5 @@
-//! Tests of the loop over ports in memory, and of what a server asks and reports between its turns. Nothing but tests.
+//! Tests of the loop over ports in memory, of what a server asks and reports between its turns, and of what is noted of
+//! who comes and goes. Nothing but tests.
 #![tactic(auto)]
 
 #[cfg(test)]
@@ -9,6 +10,8 @@ mod failures;
 mod joining;
 #[cfg(test)]
 mod kept_numbers;
+#[cfg(test)]
+mod logged;
 #[cfg(test)]
 mod random;
 #[cfg(test)]

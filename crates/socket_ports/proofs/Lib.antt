@@ -1,1 +1,2 @@
+pub mod HostLemmas
 pub mod PeerLemmas

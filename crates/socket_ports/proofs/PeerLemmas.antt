@@ -1,6 +1,7 @@
 -- Ports by rising number: where one is found, and what is left without it.
 use Rattle.std.proofs.Common.{◌≡◌, ℕ, zero, suc, ◌+◌, ◌<◌, ◌≤◌, ◌==◌, not, Bool, true, false, if◌then◌else◌, List}
-use Rattle.std.proofs.Common.{[], ◌∷◌, ◌++◌, length, Result, Ok, Err, IfOk, IfErr, refl, sym, ap}
+use Rattle.std.proofs.Common.{[], ◌∷◌, ◌++◌, find, get_or, length, Option, Some, None, Result, Ok, Err, IfOk, IfErr}
+use Rattle.std.proofs.Common.{refl, sym, ap}
 use Rattle.std.proofs.Common.{subst, ◌∙◌, arith}
 use Rattle.std.specs.List.{remove}
 use Rattle.std.specs.List.Sorted.{IsSearchInRange, IsBinarySearchResult, IsNonDecreasingBy}
@@ -135,3 +136,33 @@ rise-push (q ∷ ps) p h below = (above-push q.number ps p h.0 below.0, rise-pus
 pub below-push : (n : ℕ) (ps : List Peer) (p : Peer) → AreBelow n ps → p.number ≡ n → AreBelow (n + 1) (ps ++ p ∷ [])
 below-push n [] p h is = (omega (arith, is), tt)
 below-push n (q ∷ ps) p h is = (omega (arith, h.0), below-push n ps p h.1 is)
+
+-- ---- whose it is
+
+abbrev found_or : Peer → Option Peer → Bool → Option Peer
+found_or p rest same = if same then Some p else rest
+
+pub find-found : (n : ℕ) (ps : List Peer) (at : ℕ) → Rise ps → IsPeerAt ps n at
+    → find (λ p. p.number == n) ps ≡ Some (get_or ps at no_peer)
+find-found n [] at h is = absurd (omega (arith, is.inside))
+find-found n (p ∷ ps) zero h is =
+    ap (found_or p (find (λ q. q.number == n) ps)) (is-same p.number n is.has_number)
+find-found n (p ∷ ps) (suc at) h is =
+    let inside : at < length ps = omega (arith, is.inside) in
+    let here : number_at ps at ≡ n = is.has_number in
+    let lower : p.number < n = subst (λ m. p.number < m) here (above-at p.number ps h.0 at inside) in
+    ap (found_or p (find (λ q. q.number == n) ps)) (not-below p.number n lower)
+    ∙ find-found n ps at h.1 (record { inside = inside; has_number = here })
+
+find-above : (n : ℕ) (ps : List Peer) → AreAbove n ps → find (λ p. p.number == n) ps ≡ None
+find-above n [] h = refl
+find-above n (p ∷ ps) h =
+    ap (found_or p (find (λ q. q.number == n) ps)) (not-above p.number n h.0) ∙ find-above n ps h.1
+
+pub find-absent : (n : ℕ) (ps : List Peer) (at : ℕ) → IsGapFor ps n at → find (λ p. p.number == n) ps ≡ None
+find-absent n [] at gap = refl
+find-absent n (p ∷ ps) zero gap =
+    find-above n (p ∷ ps) (above-from n (p ∷ ps) (λ j lt. gap.higher_after j (omega arith) lt))
+find-absent n (p ∷ ps) (suc at) gap =
+    ap (found_or p (find (λ q. q.number == n) ps)) (not-below p.number n (gap.lower_before 0 (omega arith)))
+    ∙ find-absent n ps at (gap-tail p ps n at gap)

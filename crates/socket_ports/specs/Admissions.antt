@@ -32,6 +32,11 @@ abbrev pub HasPlace : Option ℕ → List Peer → Ipv4Addr → Type 0
 HasPlace None opened address = Unit {0}
 HasPlace (Some most) opened address = clients_at opened address < most
 
+-- There may be any number, or there are fewer than there may be.
+abbrev pub IsFewer : Option ℕ → ℕ → Type 0
+IsFewer None clients = Unit {0}
+IsFewer (Some most) clients = clients < most
+
 -- A connection from an address is taken while those ports are open.
 abbrev pub IsAdmitted : Admission → List Peer → Kind → Ipv4Addr → Type 0
 IsAdmitted admission opened Client address = HasPlace admission.per_address opened address

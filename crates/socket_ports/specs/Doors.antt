@@ -62,7 +62,8 @@ pub record RationsJoins (polls joins polls' joins' : ℕ) (answer : Result Happe
   pub same_poll : polls' ≡ polls → joins' ≡ joins + joins_by answer
   pub next_poll : polls' ≡ polls + 1 → joins' ≡ joins_by answer
 
--- No poll was made, or one: then the count of those that joined since the last one begins anew.
+-- No poll was made, or one: then the count of those that joined since the last one begins anew, and so does that of
+-- those that were turned away.
 pub record IsPolled (polls joins polls' joins' : ℕ) : Type 0 where
   pub rising : (polls ≤ polls') × (polls' ≤ polls + 1)
   pub same_poll : polls' ≡ polls → joins' ≡ joins

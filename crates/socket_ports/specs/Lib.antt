@@ -1,7 +1,9 @@
 pub mod Admissions
+pub mod Departures
 pub mod Doors
 pub mod Ends
 pub mod Faults
+pub mod Hosts
 pub mod Numbers
 pub mod Peers
 pub mod Rations

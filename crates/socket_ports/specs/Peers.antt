@@ -1,7 +1,7 @@
 -- The ports that joined, and whose the open ones are.
 -- Ports are this project's own. Left out: whether the address that the system reports for a connection is the peer's.
 use Rattle.std.specs.Prelude.{◌≡◌, ℕ, ◌+◌, ◌<◌, ◌≤◌, ◌==◌, not, List, [], ◌∷◌, ◌++◌, length, slice_index_or}
-use Rattle.std.specs.Prelude.{Result, Ok, Err}
+use Rattle.std.specs.Prelude.{find, Option, Some, None, Result, Ok, Err}
 use Rattle.std.specs.List.{filter}
 use Rattle.std.specs.declared.net.ipv4_addr.Ipv4Addr.{Ipv4Addr}
 use Rattle.ports.specs.declared.answers.Happening.{Happening}
@@ -24,6 +24,14 @@ pub record PeersValue : Type 0 where
 -- the open ports but one
 abbrev pub without : ℕ → List Peer → List Peer
 without number peers = filter (λ p. not (p.number == number)) peers
+
+-- the address of an open port; 0.0.0.0 if it is not open
+abbrev pub address_or : Option Peer → Ipv4Addr
+address_or None = record { octets = 0 ∷ 0 ∷ 0 ∷ 0 ∷ [] }
+address_or (Some peer) = peer.address
+
+abbrev pub address_at : ℕ → List Peer → Ipv4Addr
+address_at number peers = address_or (find (λ p. p.number == number) peers)
 
 -- All numbers are above one, or below one.
 abbrev pub AreAbove : ℕ → List Peer → Type 0
@@ -93,10 +101,10 @@ happening_of Feed number address = JoinedFeed number
 -- A fact of how it is told that a connection joined, if it did; and one if it did not.
 abbrev pub IfJoined : Taken → (Happening → Type 0) → Type 0
 IfJoined (taken.Joined happening) P = P happening
-IfJoined taken.Away P = Unit {0}
+IfJoined (taken.Away away) P = Unit {0}
 IfJoined taken.Nothing P = Unit {0}
 
 abbrev pub IfNotJoined : Taken → Type 0 → Type 0
 IfNotJoined (taken.Joined happening) P = Unit {0}
-IfNotJoined taken.Away P = P
+IfNotJoined (taken.Away away) P = P
 IfNotJoined taken.Nothing P = P

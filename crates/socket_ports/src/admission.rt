@@ -1,9 +1,7 @@
 //! Whose connections are taken.
 ghost use Rattle.std.specs.Prelude.{◌≡◌, ◌↔◌, IsTrue, None};
-ghost use Rattle.socket_ports.specs.Admissions.{HasPlace, IsAdmitted, IsFeeder, clients_at, is_client_at};
+ghost use Rattle.socket_ports.specs.Admissions.{IsFeeder, IsFewer};
 
-use crate::listeners::Kind;
-use crate::peer::Peer;
 use access_list::AccessList;
 use std::net::Ipv4Addr;
 
@@ -27,28 +25,18 @@ impl Admission {
         }
     }
 
-    /// Whether a connection from an address is taken while those ports are open.
-    pub fn admits(&self, opened: &[Peer], kind: Kind, address: Ipv4Addr) -> bool
-        ensures { IsTrue result ↔ IsAdmitted self.now opened.now kind address }
-    {
-        match kind {
-            Kind::Client => self.has_place(opened, address),
-            Kind::Feed => self.takes_feeds_from(address),
-        }
-    }
-
-    /// Whether an address has fewer clients among those ports than it may have.
-    fn has_place(&self, opened: &[Peer], address: Ipv4Addr) -> bool
-        ensures { IsTrue result ↔ HasPlace self.now.per_address opened.now address }
+    /// Whether a client is taken from an address that has so many.
+    pub fn takes_client_beside(&self, clients: usize) -> bool
+        ensures { IsTrue result ↔ IsFewer self.now.per_address clients }
     {
         match self.per_address {
-            Some(most) => clients_at(opened, address) < most,
+            Some(most) => clients < most,
             None => true,
         }
     }
 
     /// Whether feeds from an address are taken.
-    fn takes_feeds_from(&self, address: Ipv4Addr) -> bool
+    pub fn takes_feeds_from(&self, address: Ipv4Addr) -> bool
         ensures { IsTrue result ↔ IsFeeder self.now.feed_from address }
     {
         match &self.feed_from {
@@ -56,21 +44,4 @@ impl Admission {
             None => true,
         }
     }
-}
-
-/// How many clients of an address are among those ports.
-fn clients_at(opened: &[Peer], address: Ipv4Addr) -> usize
-    ensures { result ≡ clients_at opened.now address }
-{
-    opened
-        .iter()
-        .filter(|peer| is_client_at(peer, address))
-        .count()
-}
-
-/// Whether a port is a client's of an address.
-fn is_client_at(peer: &Peer, address: Ipv4Addr) -> bool
-    ensures { result ≡ is_client_at address peer.now }
-{
-    peer.kind == Kind::Client && peer.address.to_bits() == address.to_bits()
 }

@@ -16,7 +16,8 @@ pub struct Joins {
 
 impl Joins {
     pub fn new() -> Joins
-        ensures { result.count ≡ 0 }
+        ensures joined { result.count ≡ 0 }
+        ensures away { result.away ≡ 0 }
     {
         Joins { count: 0, away: 0 }
     }

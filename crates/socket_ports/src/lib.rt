@@ -8,7 +8,9 @@
 mod admission;
 mod ahead;
 mod connection;
+mod departures;
 mod fault;
+mod hosts;
 mod joins;
 mod lingering;
 mod listeners;
@@ -25,3 +27,4 @@ mod sockets;
 pub use admission::Admission;
 pub use fault::{ListenError, ListenFault};
 pub use mio_ports::MioPorts;
+pub use options::notice_silence;

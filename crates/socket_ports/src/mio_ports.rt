@@ -3,21 +3,26 @@ ghost use Rattle.std.specs.Prelude.{◌≡◌, ◌<◌, [], ◌∷◌, length, I
 ghost use Rattle.sl_io.specs.Counts.{CountsFailure};
 ghost use Rattle.ports.specs.Calls.{Tells, given, IsGiven, IsTaken};
 ghost use Rattle.ports.specs.Calls.Call.{Next, Read, Write, Shut};
+ghost use Rattle.socket_ports.specs.Departures.{HaveReasons, TellsAway};
 ghost use Rattle.socket_ports.specs.Doors.{RationsJoins};
 ghost use Rattle.socket_ports.specs.Numbers.{TellsOpenPorts, numbers};
-ghost use Rattle.socket_ports.specs.Peers.{Admits, without};
+ghost use Rattle.socket_ports.specs.Peers.{Admits, address_at, without};
 
 use crate::admission::Admission;
+use crate::departures::Departures;
 use crate::fault::ListenError;
 use crate::sockets::Sockets;
+use logged_ports::{Away, Doors};
 use ports::{Got, Happening, PortFault, Ports, Put};
 use std::alloc::Global;
-use std::net::{Net, SocketAddrV4};
+use std::net::{Ipv4Addr, Net, SocketAddrV4};
 
 /// Ports over sockets. They tell nothing of their calls.
 #[derive(Drop)]
 pub struct MioPorts {
     sockets: Sockets,
+    /// The connections that the last call of `next` turned away.
+    away: Departures,
     bound: (u16, u16),
     failures: u64,
 }
@@ -51,10 +56,12 @@ impl MioPorts {
         ensures { IfOk result (λ ports. ports.sockets.peers
             ≡ record { admission = admission; joined = 0; opened = [] }) }
     {
+        let away = Departures::new(alloc).map_err(|_| ListenError::OutOfMemory)?;
         let sockets = Sockets::listen(rt, alloc, clients, feeds, admission)?;
         let bound = sockets.bound()?;
         Ok(MioPorts {
             sockets,
+            away,
             bound,
             failures: 0,
         })
@@ -83,7 +90,7 @@ impl Ports for MioPorts {
 
     /// What happened next. A new port has a number that no port had before: the count of those that joined, which no
     /// other call changes. Readable and Writable are told of open ports alone. At most sixteen ports join between two
-    /// polls, and those alone that are admitted.
+    /// polls, and those alone that are admitted. All that are not admitted are told.
     fn next(&mut self) -> Result<Happening, PortFault>
         ensures call { Tells None None (Next result ∷ []) }
         ensures failure { CountsFailure self.old.failures self.new.failures result }
@@ -92,8 +99,12 @@ impl Ports for MioPorts {
         ensures admits { Admits self.old.sockets.peers self.new.sockets.peers result }
         ensures rationed { RationsJoins self.old.sockets.polls self.old.sockets.joins.count
             self.new.sockets.polls self.new.sockets.joins.count result }
+        ensures reasons { HaveReasons self.old.sockets.peers.admission self.old.sockets.peers.opened self.new.away }
+        ensures all_told { TellsAway self.old.sockets.polls self.old.sockets.joins.away
+            self.new.sockets.polls self.new.sockets.joins.away self.new.away }
     {
-        let answer = self.sockets.next();
+        self.away.clear();
+        let answer = self.sockets.next(&mut self.away);
         if answer.is_err() {
             self.failures = self.failures.wrapping_add(1);
         }
@@ -135,5 +146,20 @@ impl Ports for MioPorts {
             ≡ record self.old.sockets.peers { opened = without port self.old.sockets.peers.opened } }
     {
         self.sockets.shut(port);
+    }
+}
+
+impl Doors for MioPorts {
+    ghost turned_away = { λ s. s.away };
+
+    ghost address = { λ s port. address_at port s.sockets.peers.opened };
+
+    fn turned_away(&self) -> &[Away] {
+        self.away.as_slice()
+    }
+
+    /// The address that the system reported for the port's connection, or 0.0.0.0 if the port is not open.
+    fn address(&self, port: u64) -> Ipv4Addr {
+        self.sockets.peers.address(port)
     }
 }

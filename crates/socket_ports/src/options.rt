@@ -1,6 +1,7 @@
 //! Options of connections that `mio` has no method for.
 //!
-//! They are set at the sockets that are listened on: Linux gives each connection those of the socket that took it.
+//! Those of clients and feeds are set at the sockets that are listened on: Linux gives each connection those of the
+//! socket that took it.
 use libc::net as c;
 use mio::net::TcpListener;
 use std::io;
@@ -51,7 +52,7 @@ fn set_option(fd: RawFd, option: SocketOption, value: &[u8; 16]) -> i32 {
     }
 }
 
-fn set(socket: &TcpListener, option: SocketOption, number: i32) -> io::Result<()> {
+fn set<S: AsRawFd>(socket: &S, option: SocketOption, number: i32) -> io::Result<()> {
     let mut value = [0u8; 16];
     value[..4].copy_from_slice(&number.to_ne_bytes());
     if set_option(socket.as_raw_fd(), option, &value) < 0 {
@@ -61,13 +62,17 @@ fn set(socket: &TcpListener, option: SocketOption, number: i32) -> io::Result<()
     }
 }
 
-/// Has the system notice a peer that is gone within 90 seconds, and keep no more than 256 KiB for one that takes
-/// nothing: on all connections that this socket takes.
-pub fn set_options(socket: &TcpListener) -> io::Result<()> {
+/// Has the system notice a peer that is gone, as one whose machine has vanished, within 90 seconds.
+pub fn notice_silence<S: AsRawFd>(socket: &S) -> io::Result<()> {
     set(socket, SocketOption::KeepAlive, 1)?;
     set(socket, SocketOption::KeepIdle, IDLE)?;
     set(socket, SocketOption::KeepInterval, INTERVAL)?;
     set(socket, SocketOption::KeepCount, QUESTIONS)?;
-    set(socket, SocketOption::UserTimeout, PATIENCE)?;
+    set(socket, SocketOption::UserTimeout, PATIENCE)
+}
+
+/// The same, and keep no more than 256 KiB for a peer that takes nothing: on all connections that this socket takes.
+pub fn set_options(socket: &TcpListener) -> io::Result<()> {
+    notice_silence(socket)?;
     set(socket, SocketOption::SendBuffer, SEND_BUFFER)
 }

@@ -3,6 +3,7 @@ ghost use Rattle.std.specs.Prelude.{◌≡◌, ◌<◌, ◌+◌, [], Err, IfErr,
 ghost use Rattle.std.specs.List.{Contains};
 ghost use Rattle.ports.specs.Calls.{IsGiven, IsTaken};
 ghost use Rattle.socket_ports.specs.Admissions.{IsAdmitted};
+ghost use Rattle.socket_ports.specs.Departures.{HaveReasons, IfAway, IsReason, TellsAway, away_of};
 ghost use Rattle.socket_ports.specs.Doors.{IsPolled, RationsJoins, joins_by};
 ghost use Rattle.socket_ports.specs.Numbers.{TellsOpenPorts, numbers};
 ghost use Rattle.socket_ports.specs.Peers.{Admits, IfJoined, IfNotJoined, IsJoined, happening_of, without};
@@ -10,6 +11,7 @@ ghost use Rattle.socket_ports.specs.Peers.{Admits, IfJoined, IfNotJoined, IsJoin
 use crate::admission::Admission;
 use crate::ahead::AheadPool;
 use crate::connection::{Connection, Marks, Readiness};
+use crate::departures::Departures;
 use crate::fault::ListenError;
 use crate::joins::Joins;
 use crate::lingering::Lingering;
@@ -17,6 +19,7 @@ use crate::listeners::{Accepted, Kind, LAST, Listeners, Origin, kind_of, origin_
 use crate::listing::Listing;
 use crate::peers::Peers;
 use crate::pool::Pool;
+use logged_ports::{Away, Reason};
 use mio::event::Event;
 use mio::net::TcpStream;
 use mio::{Events, Interest, Poll};
@@ -75,7 +78,7 @@ enum Taken {
     /// It joined.
     Joined(Happening),
     /// It may not join, and is closed.
-    Away,
+    Away(Away),
     /// None waits, or there is nothing by which it could be held.
     Nothing,
 }
@@ -88,6 +91,17 @@ fn joined(kind: Kind, number: u64, address: Ipv4Addr) -> Happening
         Kind::Client => Happening::Joined(number, address),
         Kind::Feed => Happening::JoinedFeed(number),
     }
+}
+
+/// Why a connection of a kind may not join.
+fn away_of(kind: Kind, address: Ipv4Addr) -> Away
+    ensures { result ≡ away_of kind address }
+{
+    let reason = match kind {
+        Kind::Client => Reason::PerAddress,
+        Kind::Feed => Reason::FeedFrom,
+    };
+    Away { address, reason }
 }
 
 fn address_of(peer: SocketAddr) -> Option<Ipv4Addr> {
@@ -167,8 +181,11 @@ impl Sockets {
 
     /// What happened next: the happenings of one poll one after the other, up to sixteen ports that join, and then
     /// Quiet. A poll waits at most 100 ms, and not at all if bytes went, a port joined or one is to be told since the
-    /// last one.
-    pub fn next(&mut self) -> Result<Happening, PortFault>
+    /// last one. The connections that were turned away meanwhile are told.
+    pub fn next(&mut self, away: &mut Departures) -> Result<Happening, PortFault>
+        requires { away.old ≡ [] }
+        ensures reasons { HaveReasons self.old.peers.admission self.old.peers.opened away.new }
+        ensures all_told { TellsAway self.old.polls self.old.joins.away self.new.polls self.new.joins.away away.new }
         ensures numbers { TellsOpenPorts self.old.peers.joined self.new.peers.joined
             (numbers self.new.connections.items) result }
         ensures admits { Admits self.old.peers self.new.peers result }
@@ -179,7 +196,7 @@ impl Sockets {
         if let Some(happening) = self.pending() {
             return Ok(happening);
         }
-        if let Some(happening) = self.join() {
+        if let Some(happening) = self.join(away) {
             return Ok(happening);
         }
         self.is_polled = false;
@@ -190,6 +207,7 @@ impl Sockets {
     fn poll_if_due(&mut self) -> Result<(), PortFault>
         ensures peers { self.new.peers ≡ self.old.peers }
         ensures polls { IsPolled self.old.polls self.old.joins.count self.new.polls self.new.joins.count }
+        ensures away { IsPolled self.old.polls self.old.joins.away self.new.polls self.new.joins.away }
     {
         if self.is_polled {
             return Ok(());
@@ -203,6 +221,7 @@ impl Sockets {
     fn poll(&mut self) -> Result<(), PortFault>
         ensures peers { self.new.peers ≡ self.old.peers }
         ensures polls { IsPolled self.old.polls self.old.joins.count self.new.polls self.new.joins.count }
+        ensures away { IsPolled self.old.polls self.old.joins.away self.new.polls self.new.joins.away }
     {
         let Some(polls) = self.polls.checked_add(1) else {
             return Err(PortFault);
@@ -390,8 +409,11 @@ impl Sockets {
     }
 
     /// A new port, of a client or of a feed, unless sixteen connections were taken since the last poll. A connection of
-    /// somebody who may not join is closed with no byte.
-    fn join(&mut self) -> Option<Happening>
+    /// somebody who may not join is closed with no byte, and told.
+    fn join(&mut self, away: &mut Departures) -> Option<Happening>
+        requires { away.old ≡ [] }
+        ensures reasons { HaveReasons self.old.peers.admission self.old.peers.opened away.new }
+        ensures all_told { self.new.joins.away ≡ self.old.joins.away + length away.new }
         ensures some { IfSome result (λ h. TellsOpenPorts self.old.peers.joined self.new.peers.joined
             (numbers self.new.connections.items) (Ok h)) }
         ensures admits { IfSome result (λ h. Admits self.old.peers self.new.peers (Ok h)) }
@@ -406,7 +428,10 @@ impl Sockets {
             }
             match self.take() {
                 Taken::Joined(happening) => return Some(happening),
-                Taken::Away => self.joins.turn_away(),
+                Taken::Away(one) => {
+                    self.joins.turn_away();
+                    away.push(one);
+                }
                 Taken::Nothing => return None,
             }
         }
@@ -421,6 +446,9 @@ impl Sockets {
         ensures admits { IfJoined result (λ h. Admits self.old.peers self.new.peers (Ok h)) }
         ensures counts { IfJoined result (λ h. self.new.joins.count ≡ self.old.joins.count + joins_by (Ok h)) }
         ensures others { IfNotJoined result ((self.new.peers ≡ self.old.peers) × (self.new.joins ≡ self.old.joins)) }
+        ensures joins_away { self.new.joins.away ≡ self.old.joins.away }
+        ensures away { IfAway result (λ one.
+            IsReason self.old.peers.admission self.old.peers.opened one.address one.reason) }
         ensures polls { self.new.polls ≡ self.old.polls }
     {
         let Some((kind, stream, peer)) = self.accept() else {
@@ -430,7 +458,7 @@ impl Sockets {
             return Taken::Nothing;
         };
         if !self.peers.admits(kind, address) {
-            return Taken::Away;
+            return Taken::Away(away_of(kind, address));
         }
         match self.hold(kind, address, stream) {
             Some(number) => Taken::Joined(joined(kind, number, address)),
@@ -444,6 +472,7 @@ impl Sockets {
         requires admitted { IsAdmitted self.old.peers.admission self.old.peers.opened kind address }
         ensures some { IfSome result (λ n. IsJoined kind n address self.old.peers self.new.peers
             × (self.new.joins.count ≡ self.old.joins.count + 1)) }
+        ensures away { self.new.joins.away ≡ self.old.joins.away }
         ensures none { IfNone result ((self.new.peers ≡ self.old.peers) × (self.new.joins ≡ self.old.joins)) }
         ensures polls { self.new.polls ≡ self.old.polls }
     {

@@ -1,6 +1,12 @@
-use Rattle.std.proofs.Common.{◌≡◌}
+use Rattle.std.proofs.Common.{◌≡◌, ◌+◌, length}
+use Rattle.socket_ports.specs.Departures.{HaveReasons}
 use Rattle.socket_ports.proofs.sockets.Sockets.join.Given as goal
 
 abbrev pub invariant-waiting : goal.invariant-waiting
-invariant-waiting l =
-    (l.self.peers ≡ l.fn.self.peers) × (l.self.polls ≡ l.fn.self.polls) × (l.self.joins.count ≡ l.fn.self.joins.count)
+invariant-waiting l = record {
+  peers : l.self.peers ≡ l.fn.self.peers;
+  polls : l.self.polls ≡ l.fn.self.polls;
+  count : l.self.joins.count ≡ l.fn.self.joins.count;
+  away : l.self.joins.away ≡ l.fn.self.joins.away + length l.away;
+  reasons : HaveReasons l.fn.self.peers.admission l.fn.self.peers.opened l.away;
+}

@@ -1,0 +1,2 @@
+pub mod NoteLemmas
+pub mod VisitorLemmas
