@@ -6,7 +6,7 @@ use Rattle.slreader.specs.declared.fault.ReaderFault.TheVariants.{Limit, OutOfMe
 use Rattle.slreader.specs.Tallies.{TallyValue}
 use Rattle.slreader.specs.Wants.{PlanValue, is_plan}
 use Rattle.packet_listing.specs.declared.fault.ListingFault.{ListingFault}
-use Rattle.packet_listing.specs.declared.fault.ListingFault.TheVariants.{Reader, Read, Write}
+use Rattle.packet_listing.specs.declared.fault.ListingFault.TheVariants.{Reader, Read, Write, State}
 use Rattle.packet_listing.specs.Stops.{StopsListing}
 use Rattle.packet_listing.specs.Whole.{CountsWritten, IsNotBegunBy, is_told_before}
 
@@ -19,6 +19,7 @@ untold (Reader AllRefused) plan h = absurd h
 untold (Reader BadReply) plan h = absurd h
 untold Read plan h = absurd h
 untold Write plan h = absurd h
+untold State plan h = absurd h
 
 pub never : {A : Type 0} → (b : Bool) → b ≡ false → b ≡ true → A
 never b is_not is = let bad : true ≡ false = sym is ∙ is_not in absurd cc
@@ -32,6 +33,7 @@ limited (Reader AllRefused) plan h is = absurd h
 limited (Reader BadReply) plan h is = absurd h
 limited Read plan h is = absurd h
 limited Write plan h is = absurd h
+limited State plan h is = absurd h
 
 taken : (b : Bool) (t old new : TallyValue) → new ≡ (if b then t else old) → b ≡ true → new ≡ t
 taken true t old new is so = is
@@ -78,3 +80,4 @@ pub stops-quietly : (fault : ListingFault) (plan : PlanValue) (ended no_read_fai
 stops-quietly (Reader other) plan ended no_read_failed quiet stopped h read written = (read, written)
 stops-quietly Read plan ended no_read_failed quiet stopped h read written = absurd h
 stops-quietly Write plan ended no_read_failed quiet stopped h read written = absurd h
+stops-quietly State plan ended no_read_failed quiet stopped h read written = absurd h

@@ -3,3 +3,5 @@ pub mod PieceLaws
 pub mod OrderLaws
 pub mod CountLaws
 pub mod FurtherLaws
+pub mod KeepLaws
+pub mod FollowLaws

@@ -6,7 +6,7 @@ use Rattle.std.specs.Io.KnownBytes.{Appends, Consumes, Keeps}
 use Rattle.slreader.specs.Dialogue.{ReaderValue, given_from, read_on}
 use Rattle.slreader.proofs.ReadingLaws.{given_from-append}
 use Rattle.slreader.proofs.SentLaws.{given_from-sent}
-use Rattle.packet_listing.specs.Lines.{OutputValue, with_all}
+use Rattle.packet_listing.specs.Lines.{LineStyle, OutputValue, with_all}
 use Rattle.packet_listing.specs.Pieces.{TellsFirst, WritesRecordsFirst}
 use Rattle.packet_listing.specs.Whole.{RecordsFirst, lines_given, records_given}
 use Rattle.packet_listing.proofs.PieceLaws.{TakenTo}
@@ -28,9 +28,9 @@ tells-as-before r r1 o o1 o2 piece left t same =
 
 -- ---- before anything is written
 
-pub nothing-written : (r : ReaderValue) (refusals : List (List ℕ)) (left lines records : Option (List ℕ))
-    → RecordsFirst r refusals left left lines lines records records
-nothing-written r refusals left lines records =
+pub nothing-written : (r : ReaderValue) (style : LineStyle) (left lines records : Option (List ℕ))
+    → RecordsFirst r style left left lines lines records records
+nothing-written r style left lines records =
     record {
       came = [];
       behind = [];
@@ -50,7 +50,7 @@ nothing-written r refusals left lines records =
 pub listed-first : (r r1 : ReaderValue) (o o1 : OutputValue)
     (left left1 left2 sent sent1 lines lines1 records records1 : Option (List ℕ)) →
     ListedTo r r1 o o1 left left1 sent sent1 lines lines1 records records1 → Keeps left1 left2 →
-    RecordsFirst r o.refusals left left2 lines lines1 records records1
+    RecordsFirst r o.style left left2 lines lines1 records records1
 listed-first r r1 o o1 left left1 left2 sent sent1 lines lines1 records records1 t keeps =
     let given = given_from r t.came in
     record {
@@ -61,7 +61,7 @@ listed-first r r1 o o1 left left1 left2 sent sent1 lines lines1 records records1
       listed = given;
       later = [];
       given = append-nil given;
-      told = (lines_given o.refusals given, [], sym (append-nil (lines_given o.refusals given)), t.told);
+      told = (lines_given o.style given, [], sym (append-nil (lines_given o.style given)), t.told);
       more = [];
       rest = [];
       begun = refl;
@@ -74,17 +74,17 @@ pub written-first : (r r1 : ReaderValue) (o o1 o2 : OutputValue)
     (left left1 left2 sent sent1 lines lines1 lines2 records records1 records2 : Option (List ℕ)) (piece : List ℕ) →
     ListedTo r r1 o o1 left left1 sent sent1 lines lines1 records records1 → TellsFirst r1 o1 o2 piece
     → Consumes left1 left2 piece → WritesRecordsFirst o2 lines1 lines2 records1 records2 →
-    RecordsFirst r o.refusals left left2 lines lines2 records records2
+    RecordsFirst r o.style left left2 lines lines2 records records2
 written-first r r1 o o1 o2 left left1 left2 sent sent1 lines lines1 lines2 records records1 records2 piece t tells read
     wrote =
     let before = read_on r t.came in
     let given = given_from before tells.bytes in
     let gives : given_from r1 tells.bytes ≡ given = ap (λ x. given_from x tells.bytes) t.reader
     ∙ given_from-sent before r1.sent tells.bytes in
-    let empty : OutputValue = record { refusals = o.refusals; lines = []; records = [] } in
+    let empty : OutputValue = record { style = o.style; lines = []; records = [] } in
     let told_is = tells.output ∙ ap (λ x. with_all x (given_from r1 tells.bytes)) t.output ∙ ap (with_all empty) gives
     ∙ all-adds empty given in
-    let lines_are : o2.lines ≡ lines_given o.refusals given = ap (λ (x : OutputValue). x.lines) told_is in
+    let lines_are : o2.lines ≡ lines_given o.style given = ap (λ (x : OutputValue). x.lines) told_is in
     let records_are : o2.records ≡ records_given given = ap (λ (x : OutputValue). x.records) told_is in
     let first = given_from r t.came in
     let all : given_from r (t.came ++ tells.bytes) ≡ first ++ given = given_from-append r t.came tells.bytes in
@@ -101,11 +101,11 @@ written-first r r1 o o1 o2 left left1 left2 sent sent1 lines lines1 lines2 recor
         later = given;
         given = sym all;
         told = (
-          lines_given o.refusals first,
+          lines_given o.style first,
           [],
-          sym (append-nil (lines_given o.refusals first)),
-          subst (Appends lines lines2) (append-nil (lines_given o.refusals first))
-              (Appends-trans lines lines1 lines2 (lines_given o.refusals first) [] t.told p.0),
+          sym (append-nil (lines_given o.style first)),
+          subst (Appends lines lines2) (append-nil (lines_given o.style first))
+              (Appends-trans lines lines1 lines2 (lines_given o.style first) [] t.told p.0),
         );
         more = p.1.0;
         rest = p.1.1;
@@ -120,12 +120,12 @@ written-first r r1 o o1 o2 left left1 left2 sent sent1 lines lines1 lines2 recor
         later = [];
         given = append-nil (first ++ given) ∙ sym all;
         told = (
-          lines_given o.refusals first ++ q.0.0,
+          lines_given o.style first ++ q.0.0,
           q.0.1,
-          lines-append o.refusals first given
-              ∙ ap (λ x. lines_given o.refusals first ++ x) (sym lines_are ∙ q.0.2)
-              ∙ sym (append_assoc (lines_given o.refusals first) q.0.0 q.0.1),
-          Appends-trans lines lines1 lines2 (lines_given o.refusals first) q.0.0 t.told q.0.3,
+          lines-append o.style first given
+              ∙ ap (λ x. lines_given o.style first ++ x) (sym lines_are ∙ q.0.2)
+              ∙ sym (append_assoc (lines_given o.style first) q.0.0 q.0.1),
+          Appends-trans lines lines1 lines2 (lines_given o.style first) q.0.0 t.told q.0.3,
         );
         more = [];
         rest = [];
@@ -142,17 +142,17 @@ pub all-written : (r r1 : ReaderValue) (o o1 o2 : OutputValue)
     (left left1 left2 sent sent1 lines lines1 lines2 records records1 records2 : Option (List ℕ)) (piece : List ℕ) →
     ListedTo r r1 o o1 left left1 sent sent1 lines lines1 records records1 → TellsFirst r1 o1 o2 piece
     → Consumes left1 left2 piece → Appends lines1 lines2 o2.lines → Appends records1 records2 o2.records →
-    RecordsFirst r o.refusals left left2 lines lines2 records records2
+    RecordsFirst r o.style left left2 lines lines2 records records2
 all-written r r1 o o1 o2 left left1 left2 sent sent1 lines lines1 lines2 records records1 records2 piece t tells read
     told kept =
     written-first r r1 o o1 o2 left left1 left2 sent sent1 lines lines1 lines2 records records1 records2 piece t tells
     read (inr ((o2.lines, [], sym (append-nil o2.lines), told), kept))
 
 -- the same of another reader and other lines, where they are equal
-pub first-as : (r r' : ReaderValue) (refusals refusals' : List (List ℕ))
-    (left left' lines lines' records records' : Option (List ℕ)) → r ≡ r' → refusals ≡ refusals' →
-    RecordsFirst r refusals left left' lines lines' records records' →
-    RecordsFirst r' refusals' left left' lines lines' records records'
-first-as r r' refusals refusals' left left' lines lines' records records' same alike h =
-    subst (λ x. RecordsFirst x refusals' left left' lines lines' records records') same
+pub first-as : (r r' : ReaderValue) (style style' : LineStyle)
+    (left left' lines lines' records records' : Option (List ℕ)) → r ≡ r' → style ≡ style' →
+    RecordsFirst r style left left' lines lines' records records' →
+    RecordsFirst r' style' left left' lines lines' records records'
+first-as r r' style style' left left' lines lines' records records' same alike h =
+    subst (λ x. RecordsFirst x style' left left' lines lines' records records') same
     (subst (λ x. RecordsFirst r x left left' lines lines' records records') alike h)

@@ -16,19 +16,19 @@ use Rattle.slreader.proofs.FaultLaws.{read-no-limit}
 use Rattle.slreader.proofs.ReadingLaws.{read_on-append, given_from-append}
 use Rattle.packet_listing.specs.declared.fault.ListingFault.{ListingFault}
 use Rattle.packet_listing.specs.declared.fault.ListingFault.TheVariants.{Reader}
-use Rattle.packet_listing.specs.Lines.{OutputValue, refusal_at, with_given, with_all}
+use Rattle.packet_listing.specs.Lines.{LineStyle, OutputValue, refusal_at, with_given, with_all}
 use Rattle.packet_listing.specs.Pieces.{GoesOver, Takes, FailsIn}
 use Rattle.packet_listing.specs.Whole.{Ends, IsWhy, StopsAt, is_told_before, line_given, lines_given, record_given}
 use Rattle.packet_listing.specs.Whole.{records_given}
 
 -- ---- what is told of things given one after the other
 
-pub lines-append : (refusals : List (List ℕ)) (gs hs : List Given)
-    → lines_given refusals (gs ++ hs) ≡ lines_given refusals gs ++ lines_given refusals hs
-lines-append refusals [] hs = refl
-lines-append refusals (g ∷ gs) hs =
-    ap (λ x. line_given refusals g ++ x) (lines-append refusals gs hs)
-    ∙ sym (append_assoc (line_given refusals g) (lines_given refusals gs) (lines_given refusals hs))
+pub lines-append : (style : LineStyle) (gs hs : List Given)
+    → lines_given style (gs ++ hs) ≡ lines_given style gs ++ lines_given style hs
+lines-append style [] hs = refl
+lines-append style (g ∷ gs) hs =
+    ap (λ x. line_given style g ++ x) (lines-append style gs hs)
+    ∙ sym (append_assoc (line_given style g) (lines_given style gs) (lines_given style hs))
 
 pub records-append : (gs hs : List Given) → records_given (gs ++ hs) ≡ records_given gs ++ records_given hs
 records-append [] hs = refl
@@ -38,29 +38,29 @@ records-append (g ∷ gs) hs =
 
 -- what is told after some lines and records
 abbrev pub told_after : OutputValue → (lines records : List ℕ) → OutputValue
-told_after o lines records = record { refusals = o.refusals; lines = o.lines ++ lines; records = o.records ++ records }
+told_after o lines records = record { style = o.style; lines = o.lines ++ lines; records = o.records ++ records }
 
 nothing-added : (o : OutputValue) → o ≡ told_after o [] []
-nothing-added o = ap₂ (λ l k. record { refusals = o.refusals; lines = l; records = k }) (sym (append-nil o.lines))
+nothing-added o = ap₂ (λ l k. record { style = o.style; lines = l; records = k }) (sym (append-nil o.lines))
     (sym (append-nil o.records))
 
 -- One thing that is given adds its line and its record.
-given-adds : (o : OutputValue) (g : Given) → with_given o g ≡ told_after o (line_given o.refusals g) (record_given g)
+given-adds : (o : OutputValue) (g : Given) → with_given o g ≡ told_after o (line_given o.style g) (record_given g)
 given-adds o Hello = nothing-added o
 given-adds o (Refused want) =
-    ap (λ k. record { refusals = o.refusals; lines = o.lines ++ refusal_at o.refusals want; records = k })
+    ap (λ k. record { style = o.style; lines = o.lines ++ refusal_at o.style.refusals want; records = k })
     (sym (append-nil o.records))
 given-adds o (Packet packet) = refl
 given-adds o End = nothing-added o
 
 pub all-adds : (o : OutputValue) (gs : List Given)
-    → with_all o gs ≡ told_after o (lines_given o.refusals gs) (records_given gs)
+    → with_all o gs ≡ told_after o (lines_given o.style gs) (records_given gs)
 all-adds o [] = nothing-added o
 all-adds o (g ∷ gs) =
     ap (λ x. with_all x gs) (given-adds o g)
-    ∙ all-adds (told_after o (line_given o.refusals g) (record_given g)) gs
-    ∙ ap₂ (λ l k. record { refusals = o.refusals; lines = l; records = k })
-    (append_assoc o.lines (line_given o.refusals g) (lines_given o.refusals gs))
+    ∙ all-adds (told_after o (line_given o.style g) (record_given g)) gs
+    ∙ ap₂ (λ l k. record { style = o.style; lines = l; records = k })
+    (append_assoc o.lines (line_given o.style g) (lines_given o.style gs))
     (append_assoc o.records (record_given g) (records_given gs))
 
 -- ---- what is asked and what of it was sent
@@ -83,9 +83,9 @@ pub record ListedTo (r r1 : ReaderValue) (o o1 : OutputValue)
   pub from : r.sent ≤ r1.sent
   pub within : r1.sent ≤ length (read_on r came).asked
   pub asked : Appends sent sent1 (drop r.sent (take r1.sent (read_on r came).asked))
-  pub told : Appends lines lines1 (lines_given o.refusals (given_from r came))
+  pub told : Appends lines lines1 (lines_given o.style (given_from r came))
   pub kept : Appends records records1 (records_given (given_from r came))
-  pub output : o1 ≡ record { refusals = o.refusals; lines = []; records = [] }
+  pub output : o1 ≡ record { style = o.style; lines = []; records = [] }
 
 -- at the beginning
 pub listed-none : (r : ReaderValue) (o : OutputValue) (left sent lines records : Option (List ℕ))
@@ -103,7 +103,7 @@ listed-none r o left sent lines records within no_lines no_records =
       asked = subst (Appends sent sent) (sym none) (Appends-nil sent);
       told = Appends-nil lines;
       kept = Appends-nil records;
-      output = ap₂ (λ (l k : List ℕ). record { refusals = o.refusals; lines = l; records = k }) no_lines no_records;
+      output = ap₂ (λ (l k : List ℕ). record { style = o.style; lines = l; records = k }) no_lines no_records;
     }
 
 -- ---- all that is asked is sent
@@ -165,10 +165,10 @@ listed-on r r1 r2 o o1 o2 o3 left left1 left2 sent sent1 lines lines1 lines2 rec
     let same : r2.sent ≡ r1.sent = ap (λ (x : ReaderValue). x.sent) led in
     let gives : given_from r1 bytes ≡ given = ap (λ x. given_from x bytes) t.reader
     ∙ given_from-sent before r1.sent bytes in
-    let told_is : o2 ≡ told_after (record { refusals = o.refusals; lines = []; records = [] })
-    (lines_given o.refusals given) (records_given given) =
+    let told_is : o2 ≡ told_after (record { style = o.style; lines = []; records = [] })
+    (lines_given o.style given) (records_given given) =
     goes.output ∙ ap₂ with_all t.output gives
-    ∙ all-adds (record { refusals = o.refusals; lines = []; records = [] }) given in
+    ∙ all-adds (record { style = o.style; lines = []; records = [] }) given in
     let all : given_from r (t.came ++ bytes) ≡ given_from r t.came ++ given = given_from-append r t.came bytes in
     let grown = asked-grows before bytes in
     let asked : (read_on r (t.came ++ bytes)).asked
@@ -186,7 +186,7 @@ listed-on r r1 r2 o o1 o2 o3 left left1 left2 sent sent1 lines lines1 lines2 rec
       asked = subst (λ x. Appends sent sent1 (drop r.sent x)) (sym first) t.asked;
       told =
           subst (Appends lines lines2)
-          (sym (ap (lines_given o.refusals) all ∙ lines-append o.refusals (given_from r t.came) given))
+          (sym (ap (lines_given o.style) all ∙ lines-append o.style (given_from r t.came) given))
           (Appends-trans lines lines1 lines2 _ _ t.told
           (subst (Appends lines1 lines2) (ap (λ (x : OutputValue). x.lines) told_is) told));
       kept = subst (Appends records records2) (sym (ap records_given all ∙ records-append (given_from r t.came) given))
@@ -218,7 +218,7 @@ pub ends : (r r1 r2 : ReaderValue) (o o1 o2 o3 : OutputValue)
     Appends lines1 lines2 o2.lines → Appends records1 records2 o2.records → o3 ≡ record o2 { lines = []; records = [] }
     →
     Appends sent1 sent2 (drop r2.sent r2.asked) →
-    Ends r o.refusals left left2 sent sent2 lines lines2 records records2
+    Ends r o.style left left2 sent sent2 lines lines2 records records2
 ends r r1 r2 o o1 o2 o3 left left1 left2 sent sent1 sent2 lines lines1 lines2 records records1 records2 piece t takes
     read told kept output more =
     let back = put-back left1 left2 takes.bytes takes.behind (subst (Consumes left1 left2) (sym takes.parts) read) in
@@ -258,7 +258,7 @@ goes-on-listed r r1 r2 o o1 o2 o3 left left1 left2 sent sent1 lines lines1 lines
 pub stops : (fault : ListingFault) (r r1 : ReaderValue) (o o1 : OutputValue)
     (left left1 left2 sent sent1 lines lines1 records records1 : Option (List ℕ)) →
     ListedTo r r1 o o1 left left1 sent sent1 lines lines1 records records1 → Keeps left1 left2 → IsWhy fault r1.stage →
-    StopsAt fault r o.refusals left left2 sent sent1 lines lines1 records records1
+    StopsAt fault r o.style left left2 sent sent1 lines lines1 records records1
 stops fault r r1 o o1 left left1 left2 sent sent1 lines lines1 records records1 t keeps why =
     record {
       came = t.came;
@@ -287,7 +287,7 @@ pub fails : (fault : ReaderFault) (r r1 r2 : ReaderValue) (o o1 o2 o3 : OutputVa
     → Consumes left1 left2 piece →
     Appends lines1 lines2 o2.lines → Appends records1 records2 o2.records → o3 ≡ record o2 { lines = []; records = [] }
     →
-    StopsAt (Reader fault) r o.refusals left left2 sent sent1 lines lines2 records records2
+    StopsAt (Reader fault) r o.style left left2 sent sent1 lines lines2 records records2
 fails fault r r1 r2 o o1 o2 o3 left left1 left2 sent sent1 lines lines1 lines2 records records1 records2 piece t failed
     read told kept output =
     let on = listed-on r r1 r2 o o1 o2 o3 left left1 left2 sent sent1 lines lines1 lines2 records records1 records2
@@ -296,13 +296,21 @@ fails fault r r1 r2 o o1 o2 o3 left left1 left2 sent sent1 lines lines1 lines2 r
     (ap (λ (x : ReaderValue). x.stage) failed.goes.reader ∙ failed.stage)
 
 -- the same of another reader and other lines, where they are equal
-pub stops-as : (fault : ListingFault) (r r' : ReaderValue) (refusals refusals' : List (List ℕ))
+pub stops-as : (fault : ListingFault) (r r' : ReaderValue) (style style' : LineStyle)
     (left left' sent sent' lines lines' records records' : Option (List ℕ)) →
-    r ≡ r' → refusals ≡ refusals' → StopsAt fault r refusals left left' sent sent' lines lines' records records' →
-    StopsAt fault r' refusals' left left' sent sent' lines lines' records records'
-stops-as fault r r' refusals refusals' left left' sent sent' lines lines' records records' same alike h =
-    subst (λ x. StopsAt fault x refusals' left left' sent sent' lines lines' records records') same
+    r ≡ r' → style ≡ style' → StopsAt fault r style left left' sent sent' lines lines' records records' →
+    StopsAt fault r' style' left left' sent sent' lines lines' records records'
+stops-as fault r r' style style' left left' sent sent' lines lines' records records' same alike h =
+    subst (λ x. StopsAt fault x style' left left' sent sent' lines lines' records records') same
     (subst (λ x. StopsAt fault r x left left' sent sent' lines lines' records records') alike h)
+
+pub ends-as : (r r' : ReaderValue) (style style' : LineStyle)
+    (left left' sent sent' lines lines' records records' : Option (List ℕ)) →
+    r ≡ r' → style ≡ style' → Ends r style left left' sent sent' lines lines' records records' →
+    Ends r' style' left left' sent sent' lines lines' records records'
+ends-as r r' style style' left left' sent sent' lines lines' records records' same alike h =
+    subst (λ x. Ends x style' left left' sent sent' lines lines' records records') same
+    (subst (λ x. Ends r x left left' sent sent' lines lines' records records') alike h)
 
 -- ---- no fault of the plan comes late
 

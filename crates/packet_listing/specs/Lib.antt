@@ -3,3 +3,7 @@ pub mod Lines
 pub mod Pieces
 pub mod Stops
 pub mod Whole
+pub mod Keeping
+pub mod Keepers
+pub mod Following
+pub mod Breaks

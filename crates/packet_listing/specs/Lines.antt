@@ -5,6 +5,7 @@ use Rattle.std.specs.Option.{unwrap_or}
 use Rattle.std.specs.Char.{to_ascii_uppercase}
 use Rattle.protocol.specs.Record.{Facts}
 use Rattle.record_listing.specs.Listing.{header_text}
+use Rattle.record_listing.specs.declared.options.Times.{Times}
 use Rattle.slreader.specs.Tallies.{packet_facts}
 use Rattle.slreader.specs.Wants.{WantValue, PlanValue, wants_of}
 use Rattle.slreader.specs.Dialogue.{Given}
@@ -15,21 +16,26 @@ abbrev pub number_text : List ℕ → List ℕ
 number_text packet = map to_ascii_uppercase (slice_range packet 2 8)
 
 -- what its record says, if it can be read
-abbrev pub facts_text : Option Facts → List ℕ
-facts_text None = codes "unreadable"
-facts_text (Some x) = header_text x
+abbrev pub facts_text : Times → Option Facts → List ℕ
+facts_text times None = codes "unreadable"
+facts_text times (Some x) = header_text times x
 
 -- the line of a packet, with its end
-abbrev pub packet_line : List ℕ → List ℕ
-packet_line packet = number_text packet ++ 32 ∷ (facts_text (packet_facts packet) ++ 10 ∷ [])
+abbrev pub packet_line : Times → List ℕ → List ℕ
+packet_line times packet = number_text packet ++ 32 ∷ (facts_text times (packet_facts packet) ++ 10 ∷ [])
 
 -- the line of a want that was refused, with its end
 abbrev pub refusal_line : WantValue → List ℕ
 refusal_line w = codes "refused " ++ (w.network ++ 32 ∷ (w.station ++ 10 ∷ []))
 
--- What is told and was not written yet: the lines of wants if they are refused, the lines, and the records of packets.
-pub record OutputValue : Type 0 where
+-- How lines are written: the lines of wants if they are refused, and the times of records.
+pub record LineStyle : Type 0 where
   pub refusals : List (List ℕ)
+  pub times : Times
+
+-- What is told and was not written yet, and how: the lines, and the records of packets.
+pub record OutputValue : Type 0 where
+  pub style : LineStyle
   pub lines : List ℕ
   pub records : List ℕ
 
@@ -44,9 +50,9 @@ refusal_at refusals want = unwrap_or (slice_get refusals want) []
 -- one thing more was given
 abbrev pub with_given : OutputValue → Given → OutputValue
 with_given o Hello = o
-with_given o (Refused want) = record o { lines = o.lines ++ refusal_at o.refusals want }
+with_given o (Refused want) = record o { lines = o.lines ++ refusal_at o.style.refusals want }
 with_given o (Packet packet) =
-    record o { lines = o.lines ++ packet_line packet; records = o.records ++ record_of packet }
+    record o { lines = o.lines ++ packet_line o.style.times packet; records = o.records ++ record_of packet }
 with_given o End = o
 
 -- all of them
@@ -63,6 +69,10 @@ told o (Some g) = with_given o g
 abbrev pub refusals_of : PlanValue → List (List ℕ)
 refusals_of plan = map refusal_line (wants_of plan)
 
+-- how the lines of a plan are written
+abbrev pub style_of : Times → PlanValue → LineStyle
+style_of times plan = record { refusals = refusals_of plan; times = times }
+
 -- before anything is given
-abbrev pub nothing_told : PlanValue → OutputValue
-nothing_told plan = record { refusals = refusals_of plan; lines = []; records = [] }
+abbrev pub nothing_told : Times → PlanValue → OutputValue
+nothing_told times plan = record { style = style_of times plan; lines = []; records = [] }

@@ -10,21 +10,21 @@ use Rattle.slreader.specs.Dialogue.{Given, ReaderValue, Stage, given_from, read_
 use Rattle.slreader.specs.Dialogue.Given.{Hello, Refused, Packet, End}
 use Rattle.slreader.specs.Dialogue.Stage.{Over, Failed}
 use Rattle.packet_listing.specs.declared.fault.ListingFault.{ListingFault}
-use Rattle.packet_listing.specs.declared.fault.ListingFault.TheVariants.{Reader, Read, Write}
-use Rattle.packet_listing.specs.Lines.{packet_line, record_of, refusal_at}
+use Rattle.packet_listing.specs.declared.fault.ListingFault.TheVariants.{Reader, Read, Write, State}
+use Rattle.packet_listing.specs.Lines.{LineStyle, packet_line, record_of, refusal_at}
 
 -- ---- what is told
 
--- the line of one thing that is given, by the lines of wants if they are refused
-abbrev pub line_given : (refusals : List (List ℕ)) → Given → List ℕ
-line_given refusals Hello = []
-line_given refusals (Refused want) = refusal_at refusals want
-line_given refusals (Packet packet) = packet_line packet
-line_given refusals End = []
+-- the line of one thing that is given, by the lines of wants if they are refused, and how times are written
+abbrev pub line_given : LineStyle → Given → List ℕ
+line_given style Hello = []
+line_given style (Refused want) = refusal_at style.refusals want
+line_given style (Packet packet) = packet_line style.times packet
+line_given style End = []
 
-abbrev pub lines_given : (refusals : List (List ℕ)) → List Given → List ℕ
-lines_given refusals [] = []
-lines_given refusals (g ∷ gs) = line_given refusals g ++ lines_given refusals gs
+abbrev pub lines_given : LineStyle → List Given → List ℕ
+lines_given style [] = []
+lines_given style (g ∷ gs) = line_given style g ++ lines_given style gs
 
 -- the record of one thing that is given, if it is a packet
 abbrev pub record_given : Given → List ℕ
@@ -41,14 +41,14 @@ records_given (g ∷ gs) = record_given g ++ records_given gs
 
 -- Bytes `came` that bring the dialogue of the reader to its end. All that it asks by them was sent, and of all that
 -- they give the lines and the records were written. What was read `behind` the end is dropped.
-pub record Ends (r : ReaderValue) (refusals : List (List ℕ))
+pub record Ends (r : ReaderValue) (style : LineStyle)
     (left left' sent sent' lines lines' records records' : Option (List ℕ)) : Type 0 where
   pub came : List ℕ
   pub behind : List ℕ
   pub read : Consumes left left' (came ++ behind)
   pub over : (read_on r came).stage ≡ Over
   pub asked : Appends sent sent' (drop r.sent (read_on r came).asked)
-  pub told : Appends lines lines' (lines_given refusals (given_from r came))
+  pub told : Appends lines lines' (lines_given style (given_from r came))
   pub kept : Appends records records' (records_given (given_from r came))
 
 -- ---- at a fault
@@ -58,8 +58,9 @@ abbrev pub IsWhy : ListingFault → Stage → Type 0
 IsWhy (Reader fault) stage = stage ≡ Failed fault
 IsWhy Read stage = ⊤
 IsWhy Write stage = ⊤
+IsWhy State stage = ⊤
 
--- All of what was given is told at this fault: it is not one of the plan, of memory or of a write.
+-- All of what was given is told at this fault: it is not one of the plan, of memory, of a write or of what is kept.
 abbrev pub is_told_before : ListingFault → Bool
 is_told_before (Reader Limit) = false
 is_told_before (Reader OutOfMemory) = false
@@ -68,16 +69,17 @@ is_told_before (Reader AllRefused) = true
 is_told_before (Reader BadReply) = true
 is_told_before Read = true
 is_told_before Write = false
+is_told_before State = false
 
 -- Bytes `came`. A beginning of what the reader asks by them was sent, and of all that they give the lines and the
 -- records were written.
-pub record StopsAt (fault : ListingFault) (r : ReaderValue) (refusals : List (List ℕ))
+pub record StopsAt (fault : ListingFault) (r : ReaderValue) (style : LineStyle)
     (left left' sent sent' lines lines' records records' : Option (List ℕ)) : Type 0 where
   pub came : List ℕ
   pub read : Consumes left left' came
   pub why : IsWhy fault (read_on r came).stage
   pub asked : AppendsBeginning sent sent' (drop r.sent (read_on r came).asked)
-  pub told : Appends lines lines' (lines_given refusals (given_from r came))
+  pub told : Appends lines lines' (lines_given style (given_from r came))
   pub kept : Appends records records' (records_given (given_from r came))
 
 -- ---- at whatever point it stops
@@ -86,7 +88,7 @@ pub record StopsAt (fault : ListingFault) (r : ReaderValue) (refusals : List (Li
 -- listed were written, and of those that come later a beginning at most. Of the lines of what is listed a beginning
 -- was written, and none of what comes later. So each packet of which a line was written, in part or as a whole, has its
 -- record written before it.
-pub record RecordsFirst (r : ReaderValue) (refusals : List (List ℕ))
+pub record RecordsFirst (r : ReaderValue) (style : LineStyle)
     (left left' lines lines' records records' : Option (List ℕ)) : Type 0 where
   pub came : List ℕ
   pub behind : List ℕ
@@ -94,7 +96,7 @@ pub record RecordsFirst (r : ReaderValue) (refusals : List (List ℕ))
   pub listed : List Given
   pub later : List Given
   pub given : listed ++ later ≡ given_from r came
-  pub told : AppendsBeginning lines lines' (lines_given refusals listed)
+  pub told : AppendsBeginning lines lines' (lines_given style listed)
   pub more : List ℕ
   pub rest : List ℕ
   pub begun : more ++ rest ≡ records_given later
@@ -117,3 +119,4 @@ IsNotBegunBy (Reader AllRefused) plan = ⊥
 IsNotBegunBy (Reader BadReply) plan = ⊥
 IsNotBegunBy Read plan = ⊥
 IsNotBegunBy Write plan = ⊥
+IsNotBegunBy State plan = ⊥

@@ -18,10 +18,13 @@ pub enum ListingFault {
     /// A command, a line or a record could not be written.
     #[error("not everything could be written")]
     Write,
+    /// What was written could not be made to last, or how far the reader is could not be kept.
+    #[error("how far the reader is can't be kept")]
+    State,
 }
 
 impl ListingFault {
-    /// The number and the name by which the program reports it: those of the reader's fault, 42 or 43.
+    /// The number and the name by which the program reports it: those of the reader's fault, 42, 43 or 53.
     pub fn report(self) -> Report
         ensures number { result.number ≡ listing_fault_number self }
         ensures name { result.name.now ≡ listing_fault_name self }
@@ -30,6 +33,7 @@ impl ListingFault {
             ListingFault::Reader(fault) => fault.report(),
             ListingFault::Read => Report::new(42, "Read"),
             ListingFault::Write => Report::new(43, "Write"),
+            ListingFault::State => Report::new(53, "State"),
         }
     }
 }

@@ -2,11 +2,18 @@
 #![tactic(auto)]
 
 mod fault;
+mod following;
+mod keeping;
+mod memory_keeper;
 mod nowhere;
 mod output;
 mod reading;
 mod texts;
 
 pub use fault::ListingFault;
+pub use following::{Break, Servers, follow};
+pub use keeping::{KeepFault, Keeper, NothingKept};
+pub use memory_keeper::{Done, MemoryKeeper};
 pub use nowhere::Nowhere;
 pub use reading::{read_further, read_over};
+pub use record_listing::Times;

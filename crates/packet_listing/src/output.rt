@@ -3,6 +3,7 @@ ghost use Rattle.std.specs.Prelude.{◌≡◌, ◌++◌, ◌∷◌, [], map, OnO
 ghost use Rattle.packet_listing.specs.Lines.{refusal_at, refusal_line};
 
 use crate::texts::{put_packet, record_of, refusal_line};
+use record_listing::Times;
 use slreader::{Plan, Want, What};
 use std::alloc::{AllocError, Global};
 use std::marker::Model;
@@ -64,6 +65,7 @@ fn refusal_at(refusals: &[RefusalLine], want: usize) -> &[u8]
 #[derive(Drop)]
 pub(crate) struct Output {
     refusals: Vec<RefusalLine>,
+    times: Times,
     lines: Vec<u8>,
     records: Vec<u8>,
     /// The line that is being made.
@@ -75,7 +77,11 @@ impl Model for Output {
 
     ghost Value = { OutputValue };
 
-    ghost view = { λ o. record { refusals = o.refusals.items; lines = o.lines.items; records = o.records.items } };
+    ghost view = { λ o. record {
+      style = record { refusals = o.refusals.items; times = o.times };
+      lines = o.lines.items;
+      records = o.records.items;
+    } };
 }
 
 impl Output {
@@ -85,8 +91,8 @@ impl Output {
     ghost use Rattle.packet_listing.specs.Lines.{nothing_told, packet_line, refusal_at, record_of, told};
 
     /// Nothing is told.
-    pub(crate) fn new(alloc: Global, plan: &Plan<'_>) -> Result<Output, AllocError>
-        ensures { IfOk result (λ o. o ≡ nothing_told (plan_value plan.now)) }
+    pub(crate) fn new(alloc: Global, times: Times, plan: &Plan<'_>) -> Result<Output, AllocError>
+        ensures { IfOk result (λ o. o ≡ nothing_told times (plan_value plan.now)) }
     {
         let mut refusals = Vec::new(alloc);
         match plan {
@@ -95,6 +101,7 @@ impl Output {
         }
         Ok(Output {
             refusals,
+            times,
             lines: Vec::new(alloc),
             records: Vec::new(alloc),
             line: Vec::new(alloc),
@@ -104,13 +111,13 @@ impl Output {
     /// The record of a packet, and its line; or neither.
     fn put_packet(&mut self, packet: &[u8; 520]) -> Result<(), AllocError>
         ensures told { OnOk result (self.new ≡ record self.old {
-          lines = self.old.lines ++ packet_line packet.now;
+          lines = self.old.lines ++ packet_line self.old.style.times packet.now;
           records = self.old.records ++ record_of packet.now;
         }) }
         ensures kept { OnErr result (self.new ≡ self.old) }
     {
         self.line.clear();
-        put_packet(&mut self.line, packet)?;
+        put_packet(&mut self.line, self.times, packet)?;
         let before = self.records.len();
         self.records.extend_from_slice(record_of(packet))?;
         match self.lines.extend_from_slice(&self.line) {
@@ -125,7 +132,7 @@ impl Output {
     /// The line of a want that is refused; or nothing.
     fn put_refused(&mut self, want: usize) -> Result<(), AllocError>
         ensures told { OnOk result
-            (self.new ≡ record self.old { lines = self.old.lines ++ refusal_at self.old.refusals want }) }
+            (self.new ≡ record self.old { lines = self.old.lines ++ refusal_at self.old.style.refusals want }) }
         ensures kept { OnErr result (self.new ≡ self.old) }
     {
         self.lines

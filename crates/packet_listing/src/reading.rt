@@ -1,7 +1,7 @@
 //! A reader over a connection.
 ghost use Rattle.std.specs.Prelude.{◌≡◌, ◌≢◌, ◌⊎◌, ◌+◌, ◌<◌, ◌≤◌, [], drop, length, IfOk, OnOk, OnErr, IfErr};
 ghost use Rattle.std.specs.Prelude.{IfSome, if◌then◌else◌};
-ghost use Rattle.std.specs.Prelude.{IfNone, MatchOption, take, true, false};
+ghost use Rattle.std.specs.Prelude.{IfNone, MatchOption, take, true, false, Err, ℕ, ◌∷◌};
 ghost use Rattle.std.specs.Io.KnownBytes.{Appends, Consumes, Keeps};
 ghost use Rattle.sl_io.specs.Counts.{IsMore, StopsWriting};
 ghost use Rattle.slreader.specs.declared.fault.ReaderFault.TheVariants.{Limit, OutOfMemory};
@@ -9,16 +9,20 @@ ghost use Rattle.slreader.specs.Dialogue.{begun};
 ghost use Rattle.slreader.specs.Dialogue.Stage.{Failed};
 ghost use Rattle.slreader.specs.Views.{plan_value};
 ghost use Rattle.slreader.specs.Wants.{is_plan};
-ghost use Rattle.packet_listing.specs.declared.fault.ListingFault.TheVariants.{Reader};
-ghost use Rattle.packet_listing.specs.Lines.{nothing_told, refusals_of};
+ghost use Rattle.packet_listing.specs.declared.fault.ListingFault.TheVariants.{Reader, State};
+ghost use Rattle.packet_listing.specs.Lines.{nothing_told, style_of};
 ghost use Rattle.packet_listing.specs.Pieces.{FailsIn, Takes, TellsFirst, WritesRecordsFirst};
 ghost use Rattle.slreader.specs.GoingOn.{begun_at, plan_on};
 ghost use Rattle.packet_listing.specs.Whole.{IsNotBegunBy};
 ghost use Rattle.packet_listing.specs.Whole.{CountsWritten, Ends, RecordsFirst, StopsAt, is_told_before};
+ghost use Rattle.packet_listing.specs.Keeping.{CountsKeeping, EndsKept, KeepsCounted, Steps, Tells};
+ghost use Rattle.packet_listing.specs.Keeping.Deed.{Flushed, Kept};
 ghost use Rattle.packet_listing.specs.Stops.{EndsReading, EndsReads, IsQuiet, StopsListing};
 
 use crate::fault::ListingFault;
+use crate::keeping::{Keeper, NothingKept, keep_behind, keep_if_due};
 use crate::output::Output;
+use record_listing::Times;
 use sl_io::{Sink, Source, WriteFault, write_all};
 use slreader::{Plan, ReaderCore, ReaderFault, Tally, Want, What};
 use std::alloc::{AllocError, Global};
@@ -146,8 +150,8 @@ fn finish<W: Sink>(core: &mut ReaderCore, writer: &mut W) -> Result<(), ListingF
     }
 }
 
-/// Sends, writes and reads until the transfer is over.
-fn read_blocks<R: Source, W: Sink, O: Sink, P: Sink>(
+/// Sends, writes and reads until the transfer is over. Meanwhile what was counted is kept whenever that is due.
+fn read_blocks<R: Source, W: Sink, O: Sink, P: Sink, K: Keeper<P>>(
     core: &mut ReaderCore,
     output: &mut Output,
     block: &mut [u8],
@@ -155,24 +159,27 @@ fn read_blocks<R: Source, W: Sink, O: Sink, P: Sink>(
     writer: &mut W,
     out: &mut O,
     records: &mut P,
+    keeper: &mut K,
 ) -> Result<(), ListingFault>
     requires block { length block.old ≡ 65536 }
     requires plan { core.old.stage ≢ Failed Limit }
     requires sent { core.old.sent ≤ length core.old.asked }
     requires output { (output.old.lines ≡ []) × (output.old.records ≡ []) }
-    ensures ends { OnOk result (Ends core.old output.old.refusals
+    ensures ends { OnOk result (Ends core.old output.old.style
         (R.left reader.old) (R.left reader.new) (W.written writer.old) (W.written writer.new)
         (O.written out.old) (O.written out.new) (P.written records.old) (P.written records.new)) }
-    ensures told { IfErr result (λ fault. is_told_before fault ≡ true → StopsAt fault core.old output.old.refusals
+    ensures told { IfErr result (λ fault. is_told_before fault ≡ true → StopsAt fault core.old output.old.style
         (R.left reader.old) (R.left reader.new) (W.written writer.old) (W.written writer.new)
         (O.written out.old) (O.written out.new) (P.written records.old) (P.written records.new)) }
-    ensures order { RecordsFirst core.old output.old.refusals (R.left reader.old) (R.left reader.new)
+    ensures order { RecordsFirst core.old output.old.style (R.left reader.old) (R.left reader.new)
         (O.written out.old) (O.written out.new) (P.written records.old) (P.written records.new) }
     ensures counted { OnOk result
         (CountsWritten core.old core.new.tally (P.written records.old) (P.written records.new)) }
     ensures counts { IfErr result (λ fault. is_told_before fault ≡ true
         → CountsWritten core.old core.new.tally (P.written records.old) (P.written records.new)) }
     ensures plan { IfErr result (λ fault. fault ≢ Reader Limit) }
+    ensures behind { KeepsCounted core.old (P.written records.old) (K.done keeper.old) (K.done keeper.new) }
+    ensures keeper { CountsKeeping result (K.failures keeper.old) (K.failures keeper.new) }
     ensures stopped { IfErr result (λ fault. StopsListing fault
         (EndsReads (R.failures reader.old) (R.failures reader.new)
         (R.calls reader.old) (R.calls reader.new) (R.left reader.new))
@@ -196,6 +203,7 @@ fn read_blocks<R: Source, W: Sink, O: Sink, P: Sink>(
         × StopsWriting (P.failures records.old) (P.failures records.new)
         (P.empty_writes records.old) (P.empty_writes records.new)))))) }
 {
+    let mut kept = core.records();
     'reads: for _ in 0..u64::MAX {
         match send(core, writer) {
             Ok(()) => {}
@@ -215,15 +223,19 @@ fn read_blocks<R: Source, W: Sink, O: Sink, P: Sink>(
             Ok(false) => {}
             Err(fault) => return Err(ListingFault::Reader(fault)),
         }
+        match keep_if_due(core, records, keeper, &mut kept) {
+            Ok(()) => {}
+            Err(_) => return Err(ListingFault::State),
+        }
     }
     Err(ListingFault::Read)
 }
 
 /// Asks a server for what a plan wants, and lists what it sends (SeedLink 3), a line a packet: `SEQ NET STA LOC CHA
-/// TYPE START END SAMPLES`, with the six digits of its number in upper case and the rest as in the listing of a
-/// file of records, or `SEQ unreadable` where its record can't be read; and `refused NET STA` for a want that the
-/// server refuses. The record of each packet, 512 bytes, is written to `records` as it came. It ends with the end
-/// of the transfer.
+/// TYPE START END SAMPLES`, with the six digits of its number in upper case and the rest as in the listing of a file of
+/// records with times that are written so, or `SEQ unreadable` where its record can't be read; and `refused NET STA`
+/// for a want that the server refuses. The record of each packet, 512 bytes, is written to `records` as it came. It
+/// ends with the end of the transfer.
 ///
 /// All that is asked is sent before each read, and all that is told is written before each read, so that nothing is
 /// held back while it waits. A read takes up to 64 KiB. After a fault all that was told before it is written, where
@@ -238,20 +250,21 @@ fn read_blocks<R: Source, W: Sink, O: Sink, P: Sink>(
 /// transfer, or where 2^64 - 1 reads were made; and with Write where something could not be written.
 pub fn read_over<R: Source, W: Sink, O: Sink, P: Sink>(
     alloc: Global,
+    times: Times,
     plan: Plan<'_>,
     reader: &mut R,
     writer: &mut W,
     out: &mut O,
     records: &mut P,
 ) -> Result<(), ListingFault>
-    ensures ends { OnOk result (Ends (begun (plan_value plan.entry)) (refusals_of (plan_value plan.entry))
+    ensures ends { OnOk result (Ends (begun (plan_value plan.entry)) (style_of times (plan_value plan.entry))
         (R.left reader.old) (R.left reader.new) (W.written writer.old) (W.written writer.new)
         (O.written out.old) (O.written out.new) (P.written records.old) (P.written records.new)) }
     ensures told { IfErr result (λ fault. is_told_before fault ≡ true →
-        StopsAt fault (begun (plan_value plan.entry)) (refusals_of (plan_value plan.entry))
+        StopsAt fault (begun (plan_value plan.entry)) (style_of times (plan_value plan.entry))
         (R.left reader.old) (R.left reader.new) (W.written writer.old) (W.written writer.new)
         (O.written out.old) (O.written out.new) (P.written records.old) (P.written records.new)) }
-    ensures order { RecordsFirst (begun (plan_value plan.entry)) (refusals_of (plan_value plan.entry))
+    ensures order { RecordsFirst (begun (plan_value plan.entry)) (style_of times (plan_value plan.entry))
         (R.left reader.old) (R.left reader.new)
         (O.written out.old) (O.written out.new) (P.written records.old) (P.written records.new) }
     ensures limit { IfErr result (λ fault. fault ≡ Reader Limit → is_plan (plan_value plan.entry) ≡ false) }
@@ -281,7 +294,7 @@ pub fn read_over<R: Source, W: Sink, O: Sink, P: Sink>(
         × StopsWriting (P.failures records.old) (P.failures records.new)
         (P.empty_writes records.old) (P.empty_writes records.new)))))) }
 {
-    let Ok(mut output) = Output::new(alloc, &plan) else {
+    let Ok(mut output) = Output::new(alloc, times, &plan) else {
         return Err(ListingFault::Reader(ReaderFault::OutOfMemory));
     };
     let Ok(mut block) = vec![in alloc; 0; BLOCK] else {
@@ -296,34 +309,46 @@ pub fn read_over<R: Source, W: Sink, O: Sink, P: Sink>(
             writer,
             out,
             records,
+            &mut NothingKept,
         ),
         Err(fault) => Err(ListingFault::Reader(fault)),
     }
 }
 
-/// Whether all of what was given is told at an outcome: it is the end, or no fault of the plan, of memory or of a write.
+/// Whether all of what was given is told at a fault: it is none of the plan, of memory, of a write or of what is kept.
+pub(crate) fn is_told_at(fault: ListingFault) -> bool
+    ensures { result ≡ is_told_before fault }
+{
+    match fault {
+        ListingFault::Read => true,
+        ListingFault::Write => false,
+        ListingFault::State => false,
+        ListingFault::Reader(ReaderFault::Limit) => false,
+        ListingFault::Reader(ReaderFault::OutOfMemory) => false,
+        ListingFault::Reader(_) => true,
+    }
+}
+
+/// Whether all of what was given is told at an outcome: it is the end, or such a fault.
 fn is_told(outcome: &Result<(), ListingFault>) -> bool
     ensures ok { OnOk outcome.now (result ≡ true) }
     ensures fault { IfErr outcome.now (λ fault. result ≡ is_told_before fault) }
 {
     match outcome {
         Ok(()) => true,
-        Err(ListingFault::Read) => true,
-        Err(ListingFault::Write) => false,
-        Err(ListingFault::Reader(ReaderFault::Limit)) => false,
-        Err(ListingFault::Reader(ReaderFault::OutOfMemory)) => false,
-        Err(ListingFault::Reader(_)) => true,
+        Err(fault) => is_told_at(*fault),
     }
 }
 
 /// A reader by the plan by which wants go on, which counts on, and its output.
 fn begin(
     alloc: Global,
+    times: Times,
     wants: &[Want<'_>],
     tally: &Tally,
 ) -> Result<(ReaderCore, Output), ListingFault>
     ensures core { IfOk result (λ begun. begun.0 ≡ begun_at (plan_on tally.now wants.now) tally.now) }
-    ensures output { IfOk result (λ begun. begun.1 ≡ nothing_told (plan_on tally.now wants.now)) }
+    ensures output { IfOk result (λ begun. begun.1 ≡ nothing_told times (plan_on tally.now wants.now)) }
     ensures fault { IfErr result (λ fault. IsNotBegunBy fault (plan_on tally.now wants.now)) }
 {
     let Ok(plan) = Plan::going_on(alloc, wants, tally) else {
@@ -332,13 +357,42 @@ fn begin(
     let Ok(counted) = tally.copy(alloc) else {
         return Err(ListingFault::Reader(ReaderFault::OutOfMemory));
     };
-    let Ok(output) = Output::new(alloc, &plan) else {
+    let Ok(output) = Output::new(alloc, times, &plan) else {
         return Err(ListingFault::Reader(ReaderFault::OutOfMemory));
     };
     match ReaderCore::going_on(alloc, plan, counted) {
         Ok(core) => Ok((core, output)),
         Err(ReaderFault::Limit) => Err(ListingFault::Reader(ReaderFault::Limit)),
         Err(_) => Err(ListingFault::Reader(ReaderFault::OutOfMemory)),
+    }
+}
+
+/// Keeps what was counted at an outcome at which all of what was given is told. If that fails, it is the outcome.
+fn keep_at<P: Sink, K: Keeper<P>>(
+    outcome: Result<(), ListingFault>,
+    core: &ReaderCore,
+    records: &P,
+    keeper: &mut K,
+) -> Result<(), ListingFault>
+    ensures outcome { (result ≡ outcome) ⊎ (result ≡ Err State) }
+    ensures ok { OnOk outcome (Steps core.now.tally (P.written records.now) (K.done keeper.old) (K.done keeper.new)) }
+    ensures told { IfErr outcome (λ fault. is_told_before fault ≡ true
+        → Steps core.now.tally (P.written records.now) (K.done keeper.old) (K.done keeper.new)) }
+    ensures untold { IfErr outcome (λ fault. is_told_before fault ≡ false
+        → K.done keeper.new ≡ K.done keeper.old) }
+    ensures kept { OnOk result (Tells (K.done keeper.old) (K.done keeper.new)
+        (Flushed (P.written records.now) ∷ Kept core.now.tally ∷ [])) }
+    ensures kept_at { IfErr result (λ fault. is_told_before fault ≡ true → Tells (K.done keeper.old) (K.done keeper.new)
+        (Flushed (P.written records.now) ∷ Kept core.now.tally ∷ [])) }
+    ensures keeper { (failures : ℕ) → CountsKeeping outcome failures (K.failures keeper.old)
+        → CountsKeeping result failures (K.failures keeper.new) }
+{
+    if !is_told(&outcome) {
+        return outcome;
+    }
+    match keep_behind(core, records, keeper) {
+        Ok(()) => outcome,
+        Err(_) => Err(ListingFault::State),
     }
 }
 
@@ -355,21 +409,28 @@ fn count(tally: &mut Tally, core: ReaderCore, is_told: bool)
 /// with the plan by which they go on. At the end of the transfer, and at every fault of the dialogue or of reading, the
 /// tally counts exactly the packets whose records were written, beside those that it had counted before; so the next
 /// server may be asked to go on. At another fault it stays as it was.
-pub fn read_further<R: Source, W: Sink, O: Sink, P: Sink>(
+///
+/// What is counted is kept by the keeper whenever that is due, and at the end and at each fault at which the tally
+/// counts. Each time the records are made to last first: so whatever comes next, a reader that begins with what was
+/// kept last misses no record, and is sent those again that were written after that. It fails with State where the
+/// keeper fails.
+pub fn read_further<R: Source, W: Sink, O: Sink, P: Sink, K: Keeper<P>>(
     alloc: Global,
+    times: Times,
     wants: &[Want<'_>],
     tally: &mut Tally,
     reader: &mut R,
     writer: &mut W,
     out: &mut O,
     records: &mut P,
+    keeper: &mut K,
 ) -> Result<(), ListingFault>
     ensures ends { OnOk result
-        (Ends (begun_at (plan_on tally.old wants.now) tally.old) (refusals_of (plan_on tally.old wants.now))
+        (Ends (begun_at (plan_on tally.old wants.now) tally.old) (style_of times (plan_on tally.old wants.now))
         (R.left reader.old) (R.left reader.new) (W.written writer.old) (W.written writer.new)
         (O.written out.old) (O.written out.new) (P.written records.old) (P.written records.new)) }
     ensures told { IfErr result (λ fault. is_told_before fault ≡ true →
-        StopsAt fault (begun_at (plan_on tally.old wants.now) tally.old) (refusals_of (plan_on tally.old wants.now))
+        StopsAt fault (begun_at (plan_on tally.old wants.now) tally.old) (style_of times (plan_on tally.old wants.now))
         (R.left reader.old) (R.left reader.new) (W.written writer.old) (W.written writer.new)
         (O.written out.old) (O.written out.new) (P.written records.old) (P.written records.new)) }
     ensures counted { OnOk result (CountsWritten (begun_at (plan_on tally.old wants.now) tally.old) tally.new
@@ -379,9 +440,16 @@ pub fn read_further<R: Source, W: Sink, O: Sink, P: Sink>(
         (P.written records.old) (P.written records.new)) }
     ensures kept { IfErr result (λ fault. is_told_before fault ≡ false → tally.new ≡ tally.old) }
     ensures order { RecordsFirst (begun_at (plan_on tally.old wants.now) tally.old)
-        (refusals_of (plan_on tally.old wants.now)) (R.left reader.old) (R.left reader.new)
+        (style_of times (plan_on tally.old wants.now)) (R.left reader.old) (R.left reader.new)
         (O.written out.old) (O.written out.new) (P.written records.old) (P.written records.new) }
     ensures plan { IfErr result (λ fault. fault ≡ Reader Limit → is_plan (plan_on tally.old wants.now) ≡ false) }
+    ensures behind { KeepsCounted (begun_at (plan_on tally.old wants.now) tally.old) (P.written records.old)
+        (K.done keeper.old) (K.done keeper.new) }
+    ensures last { OnOk result
+        (EndsKept tally.new (P.written records.new) (K.done keeper.old) (K.done keeper.new)) }
+    ensures last_at { IfErr result (λ fault. is_told_before fault ≡ true
+        → EndsKept tally.new (P.written records.new) (K.done keeper.old) (K.done keeper.new)) }
+    ensures keeper { CountsKeeping result (K.failures keeper.old) (K.failures keeper.new) }
     ensures stopped { IfErr result (λ fault. StopsListing fault
         (EndsReads (R.failures reader.old) (R.failures reader.new)
         (R.calls reader.old) (R.calls reader.new) (R.left reader.new))
@@ -408,11 +476,11 @@ pub fn read_further<R: Source, W: Sink, O: Sink, P: Sink>(
     let Ok(mut block) = vec![in alloc; 0; BLOCK] else {
         return Err(ListingFault::Reader(ReaderFault::OutOfMemory));
     };
-    let (mut core, mut output) = match begin(alloc, wants, tally) {
+    let (mut core, mut output) = match begin(alloc, times, wants, tally) {
         Ok(begun) => begun,
         Err(fault) => return Err(fault),
     };
-    let outcome = read_blocks(
+    let read = read_blocks(
         &mut core,
         &mut output,
         &mut block,
@@ -420,7 +488,9 @@ pub fn read_further<R: Source, W: Sink, O: Sink, P: Sink>(
         writer,
         out,
         records,
+        keeper,
     );
+    let outcome = keep_at(read, &core, records, keeper);
     count(tally, core, is_told(&outcome));
     outcome
 }

@@ -5,7 +5,7 @@ ghost use Rattle.slreader.specs.Tallies.{packet_facts};
 ghost use Rattle.packet_listing.specs.Lines.{facts_text, number_text, packet_line, record_of, refusal_line};
 
 use mseed_header::read;
-use record_listing::put_header;
+use record_listing::{Times, put_header};
 use slreader::Want;
 use std::alloc::{AllocError, Global};
 
@@ -34,22 +34,26 @@ fn put_upper(text: &mut Vec<u8>, digits: &[u8]) -> Result<(), AllocError>
 
 /// What a packet's record says, if it can be read.
 #[tactic(auto, unfolding(slreader::specs::Tallies::packet_facts))]
-fn put_facts(text: &mut Vec<u8>, packet: &[u8; 520]) -> Result<(), AllocError>
-    ensures { OnOk result (text.new.items ≡ text.old.items ++ facts_text (packet_facts packet.now)) }
+fn put_facts(text: &mut Vec<u8>, times: Times, packet: &[u8; 520]) -> Result<(), AllocError>
+    ensures { OnOk result (text.new.items ≡ text.old.items ++ facts_text times (packet_facts packet.now)) }
 {
     match read(record_of(packet)) {
-        Ok(header) => put_header(text, &header),
+        Ok(header) => put_header(text, times, &header),
         Err(_) => text.extend_from_slice(b"unreadable"),
     }
 }
 
 /// The line of a packet.
-pub(crate) fn put_packet(text: &mut Vec<u8>, packet: &[u8; 520]) -> Result<(), AllocError>
-    ensures { OnOk result (text.new.items ≡ text.old.items ++ packet_line packet.now) }
+pub(crate) fn put_packet(
+    text: &mut Vec<u8>,
+    times: Times,
+    packet: &[u8; 520],
+) -> Result<(), AllocError>
+    ensures { OnOk result (text.new.items ≡ text.old.items ++ packet_line times packet.now) }
 {
     put_number(text, packet)?;
     text.push(b' ')?;
-    put_facts(text, packet)?;
+    put_facts(text, times, packet)?;
     text.push(b'\n')?;
     Ok(())
 }

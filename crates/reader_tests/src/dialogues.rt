@@ -1,7 +1,7 @@
 //! Dialogues without packets: what is asked, what is told, and how they end.
 ghost use Rattle.std.specs.Prelude.{◌<◌};
 
-use packet_listing::{Nowhere, read_over};
+use packet_listing::{Nowhere, Times, read_over};
 use sl_io::{MemorySink, MemorySource};
 use slreader::{Plan, Want, Window};
 use std::alloc::Global;
@@ -132,6 +132,7 @@ fn is_right(alloc: Global, row: &Row, most: usize) -> Result<bool, Fail>
     let plan = plan(alloc, row.words)?;
     let number = match read_over(
         alloc,
+        Times::Ticks,
         plan,
         &mut reader,
         &mut writer,
@@ -171,6 +172,7 @@ fn fault_of_line(alloc: Global, count: usize) -> Result<u8, Fail> {
     Ok(
         match read_over(
             alloc,
+            Times::Ticks,
             plan,
             &mut reader,
             &mut Nowhere::new(),

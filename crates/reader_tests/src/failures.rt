@@ -1,7 +1,7 @@
 //! A reader of whose connection or outputs one call fails, each call in turn: what was sent and written before is a
 //! beginning of what is sent and written otherwise, and nothing comes after.
 use crate::beside_a_server::{plan, record};
-use packet_listing::{ListingFault, read_over};
+use packet_listing::{ListingFault, Times, read_over};
 use sl_io::{Failing, MemorySink, MemorySource};
 use sl_packet::{Seq, frame};
 use std::alloc::Global;
@@ -68,6 +68,7 @@ fn reading(alloc: Global, answers: &[u8], failing: Device, due: u64) -> Result<O
     let plan = plan(alloc)?;
     let answer = read_over(
         alloc,
+        Times::Ticks,
         plan,
         &mut reader,
         &mut asked,

@@ -1,6 +1,6 @@
 //! A reader that goes on over one connection after the other.
 use crate::packets::record;
-use packet_listing::{ListingFault, Nowhere, read_further};
+use packet_listing::{ListingFault, NothingKept, Nowhere, Times, read_further};
 use sl_io::{MemorySink, MemorySource};
 use sl_packet::{Seq, frame};
 use slreader::{ReaderFault, Tally, Want, Window};
@@ -144,12 +144,14 @@ fn is_right(
     let before = tally.records();
     let end = read_further(
         alloc,
+        Times::Ticks,
         wants,
         tally,
         &mut MemorySource::in_pieces(&sent, 100),
         &mut writer,
         &mut Nowhere::new(),
         &mut records,
+        &mut NothingKept,
     );
     let count = visit.packets.len();
     Ok(

@@ -9,6 +9,8 @@ mod dialogues;
 #[cfg(test)]
 mod failures;
 #[cfg(test)]
+mod following;
+#[cfg(test)]
 mod going_on;
 #[cfg(test)]
 mod largest_plan;
@@ -16,6 +18,8 @@ mod largest_plan;
 mod order;
 #[cfg(test)]
 mod packets;
+#[cfg(test)]
+mod states;
 #[cfg(test)]
 mod windows;
 #[cfg(test)]

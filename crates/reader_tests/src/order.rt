@@ -3,7 +3,7 @@
 ghost use Rattle.std.specs.Prelude.{◌≡◌, ◌<◌, ◌+◌, ◌%◌, ◌^◌, None};
 
 use crate::beside_a_server::{plan, record};
-use packet_listing::{ListingFault, read_over};
+use packet_listing::{ListingFault, Times, read_over};
 use sl_io::{DeviceFault, MemorySink, MemorySource, Sink};
 use sl_packet::{Seq, frame};
 use std::alloc::Global;
@@ -104,6 +104,7 @@ fn reading(
     let plan = plan(alloc)?;
     let answer = read_over(
         alloc,
+        Times::Ticks,
         plan,
         &mut reader,
         &mut asked,

@@ -2,7 +2,7 @@
 ghost use Rattle.std.specs.Prelude.{◌<◌, None};
 
 use mseed_header::{ByteOrder, Fields, make};
-use packet_listing::{ListingFault, Nowhere, read_over};
+use packet_listing::{ListingFault, Nowhere, Times, read_over};
 use sl_io::{DeviceFault, MemorySink, MemorySource, Sink};
 use sl_packet::{Seq, frame};
 use slreader::{Plan, Want, Window};
@@ -68,6 +68,7 @@ fn is_listed(alloc: Global, most: usize) -> Result<bool, Fail>
     let plan = one_want(alloc)?;
     read_over(
         alloc,
+        Times::Ticks,
         plan,
         &mut reader,
         &mut Nowhere::new(),
@@ -88,6 +89,29 @@ fn packets_are_listed(rt: HostRuntime) -> Result<(), Fail> {
     assert!(rt; is_listed(rt.alloc(), 7)?);
     assert!(rt; is_listed(rt.alloc(), 520)?);
     assert!(rt; is_listed(rt.alloc(), 70_000)?);
+    Ok(())
+}
+
+/// The lines of the packets, with times as dates.
+const DATED: &[u8] =
+    b"FFFFFF GE WLF -- BHZ D 2024-02-29T00:00:00.0000Z 2024-02-29T00:00:01.0000Z 100\n\
+    00ABCD unreadable\n";
+
+#[test]
+fn times_may_be_dates(rt: HostRuntime) -> Result<(), Fail> {
+    let sent = sent(rt.alloc())?;
+    let mut reader = MemorySource::new(&sent);
+    let mut out = MemorySink::new(rt.alloc());
+    read_over(
+        rt.alloc(),
+        Times::Iso,
+        one_want(rt.alloc())?,
+        &mut reader,
+        &mut Nowhere::new(),
+        &mut out,
+        &mut Nowhere::new(),
+    )?;
+    assert!(rt; out.bytes() == DATED);
     Ok(())
 }
 
@@ -126,9 +150,33 @@ fn fault_of(alloc: Global, which: usize) -> Result<Option<ListingFault>, Fail> {
     let mut other = Nowhere::new();
     let plan = one_want(alloc)?;
     let read = match which {
-        0 => read_over(alloc, plan, &mut reader, &mut broken, &mut one, &mut other),
-        1 => read_over(alloc, plan, &mut reader, &mut one, &mut broken, &mut other),
-        _ => read_over(alloc, plan, &mut reader, &mut one, &mut other, &mut broken),
+        0 => read_over(
+            alloc,
+            Times::Ticks,
+            plan,
+            &mut reader,
+            &mut broken,
+            &mut one,
+            &mut other,
+        ),
+        1 => read_over(
+            alloc,
+            Times::Ticks,
+            plan,
+            &mut reader,
+            &mut one,
+            &mut broken,
+            &mut other,
+        ),
+        _ => read_over(
+            alloc,
+            Times::Ticks,
+            plan,
+            &mut reader,
+            &mut one,
+            &mut other,
+            &mut broken,
+        ),
     };
     Ok(read.err())
 }

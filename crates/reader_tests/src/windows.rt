@@ -1,5 +1,5 @@
 //! Windows: what is asked of a want by its number and by moments.
-use packet_listing::{Nowhere, read_over};
+use packet_listing::{Nowhere, Times, read_over};
 use sl_io::{MemorySink, MemorySource};
 use slreader::{Plan, ReaderFault, Want, WantPart, Window};
 use std::alloc::Global;
@@ -88,6 +88,7 @@ fn asked_for(alloc: Global, want: Want<'_>) -> Result<Vec<u8>, Fail> {
     let mut writer = MemorySink::new(alloc);
     read_over(
         alloc,
+        Times::Ticks,
         Plan::Multi(wants),
         &mut MemorySource::new(NEGOTIATED),
         &mut writer,

@@ -1,5 +1,6 @@
 -- What an archive holds of records: each record that has a place is put into its file, in order.
-use Rattle.std.specs.Prelude.{◌≡◌, ◌⊎◌, ℕ, ◌+◌, ◌<ℤ◌, ◌≤ℤ◌, nat_lt, if◌then◌else◌, length, List, [], ◌∷◌, ◌++◌, Ok, Err, Result, true, false, Option, Some}
+use Rattle.std.specs.Prelude.{◌≡◌, ◌⊎◌, ℕ, ◌+◌, ◌-◌, ◌^◌, ◌<ℤ◌, ◌≤ℤ◌, nat_lt, min, if◌then◌else◌, length, List, [], ◌∷◌, ◌++◌}
+use Rattle.std.specs.Prelude.{Ok, Err, Result, true, false, Option, Some, None}
 use Rattle.protocol.specs.Record.{Facts, header_of}
 use Rattle.protocol.specs.declared.record.RecordFault.{RecordFault}
 use Rattle.sl_time.specs.Days.{IsWithinDay, day_start}
@@ -34,6 +35,10 @@ pub data IsUnplaced (r : List ℕ) : Type 0 where
   Undated : (facts : Facts) → header_of r ≡ Ok facts
       → (facts.start <ℤ day_start 1 1) ⊎ (day_start 10000 1 ≤ℤ facts.start) → IsUnplaced r
 
+-- A record is put into some file.
+abbrev pub IsPlaced : List ℕ → Type 0
+IsPlaced r = (p : Put) × IsPut r p
+
 -- These are put of those records, in order.
 pub data ArePut : List (List ℕ) → List Put → Type 0 where
   None_put : ArePut [] []
@@ -56,6 +61,22 @@ abbrev pub Fails : {A : Type 0} → (before after : ℕ) → Result A ArchiveFau
 Fails before after (Ok a) = after ≡ before
 Fails before after (Err Folder) = IsMore before after 1
 Fails before after (Err OutOfMemory) = after ≡ before
+
+-- That is why a put failed.
+abbrev pub IsWhy : Option ArchiveFault → (before after : ℕ) → Type 0
+IsWhy (Some Folder) before after = IsMore before after 1
+IsWhy (Some OutOfMemory) before after = after ≡ before
+IsWhy None before after = ⊥
+
+-- A record counts exactly if it stands in no file, up to 2^64 - 1.
+abbrev pub CountsUnplaced : (before after : ℕ) → List ℕ → Type 0
+CountsUnplaced before after r =
+    (IsPlaced r × (after ≡ before)) ⊎ (IsUnplaced r × (after ≡ min (before + 1) (2 ^ 64 - 1)))
+
+-- Of some records each counts exactly if it stands in no file.
+abbrev pub CountsAll : (before after : ℕ) → List (List ℕ) → Type 0
+CountsAll before after [] = after ≡ before
+CountsAll before after (r ∷ rs) = (middle : ℕ) × CountsUnplaced before middle r × CountsAll middle after rs
 
 -- what is held of a record that is not whole, with a piece more
 abbrev pub held_with : List ℕ → List ℕ → List ℕ

@@ -1,9 +1,9 @@
 //! An archive to which records are written.
-ghost use Rattle.std.specs.Prelude.{◌≡◌, ◌≢◌, ◌≤◌, ◌<◌, ◌+◌, ◌++◌, ◌∷◌, [], length, take, IfOk, None, OnErr};
+ghost use Rattle.std.specs.Prelude.{◌≡◌, ◌≢◌, ◌≤◌, ◌<◌, ◌+◌, ◌++◌, ◌∷◌, [], length, take, IfOk, None, OnErr, OnOk};
 ghost use Rattle.std.specs.Io.{WritesAtMost};
 ghost use Rattle.std.specs.Io.KnownBytes.{WriteAppends};
 ghost use Rattle.sl_io.specs.Counts.{IsMore, CountsFailure, CountsEmptyWrite};
-ghost use Rattle.record_archive.specs.Archives.{HoldsMore, held_with, whole_with};
+ghost use Rattle.record_archive.specs.Archives.{CountsAll, CountsUnplaced, HoldsMore, IsWhy, held_with, whole_with};
 
 use crate::folders::Folders;
 use crate::placing::{ArchiveFault, Place, Placed, put_record};
@@ -28,7 +28,7 @@ impl<F: Folders> Archive<F> {
     /// An archive in these folders.
     pub fn new(alloc: Global, folders: F) -> Archive<F>
         ensures folders { result.folders ≡ folders }
-        ensures nothing { result.unfinished.held ≡ [] }
+        ensures nothing { (result.unfinished.held ≡ []) × (result.unplaced ≡ 0) × (result.fault ≡ None) }
     {
         Archive {
             folders,
@@ -78,6 +78,12 @@ impl<F: Folders> Archive<F> {
             (self.old.unfinished.whole ∷ [])) }
         ensures refused { OnErr result (F.puts self.new.folders ≡ F.puts self.old.folders) }
         ensures failure { CountsFailure self.old.failures self.new.failures result }
+        ensures counted { OnOk result
+            (CountsUnplaced self.old.unplaced self.new.unplaced self.old.unfinished.whole) }
+        ensures uncounted { OnErr result (self.new.unplaced ≡ self.old.unplaced) }
+        ensures why { OnErr result
+            (IsWhy self.new.fault (F.failures self.old.folders) (F.failures self.new.folders)) }
+        ensures calm { OnOk result (self.new.fault ≡ self.old.fault) }
         ensures rest { (self.new.unfinished ≡ self.old.unfinished) × (self.new.calls ≡ self.old.calls) }
     {
         match put_record(&mut self.folders, &mut self.place, self.unfinished.whole()) {
@@ -110,10 +116,17 @@ impl<F: Folders> Sink for Archive<F> {
         ensures failure { CountsFailure self.old.failures self.new.failures result }
         ensures call { IsMore self.old.calls self.new.calls 1 }
         ensures empty { CountsEmptyWrite 0 0 result bytes.now }
-        ensures held { IfOk result (λ n. self.new.unfinished.held ≡ held_with self.old.unfinished.held (take n bytes.now)) }
+        ensures held { IfOk result (λ n.
+            self.new.unfinished.held ≡ held_with self.old.unfinished.held (take n bytes.now)) }
         ensures put { IfOk result (λ n. HoldsMore (F.puts self.old.folders) (F.puts self.new.folders)
             (whole_with self.old.unfinished.held (take n bytes.now))) }
         ensures refused { OnErr result (F.puts self.new.folders ≡ F.puts self.old.folders) }
+        ensures counted { IfOk result (λ n. CountsAll self.old.unplaced self.new.unplaced
+            (whole_with self.old.unfinished.held (take n bytes.now))) }
+        ensures uncounted { OnErr result (self.new.unplaced ≡ self.old.unplaced) }
+        ensures why { OnErr result
+            (IsWhy self.new.fault (F.failures self.old.folders) (F.failures self.new.folders)) }
+        ensures calm { OnOk result (self.new.fault ≡ self.old.fault) }
     {
         self.calls = self.calls.wrapping_add(1);
         let count = bytes.len().min(512 - self.unfinished.count());

@@ -14,6 +14,9 @@ use std::rt::Files;
 /// How many files are kept open.
 const OPEN: usize = 64;
 
+/// How many files that are no more kept open wait at most to be put on the disk.
+const LEFT: usize = 256;
+
 /// The file below the top folder that is locked while records are put there.
 const LOCK: &str = ".lock";
 
@@ -24,6 +27,10 @@ pub struct DiskFolders<'a, R: Files<File = File>> {
     alloc: Global,
     top: &'a str,
     open: LruCache<String, File>,
+    /// Files that are no more kept open, and are to be put on the disk. None where the system does that when it likes.
+    left: Option<Vec<File>>,
+    /// One that could not be put there, or had no place here.
+    is_lost: bool,
     _lock: File,
     reason: Option<io::Error>,
     failures: u64,
@@ -83,6 +90,22 @@ fn append(file: &mut File, bytes: &[u8; 512]) -> io::Result<()> {
     }
 }
 
+/// Has the system put files on the disk.
+fn sync_all(files: &[File]) -> io::Result<()> {
+    for file in files {
+        file.sync_data()?;
+    }
+    Ok(())
+}
+
+/// The same, of files that are kept open.
+fn sync_open(open: &LruCache<String, File>) -> io::Result<()> {
+    for (_, file) in open.iter() {
+        file.sync_data()?;
+    }
+    Ok(())
+}
+
 /// A text of bytes, which are ASCII.
 fn text_of(bytes: &[u8]) -> io::Result<&str> {
     match str::from_utf8(bytes) {
@@ -107,11 +130,60 @@ impl<'a, R: Files<File = File>> DiskFolders<'a, R> {
                 alloc,
                 top,
                 open,
+                left: None,
+                is_lost: false,
                 _lock: lock,
                 reason: None,
                 failures: 0,
             }),
             Err(_) => Err(TopFault::Unopened(no_memory())),
+        }
+    }
+
+    /// The same, of which all that was put can be made to last.
+    pub fn to_last(self) -> DiskFolders<'a, R> {
+        DiskFolders {
+            left: Some(Vec::new(self.alloc)),
+            ..self
+        }
+    }
+
+    /// Has the system put all on the disk that was put so far, if these folders were opened to last.
+    pub fn sync(&self) -> io::Result<()> {
+        let Some(left) = &self.left else {
+            return Ok(());
+        };
+        if self.is_lost {
+            return Err(io::Error::from(io::ErrorKind::Other));
+        }
+        sync_all(left)?;
+        sync_open(&self.open)
+    }
+
+    /// A file is no more kept open.
+    fn let_go(&mut self, file: File)
+        ensures failures { self.new.failures ≡ self.old.failures }
+    {
+        let Some(left) = &mut self.left else {
+            return;
+        };
+        if left.len() >= LEFT {
+            self.is_lost = self.is_lost || sync_all(left).is_err();
+            left.clear();
+        }
+        if left.push(file).is_err() {
+            self.is_lost = true;
+        }
+    }
+
+    /// Keeps a file open, in place of the one that was written longest ago. Without memory it is let go.
+    fn keep_open(&mut self, path: String, file: File)
+        ensures failures { self.new.failures ≡ self.old.failures }
+    {
+        match self.open.push(path, file) {
+            Ok(Some((_, oldest))) => self.let_go(oldest),
+            Ok(None) => {}
+            Err(failed) => self.let_go(failed.value.1),
         }
     }
 
@@ -145,7 +217,7 @@ impl<'a, R: Files<File = File>> DiskFolders<'a, R> {
         let mut opened = self.opened(folder, path.as_str())?;
         append(&mut opened, bytes)?;
         // The record stands in the file, whether or not there is memory to keep that open.
-        let _kept = self.open.put(path, opened);
+        self.keep_open(path, opened);
         Ok(())
     }
 }

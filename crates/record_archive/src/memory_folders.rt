@@ -1,5 +1,5 @@
 //! Folders in memory.
-ghost use Rattle.std.specs.Prelude.{◌≡◌, ◌++◌, ◌∷◌, [], map, IfOk, OnErr, OnOk, Some};
+ghost use Rattle.std.specs.Prelude.{◌≡◌, ◌++◌, ◌∷◌, [], map, OnErr, OnOk, Some};
 ghost use Rattle.sl_io.specs.Counts.{CountsFailure};
 ghost use Rattle.record_archive.specs.Archives.{Put, PutsNothing, PutsOne};
 ghost use Rattle.record_archive.specs.Stores.{stored};
@@ -21,15 +21,6 @@ pub struct MemoryFolders {
     alloc: Global,
     all: Vec<Stored>,
     failures: u64,
-}
-
-/// A copy of a text.
-fn copied(alloc: Global, text: &[u8]) -> Result<Vec<u8>, AllocError>
-    ensures { IfOk result (λ copy. copy.items ≡ text.now) }
-{
-    let mut copy = Vec::new(alloc);
-    copy.extend_from_slice(text)?;
-    Ok(copy)
 }
 
 impl MemoryFolders {
@@ -59,8 +50,8 @@ impl MemoryFolders {
         ensures failures { self.new.failures ≡ self.old.failures }
     {
         let stored = Stored {
-            folder: copied(self.alloc, folder)?,
-            file: copied(self.alloc, file)?,
+            folder: Vec::from_slice(self.alloc, folder)?,
+            file: Vec::from_slice(self.alloc, file)?,
             bytes: *bytes,
         };
         self.all.push(stored)?;

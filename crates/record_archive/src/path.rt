@@ -2,8 +2,8 @@
 ghost use Rattle.std.specs.Prelude.{◌≡◌, ◌≤◌, ◌++◌, ◌∷◌, [], OnOk};
 ghost use Rattle.std.specs.List.{list_all};
 ghost use Rattle.protocol.specs.Record.{trimmed};
-ghost use Rattle.record_archive.specs.Paths.{channel_text, codes_text, file_text, folder_text, four_digits, has_place, is_name};
-ghost use Rattle.record_archive.specs.Paths.{is_name_byte, is_reserved, last_digit, three_digits, with_mark};
+ghost use Rattle.record_archive.specs.Paths.{channel_text, codes_text, file_text, folder_text, four_digits, has_place};
+ghost use Rattle.record_archive.specs.Paths.{is_name, is_name_byte, is_reserved, last_digit, three_digits, with_mark};
 
 use mseed_header::{Header, trimmed};
 use record_listing::kind_letter;

@@ -1,8 +1,8 @@
 //! One record that is put into an archive.
 ghost use Rattle.std.specs.Prelude.{◌≡◌, ◌∷◌, [], Ok, OnErr, OnOk};
-ghost use Rattle.record_archive.specs.Archives.{Fails, HoldsMore, IsUnplaced};
+ghost use Rattle.record_archive.specs.Archives.{Fails, HoldsMore, IsPlaced, IsUnplaced};
 ghost use Rattle.record_archive.specs.Paths.{file_text, folder_text};
-ghost use Rattle.record_archive.specs.declared.placing.Placed.TheVariants.{Unplaced};
+ghost use Rattle.record_archive.specs.declared.placing.Placed.TheVariants.{InFile, Unplaced};
 
 use crate::folders::Folders;
 use crate::path::{has_place, put_file, put_folder};
@@ -59,6 +59,7 @@ pub(crate) fn put_record<F: Folders>(
     bytes: &[u8; 512],
 ) -> Result<Placed, ArchiveFault>
     ensures put { OnOk result (HoldsMore (F.puts folders.old) (F.puts folders.new) (bytes.now ∷ [])) }
+    ensures placed { result ≡ Ok InFile → IsPlaced bytes.now }
     ensures unplaced { result ≡ Ok Unplaced → IsUnplaced bytes.now }
     ensures refused { OnErr result (F.puts folders.new ≡ F.puts folders.old) }
     ensures fault { Fails (F.failures folders.old) (F.failures folders.new) result }

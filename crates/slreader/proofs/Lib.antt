@@ -20,3 +20,4 @@ pub mod HelloLemmas
 pub mod StreamLemmas
 pub mod PartLaws
 pub mod WordPartLemmas
+pub mod LastLemmas

@@ -15,3 +15,4 @@ pub mod Whats
 pub mod Parts
 pub mod WordParts
 pub mod GoingOn
+pub mod Lasts

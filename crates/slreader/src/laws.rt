@@ -6,6 +6,10 @@ ghost use Rattle.slreader.specs.declared.fault.ReaderFault.TheVariants.{AllRefus
 ghost use Rattle.slreader.specs.Wants.{PlanValue, is_plan};
 ghost use Rattle.slreader.specs.Dialogue.{ReaderValue, asked_of, begun, given_from, read_first, read_on, reader_of};
 ghost use Rattle.slreader.specs.Dialogue.Stage.{Failed};
+ghost use Rattle.slreader.specs.GoingOn.{plan_on};
+ghost use Rattle.slreader.specs.Lasts.{GoByStations, lasts_of, tally_after};
+ghost use Rattle.slreader.specs.Tallies.{TallyValue};
+ghost use Rattle.slreader.specs.Wants.{WantValue};
 ghost use Rattle.slreader.specs.Parts.{Part, bytes_of, given_of, IsDialogue, BeginsDialogue, HasNegotiated};
 ghost use Rattle.slreader.specs.Parts.{IsNegotiation, asked_by};
 
@@ -52,4 +56,11 @@ pub fn dialogue_decided()
         asked_of plan (bytes_of parts ++ more) ≡ asked_by plan n.verdicts }
     ensures all_refused { (plan : PlanValue) (bytes : List ℕ) → is_plan plan ≡ true →
         ((reader_of plan bytes).stage ≡ Failed AllRefused) ↔ HasNegotiated plan false bytes }
+{}
+
+/// A reader that begins with the last packets that another one counted asks what that one asks when it goes on after a
+/// break, if each want is of a station of its own and asks for no number of its own.
+pub fn state_goes_on()
+    ensures { (t : TallyValue) (wants : List WantValue) → GoByStations wants →
+        plan_on (tally_after (lasts_of t wants) wants) wants ≡ plan_on t wants }
 {}

@@ -8,6 +8,7 @@ mod commands;
 mod dialogue;
 mod fault;
 mod going_on;
+mod last_packet;
 mod laws;
 mod outbox;
 mod packets;
@@ -23,7 +24,8 @@ mod words;
 
 pub use came::{Came, What};
 pub use fault::ReaderFault;
-pub use laws::{dialogue_decided, dialogue_in_pieces, first_of_a_piece};
+pub use last_packet::{LastPacket, last_at};
+pub use laws::{dialogue_decided, dialogue_in_pieces, first_of_a_piece, state_goes_on};
 pub use part::WantPart;
 pub use reader::ReaderCore;
 pub use tally::{Reached, Tally};

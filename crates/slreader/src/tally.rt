@@ -3,8 +3,10 @@ ghost use Rattle.std.specs.Prelude.{◌≡◌, ◌++◌, slice_range, map, optio
 ghost use Rattle.slreader.specs.Tallies.{has_codes as spec_has_codes, packet_facts, packet_number, passed};
 ghost use Rattle.slreader.specs.Tallies.{reached_at};
 ghost use Rattle.slreader.specs.Tallies.{resume_of};
+ghost use Rattle.slreader.specs.Lasts.{resume_after};
 ghost use Rattle.slreader.specs.Tallies.{resumes_of as spec_resumes_of};
 
+use crate::last_packet::{LastPacket, last_for};
 use crate::want::{Plan, Want};
 use mseed_header::{Header, read};
 use sl_packet::Seq;
@@ -73,6 +75,7 @@ fn reached_at(header: &Option<Header<'_>>, number: &Option<Seq>) -> Option<Reach
 
 impl Resume {
     ghost use Rattle.slreader.specs.Tallies.{resume_of};
+    ghost use Rattle.slreader.specs.Lasts.{resume_after};
 
     /// Before the first packet.
     fn new(alloc: Global, is_any: bool, want: &Want<'_>) -> Result<Resume, AllocError>
@@ -83,6 +86,17 @@ impl Resume {
             network: Vec::from_slice(alloc, want.network)?,
             station: Vec::from_slice(alloc, want.station)?,
             last: None,
+        })
+    }
+
+    /// After the last packet of its station, unless the want asks for a number of its own.
+    fn after(alloc: Global, want: &Want<'_>, lasts: &[LastPacket]) -> Result<Resume, AllocError>
+        ensures { IfOk result (λ r. r ≡ resume_after lasts.now want.now) }
+    {
+        let first = Resume::new(alloc, false, want)?;
+        Ok(Resume {
+            last: last_for(lasts, want),
+            ..first
         })
     }
 
@@ -155,6 +169,21 @@ fn put_resumes(
     Ok(())
 }
 
+/// Where wants go on after the last packets of their stations.
+fn put_resumes_after(
+    alloc: Global,
+    resumes: &mut Vec<Resume>,
+    wants: &[Want<'_>],
+    lasts: &[LastPacket],
+) -> Result<(), AllocError>
+    ensures { OnOk result (resumes.new.items ≡ resumes.old.items ++ map (resume_after lasts.now) wants.now) }
+{
+    for want in wants {
+        resumes.push(Resume::after(alloc, want, lasts)?)?;
+    }
+    Ok(())
+}
+
 /// Adds what others say.
 fn put_copies(alloc: Global, resumes: &mut Vec<Resume>, others: &[Resume]) -> Result<(), AllocError>
     ensures { OnOk result (resumes.new.items ≡ resumes.old.items ++ others.now) }
@@ -183,6 +212,7 @@ impl Model for Tally {
 impl Tally {
     ghost use Rattle.std.specs.Prelude.{◌≡◌, IfOk};
     ghost use Rattle.slreader.specs.Tallies.{counted, next_of, reached_of, tally_of};
+    ghost use Rattle.slreader.specs.Lasts.{tally_after};
     ghost use Rattle.slreader.specs.Views.{plan_value};
     ghost use Rattle.slreader.specs.Wants.PlanValue.{Multi};
 
@@ -207,6 +237,24 @@ impl Tally {
     {
         let mut resumes = Vec::new(alloc);
         put_resumes(alloc, &mut resumes, false, wants)?;
+        Ok(Tally {
+            records: 0,
+            resumes,
+        })
+    }
+
+    /// Before the first packet of several wants that comes after those of an earlier reader, by the last packets of
+    /// stations that it was given: each want goes on after the last packet of its station, unless it asks for a number
+    /// of its own. So a reader begins by it as one that goes on after a break.
+    pub fn after(
+        alloc: Global,
+        wants: &[Want<'_>],
+        lasts: &[LastPacket],
+    ) -> Result<Tally, AllocError>
+        ensures { IfOk result (λ t. t ≡ tally_after lasts.now wants.now) }
+    {
+        let mut resumes = Vec::new(alloc);
+        put_resumes_after(alloc, &mut resumes, wants, lasts)?;
         Ok(Tally {
             records: 0,
             resumes,

@@ -1,11 +1,13 @@
 -- A read more: what was asked is sent, a piece is read, and what it gives is told.
-use Rattle.std.proofs.Common.{◌∙◌, subst, Ok, Err}
+use Rattle.std.proofs.Common.{◌∙◌, subst, Ok, Err, refl, inl}
 use Rattle.std.specs.Prelude.{OnOk, Result}
 use Rattle.std.proofs.KnownBytes.{Keeps-refl}
 use Rattle.sl_io.proofs.TotalLemmas.{Made-more}
 use Rattle.packet_listing.specs.Pieces.{Takes}
-use Rattle.packet_listing.proofs.ReadLaws.{led-no-limit, listed-sent, goes-on-listed, ends, stops, fails, not-memory}
+use Rattle.packet_listing.proofs.ReadLaws.{led-no-limit, listed-none, listed-sent, goes-on-listed, ends, stops, fails}
+use Rattle.packet_listing.proofs.ReadLaws.{not-memory}
 use Rattle.packet_listing.proofs.CountLaws.{counts-listed, counts-ended, counts-failed}
+use Rattle.packet_listing.proofs.KeepLaws.{keeps-listed, keeps-none}
 use Rattle.packet_listing.proofs.OrderLaws.{listed-first, written-first, all-written}
 use Rattle.packet_listing.proofs.reading.read_blocks.Goals as goal
 
@@ -58,6 +60,11 @@ reads-preserved g c =
       line_empty = c.in-Ok-write_output.ensures.quiet.0.1 ∙ c.reads.invariant.line_empty;
       record_failures = c.in-Ok-write_output.ensures.quiet.1.0 ∙ c.reads.invariant.record_failures;
       record_empty = c.in-Ok-write_output.ensures.quiet.1.1 ∙ c.reads.invariant.record_empty;
+      behind = keeps-listed _ _ _ _ _ _ _ _ _ _ _ _ _ _ _ (goes-on-listed _ _ _ _ _ _ _ _ _ _ _ _ _ _ _ _ _ _ _ t
+          (subst (Takes _ _ _ _ _) c.in-Ok-false.field-0-test c.in-Ok-false.ensures.taken) c.in-Some.ensures.consumed
+          c.in-Ok-write_output.ensures.lines c.in-Ok-write_output.ensures.records c.in-Ok-write_output.ensures.cleared)
+          c.reads.invariant.behind c.in-Ok-keep_if_due.ensures.steps;
+      keeper_failures = c.in-Ok-keep_if_due.ensures.failure ∙ c.reads.invariant.keeper_failures;
     }
 
 pub returns-clause-told : goal.returns-clause-told
@@ -119,3 +126,34 @@ returns-in-Err-taken-clause-counts g c = λ told.
 
 pub returns-clause-counts : goal.returns-clause-counts
 returns-clause-counts g c = λ _. counts-listed _ _ _ _ _ _ _ _ _ _ _ _ c.reads.invariant.listed
+
+pub reads-init : goal.reads-init
+reads-init g c = record {
+  listed = listed-none _ _ _ _ _ _ c.requires.sent c.requires.output.0 c.requires.output.1;
+  failures = refl;
+  made = inl (refl, refl);
+  write_failures = refl;
+  write_empty = refl;
+  line_failures = refl;
+  line_empty = refl;
+  record_failures = refl;
+  behind = keeps-none _ _;
+  keeper_failures = refl;
+  record_empty = refl;
+}
+
+pub returns-in-Err-keep_if_due-clause-order : goal.returns-in-Err-keep_if_due-clause-order
+returns-in-Err-keep_if_due-clause-order g c =
+    let t = listed-sent _ _ _ _ _ _ _ _ _ _ _ _ _ _ c.reads.invariant.listed c.in-Ok.ensures.written
+    c.in-Ok.ensures.sent in
+    all-written _ _ _ _ _ _ _ _ _ _ _ _ _ _ _ _ _ t c.take_piece-taken.ensures.first c.in-Some.ensures.consumed
+    c.in-Ok-write_output.ensures.lines c.in-Ok-write_output.ensures.records
+
+pub returns-in-Err-keep_if_due-clause-behind : goal.returns-in-Err-keep_if_due-clause-behind
+returns-in-Err-keep_if_due-clause-behind g c =
+    let t = listed-sent _ _ _ _ _ _ _ _ _ _ _ _ _ _ c.reads.invariant.listed c.in-Ok.ensures.written
+    c.in-Ok.ensures.sent in
+    keeps-listed _ _ _ _ _ _ _ _ _ _ _ _ _ _ _ (goes-on-listed _ _ _ _ _ _ _ _ _ _ _ _ _ _ _ _ _ _ _ t
+    (subst (Takes _ _ _ _ _) c.in-Ok-false.field-0-test c.in-Ok-false.ensures.taken) c.in-Some.ensures.consumed
+    c.in-Ok-write_output.ensures.lines c.in-Ok-write_output.ensures.records c.in-Ok-write_output.ensures.cleared)
+    c.reads.invariant.behind c.in-Err-keep_if_due.ensures.steps

@@ -1,6 +1,7 @@
 -- All that came is told, nothing failed so far, and there was a read for each turn.
 use Rattle.std.proofs.Common.{◌≡◌}
 use Rattle.sl_io.proofs.TotalLemmas.{Made}
+use Rattle.packet_listing.specs.Keeping.{KeepsCounted}
 use Rattle.packet_listing.proofs.ReadLaws.{ListedTo}
 use Rattle.packet_listing.proofs.reading.read_blocks.Given as goal
 
@@ -17,5 +18,8 @@ invariant-reads g l = record {
   line_failures : g.O.Sink.failures l.out ≡ g.O.Sink.failures l.fn.out;
   line_empty : g.O.Sink.empty_writes l.out ≡ g.O.Sink.empty_writes l.fn.out;
   record_failures : g.P.Sink.failures l.records ≡ g.P.Sink.failures l.fn.records;
+  behind : KeepsCounted l.fn.core (g.P.Sink.written l.fn.records) (g.K.Keeper.done l.fn.keeper)
+      (g.K.Keeper.done l.keeper);
+  keeper_failures : g.K.Keeper.failures l.keeper ≡ g.K.Keeper.failures l.fn.keeper;
   record_empty : g.P.Sink.empty_writes l.records ≡ g.P.Sink.empty_writes l.fn.records;
 }

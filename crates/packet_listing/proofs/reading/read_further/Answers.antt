@@ -1,15 +1,20 @@
 -- The reader begins with the plan by which wants go on, and what it reads is told and counted.
-use Rattle.std.proofs.Common.{ap, Ok, Err, refl}
-use Rattle.std.specs.Prelude.{IfErr, Result}
+use Rattle.std.proofs.Common.{ap, false, Ok, Err, refl}
+use Rattle.std.specs.Prelude.{IfErr, OnOk, Result}
 use Rattle.packet_listing.specs.Lines.{OutputValue}
 use Rattle.packet_listing.proofs.FurtherLaws.{counted-err, counted-ok, kept-err, limited, never, stops-quietly, untold}
+use Rattle.packet_listing.proofs.KeepLaws.{keeps-at, keeps-none, last-err, last-ok, not-kept, same-err, same-ok}
 use Rattle.packet_listing.proofs.OrderLaws.{first-as, nothing-written}
-use Rattle.packet_listing.proofs.ReadLaws.{stops-as}
+use Rattle.packet_listing.proofs.ReadLaws.{ends-as, stops-as}
 use Rattle.packet_listing.proofs.reading.read_further.Goals as goal
 
 on-err : {T E : Type 0} → (P Q : E → Type 0) → (r : Result T E) → IfErr r P → ((e : E) → P e → Q e) → IfErr r Q
 on-err P Q (Ok x) h f = tt
 on-err P Q (Err e) h f = f e h
+
+on-ok : {T E : Type 0} → (P Q : Type 0) → (r : Result T E) → OnOk r P → (P → Q) → OnOk r Q
+on-ok P Q (Ok x) h f = f h
+on-ok P Q (Err e) h f = tt
 
 pub returns-in_default-clause-order : goal.returns-in_default-clause-order
 returns-in_default-clause-order g c = nothing-written _ _ _ _ _
@@ -34,30 +39,81 @@ returns-in-Err-clause-stopped g c =
     stops-quietly c.in-Err.fault _ _ _ _ _ c.in-Err.ensures.fault refl
     ((refl, refl), (refl, refl), (refl, refl))
 
+pub returns-in-Err-clause-behind : goal.returns-in-Err-clause-behind
+returns-in-Err-clause-behind g c = keeps-none _ _
+
+pub returns-in_default-clause-behind : goal.returns-in_default-clause-behind
+returns-in_default-clause-behind g c = keeps-none _ _
+
+pub returns-in-Err-clause-last_at : goal.returns-in-Err-clause-last_at
+returns-in-Err-clause-last_at g c = λ told. never _ (untold c.in-Err.fault _ c.in-Err.ensures.fault) told
+
+pub returns-in-Err-clause-keeper : goal.returns-in-Err-clause-keeper
+returns-in-Err-clause-keeper g c = not-kept (Unit {0}) c.in-Err.fault _ _ c.in-Err.ensures.fault
+
+pub returns-clause-ends : goal.returns-clause-ends
+returns-clause-ends g c =
+    same-ok _ c.read_blocks-read.result c.keep_at-outcome.result c.keep_at-outcome.ensures.outcome
+    (on-ok _ _ c.read_blocks-read.result c.read_blocks-read.ensures.ends (λ h.
+    ends-as _ _ _ _ _ _ _ _ _ _ _ _ c.in-Ok-begin.ensures.core
+    (ap (λ (o : OutputValue). o.style) c.in-Ok-begin.ensures.output) h))
+
 pub returns-clause-told : goal.returns-clause-told
 returns-clause-told g c =
-    on-err _ _ c.read_blocks-outcome.result c.read_blocks-outcome.ensures.told (λ fault h told.
+    same-err _ c.read_blocks-read.result c.keep_at-outcome.result c.keep_at-outcome.ensures.outcome
+    (λ told. never false refl told)
+    (on-err _ _ c.read_blocks-read.result c.read_blocks-read.ensures.told (λ fault h told.
     stops-as fault _ _ _ _ _ _ _ _ _ _ _ _ c.in-Ok-begin.ensures.core
-    (ap (λ (o : OutputValue). o.refusals) c.in-Ok-begin.ensures.output) (h told))
+    (ap (λ (o : OutputValue). o.style) c.in-Ok-begin.ensures.output) (h told)))
 
 pub returns-clause-counted : goal.returns-clause-counted
 returns-clause-counted g c =
-    counted-ok _ _ _ _ c.read_blocks-outcome.result _ _ _ _ c.in-Ok-begin.ensures.core c.is_told.ensures.ok
-    c.count.ensures c.read_blocks-outcome.ensures.counted
+    counted-ok _ _ _ _ c.keep_at-outcome.result _ _ _ _ c.in-Ok-begin.ensures.core c.is_told.ensures.ok
+    c.count.ensures
+    (same-ok _ c.read_blocks-read.result c.keep_at-outcome.result c.keep_at-outcome.ensures.outcome
+    c.read_blocks-read.ensures.counted)
 
 pub returns-clause-counts : goal.returns-clause-counts
 returns-clause-counts g c =
-    counted-err _ _ _ _ c.read_blocks-outcome.result _ _ _ _ c.in-Ok-begin.ensures.core c.is_told.ensures.fault
-    c.count.ensures c.read_blocks-outcome.ensures.counts
+    counted-err _ _ _ _ c.keep_at-outcome.result _ _ _ _ c.in-Ok-begin.ensures.core c.is_told.ensures.fault
+    c.count.ensures
+    (same-err _ c.read_blocks-read.result c.keep_at-outcome.result c.keep_at-outcome.ensures.outcome
+    (λ told. never false refl told) c.read_blocks-read.ensures.counts)
 
 pub returns-clause-kept : goal.returns-clause-kept
-returns-clause-kept g c = kept-err c.read_blocks-outcome.result _ _ _ _ c.is_told.ensures.fault c.count.ensures
+returns-clause-kept g c = kept-err c.keep_at-outcome.result _ _ _ _ c.is_told.ensures.fault c.count.ensures
 
 pub returns-clause-plan : goal.returns-clause-plan
 returns-clause-plan g c =
-    on-err _ _ c.read_blocks-outcome.result c.read_blocks-outcome.ensures.plan (λ fault h is. absurd (h is))
+    same-err _ c.read_blocks-read.result c.keep_at-outcome.result c.keep_at-outcome.ensures.outcome (λ is. absurd cc)
+    (on-err _ _ c.read_blocks-read.result c.read_blocks-read.ensures.plan (λ fault h is. absurd (h is)))
+
+pub returns-clause-stopped : goal.returns-clause-stopped
+returns-clause-stopped g c =
+    same-err _ c.read_blocks-read.result c.keep_at-outcome.result c.keep_at-outcome.ensures.outcome tt
+    c.read_blocks-read.ensures.stopped
+
+pub returns-clause-behind : goal.returns-clause-behind
+returns-clause-behind g c =
+    keeps-at _ _ c.read_blocks-read.result _ _ _ _ _ _ c.in-Ok-begin.ensures.core c.read_blocks-read.ensures.counted
+    c.read_blocks-read.ensures.counts c.keep_at-outcome.ensures.ok c.keep_at-outcome.ensures.told
+    c.keep_at-outcome.ensures.untold c.read_blocks-read.ensures.behind
+
+pub returns-clause-last : goal.returns-clause-last
+returns-clause-last g c =
+    last-ok _ c.keep_at-outcome.result _ _ _ _ _ _ _ _ c.is_told.ensures.ok c.count.ensures
+    c.read_blocks-read.ensures.behind c.keep_at-outcome.ensures.kept
+
+pub returns-clause-last_at : goal.returns-clause-last_at
+returns-clause-last_at g c =
+    last-err _ c.keep_at-outcome.result _ _ _ _ _ _ _ _ c.is_told.ensures.fault c.count.ensures
+    c.read_blocks-read.ensures.behind c.keep_at-outcome.ensures.kept_at
+
+pub returns-clause-keeper : goal.returns-clause-keeper
+returns-clause-keeper g c = c.keep_at-outcome.ensures.keeper _ c.read_blocks-read.ensures.keeper
 
 pub returns-clause-order : goal.returns-clause-order
 returns-clause-order g c =
-    first-as _ _ _ _ _ _ _ _ _ _ c.in-Ok-begin.ensures.core (ap (λ (o : OutputValue). o.refusals) c.in-Ok-begin.ensures.output)
-    c.read_blocks-outcome.ensures.order
+    first-as _ _ _ _ _ _ _ _ _ _ c.in-Ok-begin.ensures.core
+    (ap (λ (o : OutputValue). o.style) c.in-Ok-begin.ensures.output)
+    c.read_blocks-read.ensures.order

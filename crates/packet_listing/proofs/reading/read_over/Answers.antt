@@ -31,7 +31,7 @@ pub returns-in-Ok-new-clause-told : goal.returns-in-Ok-new-clause-told
 returns-in-Ok-new-clause-told g c =
     on-err _ _ c.read_blocks.result c.read_blocks.ensures.told (λ fault h told.
     stops-as fault _ _ _ _ _ _ _ _ _ _ _ _ c.in-Ok-new.ensures.begun
-    (ap (λ (o : OutputValue). o.refusals) c.in-Ok.ensures) (h told))
+    (ap (λ (o : OutputValue). o.style) c.in-Ok.ensures) (h told))
 
 pub returns-in-Ok-new-clause-limit : goal.returns-in-Ok-new-clause-limit
 returns-in-Ok-new-clause-limit g c =
@@ -52,7 +52,7 @@ returns-clause-told g c = λ told. absurd (not-begun c.in-Err.fault _ c.in-Err.e
 
 pub returns-in-Ok-new-clause-order : goal.returns-in-Ok-new-clause-order
 returns-in-Ok-new-clause-order g c =
-    first-as _ _ _ _ _ _ _ _ _ _ c.in-Ok-new.ensures.begun (ap (λ (o : OutputValue). o.refusals) c.in-Ok.ensures)
+    first-as _ _ _ _ _ _ _ _ _ _ c.in-Ok-new.ensures.begun (ap (λ (o : OutputValue). o.style) c.in-Ok.ensures)
     c.read_blocks.ensures.order
 
 pub returns-in_default-clause-order : goal.returns-in_default-clause-order

@@ -1,7 +1,7 @@
 use Rattle.std.proofs.Common.{◌∙◌, sym, subst, refl, ℤ}
 use Rattle.std.specs.Prelude.{◌⊎◌, ◌<ℤ◌, ◌≤ℤ◌}
 use Rattle.sl_time.specs.Days.{IsWithinDay, day_start}
-use Rattle.record_archive.specs.Archives.{IsUnplaced}
+use Rattle.record_archive.specs.Archives.{IsPut, IsUnplaced, Put}
 use Rattle.record_archive.specs.Archives.IsUnplaced.{Invalid, Undated, Unnamed}
 use Rattle.record_archive.proofs.PutLemmas.{held-put, held-same}
 use Rattle.record_archive.proofs.placing.put_record.Given as given
@@ -40,14 +40,15 @@ returns-in_default-clause-put g c =
 pub returns-in_default-clause-unplaced : goal.returns-in_default-clause-unplaced
 returns-in_default-clause-unplaced g c = λ e. undated g c
 
-pub returns-in-Ok-put-clause-put : goal.returns-in-Ok-put-clause-put
-returns-in-Ok-put-clause-put g c =
+-- what is put of the record
+abbrev put_of : (g : given.Over) (c : goal.In-Ok-put g) → Put
+put_of g c = record { folder = c.deref.result.now; file = c.deref-2.result.now; bytes = c.args.bytes.now }
+
+is_put : (g : given.Over) (c : goal.In-Ok-put g) → IsPut c.args.bytes.now (put_of g c)
+is_put g c =
     let day = c.in-Some.day in
-    let header = c.in-Ok.header in
-    held-put (g.F.Folders.puts c.args.folders.now) (g.F.Folders.puts c.put.new.self) c.args.bytes.now
-    (record { folder = c.deref.result.now; file = c.deref-2.result.now; bytes = c.args.bytes.now })
-    (record {
-      facts = header;
+    record {
+      facts = c.in-Ok.header;
       year = day.year;
       day = day.day;
       read = sym c.read.ensures ∙ c.in-Ok.is;
@@ -56,4 +57,12 @@ returns-in-Ok-put-clause-put g c =
       folder = c.deref.ensures.value ∙ c.in-Ok-set.ensures.folder;
       file = c.deref-2.ensures.value ∙ c.in-Ok-set.ensures.file;
       bytes = refl;
-    }) c.in-Ok-put.ensures.put
+    }
+
+pub returns-in-Ok-put-clause-put : goal.returns-in-Ok-put-clause-put
+returns-in-Ok-put-clause-put g c =
+    held-put (g.F.Folders.puts c.args.folders.now) (g.F.Folders.puts c.put.new.self) c.args.bytes.now
+    (put_of g c) (is_put g c) c.in-Ok-put.ensures.put
+
+pub returns-in-Ok-put-clause-placed : goal.returns-in-Ok-put-clause-placed
+returns-in-Ok-put-clause-placed g c = λ e. (put_of g c, is_put g c)

@@ -9,4 +9,4 @@ returns-clause-kept c =
     ap (map stored) c.in_ok-push.ensures.items
     ∙ map-append stored before _
     ∙ ap₂ (λ (a b : List ℕ). map stored before ++ record { folder = a; file = b; bytes = c.args.bytes.now } ∷ [])
-    c.in_ok-copied.ensures c.in_ok-copied-2.ensures
+    c.in_ok-from_slice.ensures.items c.in_ok-from_slice-2.ensures.items

@@ -1,0 +1,4 @@
+pub mod CutLemmas
+pub mod ByteLemmas
+pub mod TextLemmas
+pub mod ParseLemmas

@@ -1,0 +1,9 @@
+use Rattle.std.proofs.Common.{◌≡◌, ◌++◌, drop}
+use Rattle.reader_state.specs.States.{others_of, text_of}
+use Rattle.reader_state.proofs.writing.put_others.Given as goal
+
+-- What stands, with the lines that are to come, is the whole.
+abbrev pub invariant-loop-last : goal.invariant-loop-last
+invariant-loop-last l =
+    l.text.items ++ text_of (others_of l.lasts (drop l.last-index l.before))
+    ≡ l.fn.text.items ++ text_of (others_of l.lasts l.before)

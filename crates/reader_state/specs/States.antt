@@ -1,0 +1,66 @@
+-- The text of a reader's state: a line for each station, NET STA NUMBER END, in the manner of slinktool. NUMBER is that
+-- of the last packet, in six hexadecimal digits, and END the end of its record in units of 0.0001 s since 1970, or `-`.
+use Rattle.std.specs.Prelude.{ℕ, ℤ, List, [], ◌∷◌, ◌++◌, is_none, Bool, if◌then◌else◌}
+use Rattle.std.specs.Prelude.{Option, Some, None}
+use Rattle.std.specs.Prelude.{◌≡◌, ◌≢◌, ◌<◌, ◌^◌, true}
+use Rattle.std.specs.Fmt.{signed_decimal}
+use Rattle.std.specs.Prelude.{FitsSigned}
+use Rattle.std.specs.Int.{w64}
+use Rattle.std.specs.Int.Signed.{mag}
+use Rattle.protocol.specs.Packet.{digits}
+use Rattle.slreader.specs.Wants.{WantValue}
+use Rattle.slreader.specs.Tallies.{TallyValue}
+use Rattle.slreader.specs.Lasts.{LastValue, is_named, last_at, lasts_of}
+
+-- an end, as it is written
+abbrev pub end_text : Option ℤ → List ℕ
+end_text None = 45 ∷ []
+end_text (Some tick) = signed_decimal tick
+
+-- the line of a station, without its end
+abbrev pub words_of : LastValue → List ℕ
+words_of l =
+    l.network ++ 32 ∷ (l.station ++ 32 ∷ (digits l.reached.number ++ 32 ∷ end_text l.reached.end))
+
+-- the line of a station
+abbrev pub line_of : LastValue → List ℕ
+line_of l = words_of l ++ 10 ∷ []
+
+-- all lines
+abbrev pub text_of : List LastValue → List ℕ
+text_of [] = []
+text_of (l ∷ ls) = line_of l ++ text_of ls
+
+-- It can be read back: it is of 64 bits.
+abbrev pub IsEnd : Option ℤ → Type 0
+IsEnd None = Unit {0}
+IsEnd (Some tick) = FitsSigned w64 tick × (mag tick < 2 ^ 63)
+
+-- A last packet that can be read back: its codes are those of a station, and its number and its end are in range.
+pub record IsLast (l : LastValue) : Type 0 where
+  pub named : is_named l ≡ true
+  pub number : l.reached.number < 0x1000000
+  pub ends : IsEnd l.reached.end
+
+-- all of them can
+abbrev pub AreLast : List LastValue → Type 0
+AreLast [] = Unit {0}
+AreLast (l ∷ ls) = IsLast l × AreLast ls
+
+-- no station of these is the one of that last packet
+abbrev pub is_of_another : List LastValue → LastValue → Bool
+is_of_another lasts l = is_none (last_at l.network l.station lasts)
+
+-- those that are of other stations
+abbrev pub others_of : List LastValue → List LastValue → List LastValue
+others_of lasts [] = []
+others_of lasts (b ∷ bs) = if is_of_another lasts b then b ∷ others_of lasts bs else others_of lasts bs
+
+-- what is kept by a reader: the last packets of its wants' stations, and those of other stations that were kept before
+abbrev pub lasts_after : TallyValue → List WantValue → List LastValue → List LastValue
+lasts_after t wants before = lasts_of t wants ++ others_of (lasts_of t wants) before
+
+-- the byte stands nowhere in the text
+abbrev pub Lacks : ℕ → List ℕ → Type 0
+Lacks b [] = Unit {0}
+Lacks b (x ∷ xs) = (x ≢ b) × Lacks b xs

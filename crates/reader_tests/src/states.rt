@@ -1,0 +1,72 @@
+//! The text in which a reader keeps how far it is.
+use reader_state::{StateFault, read_state, write_state};
+use slreader::{Tally, Want, Window};
+use std::alloc::Global;
+use std::test::Fail;
+
+/// Texts of states.
+static TEXTS: [&[u8]; 4] = [
+    b"",
+    b"GE APE 00000A 17091648000100\n",
+    b"GE APE FFFFFF -\nX A 000000 -1\n",
+    b"A1 B2C3D 0000A3 -9223372036854775808\nGE WLF 000001 9223372036854775807\n",
+];
+
+/// Texts that are none.
+static OTHERS: [&[u8]; 13] = [
+    b"\n",
+    b"GE APE 00000A 17091648000100",
+    b"GE APE 00000a -\n",
+    b"GE APE A -\n",
+    b"GE APE 00000A\n",
+    b"GE APE 00000A - \n",
+    b"GE  APE 00000A -\n",
+    b"ge APE 00000A -\n",
+    b"GEO APE 00000A -\n",
+    b"GE STATIO 00000A -\n",
+    b"GE APE 00000A +1\n",
+    b"GE APE 00000A 9223372036854775808\n",
+    b"GE APE 00000A -\n\n",
+];
+
+/// What is written of a text that was read, if nothing is counted.
+fn written_again(alloc: Global, text: &[u8]) -> Result<Vec<u8>, Fail> {
+    let lasts = read_state(alloc, text)?;
+    let wants: Vec<Want<'_>> = Vec::new(alloc);
+    let tally = Tally::before(alloc, &wants)?;
+    let mut again = b"before".to_vec(alloc)?;
+    write_state(alloc, &mut again, &tally, &wants, &lasts)?;
+    Ok(again)
+}
+
+#[test]
+fn a_state_is_read_as_it_was_written(rt: HostRuntime) -> Result<(), Fail> {
+    for text in &TEXTS {
+        assert!(rt; written_again(rt.alloc(), text)?.as_slice() == *text);
+    }
+    Ok(())
+}
+
+#[test]
+fn another_text_is_none(rt: HostRuntime) {
+    for text in &OTHERS {
+        assert!(rt; matches!(read_state(rt.alloc(), text), Err(StateFault::Invalid)));
+    }
+}
+
+/// The wants' stations come first, in their order, and then those of others that were there.
+#[test]
+fn a_state_keeps_other_stations(rt: HostRuntime) -> Result<(), Fail> {
+    let alloc = rt.alloc();
+    let before = read_state(alloc, b"XX B 000001 -\nGE WLF 000002 5\nGE APE 000003 6\n")?;
+    let mut wants = Vec::new(alloc);
+    for word in [b"GE_APE".as_slice(), b"GE_WLF@000009", b"GE_NEW"] {
+        wants.push(Want::parse(alloc, word, Window::Following { begin: None })?)?;
+    }
+    let tally = Tally::after(alloc, &wants, &before)?;
+    let mut text = Vec::new(alloc);
+    write_state(alloc, &mut text, &tally, &wants, &before)?;
+    let wanted = b"GE APE 000003 6\nXX B 000001 -\nGE WLF 000002 5\n";
+    assert!(rt; text.as_slice() == wanted.as_slice());
+    Ok(())
+}
