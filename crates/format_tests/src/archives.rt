@@ -9,7 +9,7 @@ use std::alloc::Global;
 type Place = (&'static [u8], &'static [u8]);
 
 /// Changes of the worked record, and its place then.
-static PLACES: [(Changes<'static>, Place); 5] = [
+static PLACES: [(Changes<'static>, Place); 6] = [
     (&[], (b"2024/GE/APE/BHZ.D", b"GE.APE..BHZ.D.2024.060")),
     // The last tick of a leap year, and of another one.
     (
@@ -36,6 +36,11 @@ static PLACES: [(Changes<'static>, Place); 5] = [
             (29, 0x0f),
         ],
         (b"2023/GE/APE/BHZ.D", b"GE.APE..BHZ.D.2023.365"),
+    ),
+    // The last tick of a leap day.
+    (
+        &[(24, 23), (25, 59), (26, 59), (28, 0x27), (29, 0x0f)],
+        (b"2024/GE/APE/BHZ.D", b"GE.APE..BHZ.D.2024.060"),
     ),
     // A second 60 is the next minute's first moment.
     (

@@ -2,12 +2,13 @@
 use crate::worked::{Changes, HEAD, record_of};
 use mseed_header::RecordFault;
 use protocol::report::Report;
-use record_listing::{FileFault, check_records};
+use record_listing::{AllStations, FileFault, ListingOptions, check_records};
 use sl_io::{MemorySink, MemorySource, StreamFault};
 use std::alloc::{AllocError, Global};
 use std::test::Fail;
 
 mod devices;
+mod summaries;
 
 /// What is said of the worked record behind its number.
 const FACTS: &str = "GE APE -- BHZ D 17091648000000 17091648010000 100";
@@ -24,7 +25,13 @@ fn listed(alloc: Global, bytes: &[u8], most: usize) -> Result<(Vec<u8>, Option<F
         _ => MemorySource::in_pieces(bytes, most),
     };
     let mut sink = MemorySink::new(alloc);
-    let finding = check_records(alloc, &mut source, &mut sink)?;
+    let finding = check_records(
+        alloc,
+        ListingOptions::lines(),
+        &AllStations,
+        &mut source,
+        &mut sink,
+    )?;
     Ok((sink.into_bytes(), finding.map(|finding| finding.fault)))
 }
 
@@ -32,7 +39,13 @@ fn listed(alloc: Global, bytes: &[u8], most: usize) -> Result<(Vec<u8>, Option<F
 fn first_bad(alloc: Global, bytes: &[u8]) -> Result<Option<(u128, u128)>, Fail> {
     let mut source = MemorySource::in_pieces(bytes, 700);
     let mut sink = MemorySink::new(alloc);
-    let finding = check_records(alloc, &mut source, &mut sink)?;
+    let finding = check_records(
+        alloc,
+        ListingOptions::lines(),
+        &AllStations,
+        &mut source,
+        &mut sink,
+    )?;
     Ok(finding.map(|finding| (finding.number, finding.offset)))
 }
 

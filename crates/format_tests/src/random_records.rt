@@ -1,7 +1,7 @@
 //! Random records: what is read of them, and their listing, are what a plain program reads and writes.
 use mseed_header::{Header, Kind, RecordFault, read};
 use plain_records::{Draws, Said};
-use record_listing::check_records;
+use record_listing::{AllStations, ListingOptions, check_records};
 use sl_io::{MemorySink, MemorySource};
 use std::alloc::Global;
 use std::test::Fail;
@@ -133,7 +133,13 @@ fn listing(alloc: Global, records: &[[u8; 512]]) -> Result<(Vec<u8>, bool), Fail
     }
     let mut source = MemorySource::in_pieces(bytes.as_slice(), 700);
     let mut sink = MemorySink::new(alloc);
-    let verdict = check_records(alloc, &mut source, &mut sink)?;
+    let verdict = check_records(
+        alloc,
+        ListingOptions::lines(),
+        &AllStations,
+        &mut source,
+        &mut sink,
+    )?;
     let has_fault = records
         .iter()
         .any(|record| plain_records::read(record).is_err());

@@ -1,1 +1,4 @@
+pub mod DateLemmas
+pub mod MomentLemmas
+pub mod ReadLemmas
 mod WorkedMoments

@@ -1,7 +1,9 @@
 -- Worked moments of a command line.
-use Rattle.std.specs.Prelude.{◌≡◌, refl, codes, None}
+use Rattle.std.specs.Prelude.{◌≡◌, refl, codes, None, pos, negsuc}
+use Rattle.std.specs.Fmt.{signed_decimal}
 use Rattle.protocol.specs.Time.{time_of}
 use Rattle.iso_time.specs.Spelled.{command_text}
+use Rattle.iso_time.specs.Written.{moment_text, month_from, year_by, year_of}
 
 pub iso : command_text (codes "2024-02-29T00:00:01") ≡ codes "2024,02,29,00,00,01"
 iso = refl
@@ -23,3 +25,37 @@ no_fraction = refl
 
 pub no_date_alone : time_of (command_text (codes "2024-02-29")) ≡ None
 no_date_alone = refl
+
+-- ---- what is written of a tick
+
+pub leap_day : moment_text (pos 17091648000001) ≡ codes "2024-02-29T00:00:00.0001Z"
+unfolding moment_text year_by year_of month_from
+leap_day = refl
+
+pub last_tick : moment_text (pos 17356895999999) ≡ codes "2024-12-31T23:59:59.9999Z"
+unfolding moment_text year_by year_of month_from
+last_tick = refl
+
+pub beginning : moment_text (pos 0) ≡ codes "1970-01-01T00:00:00.0000Z"
+unfolding moment_text year_by year_of month_from
+beginning = refl
+
+pub before_1970 : moment_text (negsuc 0) ≡ codes "1969-12-31T23:59:59.9999Z"
+unfolding moment_text year_by year_of month_from
+before_1970 = refl
+
+pub first_year : moment_text (negsuc 621355967999999) ≡ codes "0001-01-01T00:00:00.0000Z"
+unfolding moment_text year_by year_of month_from
+first_year = refl
+
+pub too_early : moment_text (negsuc 621355968000000) ≡ signed_decimal (negsuc 621355968000000)
+unfolding moment_text
+too_early = refl
+
+pub last_year : moment_text (pos 2534023007999999) ≡ codes "9999-12-31T23:59:59.9999Z"
+unfolding moment_text year_by year_of month_from
+last_year = refl
+
+pub too_late : moment_text (pos 2534023008000000) ≡ signed_decimal (pos 2534023008000000)
+unfolding moment_text
+too_late = refl

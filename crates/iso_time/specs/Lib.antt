@@ -1,1 +1,3 @@
+pub mod Moments
 pub mod Spelled
+pub mod Written

@@ -2,4 +2,4 @@ mod CheckLemmas
 mod FindingLemmas
 mod TextLemmas
 mod PieceLemmas
-mod ReadingLemmas
+mod StreamLemmas

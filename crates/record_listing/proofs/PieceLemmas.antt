@@ -7,7 +7,9 @@ use Rattle.protocol.proofs.FoundLemmas.{both}
 use Rattle.std.specs.Borrow.{Bor}
 use Rattle.std.specs.Prelude.{Option}
 use Rattle.feeder.specs.Feedings.{feed_read, lent_records, left_over}
-use Rattle.record_listing.specs.Checks.{Progress, with_record, with_records, piece_read}
+use Rattle.record_listing.specs.Checks.{Progress, piece_read, with_record, with_records}
+use Rattle.record_listing.specs.FeedTallies.{RefusedCountValue, all_judged, judged_with}
+use Rattle.record_listing.specs.Listing.{Rules}
 
 -- ---- a feed read on
 
@@ -45,23 +47,23 @@ in_two held piece held' n records e =
 
 -- ---- records listed
 
-pub with_records-append : (p : Progress) (records more : List (List ℕ))
-    → with_records p (records ++ more) ≡ with_records (with_records p records) more
-with_records-append p [] more = refl
-with_records-append p (r ∷ records) more = with_records-append (with_record p r) records more
+pub with_records-append : (r : Rules) (p : Progress) (records more : List (List ℕ))
+    → with_records r p (records ++ more) ≡ with_records r (with_records r p records) more
+with_records-append r p [] more = refl
+with_records-append r p (bytes ∷ records) more = with_records-append r (with_record r p bytes) records more
 
 -- What is listed of the first part and then of the rest is what is listed of the piece.
-pub listed_in_two : (held piece held' piece' : List ℕ) (n : ℕ) (records : List (List ℕ)) (p p' : Progress)
+pub listed_in_two : (r : Rules) (held piece held' piece' : List ℕ) (n : ℕ) (records : List (List ℕ)) (p p' : Progress)
     → feed_from (feed_read [] held) (take n piece) ≡ feed_read records held' → piece' ≡ drop n piece
-    → p' ≡ with_records p records → with_records p' (piece_read held' piece').records
-    ≡ with_records p (piece_read held piece).records
-listed_in_two held piece held' piece' n records p p' e d q =
+    → p' ≡ with_records r p records → with_records r p' (piece_read held' piece').records
+    ≡ with_records r p (piece_read held piece).records
+listed_in_two r held piece held' piece' n records p p' e d q =
     rw (
       d,
       q,
     )
-    (sym (ap (λ (f : FeedRead). with_records p f.records) (in_two held piece held' n records e)
-    ∙ with_records-append p records (piece_read held' (drop n piece)).records))
+    (sym (ap (λ (f : FeedRead). with_records r p f.records) (in_two held piece held' n records e)
+    ∙ with_records-append r p records (piece_read held' (drop n piece)).records))
 
 -- And so is what is left over.
 pub rest_in_two : (held piece held' piece' : List ℕ) (n : ℕ) (records : List (List ℕ))
@@ -76,12 +78,12 @@ Reads held piece n whole = (records : List (List ℕ))
     → feed_from (feed_read records held) (take n piece)
     ≡ feed_read (records ++ lent_records whole) (left_over held piece whole)
 
-pub listed_by_feeding : (held piece held' piece' : List ℕ) (n : ℕ) (whole : Option (Bor (List ℕ))) (p p' : Progress)
-    → Reads held piece n whole → held' ≡ left_over held piece whole → piece' ≡ drop n piece
-    → p' ≡ with_records p (lent_records whole)
-    → with_records p' (piece_read held' piece').records ≡ with_records p (piece_read held piece).records
-listed_by_feeding held piece held' piece' n whole p p' reads h d q =
-    listed_in_two held piece held' piece' n (lent_records whole) p p'
+pub listed_by_feeding : (r : Rules) (held piece held' piece' : List ℕ) (n : ℕ) (whole : Option (Bor (List ℕ)))
+    (p p' : Progress) → Reads held piece n whole → held' ≡ left_over held piece whole → piece' ≡ drop n piece
+    → p' ≡ with_records r p (lent_records whole)
+    → with_records r p' (piece_read held' piece').records ≡ with_records r p (piece_read held piece).records
+listed_by_feeding r held piece held' piece' n whole p p' reads h d q =
+    listed_in_two r held piece held' piece' n (lent_records whole) p p'
     (reads [] ∙ ap (feed_read (lent_records whole)) (sym h)) d q
 
 pub rest_by_feeding : (held piece held' piece' : List ℕ) (n : ℕ) (whole : Option (Bor (List ℕ)))
@@ -90,3 +92,23 @@ pub rest_by_feeding : (held piece held' piece' : List ℕ) (n : ℕ) (whole : Op
 rest_by_feeding held piece held' piece' n whole reads h d =
     rest_in_two held piece held' piece' n (lent_records whole)
     (reads [] ∙ ap (feed_read (lent_records whole)) (sym h)) d
+
+-- ---- records judged
+
+all_judged-append : (c : RefusedCountValue) (records more : List (List ℕ))
+    → all_judged c (records ++ more) ≡ all_judged (all_judged c records) more
+all_judged-append c [] more = refl
+all_judged-append c (bytes ∷ records) more = all_judged-append (judged_with c bytes) records more
+
+pub judged_by_feeding : (held piece held' piece' : List ℕ) (n : ℕ) (whole : Option (Bor (List ℕ)))
+    (c c' : RefusedCountValue) → Reads held piece n whole → held' ≡ left_over held piece whole → piece' ≡ drop n piece
+    → c' ≡ all_judged c (lent_records whole)
+    → all_judged c' (piece_read held' piece').records ≡ all_judged c (piece_read held piece).records
+judged_by_feeding held piece held' piece' n whole c c' reads h d q =
+    rw (
+      d,
+      q,
+    )
+    (sym (ap (λ (f : FeedRead). all_judged c f.records) (in_two held piece held' n (lent_records whole)
+    (reads [] ∙ ap (feed_read (lent_records whole)) (sym h)))
+    ∙ all_judged-append c (lent_records whole) (piece_read held' (drop n piece)).records))

@@ -1,13 +1,16 @@
 -- A check under way: what is listed so far, and why it stopped.
-use Rattle.std.specs.Prelude.{◌≡◌, ℕ, ◌+◌, if◌then◌else◌, List, [], ◌∷◌, ◌++◌, Option, None, is_some}
+use Rattle.std.specs.Prelude.{◌≡◌, ℕ, ◌+◌, if◌then◌else◌, List, [], ◌∷◌, ◌++◌, Option, None, Result, is_some}
 use Rattle.sl_io.specs.Counts.{StopsReading, StopsWriting}
 use Rattle.sl_io.specs.declared.faults.ReadFault.TheVariants.{Read as ReadingFailed}
 use Rattle.protocol.specs.Streams.{FeedRead, feed_from}
 use Rattle.feeder.specs.Feedings.{feed_read}
-use Rattle.protocol.specs.declared.record.RecordFault.{RecordFault}
+use Rattle.protocol.specs.Record.{Facts}
 use Rattle.sl_io.specs.declared.faults.StreamFault.{StreamFault}
 use Rattle.sl_io.specs.declared.faults.StreamFault.TheVariants.{OutOfMemory, Read, Write}
-use Rattle.record_listing.specs.Listing.{reading_of, record_line, refusal, first_of}
+use Rattle.record_listing.specs.declared.fault.FileFault.{FileFault}
+use Rattle.record_listing.specs.declared.options.ListingOptions.{ListingOptions}
+use Rattle.record_listing.specs.Streams.{StreamValue}
+use Rattle.record_listing.specs.Listing.{Rules, first_of, record_line, refusal, said_of, streams_after}
 
 -- why a check stopped, by the counts of the reader's failures and calls and of the writer's failures and empty writes,
 -- before and after it: no memory, and nothing had failed; a read, by which the reading stopped; or a write, by which
@@ -22,35 +25,41 @@ StopsChecking Write failures failures' calls calls' write_failures write_failure
     (failures' ≡ failures) × StopsWriting write_failures write_failures' empty empty'
 
 -- how many records are listed, how many of them were read before one was refused, why the first refused one of them is
--- none, and the lines that are not written yet
+-- refused, the lines that are not written yet, and the streams so far
 pub record Progress : Type 0 where
   pub count : ℕ
   pub good : ℕ
-  pub fault : Option RecordFault
+  pub fault : Option FileFault
   pub lines : List ℕ
+  pub streams : List StreamValue
 
 -- no record is listed
 abbrev pub nothing_listed : Progress
-nothing_listed = record { count = 0; good = 0; fault = None; lines = [] }
+nothing_listed = record { count = 0; good = 0; fault = None; lines = []; streams = [] }
 
 -- how many were read before one was refused, with one more where none was refused until then
-abbrev pub good_with : ℕ → Option RecordFault → ℕ
+abbrev pub good_with : ℕ → Option FileFault → ℕ
 good_with good fault = if is_some fault then good else good + 1
 
--- one record more
-abbrev pub with_record : Progress → List ℕ → Progress
-with_record p r =
+-- one record more, by what it is to the check
+abbrev pub with_said : ListingOptions → Progress → Result Facts FileFault → Progress
+with_said options p said =
     record {
       count = p.count + 1;
-      good = good_with p.good (first_of p.fault (refusal (reading_of r)));
-      fault = first_of p.fault (refusal (reading_of r));
-      lines = p.lines ++ record_line (p.count + 1) (reading_of r);
+      good = good_with p.good (first_of p.fault (refusal said));
+      fault = first_of p.fault (refusal said);
+      lines = p.lines ++ record_line options (p.count + 1) said;
+      streams = streams_after options p.streams said;
     }
 
+-- one record more
+abbrev pub with_record : Rules → Progress → List ℕ → Progress
+with_record r p bytes = with_said r.options p (said_of r bytes)
+
 -- all the records more
-abbrev pub with_records : Progress → List (List ℕ) → Progress
-with_records p [] = p
-with_records p (r ∷ records) = with_records (with_record p r) records
+abbrev pub with_records : Rules → Progress → List (List ℕ) → Progress
+with_records r p [] = p
+with_records r p (bytes ∷ records) = with_records r (with_record r p bytes) records
 
 -- what a piece of a feed gives behind bytes that are held
 abbrev pub piece_read : (held piece : List ℕ) → FeedRead

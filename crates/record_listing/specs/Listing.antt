@@ -1,78 +1,115 @@
--- What the check of a file of records writes: a line a record, and one for what is left over.
+-- What the check of a file of records writes: a line a record, one for what is left over, and one for each stream.
 -- SEED Reference Manual 2.4, chapter 8, for what a record says; the lines are this project's own.
-use Rattle.std.specs.Prelude.{ℕ, ◌+◌, ◌&&◌, nat_le, ◌==◌, if◌then◌else◌, List, [], ◌∷◌, ◌++◌, length, map, codes}
+use Rattle.std.specs.Prelude.{ℕ, ◌+◌, ◌==◌, Bool, if◌then◌else◌, List, [], ◌∷◌, ◌++◌, length, codes}
 use Rattle.std.specs.Prelude.{decimal, Option, Some, None, Result, Ok, Err}
-use Rattle.std.specs.Fmt.{signed_decimal}
-use Rattle.protocol.specs.declared.record.Kind.{Kind}
-use Rattle.protocol.specs.declared.record.Kind.TheVariants.{D, E, C, O, T, L}
 use Rattle.protocol.specs.declared.record.RecordFault.{RecordFault}
 use Rattle.protocol.specs.Record.{Facts, header_of, fault_number, fault_name}
 use Rattle.protocol.specs.Streams.{FeedRead, feed_of}
 use Rattle.record_listing.specs.declared.fault.FileFault.{FileFault}
-use Rattle.record_listing.specs.declared.fault.FileFault.TheVariants.{Record, Partial}
+use Rattle.record_listing.specs.declared.fault.FileFault.TheVariants.{Record, Station, Partial}
+use Rattle.record_listing.specs.declared.options.ListingOptions.{ListingOptions}
+use Rattle.record_listing.specs.declared.options.Times.{Times}
+pub use Rattle.record_listing.specs.Words.{kind_letter}
+use Rattle.record_listing.specs.Words.{stream_text, time_text, word_text}
+use Rattle.record_listing.specs.Streams.{StreamValue, streams_with}
 
--- ---- words
+-- ---- what is asked
 
--- a byte of a code: `?` stands for one that does not print, or is a space
-abbrev pub shown_byte : ℕ → ℕ
-shown_byte b = if nat_le 33 b && nat_le b 126 then b else 63
+-- what a check lists, and of which stations a file may have records
+pub record Rules : Type 0 where
+  pub options : ListingOptions
+  pub has_station : List ℕ → List ℕ → Bool
 
--- a byte of a location or channel, where `-` stands for a space
-abbrev pub shown_place : ℕ → ℕ
-shown_place b = if b == 32 then 45 else shown_byte b
-
--- the letter of a record's type
-abbrev pub kind_letter : Kind → ℕ
-kind_letter D = 68
-kind_letter E = 69
-kind_letter C = 67
-kind_letter O = 79
-kind_letter T = 84
-kind_letter L = 76
-
--- a word and a space
-abbrev pub word_text : List ℕ → List ℕ
-word_text word = word ++ 32 ∷ []
+abbrev pub rules : ListingOptions → (List ℕ → List ℕ → Bool) → Rules
+rules options has_station = record { options = options; has_station = has_station }
 
 -- ---- the line of a record
 
--- network, station, location and channel, with a space behind each
-abbrev pub codes_text : Facts → List ℕ
-codes_text x =
-    word_text (map shown_byte x.network) ++ word_text (map shown_byte x.station)
-    ++ word_text (map shown_place x.location) ++ word_text (map shown_place x.channel)
-
--- type, start, end and count of samples; times are ticks
-abbrev pub extent_text : Facts → List ℕ
-extent_text x =
-    word_text (kind_letter x.kind ∷ []) ++ word_text (signed_decimal x.start) ++ word_text (signed_decimal x.stop)
+-- type, start, end and count of samples
+abbrev pub extent_text : Times → Facts → List ℕ
+extent_text times x =
+    word_text (kind_letter x.kind ∷ []) ++ word_text (time_text times x.start) ++ word_text (time_text times x.stop)
     ++ decimal x.samples
 
--- all of that
-abbrev pub header_text : Facts → List ℕ
-header_text x = codes_text x ++ extent_text x
+-- network, station, location, channel, and all of that
+abbrev pub header_text : Times → Facts → List ℕ
+header_text times x = stream_text x.network x.station x.location x.channel ++ extent_text times x
 
--- why there is no record
-abbrev pub refusal_text : RecordFault → List ℕ
-refusal_text fault = codes "refused " ++ word_text (decimal (fault_number fault)) ++ fault_name fault
+-- the number of what is wrong with a file
+abbrev pub file_fault_number : FileFault → ℕ
+file_fault_number (Record fault) = fault_number fault
+file_fault_number Station = 32
+file_fault_number Partial = 41
 
--- what a record says, or why there is none
-abbrev pub record_text : Result Facts RecordFault → List ℕ
-record_text (Ok x) = header_text x
-record_text (Err fault) = refusal_text fault
+-- its name
+abbrev pub file_fault_name : FileFault → List ℕ
+file_fault_name (Record fault) = fault_name fault
+file_fault_name Station = codes "UnknownStation"
+file_fault_name Partial = codes "Partial"
+
+-- why a record is refused
+abbrev pub refusal_text : FileFault → List ℕ
+refusal_text fault = codes "refused " ++ word_text (decimal (file_fault_number fault)) ++ file_fault_name fault
+
+-- what a record says, or why it is refused
+abbrev pub record_text : Times → Result Facts FileFault → List ℕ
+record_text times (Ok x) = header_text times x
+record_text times (Err fault) = refusal_text fault
 
 -- what 512 bytes are read as
 unfoldable pub reading_of : List ℕ → Result Facts RecordFault
 reading_of record_bytes = header_of record_bytes
 
+-- a record that is read is refused if its station is not one of those that a file may have records of
+abbrev pub judged : (List ℕ → List ℕ → Bool) → Result Facts RecordFault → Result Facts FileFault
+judged has_station (Ok x) = if has_station x.network x.station then Ok x else Err Station
+judged has_station (Err fault) = Err (Record fault)
+
+-- what 512 bytes are to a check
+abbrev pub said_of : Rules → List ℕ → Result Facts FileFault
+said_of r record_bytes = judged r.has_station (reading_of record_bytes)
+
 -- the line of the record with that number, and its end
-abbrev pub record_line : ℕ → Result Facts RecordFault → List ℕ
-record_line number reading = word_text (decimal number) ++ record_text reading ++ 10 ∷ []
+abbrev pub record_line : ListingOptions → ℕ → Result Facts FileFault → List ℕ
+record_line options number said =
+    if options.has_lines then word_text (decimal number) ++ record_text options.times said ++ 10 ∷ [] else []
 
 -- the lines of records, of which the first has that number
-abbrev pub lines_from : ℕ → List (List ℕ) → List ℕ
-lines_from number [] = []
-lines_from number (r ∷ records) = record_line number (reading_of r) ++ lines_from (number + 1) records
+abbrev pub lines_from : Rules → ℕ → List (List ℕ) → List ℕ
+lines_from r number [] = []
+lines_from r number (bytes ∷ records) =
+    record_line r.options number (said_of r bytes) ++ lines_from r (number + 1) records
+
+-- ---- the lines of streams
+
+-- the streams with a record, if it is read and they are asked for
+abbrev pub streams_said : List StreamValue → Result Facts FileFault → List StreamValue
+streams_said streams (Ok x) = streams_with streams x
+streams_said streams (Err fault) = streams
+
+abbrev pub streams_after : ListingOptions → List StreamValue → Result Facts FileFault → List StreamValue
+streams_after options streams said = if options.has_summary then streams_said streams said else streams
+
+-- the streams of records, after others
+abbrev pub streams_from : Rules → List StreamValue → List (List ℕ) → List StreamValue
+streams_from r streams [] = streams
+streams_from r streams (bytes ∷ records) =
+    streams_from r (streams_after r.options streams (said_of r bytes)) records
+
+-- a stream's type, how many records it has, its earliest start and latest end, and its gaps and overlaps
+abbrev pub summary_text : Times → StreamValue → List ℕ
+summary_text times s =
+    word_text (kind_letter s.kind ∷ []) ++ word_text (decimal s.records) ++ word_text (time_text times s.first)
+    ++ word_text (time_text times s.last) ++ word_text (decimal s.gaps) ++ decimal s.overlaps
+
+-- the line of a stream, and its end
+abbrev pub stream_line : Times → StreamValue → List ℕ
+stream_line times s =
+    stream_text s.network s.station s.location s.channel ++ (summary_text times s ++ 10 ∷ [])
+
+abbrev pub stream_lines : Times → List StreamValue → List ℕ
+stream_lines times [] = []
+stream_lines times (s ∷ streams) = stream_line times s ++ stream_lines times streams
 
 -- ---- the whole
 
@@ -81,46 +118,44 @@ abbrev pub partial_text : ℕ → List ℕ
 partial_text count = if count == 0 then [] else codes "partial " ++ word_text (decimal count) ++ codes "bytes" ++ 10
     ∷ []
 
+abbrev pub partial_line : ListingOptions → ℕ → List ℕ
+partial_line options count = if options.has_lines then partial_text count else []
+
+-- what comes after the lines of records: that line, and those of streams
+abbrev pub end_text : ListingOptions → List StreamValue → ℕ → List ℕ
+end_text options streams count = partial_line options count ++ stream_lines options.times streams
+
 -- the lines of a feed
-abbrev pub lines_of : FeedRead → List ℕ
-lines_of feed = lines_from 1 feed.records ++ partial_text (length feed.rest)
+abbrev pub lines_of : Rules → FeedRead → List ℕ
+lines_of r feed =
+    lines_from r 1 feed.records ++ end_text r.options (streams_from r [] feed.records) (length feed.rest)
 
 -- the listing of the bytes of a file
-abbrev pub listing_of : List ℕ → List ℕ
-listing_of bytes = lines_of (feed_of bytes)
+abbrev pub listing_of : Rules → List ℕ → List ℕ
+listing_of r bytes = lines_of r (feed_of bytes)
 
 -- ---- the verdict
 
--- why there is no record
-abbrev pub refusal : Result Facts RecordFault → Option RecordFault
+-- why a record is refused
+abbrev pub refusal : Result Facts FileFault → Option FileFault
 refusal (Ok x) = None
 refusal (Err fault) = Some fault
 
 -- the first of two that is there
-abbrev pub first_of : Option RecordFault → Option RecordFault → Option RecordFault
+abbrev pub first_of : Option FileFault → Option FileFault → Option FileFault
 first_of None second = second
 first_of (Some first) second = Some first
 
--- why the first record that is refused is none
-abbrev pub first_fault : List (List ℕ) → Option RecordFault
-first_fault [] = None
-first_fault (r ∷ records) = first_of (refusal (reading_of r)) (first_fault records)
+-- why the first record that is refused is refused
+abbrev pub first_fault : Rules → List (List ℕ) → Option FileFault
+first_fault r [] = None
+first_fault r (bytes ∷ records) = first_of (refusal (said_of r bytes)) (first_fault r records)
 
--- what is wrong with a file, by why its first refused record is none and how many bytes are left over
-abbrev pub verdict_by : Option RecordFault → ℕ → Option FileFault
-verdict_by (Some fault) rest = Some (Record fault)
+-- what is wrong with a file, by why its first refused record is refused and how many bytes are left over
+abbrev pub verdict_by : Option FileFault → ℕ → Option FileFault
+verdict_by (Some fault) rest = Some fault
 verdict_by None rest = if rest == 0 then None else Some Partial
 
 -- what is wrong with a file of those bytes
-abbrev pub verdict_of : List ℕ → Option FileFault
-verdict_of bytes = verdict_by (first_fault (feed_of bytes).records) (length (feed_of bytes).rest)
-
--- the number of what is wrong with a file
-abbrev pub file_fault_number : FileFault → ℕ
-file_fault_number (Record fault) = fault_number fault
-file_fault_number Partial = 41
-
--- its name
-abbrev pub file_fault_name : FileFault → List ℕ
-file_fault_name (Record fault) = fault_name fault
-file_fault_name Partial = codes "Partial"
+abbrev pub verdict_of : Rules → List ℕ → Option FileFault
+verdict_of r bytes = verdict_by (first_fault r (feed_of bytes).records) (length (feed_of bytes).rest)

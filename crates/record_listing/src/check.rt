@@ -6,11 +6,13 @@ ghost use Rattle.std.specs.Io.KnownBytes.{Appends, Consumes, IsAtEnd};
 ghost use Rattle.sl_io.specs.Counts.{IsMore, StopsReading, StopsWriting};
 ghost use Rattle.sl_io.specs.Known.{AppendsBeginning, ConsumesSome};
 ghost use Rattle.record_listing.specs.Findings.{FindsFirst, finding_after, finding_of};
-ghost use Rattle.record_listing.specs.Listing.{listing_of, partial_text, verdict_by, verdict_of};
+ghost use Rattle.record_listing.specs.Listing.{end_text, listing_of, rules, verdict_by, verdict_of};
 ghost use Rattle.record_listing.specs.Checks.{nothing_listed, piece_read, with_records, StopsChecking};
 
 use crate::finding::Finding;
 use crate::listing::Listing;
+use crate::options::ListingOptions;
+use crate::stations::Stations;
 use feeder::{FeedCutter, Feeding};
 use sl_io::{ReadFault, Sink, Source, StreamFault, WriteFault, write_all};
 use std::alloc::{AllocError, Global};
@@ -19,13 +21,16 @@ use std::alloc::{AllocError, Global};
 const BLOCK: usize = 65_536;
 
 /// Lists the records that become whole in a piece.
-fn list_piece(
+fn list_piece<S: Stations>(
+    options: ListingOptions,
+    stations: &S,
     cutter: &mut FeedCutter,
     listing: &mut Listing,
     piece: &[u8],
 ) -> Result<(), AllocError>
     requires { listing.old.count + length piece.now < 2 ^ 100 }
-    ensures listed { OnOk result (listing.new ≡ with_records listing.old (piece_read cutter.old piece.now).records) }
+    ensures listed { OnOk result (listing.new ≡ with_records (rules options (S.has_station stations.now))
+        listing.old (piece_read cutter.old piece.now).records) }
     ensures rest { OnOk result (cutter.new ≡ (piece_read cutter.old piece.now).rest) }
     ensures count { OnOk result (listing.new.count ≤ listing.old.count + length piece.now) }
 {
@@ -33,7 +38,7 @@ fn list_piece(
     'records: while !left.is_empty() {
         let Feeding { used, whole } = cutter.feed(left);
         match whole {
-            Some(record) => listing.list(record)?,
+            Some(record) => listing.list(options, stations, record)?,
             None => {}
         }
         left = &left[used..];
@@ -42,7 +47,9 @@ fn list_piece(
 }
 
 /// One read, whose records are listed. Answers how many bytes it gave, 0 at the end.
-fn list_block<R: Source>(
+fn list_block<S: Stations, R: Source>(
+    options: ListingOptions,
+    stations: &S,
     reader: &mut R,
     block: &mut [u8],
     cutter: &mut FeedCutter,
@@ -53,7 +60,8 @@ fn list_block<R: Source>(
     ensures consumed { IfOk result (λ n. Consumes (R.left reader.old) (R.left reader.new) (take n block.new)) }
     ensures end { IfOk result (λ n. n ≡ 0 → IsAtEnd (R.left reader.new)) }
     ensures listed { IfOk result (λ n. listing.new
-        ≡ with_records listing.old (piece_read cutter.old (take n block.new)).records) }
+        ≡ with_records (rules options (S.has_station stations.now)) listing.old
+        (piece_read cutter.old (take n block.new)).records) }
     ensures rest { IfOk result (λ n. cutter.new ≡ (piece_read cutter.old (take n block.new)).rest) }
     ensures count { OnOk result (listing.new.count ≤ listing.old.count + length block.new) }
     ensures lost { OnErr result (ConsumesSome (R.left reader.old) (R.left reader.new)) }
@@ -63,7 +71,7 @@ fn list_block<R: Source>(
         (R.calls reader.new)) }
 {
     match reader.read(block) {
-        Ok(count) => match list_piece(cutter, listing, &block[..count]) {
+        Ok(count) => match list_piece(options, stations, cutter, listing, &block[..count]) {
             Ok(()) => Ok(count),
             Err(_) => Err(ReadFault::OutOfMemory),
         },
@@ -111,8 +119,9 @@ fn write_many<W: Sink>(writer: &mut W, listing: &mut Listing) -> Result<(), Writ
     }
 }
 
-/// Lists what is left over, and writes the last lines. Answers what is wrong with the file.
+/// Lists what is left over and the streams, and writes the last lines. Answers what is wrong with the file.
 fn finish<W: Sink>(
+    options: ListingOptions,
     writer: &mut W,
     rest: usize,
     listing: &mut Listing,
@@ -120,22 +129,26 @@ fn finish<W: Sink>(
     ensures answer { IfOk result (λ answer. answer
         ≡ option_map (finding_after listing.old.good) (verdict_by listing.old.fault rest)) }
     ensures ok { OnOk result
-        (Appends (W.written writer.old) (W.written writer.new) (listing.old.lines ++ partial_text rest)) }
+        (Appends (W.written writer.old) (W.written writer.new)
+        (listing.old.lines ++ end_text options listing.old.streams rest)) }
     ensures err { OnErr result
-        (AppendsBeginning (W.written writer.old) (W.written writer.new) (listing.old.lines ++ partial_text rest)) }
+        (AppendsBeginning (W.written writer.old) (W.written writer.new)
+        (listing.old.lines ++ end_text options listing.old.streams rest)) }
     ensures same { OnOk result ((W.failures writer.new ≡ W.failures writer.old)
         × (W.empty_writes writer.new ≡ W.empty_writes writer.old)) }
     ensures stopped { IfErr result (λ fault. (failures failures' calls calls' : ℕ) → failures' ≡ failures
         → StopsChecking fault failures failures' calls calls' (W.failures writer.old) (W.failures writer.new)
         (W.empty_writes writer.old) (W.empty_writes writer.new)) }
 {
-    listing.list_rest(rest)?;
+    listing.list_end(options, rest)?;
     write_lines(writer, listing)?;
     Ok(listing.verdict(rest))
 }
 
 /// Checks what is left of the reader, a block at a time.
-fn check_blocks<R: Source, W: Sink>(
+fn check_blocks<S: Stations, R: Source, W: Sink>(
+    options: ListingOptions,
+    stations: &S,
     reader: &mut R,
     writer: &mut W,
     block: &mut [u8],
@@ -143,12 +156,15 @@ fn check_blocks<R: Source, W: Sink>(
 ) -> Result<Option<Finding>, StreamFault>
     requires room { length block.old ≡ 65536 }
     requires nothing { listing.old ≡ nothing_listed }
-    ensures finding { IfOk result (λ answer. IfSome (R.left reader.old) (λ bytes. answer ≡ finding_of bytes)) }
+    ensures finding { IfOk result (λ answer. IfSome (R.left reader.old) (λ bytes.
+        answer ≡ finding_of (rules options (S.has_station stations.now)) bytes)) }
     ensures written { OnOk result (IfSome (R.left reader.old)
-        (λ bytes. Appends (W.written writer.old) (W.written writer.new) (listing_of bytes))) }
+        (λ bytes. Appends (W.written writer.old) (W.written writer.new)
+        (listing_of (rules options (S.has_station stations.now)) bytes))) }
     ensures end { OnOk result (IsAtEnd (R.left reader.new)) }
     ensures begun { OnErr result (IfSome (R.left reader.old)
-        (λ bytes. AppendsBeginning (W.written writer.old) (W.written writer.new) (listing_of bytes))) }
+        (λ bytes. AppendsBeginning (W.written writer.old) (W.written writer.new)
+        (listing_of (rules options (S.has_station stations.now)) bytes))) }
     ensures same { OnOk result ((R.failures reader.new ≡ R.failures reader.old)
         × (W.failures writer.new ≡ W.failures writer.old) × (W.empty_writes writer.new ≡ W.empty_writes writer.old)) }
     ensures stopped { IfErr result (λ fault. StopsChecking fault
@@ -157,8 +173,8 @@ fn check_blocks<R: Source, W: Sink>(
 {
     let mut cutter = FeedCutter::new();
     'reads: for _ in 0..u64::MAX {
-        if list_block(reader, block, &mut cutter, listing)? == 0 {
-            return finish(writer, cutter.rest(), listing);
+        if list_block(options, stations, reader, block, &mut cutter, listing)? == 0 {
+            return finish(options, writer, cutter.rest(), listing);
         }
         write_many(writer, listing)?;
     }
@@ -167,27 +183,38 @@ fn check_blocks<R: Source, W: Sink>(
 
 /// Lists each record of 512 bytes that is left of the reader in a line, and the bytes that are left over in one
 /// more, and answers what is wrong: that a record is refused, with the fault of the first (SEED Reference Manual
-/// 2.4, chapter 8), else that bytes are left over, and nothing where all is well. A record that is refused is a
-/// line of the listing, and the check goes on. The answer names the first record at which something is wrong: all
-/// records before it are read.
+/// 2.4, chapter 8), else that bytes are left over, and nothing where all is well. A record that is read is refused if
+/// its station is not one of those that are expected. A record that is refused is a line of the listing, and the check
+/// goes on. The answer names the first record at which something is wrong: all records before it are read.
 ///
-/// A line is `K NET STA LOC CHA TYPE START END SAMPLES`, with the record's number from 1 on, times in units of
-/// 0.0001 s since 1970, each space of the location or channel as `-`, and each other byte of a code that is not 33
-/// to 126 as `?`; or `K refused N Name`. The last is `partial R bytes`. The reader is read in blocks of 64 KiB, and
-/// never kept as a whole. After a fault a beginning of the listing is written.
-pub fn check_records<R: Source, W: Sink>(
+/// A line is `K NET STA LOC CHA TYPE START END SAMPLES`, with the record's number from 1 on, each space of the location
+/// or channel as `-`, and each other byte of a code that is not 33 to 126 as `?`; or `K refused N Name`. Then comes
+/// `partial R bytes`. With a summary each stream has a line after those, in the order of their first records: `NET STA
+/// LOC CHA TYPE RECORDS FIRST LAST GAPS OVERLAPS`, with the earliest start and the latest end of its records. A gap is
+/// counted where a record starts more than half a sample after the end of the one before it in the stream, and an
+/// overlap where it starts more than half a sample before that; both of records of data alone, since others have no
+/// rate or no samples.
+///
+/// The reader is read in blocks of 64 KiB, and never kept as a whole: what is kept grows by streams alone. After a
+/// fault a beginning of the listing is written.
+pub fn check_records<S: Stations, R: Source, W: Sink>(
     alloc: Global,
+    options: ListingOptions,
+    stations: &S,
     reader: &mut R,
     writer: &mut W,
 ) -> Result<Option<Finding>, StreamFault>
     ensures verdict { IfOk result (λ answer. IfSome (R.left reader.old)
-        (λ bytes. option_map (λ f. f.fault) answer ≡ verdict_of bytes)) }
-    ensures first { IfOk result (λ answer. IfSome (R.left reader.old) (λ bytes. FindsFirst bytes answer)) }
+        (λ bytes. option_map (λ f. f.fault) answer ≡ verdict_of (rules options (S.has_station stations.now)) bytes)) }
+    ensures first { IfOk result (λ answer. IfSome (R.left reader.old) (λ bytes.
+        FindsFirst (rules options (S.has_station stations.now)) bytes answer)) }
     ensures written { OnOk result (IfSome (R.left reader.old)
-        (λ bytes. Appends (W.written writer.old) (W.written writer.new) (listing_of bytes))) }
+        (λ bytes. Appends (W.written writer.old) (W.written writer.new)
+        (listing_of (rules options (S.has_station stations.now)) bytes))) }
     ensures end { OnOk result (IsAtEnd (R.left reader.new)) }
     ensures begun { OnErr result (IfSome (R.left reader.old)
-        (λ bytes. AppendsBeginning (W.written writer.old) (W.written writer.new) (listing_of bytes))) }
+        (λ bytes. AppendsBeginning (W.written writer.old) (W.written writer.new)
+        (listing_of (rules options (S.has_station stations.now)) bytes))) }
     ensures same { OnOk result ((R.failures reader.new ≡ R.failures reader.old)
         × (W.failures writer.new ≡ W.failures writer.old) × (W.empty_writes writer.new ≡ W.empty_writes writer.old)) }
     ensures stopped { IfErr result (λ fault. StopsChecking fault
@@ -200,5 +227,5 @@ pub fn check_records<R: Source, W: Sink>(
     let Ok(mut listing) = Listing::new(alloc) else {
         return Err(StreamFault::OutOfMemory);
     };
-    check_blocks(reader, writer, &mut block, &mut listing)
+    check_blocks(options, stations, reader, writer, &mut block, &mut listing)
 }

@@ -12,19 +12,23 @@ pub enum FileFault {
     /// A record is refused. This is why the first of them is none.
     #[error("{0}")]
     Record(RecordFault),
+    /// A record is refused because its station is not one of those that are expected.
+    #[error("no station has the record's network and station codes")]
+    Station,
     /// No record is refused, and bytes are left over.
     #[error("the file ends inside a record")]
     Partial,
 }
 
 impl FileFault {
-    /// The number and the name by which the program reports it: those of the record's fault, 1 to 6, or 41.
+    /// The number and the name by which the program reports it: those of the record's fault, 1 to 6, or 32 or 41.
     pub fn report(self) -> Report
         ensures number { result.number ≡ file_fault_number self }
         ensures name { result.name.now ≡ file_fault_name self }
     {
         match self {
             FileFault::Record(fault) => fault.report(),
+            FileFault::Station => Report::new(32, "UnknownStation"),
             FileFault::Partial => Report::new(41, "Partial"),
         }
     }

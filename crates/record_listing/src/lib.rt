@@ -1,14 +1,21 @@
-//! Listings of files of records: a line a record, and what is wrong with the file (SEED Reference Manual 2.4, chapter
-//! 8).
+//! Listings of files of records: a line a record, one for each stream, and what is wrong with the file (SEED Reference
+//! Manual 2.4, chapter 8).
 #![tactic(auto)]
 
 mod check;
 mod fault;
+mod feed_tally;
 mod finding;
 mod listing;
+mod options;
+mod stations;
+mod streams;
 mod texts;
 
 pub use check::check_records;
 pub use fault::FileFault;
+pub use feed_tally::{FeedTally, RefusedRecord};
 pub use finding::Finding;
+pub use options::{ListingOptions, Times};
+pub use stations::{AllStations, Stations};
 pub use texts::{kind_letter, put_header};

@@ -1,8 +1,14 @@
 //! What a check has listed so far.
+ghost use Rattle.std.specs.Prelude.{◌≡◌};
+ghost use Rattle.record_listing.specs.Listing.{judged, reading_of, refusal as spec_refusal};
+
 use crate::fault::FileFault;
 use crate::finding::Finding;
-use crate::texts::{put_number_word, put_partial, put_record};
-use mseed_header::RecordFault;
+use crate::options::ListingOptions;
+use crate::stations::Stations;
+use crate::streams::{Stream, put_record};
+use crate::texts::{put_end, put_line};
+use mseed_header::{Header, read};
 use std::alloc::{AllocError, Global};
 use std::marker::Model;
 
@@ -13,14 +19,41 @@ const ROOM: usize = 65_536;
 /// fits.
 const ENOUGH: usize = 32_768;
 
+/// What a record is to a check: what it says, or why it is refused.
+type Said<'a> = Result<Header<'a>, FileFault>;
+
+/// What a record says, or why it is refused: it can't be read, or its station is not one of those that are expected.
+#[tactic(auto, unfolding(crate::specs::Listing::reading_of))]
+fn said_of<'a, S: Stations>(stations: &S, bytes: &'a [u8; 512]) -> Said<'a>
+    ensures { result ≡ judged (S.has_station stations.now) (reading_of bytes.now) }
+{
+    match read(bytes) {
+        Ok(header) if stations.has(header.network(), header.station()) => Ok(header),
+        Ok(_) => Err(FileFault::Station),
+        Err(fault) => Err(FileFault::Record(fault)),
+    }
+}
+
+/// Why a record is refused.
+fn refusal(said: &Said<'_>) -> Option<FileFault>
+    ensures { result ≡ spec_refusal said.now }
+{
+    match said {
+        Ok(_) => None,
+        Err(fault) => Some(*fault),
+    }
+}
+
 /// The records that are listed so far: their number, how many were read before one was refused, why the first refused
-/// one of them is none, and the lines that are not written yet.
+/// one of them is refused, the lines that are not written yet, and the streams.
 #[derive(Drop)]
 pub(crate) struct Listing {
+    alloc: Global,
     count: u128,
     good: u128,
-    fault: Option<RecordFault>,
+    fault: Option<FileFault>,
     lines: Vec<u8>,
+    streams: Vec<Stream>,
 }
 
 impl Model for Listing {
@@ -29,7 +62,13 @@ impl Model for Listing {
 
     ghost Value = { Progress };
 
-    ghost view = { λ s. record { count = s.count; good = s.good; fault = s.fault; lines = s.lines.items } };
+    ghost view = { λ s. record {
+      count = s.count;
+      good = s.good;
+      fault = s.fault;
+      lines = s.lines.items;
+      streams = s.streams.items;
+    } };
 
     ghost invariant = { λ s. (s.good ≤ s.count) × (s.count ≤ 2 ^ 100) };
 }
@@ -37,8 +76,8 @@ impl Model for Listing {
 impl Listing {
     ghost use Rattle.std.specs.Prelude.{◌≡◌, ◌<◌, ◌^◌, ◌++◌, [], length, nat_le, IfOk, OnOk};
     ghost use Rattle.std.specs.Prelude.{option_map};
-    ghost use Rattle.record_listing.specs.Listing.{partial_text, verdict_by};
-    ghost use Rattle.record_listing.specs.Checks.{nothing_listed, with_record};
+    ghost use Rattle.record_listing.specs.Listing.{end_text, rules, streams_after, verdict_by};
+    ghost use Rattle.record_listing.specs.Checks.{nothing_listed, with_record, with_said};
     ghost use Rattle.record_listing.specs.Findings.{finding_after};
 
     /// Nothing is listed.
@@ -46,34 +85,65 @@ impl Listing {
         ensures { IfOk result (λ l. l ≡ nothing_listed) }
     {
         Ok(Listing {
+            alloc,
             count: 0,
             good: 0,
             fault: None,
             lines: Vec::with_capacity(alloc, ROOM)?,
+            streams: Vec::new(alloc),
         })
     }
 
-    /// Lists one record more, by its bytes.
-    pub(crate) fn list(&mut self, bytes: &[u8; 512]) -> Result<(), AllocError>
+    /// The record belongs to a stream, if it is read and streams are asked for.
+    fn put_in_stream(&mut self, options: ListingOptions, said: &Said<'_>) -> Result<(), AllocError>
+        ensures { OnOk result (self.new
+            ≡ record self.old { streams = streams_after options self.old.streams said.now }) }
+    {
+        match said {
+            Ok(header) if options.has_summary => put_record(self.alloc, &mut self.streams, header),
+            _ => Ok(()),
+        }
+    }
+
+    /// Lists one record more, by what it is to the check.
+    fn list_said(&mut self, options: ListingOptions, said: &Said<'_>) -> Result<(), AllocError>
         requires { self.old.count < 2 ^ 100 }
-        ensures { OnOk result (self.new ≡ with_record self.old bytes.now) }
+        ensures { OnOk result (self.new ≡ with_said options self.old said.now) }
     {
         self.count += 1;
-        put_number_word(&mut self.lines, self.count)?;
-        let fault = put_record(&mut self.lines, bytes)?;
-        self.lines.push(b'\n')?;
-        self.fault = self.fault.or(fault);
+        put_line(&mut self.lines, options, self.count, said)?;
+        self.put_in_stream(options, said)?;
+        self.fault = self.fault.or(refusal(said));
         if self.fault.is_none() {
             self.good += 1;
         }
         Ok(())
     }
 
-    /// Lists the bytes that are left over, where there are some.
-    pub(crate) fn list_rest(&mut self, count: usize) -> Result<(), AllocError>
-        ensures { OnOk result (self.new ≡ record self.old { lines = self.old.lines ++ partial_text count }) }
+    /// Lists one record more, by its bytes.
+    pub(crate) fn list<S: Stations>(
+        &mut self,
+        options: ListingOptions,
+        stations: &S,
+        bytes: &[u8; 512],
+    ) -> Result<(), AllocError>
+        requires { self.old.count < 2 ^ 100 }
+        ensures { OnOk result
+            (self.new ≡ with_record (rules options (S.has_station stations.now)) self.old bytes.now) }
     {
-        put_partial(&mut self.lines, count)
+        self.list_said(options, &said_of(stations, bytes))
+    }
+
+    /// Lists the bytes that are left over, where there are some, and the streams.
+    pub(crate) fn list_end(
+        &mut self,
+        options: ListingOptions,
+        count: usize,
+    ) -> Result<(), AllocError>
+        ensures { OnOk result (self.new
+            ≡ record self.old { lines = self.old.lines ++ end_text options self.old.streams count }) }
+    {
+        put_end(&mut self.lines, options, &self.streams, count)
     }
 
     /// What is wrong with a file of the records and of so many bytes that are left over, and where.
@@ -81,7 +151,7 @@ impl Listing {
         ensures { result ≡ option_map (finding_after self.now.good) (verdict_by self.now.fault rest) }
     {
         match self.fault {
-            Some(fault) => Some(self.finding(FileFault::Record(fault))),
+            Some(fault) => Some(self.finding(fault)),
             None if rest == 0 => None,
             None => Some(self.finding(FileFault::Partial)),
         }

@@ -1,11 +1,17 @@
 //! The texts of what a record says, put behind a text.
 ghost use Rattle.std.specs.Prelude.{◌≡◌, ◌∷◌, ◌++◌, [], OnOk, IfOk, map, decimal};
-ghost use Rattle.record_listing.specs.Listing.{codes_text, extent_text, header_text, kind_letter, partial_text};
-ghost use Rattle.record_listing.specs.Listing.{reading_of, record_text, refusal, refusal_text, shown_byte, shown_place};
-ghost use Rattle.record_listing.specs.Listing.{word_text};
+ghost use Rattle.record_listing.specs.Listing.{end_text, extent_text, header_text, partial_line, partial_text};
+ghost use Rattle.record_listing.specs.Listing.{record_line, record_text, refusal_text, stream_line, stream_lines};
+ghost use Rattle.record_listing.specs.Listing.{summary_text};
+ghost use Rattle.record_listing.specs.Words.{kind_letter, shown_byte, shown_place, stream_text, time_text, word_text};
 
+use crate::fault::FileFault;
+use crate::options::{ListingOptions, Times};
+use crate::streams::Stream;
+use iso_time::put_moment;
 use itoa::{Buffer, Integer};
-use mseed_header::{Header, Kind, RecordFault, read};
+use mseed_header::{Header, Kind};
+use sl_time::Tick;
 use std::alloc::AllocError;
 
 /// A byte of a code: `?` stands for one that does not print, or is a space.
@@ -74,7 +80,7 @@ fn put_number<N: Integer>(text: &mut Vec<u8>, number: N) -> Result<(), AllocErro
 }
 
 /// A number and a space.
-pub(crate) fn put_number_word<N: Integer>(text: &mut Vec<u8>, number: N) -> Result<(), AllocError>
+fn put_number_word<N: Integer>(text: &mut Vec<u8>, number: N) -> Result<(), AllocError>
     ensures { OnOk result (text.new.items ≡ text.old.items ++ word_text (N.text number)) }
 {
     put_number(text, number)?;
@@ -82,28 +88,56 @@ pub(crate) fn put_number_word<N: Integer>(text: &mut Vec<u8>, number: N) -> Resu
     Ok(())
 }
 
-fn put_codes(text: &mut Vec<u8>, header: &Header<'_>) -> Result<(), AllocError>
-    ensures { OnOk result (text.new.items ≡ text.old.items ++ codes_text header.now) }
+/// A time, and a space.
+fn put_time(text: &mut Vec<u8>, times: Times, moment: Tick) -> Result<(), AllocError>
+    ensures { OnOk result (text.new.items ≡ text.old.items ++ word_text (time_text times moment)) }
 {
-    put_code(text, header.network())?;
-    put_code(text, header.station())?;
-    put_place(text, header.location())?;
-    put_place(text, header.channel())?;
+    match times {
+        Times::Ticks => put_number(text, moment.value())?,
+        Times::Iso => put_moment(text, moment)?,
+    }
+    text.push(b' ')?;
     Ok(())
 }
 
-fn put_extent(text: &mut Vec<u8>, header: &Header<'_>) -> Result<(), AllocError>
-    ensures { OnOk result (text.new.items ≡ text.old.items ++ extent_text header.now) }
+/// Network, station, location and channel, each with a space behind it.
+fn put_codes(
+    text: &mut Vec<u8>,
+    network: &[u8],
+    station: &[u8],
+    location: &[u8; 2],
+    channel: &[u8; 3],
+) -> Result<(), AllocError>
+    ensures { OnOk result
+        (text.new.items ≡ text.old.items ++ stream_text network.now station.now location.now channel.now) }
 {
-    text.push(kind_letter(header.kind()))?;
+    put_code(text, network)?;
+    put_code(text, station)?;
+    put_place(text, location)?;
+    put_place(text, channel)?;
+    Ok(())
+}
+
+/// A type's letter, and a space.
+fn put_kind(text: &mut Vec<u8>, kind: Kind) -> Result<(), AllocError>
+    ensures { OnOk result (text.new.items ≡ text.old.items ++ word_text (kind_letter kind ∷ [])) }
+{
+    text.push(kind_letter(kind))?;
     text.push(b' ')?;
-    put_number_word(text, header.start().value())?;
-    put_number_word(text, header.end().value())?;
+    Ok(())
+}
+
+fn put_extent(text: &mut Vec<u8>, times: Times, header: &Header<'_>) -> Result<(), AllocError>
+    ensures { OnOk result (text.new.items ≡ text.old.items ++ extent_text times header.now) }
+{
+    put_kind(text, header.kind())?;
+    put_time(text, times, header.start())?;
+    put_time(text, times, header.end())?;
     put_number(text, header.samples())?;
     Ok(())
 }
 
-fn put_refusal(text: &mut Vec<u8>, fault: RecordFault) -> Result<(), AllocError>
+fn put_refusal(text: &mut Vec<u8>, fault: FileFault) -> Result<(), AllocError>
     ensures { OnOk result (text.new.items ≡ text.old.items ++ refusal_text fault) }
 {
     text.extend_from_slice(b"refused ")?;
@@ -113,39 +147,56 @@ fn put_refusal(text: &mut Vec<u8>, fault: RecordFault) -> Result<(), AllocError>
     Ok(())
 }
 
-/// What a header says: `NET STA LOC CHA TYPE START END SAMPLES`, with times in units of 0.0001 s since 1970, each space
-/// of the location or channel as `-`, and each other byte of a code that is not 33 to 126 as `?`.
+/// What a header says: `NET STA LOC CHA TYPE START END SAMPLES`, with each space of the location or channel as `-`, and
+/// each other byte of a code that is not 33 to 126 as `?`.
 #[tactic(auto, using(crate::proofs::TextLemmas::joins_two))]
-pub fn put_header(text: &mut Vec<u8>, header: &Header<'_>) -> Result<(), AllocError>
-    ensures { OnOk result (text.new.items ≡ text.old.items ++ header_text header.now) }
+pub fn put_header(text: &mut Vec<u8>, times: Times, header: &Header<'_>) -> Result<(), AllocError>
+    ensures { OnOk result (text.new.items ≡ text.old.items ++ header_text times header.now) }
 {
-    put_codes(text, header)?;
-    put_extent(text, header)?;
+    put_codes(
+        text,
+        header.network(),
+        header.station(),
+        header.location(),
+        header.channel(),
+    )?;
+    put_extent(text, times, header)?;
     Ok(())
 }
 
-/// What a record says, or why there is none. Answers why there is none.
-pub(crate) fn put_record(
+/// What a record says, or why it is refused.
+fn put_record(
     text: &mut Vec<u8>,
-    record: &[u8; 512],
-) -> Result<Option<RecordFault>, AllocError>
-    ensures text { OnOk result (text.new.items ≡ text.old.items ++ record_text (reading_of «record».now)) }
-    ensures fault { IfOk result (λ fault. fault ≡ refusal (reading_of «record».now)) }
+    times: Times,
+    said: &Result<Header<'_>, FileFault>,
+) -> Result<(), AllocError>
+    ensures { OnOk result (text.new.items ≡ text.old.items ++ record_text times said.now) }
 {
-    match read(record) {
-        Ok(header) => {
-            put_header(text, &header)?;
-            Ok(None)
-        }
-        Err(fault) => {
-            put_refusal(text, fault)?;
-            Ok(Some(fault))
-        }
+    match said {
+        Ok(header) => put_header(text, times, header),
+        Err(fault) => put_refusal(text, *fault),
     }
 }
 
+/// The line of a record, if lines are asked for.
+pub(crate) fn put_line(
+    text: &mut Vec<u8>,
+    options: ListingOptions,
+    number: u128,
+    said: &Result<Header<'_>, FileFault>,
+) -> Result<(), AllocError>
+    ensures { OnOk result (text.new.items ≡ text.old.items ++ record_line options number said.now) }
+{
+    if options.has_lines {
+        put_number_word(text, number)?;
+        put_record(text, options.times, said)?;
+        text.push(b'\n')?;
+    }
+    Ok(())
+}
+
 /// The line of the bytes that are left over, where there are some.
-pub(crate) fn put_partial(text: &mut Vec<u8>, count: usize) -> Result<(), AllocError>
+fn put_partial(text: &mut Vec<u8>, count: usize) -> Result<(), AllocError>
     ensures { OnOk result (text.new.items ≡ text.old.items ++ partial_text count) }
 {
     if count == 0 {
@@ -154,5 +205,68 @@ pub(crate) fn put_partial(text: &mut Vec<u8>, count: usize) -> Result<(), AllocE
     text.extend_from_slice(b"partial ")?;
     put_number_word(text, count)?;
     text.extend_from_slice(b"bytes\n")?;
+    Ok(())
+}
+
+/// The same, if lines are asked for.
+fn put_rest(text: &mut Vec<u8>, options: ListingOptions, count: usize) -> Result<(), AllocError>
+    ensures { OnOk result (text.new.items ≡ text.old.items ++ partial_line options count) }
+{
+    if options.has_lines {
+        put_partial(text, count)?;
+    }
+    Ok(())
+}
+
+/// A stream's type, how many records it has, its earliest start and latest end, and its gaps and overlaps.
+fn put_summary(text: &mut Vec<u8>, times: Times, stream: &Stream) -> Result<(), AllocError>
+    ensures { OnOk result (text.new.items ≡ text.old.items ++ summary_text times stream.now) }
+{
+    put_kind(text, stream.kind())?;
+    put_number_word(text, stream.records())?;
+    put_time(text, times, stream.first())?;
+    put_time(text, times, stream.last())?;
+    put_number_word(text, stream.gaps())?;
+    put_number(text, stream.overlaps())?;
+    Ok(())
+}
+
+/// The line of a stream.
+fn put_stream(text: &mut Vec<u8>, times: Times, stream: &Stream) -> Result<(), AllocError>
+    ensures { OnOk result (text.new.items ≡ text.old.items ++ stream_line times stream.now) }
+{
+    put_codes(
+        text,
+        stream.network(),
+        stream.station(),
+        stream.location(),
+        stream.channel(),
+    )?;
+    put_summary(text, times, stream)?;
+    text.push(b'\n')?;
+    Ok(())
+}
+
+/// The lines of streams.
+fn put_streams(text: &mut Vec<u8>, times: Times, streams: &[Stream]) -> Result<(), AllocError>
+    ensures { OnOk result (text.new.items ≡ text.old.items ++ stream_lines times streams.now) }
+{
+    for stream in streams {
+        put_stream(text, times, stream)?;
+    }
+    Ok(())
+}
+
+/// What comes after the lines of records: that of the bytes that are left over, and those of streams.
+pub(crate) fn put_end(
+    text: &mut Vec<u8>,
+    options: ListingOptions,
+    streams: &[Stream],
+    count: usize,
+) -> Result<(), AllocError>
+    ensures { OnOk result (text.new.items ≡ text.old.items ++ end_text options streams.now count) }
+{
+    put_rest(text, options, count)?;
+    put_streams(text, options.times, streams)?;
     Ok(())
 }

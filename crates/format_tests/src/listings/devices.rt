@@ -1,7 +1,7 @@
 //! Files that are longer than a block, and readers and writers that fail.
 use super::{FACTS, put};
 use crate::devices::Breaking;
-use record_listing::check_records;
+use record_listing::{AllStations, ListingOptions, check_records};
 use sl_io::{MemorySink, MemorySource, Outer, StreamFault};
 use std::alloc::{AllocError, Global};
 use std::test::Fail;
@@ -26,7 +26,13 @@ fn lines_are_written_in_large_pieces(rt: HostRuntime) -> Result<(), Fail> {
         assert!(rt; 0 < most);
         let mut source = MemorySource::in_pieces(&bytes, most);
         let mut sink = MemorySink::new(rt.alloc());
-        let verdict = check_records(rt.alloc(), &mut source, &mut sink)?;
+        let verdict = check_records(
+            rt.alloc(),
+            ListingOptions::lines(),
+            &AllStations,
+            &mut source,
+            &mut sink,
+        )?;
         assert!(rt; verdict.is_none());
         assert!(rt; sink.bytes() == wanted.as_bytes(), "{most} bytes a read");
         // About 53,000 bytes, of which 32,768 are enough to be written.
@@ -40,7 +46,13 @@ fn a_reader_that_fails(rt: HostRuntime) -> Result<(), Fail> {
     for left in [0, 100, 700] {
         let mut source = Outer::new(Breaking { left });
         let mut sink = MemorySink::new(rt.alloc());
-        let outcome = check_records(rt.alloc(), &mut source, &mut sink);
+        let outcome = check_records(
+            rt.alloc(),
+            ListingOptions::lines(),
+            &AllStations,
+            &mut source,
+            &mut sink,
+        );
         assert!(rt; outcome == Err(StreamFault::Read), "after {left} bytes");
         assert_eq!(rt; source.counts().failures, 1);
     }
@@ -53,7 +65,13 @@ fn a_writer_that_fails(rt: HostRuntime) -> Result<(), Fail> {
     for left in [0, 100, 40_000] {
         let mut source = MemorySource::new(&bytes);
         let mut sink = Outer::new(Breaking { left });
-        let outcome = check_records(rt.alloc(), &mut source, &mut sink);
+        let outcome = check_records(
+            rt.alloc(),
+            ListingOptions::lines(),
+            &AllStations,
+            &mut source,
+            &mut sink,
+        );
         assert!(rt; outcome == Err(StreamFault::Write), "after {left} bytes");
         assert_eq!(rt; sink.counts().failures, 1);
         assert_eq!(rt; sink.into_inner().left, 0);

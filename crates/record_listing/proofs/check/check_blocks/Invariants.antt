@@ -1,12 +1,14 @@
 -- The check stands, nothing failed, and there was a read for each turn.
 use Rattle.std.proofs.Common.{◌≡◌, ◌≤◌, ◌*◌}
 use Rattle.sl_io.proofs.TotalLemmas.{Made}
+use Rattle.record_listing.specs.Listing.{rules}
 use Rattle.record_listing.proofs.CheckLemmas.{Stands}
 use Rattle.record_listing.proofs.check.check_blocks.Given as goal
 
 abbrev pub invariant-reads : goal.invariant-reads
 invariant-reads g l = record {
-  stands : Stands (g.R.Source.left l.fn.reader) (g.R.Source.left l.reader) (g.W.Sink.written l.fn.writer)
+  stands : Stands (rules l.options (g.S.Stations.has_station l.stations)) (g.R.Source.left l.fn.reader)
+      (g.R.Source.left l.reader) (g.W.Sink.written l.fn.writer)
       (g.W.Sink.written l.writer) l.cutter l.listing;
   failures : g.R.Source.failures l.reader ≡ g.R.Source.failures l.fn.reader;
   made : Made (g.R.Source.calls l.fn.reader) (g.R.Source.calls l.reader) l.counter;

@@ -4,12 +4,13 @@ use Rattle.std.proofs.lemmas.Grind.{common_steps}
 use Rattle.std.proofs.lemmas.List.{take_rest}
 use Rattle.feeder.specs.Feedings.{lent_records, left_over}
 use Rattle.record_listing.specs.Checks.{Progress, with_records}
+use Rattle.record_listing.specs.Listing.{rules}
 use Rattle.record_listing.proofs.PieceLemmas.{listed_by_feeding, rest_by_feeding}
 use Rattle.record_listing.proofs.check.list_piece.Goals as goal
 use Rattle.record_listing.proofs.check.list_piece.Goals.{in-Some+in_ok-list-in-Some, in-None}
 
 pub records-preserved : goal.records-preserved
-records-preserved c =
+records-preserved g c =
     let h = c.records.invariant in
     let whole = c.feed.result.whole in
     let after : c.match-whole.cutter ≡ left_over c.records.cutter c.records.left.now whole = elim c.match-whole.branch [
@@ -17,7 +18,8 @@ records-preserved c =
       | in-None w ↦ w.cutter-is ∙ c.feed.follows.holds-at-none
     ] in
     let listed : c.match-whole.listing
-    ≡ with_records c.records.listing (lent_records whole) = elim c.match-whole.branch [
+    ≡ with_records (rules c.args.options (g.S.Stations.has_station c.args.stations.now)) c.records.listing
+    (lent_records whole) = elim c.match-whole.branch [
       | in-Some+in_ok-list-in-Some w ↦ rw w.in-Some.is (w.listing-is ∙ w.in_ok-list-in-Some.ensures)
       | in-None w ↦ rw w.in-None.is w.listing-is
     ] in
@@ -32,7 +34,8 @@ records-preserved c =
     let so_far = h.count in
     let size = length-drop c.feed.result.used c.records.left.now in
     record {
-      listed = listed_by_feeding _ _ _ _ c.feed.result.used whole _ _ c.feed.ensures.read after rest listed ∙ h.listed;
+      listed = listed_by_feeding _ _ _ _ _ c.feed.result.used whole _ _ c.feed.ensures.read after rest listed
+          ∙ h.listed;
       rest = rest_by_feeding _ _ _ _ c.feed.result.used whole c.feed.ensures.read after rest ∙ h.rest;
       count = rw (rest, size) (grind (arith, common_steps));
     }

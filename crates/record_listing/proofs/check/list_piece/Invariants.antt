@@ -1,15 +1,18 @@
 -- What is listed, and what will be of the bytes that are left, is what the piece gives.
 use Rattle.std.proofs.Common.{◌≡◌, ◌+◌, ◌≤◌, length}
 use Rattle.record_listing.specs.Checks.{with_records, piece_read}
+use Rattle.record_listing.specs.Listing.{rules}
 use Rattle.record_listing.proofs.check.list_piece.Given as goal
 
 abbrev pub invariant-records : goal.invariant-records
-invariant-records l = record {
-  listed : with_records l.listing (piece_read l.cutter l.left).records
-      ≡ with_records l.fn.listing (piece_read l.fn.cutter l.piece).records;
+invariant-records g l = record {
+  listed : with_records (rules l.options (g.S.Stations.has_station l.stations)) l.listing
+      (piece_read l.cutter l.left).records
+      ≡ with_records (rules l.options (g.S.Stations.has_station l.stations)) l.fn.listing
+      (piece_read l.fn.cutter l.piece).records;
   rest : (piece_read l.cutter l.left).rest ≡ (piece_read l.fn.cutter l.piece).rest;
   count : l.listing.count + length l.left ≤ l.fn.listing.count + length l.piece;
 }
 
 abbrev pub decreases-records : goal.decreases-records
-decreases-records l = length l.left
+decreases-records g l = length l.left

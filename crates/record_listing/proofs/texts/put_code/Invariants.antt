@@ -1,5 +1,5 @@
 use Rattle.std.proofs.Common.{◌≡◌, ◌++◌, map, take}
-use Rattle.record_listing.specs.Listing.{shown_byte}
+use Rattle.record_listing.specs.Words.{shown_byte}
 use Rattle.record_listing.proofs.texts.put_code.Given as goal
 
 abbrev pub invariant-loop-byte : goal.invariant-loop-byte

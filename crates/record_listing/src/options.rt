@@ -1,0 +1,35 @@
+//! What a check lists.
+ghost use Rattle.std.specs.Prelude.{◌≡◌, true, false};
+
+/// How a listing writes times.
+#[derive(Clone, Copy, Debug, PartialEq, Eq, Drop)]
+pub enum Times {
+    /// In ticks of 0.0001 s since 1970, in decimal.
+    Ticks,
+    /// As `2024-02-29T00:00:00.0000Z` (ISO 8601, UTC); in ticks outside the years 1 to 9999.
+    Iso,
+}
+
+/// What a check lists.
+#[derive(Clone, Copy, Debug, PartialEq, Eq)]
+pub struct ListingOptions {
+    /// How it writes times.
+    pub times: Times,
+    /// A line for each record, and one for the bytes that are left over.
+    pub has_lines: bool,
+    /// After those a line for each stream.
+    pub has_summary: bool,
+}
+
+impl ListingOptions {
+    /// A line for each record, with times in ticks.
+    pub fn lines() -> ListingOptions
+        ensures { result ≡ record { times = Times.Ticks; has_lines = true; has_summary = false } }
+    {
+        ListingOptions {
+            times: Times::Ticks,
+            has_lines: true,
+            has_summary: false,
+        }
+    }
+}
