@@ -22,9 +22,19 @@ replay_taken = refl
 abbrev check_words : List Text
 check_words = codes "seedlinkd" ∷ codes "check" ∷ codes "records.mseed" ∷ []
 
-pub check_asked : job_of check_words ≡ Some (Check (codes "records.mseed"))
+pub check_asked : job_of check_words ≡ Some (Check (codes "records.mseed")
+    (record { is_iso = false; has_summary = false; is_quiet = false; config = None }))
 unfolding clap_on_literals
 check_asked = refl
+
+abbrev summary_words : List Text
+summary_words =
+    codes "seedlinkd" ∷ codes "check" ∷ codes "--quiet" ∷ codes "f" ∷ codes "--summary" ∷ codes "--config=c.toml" ∷ []
+
+pub summary_asked : job_of summary_words ≡ Some (Check (codes "f")
+    (record { is_iso = false; has_summary = true; is_quiet = true; config = Some (codes "c.toml") }))
+unfolding clap_on_literals
+summary_asked = refl
 
 abbrev serve_words : List Text
 serve_words =
@@ -32,7 +42,8 @@ serve_words =
     ∷ codes "127.0.0.1:18001" ∷ []
 
 pub serve_asked : job_of serve_words
-    ≡ Some (Serve (codes "c.toml") (codes "127.0.0.1:18000") (codes "127.0.0.1:18001") None None None None None None)
+    ≡ Some (Serve (codes "c.toml") (codes "127.0.0.1:18000") (codes "127.0.0.1:18001") None None None None None None
+    false)
 unfolding clap_on_literals
 serve_asked = refl
 
@@ -46,7 +57,7 @@ turns_words =
     ∷ []
 
 pub turns_asked : job_of turns_words
-    ≡ Some (Serve (codes "c") (codes "a") (codes "b") (Some 20) None None None None None)
+    ≡ Some (Serve (codes "c") (codes "a") (codes "b") (Some 20) None None None None None false)
 unfolding clap_on_literals
 turns_asked = refl
 
@@ -58,7 +69,7 @@ reread_words =
 
 pub reread_asked : job_of reread_words
     ≡ Some (Serve (codes "c") (codes "a") (codes "b") None (Some (Turns 600)) (Some (Turns 9)) None None
-    None)
+    None false)
 unfolding clap_on_literals
 reread_asked = refl
 
@@ -69,7 +80,7 @@ seconds_words =
     ∷ codes "--listen=a" ∷ []
 
 pub seconds_asked : job_of seconds_words
-    ≡ Some (Serve (codes "c") (codes "a") (codes "b") None (Some (Seconds 60)) (Some (Turns 9)) None None None)
+    ≡ Some (Serve (codes "c") (codes "a") (codes "b") None (Some (Seconds 60)) (Some (Turns 9)) None None None false)
 unfolding clap_on_literals
 seconds_asked = refl
 
@@ -89,7 +100,7 @@ numbers_words =
     ∷ codes "--listen=a" ∷ []
 
 pub numbers_asked : job_of numbers_words
-    ≡ Some (Serve (codes "c") (codes "a") (codes "b") None None None None None (Some (codes "n.toml")))
+    ≡ Some (Serve (codes "c") (codes "a") (codes "b") None None None None None (Some (codes "n.toml")) false)
 unfolding clap_on_literals
 numbers_asked = refl
 
@@ -101,20 +112,43 @@ limited_words =
 
 pub limited_asked : job_of limited_words
     ≡ Some (Serve (codes "c") (codes "a") (codes "b") None None None (Some (codes "10.0.0.7, 10.1.0.0/16"))
-    (Some 3) None)
+    (Some 3) None false)
 unfolding clap_on_literals
 limited_asked = refl
 
+abbrev log_words : List Text
+log_words =
+    codes "seedlinkd" ∷ codes "serve" ∷ codes "c" ∷ codes "--log" ∷ codes "--feed=b" ∷ codes "--listen=a" ∷ []
+
+pub log_asked : job_of log_words
+    ≡ Some (Serve (codes "c") (codes "a") (codes "b") None None None None None None true)
+unfolding clap_on_literals
+log_asked = refl
+
 pub feed_asked : job_of (codes "seedlinkd" ∷ codes "feed" ∷ codes "a" ∷ codes "f" ∷ [])
-    ≡ Some (Feed (codes "a") (codes "f"))
+    ≡ Some (Feed (codes "a") (codes "f" ∷ []))
 unfolding clap_on_literals
 feed_asked = refl
+
+pub files_asked : job_of (codes "seedlinkd" ∷ codes "feed" ∷ codes "a" ∷ codes "f" ∷ codes "-" ∷ [])
+    ≡ Some (Feed (codes "a") (codes "f" ∷ codes "-" ∷ []))
+unfolding clap_on_literals
+files_asked = refl
 
 abbrev read_words : List Text
 read_words = codes "seedlinkd" ∷ codes "read" ∷ codes "a" ∷ codes "GE_WLF" ∷ codes "XX_APE" ∷ codes "--fetch" ∷ []
 
 pub read_asked : job_of read_words ≡ Some (Read (codes "a") (codes "GE_WLF" ∷ codes "XX_APE" ∷ [])
-    (record { fetch = true; begin = None; last = None; retry = None; archive = None; output = None }))
+    (record {
+      fetch = true;
+      begin = None;
+      last = None;
+      retry = None;
+      archive = None;
+      output = None;
+      state = None;
+      is_iso = false;
+    }))
 unfolding clap_on_literals
 read_asked = refl
 
@@ -127,7 +161,16 @@ output_words =
     codes "seedlinkd" ∷ codes "read" ∷ codes "a" ∷ codes "GE_WLF" ∷ codes "--output" ∷ codes "-" ∷ []
 
 pub output_asked : job_of output_words ≡ Some (Read (codes "a") (codes "GE_WLF" ∷ [])
-    (record { fetch = false; begin = None; last = None; retry = None; archive = None; output = Some (codes "-") }))
+    (record {
+      fetch = false;
+      begin = None;
+      last = None;
+      retry = None;
+      archive = None;
+      output = Some (codes "-");
+      state = None;
+      is_iso = false;
+    }))
 unfolding clap_on_literals
 output_asked = refl
 
@@ -144,6 +187,8 @@ pub window_asked : job_of window_words ≡ Some (Read (codes "a") (codes "GE_WLF
       retry = None;
       archive = None;
       output = None;
+      state = None;
+      is_iso = false;
     }))
 unfolding clap_on_literals
 window_asked = refl
@@ -158,7 +203,16 @@ abbrev retry_words : List Text
 retry_words = codes "seedlinkd" ∷ codes "read" ∷ codes "a,b" ∷ codes "GE_WLF" ∷ codes "--retry" ∷ codes "5" ∷ []
 
 pub retry_asked : job_of retry_words ≡ Some (Read (codes "a,b") (codes "GE_WLF" ∷ [])
-    (record { fetch = false; begin = None; last = None; retry = Some 5; archive = None; output = None }))
+    (record {
+      fetch = false;
+      begin = None;
+      last = None;
+      retry = Some 5;
+      archive = None;
+      output = None;
+      state = None;
+      is_iso = false;
+    }))
 unfolding clap_on_literals
 retry_asked = refl
 
@@ -173,6 +227,8 @@ pub archive_asked : job_of archive_words ≡ Some (Read (codes "a") (codes "GE_W
       retry = None;
       archive = Some (codes "/sds");
       output = None;
+      state = None;
+      is_iso = false;
     }))
 unfolding clap_on_literals
 archive_asked = refl
@@ -244,6 +300,24 @@ unfolding clap_on_literals
 verbose_is_taken = refl
 
 pub the_job_is_the_same : job_of (words_of (codes "-v" ∷ codes "check" ∷ codes "records.mseed" ∷ []))
-    ≡ Some (Check (codes "records.mseed"))
+    ≡ Some (Check (codes "records.mseed")
+    (record { is_iso = false; has_summary = false; is_quiet = false; config = None }))
 unfolding clap_on_literals
 the_job_is_the_same = refl
+
+abbrev state_words : List Text
+state_words = codes "seedlinkd" ∷ codes "read" ∷ codes "a" ∷ codes "GE_WLF" ∷ codes "--state" ∷ codes "s" ∷ []
+
+pub state_asked : job_of state_words ≡ Some (Read (codes "a") (codes "GE_WLF" ∷ [])
+    (record {
+      fetch = false;
+      begin = None;
+      last = None;
+      retry = None;
+      archive = None;
+      output = None;
+      state = Some (codes "s");
+      is_iso = false;
+    }))
+unfolding clap_on_literals
+state_asked = refl

@@ -14,6 +14,7 @@ use Rattle.clap.specs.declared.error.ErrorKind.{ErrorKind}
 use Rattle.clap.specs.declared.error.ErrorKind.TheVariants.{DisplayHelp, DisplayVersion}
 use Rattle.protocol.specs.Reading.{Not}
 use Rattle.protocol.specs.Time.{digits_between}
+use Rattle.command_line.specs.declared.job.CheckOptions.{CheckOptions}
 use Rattle.command_line.specs.declared.job.Every.{Every}
 use Rattle.command_line.specs.declared.job.Every.TheVariants.{Turns, Seconds}
 use Rattle.command_line.specs.declared.job.Job.{Job}
@@ -41,9 +42,23 @@ verbose_rule =
 abbrev pub with_verbose : App → App
 with_verbose app = with_rule app verbose_rule
 
+-- a flag `--name`
+abbrev pub flag_rule : Text → Rule
+flag_rule name = record (new_rule name) { long = Some name; action = Some SetTrue }
+
 -- `check FILE`
+abbrev pub file_app : App
+file_app = with_rule (new_app (codes "check")) (wanted (codes "FILE"))
+
+-- `check FILE [--iso] [--summary] [--quiet]`
+abbrev pub listing_app : App
+listing_app =
+    with_rule (with_rule (with_rule file_app (flag_rule (codes "iso"))) (flag_rule (codes "summary")))
+    (flag_rule (codes "quiet"))
+
+-- `check FILE [--iso] [--summary] [--quiet] [--config CONFIG]`
 abbrev pub check_app : App
-check_app = with_verbose (with_rule (new_app (codes "check")) (wanted (codes "FILE")))
+check_app = with_verbose (with_rule listing_app (option false (codes "config")))
 
 -- `replay CONFIG SCRIPT`
 abbrev pub replay_app : App
@@ -78,15 +93,31 @@ timed_app =
 abbrev pub limited_app : App
 limited_app = with_rule (with_rule timed_app (option false (codes "feed-from"))) (number_rule (codes "per-address"))
 
--- `serve CONFIG --listen A:P --feed A:P [--turns N] [--reread N|Ns] [--report N|Ns] [--feed-from LIST]
--- [--per-address N] [--numbers FILE]`
-abbrev pub serve_app : App
-serve_app = with_verbose (with_rule limited_app (option false (codes "numbers")))
+-- `--log`
+abbrev pub log_rule : Rule
+log_rule = record (new_rule (codes "log")) { long = Some (codes "log"); action = Some SetTrue }
 
--- `feed A:P FILE`
+-- that with `[--numbers FILE]`
+abbrev pub numbered_app : App
+numbered_app = with_rule limited_app (option false (codes "numbers"))
+
+-- `serve CONFIG --listen A:P --feed A:P [--turns N] [--reread N|Ns] [--report N|Ns] [--feed-from LIST]
+-- [--per-address N] [--numbers FILE] [--log]`
+abbrev pub serve_app : App
+serve_app = with_verbose (with_rule numbered_app log_rule)
+
+-- `FILE..`, one or more
+abbrev pub files_rule : Rule
+files_rule =
+    record (wanted (codes "FILE")) { range = Some (record { start_inclusive = 1; end_inclusive = usize_max }) }
+
+-- `feed A:P`
+abbrev pub fed_app : App
+fed_app = with_rule (new_app (codes "feed")) (wanted (codes "SERVER"))
+
+-- `feed A:P FILE..`
 abbrev pub feed_app : App
-feed_app =
-    with_verbose (with_rule (with_rule (new_app (codes "feed")) (wanted (codes "SERVER"))) (wanted (codes "FILE")))
+feed_app = with_verbose (with_rule fed_app files_rule)
 
 -- `WANT..`, one or more
 abbrev pub wants_rule : Rule
@@ -114,9 +145,18 @@ retrying_app = with_rule spanned_app (number_rule (codes "retry"))
 abbrev pub archiving_app : App
 archiving_app = with_rule retrying_app (option false (codes "archive"))
 
--- `read A:P,.. WANT.. [--fetch] [--begin TIME] [--end TIME] [--retry N] [--archive DIR] [--output FILE]`
+-- `read A:P,.. WANT.. [--fetch] [--begin TIME] [--end TIME] [--retry N] [--archive DIR] [--state FILE]`
+abbrev pub stating_app : App
+stating_app = with_rule archiving_app (option false (codes "state"))
+
+-- `read A:P,.. WANT.. [--fetch] [--begin TIME] [--end TIME] [--retry N] [--archive DIR] [--state FILE] [--iso]`
+abbrev pub dated_app : App
+dated_app = with_rule stating_app (flag_rule (codes "iso"))
+
+-- `read A:P,.. WANT.. [--fetch] [--begin TIME] [--end TIME] [--retry N] [--archive DIR] [--state FILE] [--iso]
+-- [--output FILE]`
 abbrev pub read_app : App
-read_app = with_verbose (with_rule archiving_app (option false (codes "output")))
+read_app = with_verbose (with_rule dated_app (option false (codes "output")))
 
 -- the program before it has arguments and subcommands, of which it wants one
 abbrev pub bare_app : App
@@ -136,6 +176,23 @@ program_app =
 
 -- ---- jobs
 
+-- the options of `check`
+pub record CheckAsked : Type 0 where
+  pub is_iso : Bool
+  pub has_summary : Bool
+  pub is_quiet : Bool
+  pub config : Option (List ℕ)
+
+-- those that the code has
+abbrev pub check_options_asked : CheckOptions → CheckAsked
+check_options_asked o =
+    record {
+      is_iso = o.is_iso;
+      has_summary = o.has_summary;
+      is_quiet = o.is_quiet;
+      config = option_map (λ text. text.now) o.config;
+    }
+
 -- the options of `read`
 pub record ReadAsked : Type 0 where
   pub fetch : Bool
@@ -144,6 +201,8 @@ pub record ReadAsked : Type 0 where
   pub retry : Option ℕ
   pub archive : Option (List ℕ)
   pub output : Option (List ℕ)
+  pub state : Option (List ℕ)
+  pub is_iso : Bool
 
 -- those that the code has
 abbrev pub options_asked : ReadOptions → ReadAsked
@@ -155,34 +214,54 @@ options_asked o =
       retry = o.retry;
       archive = option_map (λ text. text.now) o.archive;
       output = option_map (λ text. text.now) o.output;
+      state = option_map (λ text. text.now) o.state;
+      is_iso = o.is_iso;
     }
 
 -- A job as texts and numbers.
 pub data Asked : Type 0 where
-  Check : (file : List ℕ) → Asked
+  Check : (file : List ℕ) → (options : CheckAsked) → Asked
   Replay : (config : List ℕ) → (script : List ℕ) → Asked
   View : (config : List ℕ) → (address : Option (List ℕ)) → Asked
   Serve : (config listen feed : List ℕ) → (turns : Option ℕ) → (reread report : Option Every)
       → (feed_from : Option (List ℕ))
-      → (per_address : Option ℕ) → (numbers : Option (List ℕ)) → Asked
-  Feed : (server file : List ℕ) → Asked
+      → (per_address : Option ℕ) → (numbers : Option (List ℕ)) → (log : Bool) → Asked
+  Feed : (server : List ℕ) → (files : List (List ℕ)) → Asked
   Read : (server : List ℕ) → (wants : List (List ℕ)) → (options : ReadAsked) → Asked
 
 -- the job that the code has
 abbrev pub asked : Job → Asked
-asked (job.Check file) = Check file.now
+asked (job.Check file options) = Check file.now (check_options_asked options)
 asked (job.Replay config script) = Replay config.now script.now
 asked (job.View config address) = View config.now (option_map (λ text. text.now) address)
-asked (job.Serve config listen feed turns reread report feed_from per_address numbers) =
+asked (job.Serve config listen feed turns reread report feed_from per_address numbers log) =
     Serve config.now listen.now feed.now turns reread report (option_map (λ list. list.now) feed_from) per_address
-    (option_map (λ file. file.now) numbers)
-asked (job.Feed server file) = Feed server.now file.now
+    (option_map (λ file. file.now) numbers) log
+asked (job.Feed server files) = Feed server.now (map (λ file. file.now) files.items)
 asked (job.Read server wants options) =
     Read server.now (map (λ want. want.now) wants.items) (options_asked options)
 
--- a job of one text, where it is there
+-- a flag was given
+abbrev pub flag_in : Text → List Row → Bool
+flag_in name rows = option_map_or (λ text. bytes_eq text (codes "true")) (first_of name rows) false
+
+-- the options of `check`, as they stand there
+abbrev pub check_options_in : List Row → CheckAsked
+check_options_in rows =
+    record {
+      is_iso = flag_in (codes "iso") rows;
+      has_summary = flag_in (codes "summary") rows;
+      is_quiet = flag_in (codes "quiet") rows;
+      config = first_of (codes "config") rows;
+    }
+
+-- the job of `check`, where its file is there
+abbrev pub with_file : CheckAsked → Option (List ℕ) → Option Asked
+with_file options None = None
+with_file options (Some file) = Some (Check file options)
+
 abbrev pub check_asked : List Row → Option Asked
-check_asked rows = option_map Check (first_of (codes "FILE") rows)
+check_asked rows = with_file (check_options_in rows) (first_of (codes "FILE") rows)
 
 -- a job of two texts, where both are there
 abbrev pub with_both : (List ℕ → List ℕ → Asked) → Option (List ℕ) → Option (List ℕ) → Option Asked
@@ -238,23 +317,33 @@ every_of text = every_at text (position is_s text)
 abbrev pub every_in : Text → List Row → Option (Option Every)
 every_in name rows = spelled every_of (first_of name rows)
 
+-- the flag `--log` was given
+abbrev pub log_in : List Row → Bool
+log_in rows = option_map_or (λ text. bytes_eq text (codes "true")) (first_of (codes "log") rows) false
+
 -- a server's job, where all of it is there
 abbrev pub with_server : Option (List ℕ) → Option (List ℕ) → Option (List ℕ) →
     Option (Option ℕ) → Option (Option Every) → Option (Option Every) → Option (List ℕ) → Option (Option ℕ)
-    → Option (List ℕ) → Option Asked
+    → Option (List ℕ) → Bool → Option Asked
 with_server (Some config) (Some listen) (Some feed) (Some turns) (Some reread) (Some report) feed_from
-    (Some per_address) numbers =
-    Some (Serve config listen feed turns reread report feed_from per_address numbers)
-with_server _ _ _ _ _ _ feed_from _ numbers = None
+    (Some per_address) numbers log =
+    Some (Serve config listen feed turns reread report feed_from per_address numbers log)
+with_server _ _ _ _ _ _ feed_from _ numbers log = None
 
 abbrev pub serve_asked : List Row → Option Asked
 serve_asked rows =
     with_server (first_of (codes "CONFIG") rows) (first_of (codes "listen") rows) (first_of (codes "feed") rows)
     (number_in (codes "turns") rows) (every_in (codes "reread") rows) (every_in (codes "report") rows)
     (first_of (codes "feed-from") rows) (number_in (codes "per-address") rows) (first_of (codes "numbers") rows)
+    (log_in rows)
+
+-- a feeder's job, where all of it is there
+abbrev pub with_files : Option (List ℕ) → Option (List (List ℕ)) → Option Asked
+with_files (Some server) (Some files) = Some (Feed server files)
+with_files _ _ = None
 
 abbrev pub feed_asked : List Row → Option Asked
-feed_asked rows = with_both Feed (first_of (codes "SERVER") rows) (first_of (codes "FILE") rows)
+feed_asked rows = with_files (first_of (codes "SERVER") rows) (all_of (codes "FILE") rows)
 
 -- the flag `--fetch` was given
 abbrev pub fetch_in : List Row → Bool
@@ -271,15 +360,21 @@ options_with (Some retry) rows =
       retry = retry;
       archive = first_of (codes "archive") rows;
       output = first_of (codes "output") rows;
+      state = first_of (codes "state") rows;
+      is_iso = flag_in (codes "iso") rows;
     })
 
 abbrev pub options_in : List Row → Option ReadAsked
 options_in rows = options_with (number_in (codes "retry") rows) rows
 
--- SeedLink can spell them: an end stands only beside a begin, not beside `--fetch`, and not beside `--retry`, since what
--- lies before an end can't be asked for by a number.
+-- They go on by numbers after a break.
+abbrev pub goes_on : ReadAsked → Bool
+goes_on o = is_some o.retry || is_some o.state
+
+-- SeedLink can spell them: an end stands only beside a begin, not beside `--fetch`, and not beside `--retry` or
+-- `--state`, since what lies before an end can't be asked for by a number.
 abbrev pub is_spelled : ReadAsked → Bool
-is_spelled o = not (is_some o.last) || (is_some o.begin && not o.fetch && not (is_some o.retry))
+is_spelled o = not (is_some o.last) || (is_some o.begin && not o.fetch && not (goes_on o))
 
 -- Besides, records go into an archive or to an output, and not to both.
 abbrev pub is_askable : ReadAsked → Bool

@@ -2,10 +2,12 @@
 ghost use Rattle.std.specs.Prelude.{◌≡◌, Some, false, true, codes, IfOk};
 ghost use Rattle.clap.specs.Words.{App, app_of, new_app, rule_of, with_rule, with_subcommand};
 ghost use Rattle.command_line.specs.Building.{Builds};
+ghost use Rattle.command_line.specs.Jobs.{dated_app, fed_app, file_app, files_rule, flag_rule, listing_app};
 ghost use Rattle.command_line.specs.Jobs.{address_rule, addressed_app, bare_app, check_app, feed_app, fetch_rule};
-ghost use Rattle.command_line.specs.Jobs.{limited_app, number_rule};
+ghost use Rattle.command_line.specs.Jobs.{limited_app, log_rule, number_rule, numbered_app};
 ghost use Rattle.command_line.specs.Jobs.{option};
-ghost use Rattle.command_line.specs.Jobs.{archiving_app, program_app, read_app, retrying_app, spanned_app, replay_app};
+ghost use Rattle.command_line.specs.Jobs.{archiving_app, program_app, read_app, replay_app, retrying_app, spanned_app};
+ghost use Rattle.command_line.specs.Jobs.{stating_app};
 ghost use Rattle.command_line.specs.Jobs.{serve_app, timed_app};
 ghost use Rattle.command_line.specs.Jobs.{verbose_rule, view_app};
 ghost use Rattle.command_line.specs.Jobs.{wanted, wants_app, wants_rule, with_verbose};
@@ -17,6 +19,9 @@ use std::alloc::{AllocError, Global};
 /// What `--version` prints after the program's name: the version, and the logic of the toolchain with which each
 /// function was proved before the program was built.
 const VERSION: &str = "0.1.0 (each function proved, logic dac8208d650f15bf)";
+
+/// What `--iso` does.
+const ISO_HELP: &str = "Writes times as 2024-02-29T00:00:00.0000Z";
 
 /// A command that is being built, unless memory ran out on the way.
 type Built<'a> = Result<Command<'a>, AllocError>;
@@ -93,13 +98,66 @@ fn with_verbose<'a>(alloc: Global, command: Built<'a>) -> Built<'a>
     with_argument(command, verbose(alloc))
 }
 
+/// A flag `--name`.
+fn flag<'a>(alloc: Global, name: &'a str, help: &'a str) -> Arg<'a>
+    ensures rule { rule_of result ≡ flag_rule name.entry.now }
+    ensures own { result.global ≡ false }
+{
+    Arg::new(alloc, name)
+        .long(name)
+        .action(ArgAction::SetTrue)
+        .help(help)
+}
+
+/// A command with that flag.
+fn with_flag<'a>(alloc: Global, command: Built<'a>, name: &'a str, help: &'a str) -> Built<'a>
+    ensures { (app : App) → Builds command.entry app → Builds result (with_rule app (flag_rule name.entry.now)) }
+{
+    with_argument(command, flag(alloc, name, help))
+}
+
 /// `check FILE`.
+fn file_command<'a>(alloc: Global) -> Built<'a>
+    ensures { Builds result file_app }
+{
+    let command = started(alloc, "check", "Lists the records of a file, a line each");
+    with_wanted(alloc, command, "FILE", "The file, of records of 512 bytes")
+}
+
+/// `check FILE [--iso] [--summary] [--quiet]`.
+fn listing_command<'a>(alloc: Global) -> Built<'a>
+    ensures { Builds result listing_app }
+{
+    let with_iso = with_flag(alloc, file_command(alloc), "iso", ISO_HELP);
+    let with_summary = with_flag(
+        alloc,
+        with_iso,
+        "summary",
+        "After the lines of records, writes a line for each stream",
+    );
+    with_flag(alloc, with_summary, "quiet", "Writes no lines of records")
+}
+
+/// The option `--config CONFIG`.
+fn config<'a>(alloc: Global) -> Arg<'a>
+    ensures rule { rule_of result ≡ option false (codes "config") }
+    ensures own { result.global ≡ false }
+{
+    option(
+        alloc,
+        "config",
+        "CONFIG",
+        false,
+        "Refuses records of stations that CONFIG does not have too",
+    )
+}
+
+/// `check FILE [--iso] [--summary] [--quiet] [--config CONFIG]`.
 fn check_command<'a>(alloc: Global) -> Built<'a>
     ensures { Builds result check_app }
 {
-    let command = started(alloc, "check", "Lists the records of a file, a line each");
-    let with_file = with_wanted(alloc, command, "FILE", "The file, of records of 512 bytes");
-    with_verbose(alloc, with_file)
+    let with_config = with_argument(listing_command(alloc), config(alloc));
+    with_verbose(alloc, with_config)
 }
 
 /// `replay CONFIG SCRIPT`.
@@ -247,33 +305,65 @@ fn numbers<'a>(alloc: Global) -> Arg<'a>
     )
 }
 
+/// Serve's command with the file of numbers: `[--numbers FILE]`.
+fn numbered_command<'a>(alloc: Global) -> Built<'a>
+    ensures { Builds result numbered_app }
+{
+    with_argument(limited_command(alloc), numbers(alloc))
+}
+
+/// The flag `--log`.
+fn log<'a>(alloc: Global) -> Arg<'a>
+    ensures rule { rule_of result ≡ log_rule }
+    ensures own { result.global ≡ false }
+{
+    Arg::new(alloc, "log")
+        .long("log")
+        .action(ArgAction::SetTrue)
+        .help("Writes a line on standard error for each client and feed that comes or goes")
+}
+
 /// `serve CONFIG --listen A:P --feed A:P [--turns N] [--reread N|Ns] [--report N|Ns] [--feed-from LIST]
-/// [--per-address N] [--numbers FILE]`.
+/// [--per-address N] [--numbers FILE] [--log]`.
 fn serve_command<'a>(alloc: Global) -> Built<'a>
     ensures { Builds result serve_app }
 {
-    let with_numbers = with_argument(limited_command(alloc), numbers(alloc));
-    with_verbose(alloc, with_numbers)
+    let with_log = with_argument(numbered_command(alloc), log(alloc));
+    with_verbose(alloc, with_log)
 }
 
-/// `feed A:P FILE`.
-fn feed_command<'a>(alloc: Global) -> Built<'a>
-    ensures { Builds result feed_app }
+/// The arguments `FILE..`.
+fn files<'a>(alloc: Global) -> Arg<'a>
+    ensures rule { rule_of result ≡ files_rule }
+    ensures own { result.global ≡ false }
 {
-    let command = started(alloc, "feed", "Sends the records of a file to a server");
-    let with_server = with_wanted(
+    wanted(
+        alloc,
+        "FILE",
+        "The files, of records of 512 bytes; - is standard input",
+    )
+    .num_args(1..)
+}
+
+/// `feed A:P`.
+fn fed_command<'a>(alloc: Global) -> Built<'a>
+    ensures { Builds result fed_app }
+{
+    let command = started(alloc, "feed", "Sends the records of files to a server");
+    with_wanted(
         alloc,
         command,
         "SERVER",
         "Address and port for feeds, as 127.0.0.1:18001",
-    );
-    let with_file = with_wanted(
-        alloc,
-        with_server,
-        "FILE",
-        "The file, of records of 512 bytes",
-    );
-    with_verbose(alloc, with_file)
+    )
+}
+
+/// `feed A:P FILE..`.
+fn feed_command<'a>(alloc: Global) -> Built<'a>
+    ensures { Builds result feed_app }
+{
+    let with_files = with_argument(fed_command(alloc), files(alloc));
+    with_verbose(alloc, with_files)
 }
 
 /// The arguments `WANT..`.
@@ -398,11 +488,40 @@ fn archiving_command<'a>(alloc: Global) -> Built<'a>
     with_argument(retrying_command(alloc), archive(alloc))
 }
 
-/// `read A:P,.. WANT.. [--fetch] [--begin TIME] [--end TIME] [--retry N] [--archive DIR] [--output FILE]`.
+/// The option `--state FILE`.
+fn state<'a>(alloc: Global) -> Arg<'a>
+    ensures rule { rule_of result ≡ option false (codes "state") }
+    ensures own { result.global ≡ false }
+{
+    option(
+        alloc,
+        "state",
+        "FILE",
+        false,
+        "Goes on after the packets that FILE tells of, and keeps there how far it is",
+    )
+}
+
+/// `read A:P,.. WANT.. [--fetch] [--begin TIME] [--end TIME] [--retry N] [--archive DIR] [--state FILE]`.
+fn stating_command<'a>(alloc: Global) -> Built<'a>
+    ensures { Builds result stating_app }
+{
+    with_argument(archiving_command(alloc), state(alloc))
+}
+
+/// `read A:P,.. WANT.. [--fetch] [--begin TIME] [--end TIME] [--retry N] [--archive DIR] [--state FILE] [--iso]`.
+fn dated_command<'a>(alloc: Global) -> Built<'a>
+    ensures { Builds result dated_app }
+{
+    with_flag(alloc, stating_command(alloc), "iso", ISO_HELP)
+}
+
+/// `read A:P,.. WANT.. [--fetch] [--begin TIME] [--end TIME] [--retry N] [--archive DIR] [--state FILE] [--iso]
+/// [--output FILE]`.
 fn read_command<'a>(alloc: Global) -> Built<'a>
     ensures { Builds result read_app }
 {
-    let with_output = with_argument(archiving_command(alloc), output(alloc));
+    let with_output = with_argument(dated_command(alloc), output(alloc));
     with_verbose(alloc, with_output)
 }
 

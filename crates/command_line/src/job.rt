@@ -13,9 +13,10 @@ pub enum Every {
 /// What the program is asked to do, with the texts of the command line as they stand there.
 #[derive(Debug, PartialEq, Drop)]
 pub enum Job<'a> {
-    /// `check FILE`: a line for each record of a file.
+    /// `check FILE ..`: a line for each record of a file, as its options say.
     Check {
         file: &'a str,
+        options: CheckOptions<'a>,
     },
     /// `replay CONFIG SCRIPT`: the events of a script at a server with that configuration.
     Replay {
@@ -29,11 +30,11 @@ pub enum Job<'a> {
         address: Option<&'a str>,
     },
     /// `serve CONFIG --listen A:P --feed A:P [--turns N] [--reread N|Ns] [--report N|Ns] [--feed-from LIST]
-    /// [--per-address N] [--numbers FILE]`: a server over sockets. Each number is 1 to 1,000,000,000. Without `turns`
-    /// the server runs until it is ended from outside. As often as `reread` says it reads its configuration again, and
-    /// as often as `report` says it tells what it has done. It takes feeds from the addresses of LIST alone, and at most
-    /// `per_address` clients of one address. Its stations begin with the numbers in FILE, which keeps numbers for the
-    /// next run.
+    /// [--per-address N] [--numbers FILE] [--log]`: a server over sockets. Each number is 1 to 1,000,000,000. Without
+    /// `turns` the server runs until it is ended from outside. As often as `reread` says it reads its configuration
+    /// again, and as often as `report` says it tells what it has done. It takes feeds from the addresses of LIST alone,
+    /// and at most `per_address` clients of one address. Its stations begin with the numbers in FILE, which keeps
+    /// numbers for the next run. With `log` it tells who comes and goes.
     Serve {
         config: &'a str,
         listen: &'a str,
@@ -44,11 +45,12 @@ pub enum Job<'a> {
         feed_from: Option<&'a str>,
         per_address: Option<usize>,
         numbers: Option<&'a str>,
+        log: bool,
     },
-    /// `feed A:P FILE`: sends the records of a file to a server.
+    /// `feed A:P FILE..`: sends the records of files to a server, one file after the other.
     Feed {
         server: &'a str,
-        file: &'a str,
+        files: Vec<&'a str>,
     },
     /// `read A:P WANT.. ..`: asks a server for records, as its options say.
     Read {
@@ -58,7 +60,20 @@ pub enum Job<'a> {
     },
 }
 
-/// The options of `read`. An end has a begin, and doesn't stand beside `fetch` or `retry`.
+/// The options of `check`.
+#[derive(Clone, Copy, Debug, PartialEq)]
+pub struct CheckOptions<'a> {
+    /// `--iso`: times as dates and times of the day.
+    pub is_iso: bool,
+    /// `--summary`: a line for each stream, after the lines of records.
+    pub has_summary: bool,
+    /// `--quiet`: no lines of records.
+    pub is_quiet: bool,
+    /// `--config CONFIG`: records of stations that CONFIG has not are refused too.
+    pub config: Option<&'a str>,
+}
+
+/// The options of `read`. An end has a begin, and doesn't stand beside `fetch`, `retry` or `state`.
 #[derive(Clone, Copy, Debug, PartialEq)]
 pub struct ReadOptions<'a> {
     /// `--fetch`: ends once the records that the server holds are read.
@@ -73,6 +88,10 @@ pub struct ReadOptions<'a> {
     pub archive: Option<&'a str>,
     /// `--output FILE`: each record is added to that file.
     pub output: Option<&'a str>,
+    /// `--state FILE`: it goes on after the packets that FILE tells of, and keeps there how far it is.
+    pub state: Option<&'a str>,
+    /// `--iso`: times as dates and times of the day.
+    pub is_iso: bool,
 }
 
 /// A job, and how much is said of what goes wrong with it.

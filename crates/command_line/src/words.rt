@@ -1,15 +1,17 @@
 //! The words of the command line.
 ghost use Rattle.std.specs.Prelude.{◌≡◌, ◌||◌, [], Some, false, IfOk, IfErr, map, option_map, string_bytes};
 ghost use Rattle.clap.specs.Words.{all_of, fault_of, first_of, found_of, kind_of, rows_of, subcommand_rows_of};
+ghost use Rattle.command_line.specs.Jobs.{check_options_asked, check_options_in, flag_in};
 ghost use Rattle.command_line.specs.Jobs.{HelpIs, IsJob, IsTold, asked, asked_by, check_asked, feed_asked, is_shown};
-ghost use Rattle.command_line.specs.Jobs.{every_in, every_of, is_askable, is_spelled, job_of, number_in, number_of};
+ghost use Rattle.command_line.specs.Jobs.{every_in, every_of, goes_on, is_askable, is_spelled, job_of, number_in};
+ghost use Rattle.command_line.specs.Jobs.{number_of};
 ghost use Rattle.command_line.specs.Jobs.{options_asked, options_in, program_app, read_asked, replay_asked};
-ghost use Rattle.command_line.specs.Jobs.{seconds_if, serve_asked};
+ghost use Rattle.command_line.specs.Jobs.{log_in, seconds_if, serve_asked};
 ghost use Rattle.command_line.specs.Jobs.{verbose_by, verbose_in, verbose_of, view_asked};
 ghost use Rattle.command_line.specs.declared.job.WordsFault.TheVariants.{OutOfMemory};
 
 use crate::commands::program;
-use crate::job::{Every, Job, ReadOptions, Request, WordsFault};
+use crate::job::{CheckOptions, Every, Job, ReadOptions, Request, WordsFault};
 use clap::ArgMatches;
 use clap::error::ErrorKind;
 use separators::cut_at;
@@ -30,11 +32,33 @@ fn texts_at<'m, 'a>(arguments: &'m ArgMatches<'a>, name: &str) -> Option<&'m [&'
     arguments.get_strs(name)
 }
 
+/// Whether a flag was given.
+fn has_flag(arguments: &ArgMatches<'_>, name: &str) -> bool
+    ensures { result ≡ flag_in name.now (rows_of (found_of arguments.now)) }
+{
+    text_at(arguments, name) == Some("true")
+}
+
+/// The options of `check`.
+fn check_options<'a>(arguments: &ArgMatches<'a>) -> CheckOptions<'a>
+    ensures { check_options_asked result ≡ check_options_in (rows_of (found_of arguments.now)) }
+{
+    CheckOptions {
+        is_iso: has_flag(arguments, "iso"),
+        has_summary: has_flag(arguments, "summary"),
+        is_quiet: has_flag(arguments, "quiet"),
+        config: text_at(arguments, "config"),
+    }
+}
+
 fn check_job<'a>(arguments: &ArgMatches<'a>) -> Option<Job<'a>>
     ensures { option_map asked result ≡ check_asked (rows_of (found_of arguments.now)) }
 {
     let file = text_at(arguments, "FILE")?;
-    Some(Job::Check { file })
+    Some(Job::Check {
+        file,
+        options: check_options(arguments),
+    })
 }
 
 fn replay_job<'a>(arguments: &ArgMatches<'a>) -> Option<Job<'a>>
@@ -117,6 +141,13 @@ fn every_in<'a>(arguments: &ArgMatches<'a>, name: &str) -> Option<Option<Every>>
     }
 }
 
+/// Whether the flag `--log` is given.
+fn is_logged(arguments: &ArgMatches<'_>) -> bool
+    ensures { result ≡ log_in (rows_of (found_of arguments.now)) }
+{
+    text_at(arguments, "log") == Some("true")
+}
+
 fn serve_job<'a>(arguments: &ArgMatches<'a>) -> Option<Job<'a>>
     ensures { option_map asked result ≡ serve_asked (rows_of (found_of arguments.now)) }
 {
@@ -129,6 +160,7 @@ fn serve_job<'a>(arguments: &ArgMatches<'a>) -> Option<Job<'a>>
     let feed_from = text_at(arguments, "feed-from");
     let per_address = number_in(arguments, "per-address")?;
     let numbers = text_at(arguments, "numbers");
+    let log = is_logged(arguments);
     Some(Job::Serve {
         config,
         listen,
@@ -139,15 +171,21 @@ fn serve_job<'a>(arguments: &ArgMatches<'a>) -> Option<Job<'a>>
         feed_from,
         per_address,
         numbers,
+        log,
     })
 }
 
-fn feed_job<'a>(arguments: &ArgMatches<'a>) -> Option<Job<'a>>
-    ensures { option_map asked result ≡ feed_asked (rows_of (found_of arguments.now)) }
+fn feed_job<'a>(alloc: Global, arguments: &ArgMatches<'a>) -> Result<Option<Job<'a>>, AllocError>
+    ensures { IfOk result (λ job. option_map asked job ≡ feed_asked (rows_of (found_of arguments.now))) }
 {
-    let server = text_at(arguments, "SERVER")?;
-    let file = text_at(arguments, "FILE")?;
-    Some(Job::Feed { server, file })
+    let Some(server) = text_at(arguments, "SERVER") else {
+        return Ok(None);
+    };
+    let Some(texts) = texts_at(arguments, "FILE") else {
+        return Ok(None);
+    };
+    let files = texts.to_vec(alloc)?;
+    Ok(Some(Job::Feed { server, files }))
 }
 
 /// The options of `read`; None where the text of a number of seconds is none.
@@ -162,14 +200,24 @@ fn read_options<'a>(arguments: &ArgMatches<'a>) -> Option<ReadOptions<'a>>
         retry,
         archive: text_at(arguments, "archive"),
         output: text_at(arguments, "output"),
+        state: text_at(arguments, "state"),
+        is_iso: has_flag(arguments, "iso"),
     })
 }
 
-/// Whether SeedLink can spell them: an end stands only beside a begin, and not beside `--fetch` or `--retry`.
+/// Whether they go on by numbers after a break.
+fn goes_on(options: &ReadOptions<'_>) -> bool
+    ensures { result ≡ goes_on (options_asked options.now) }
+{
+    options.retry.is_some() || options.state.is_some()
+}
+
+/// Whether SeedLink can spell them: an end stands only beside a begin, and not beside `--fetch`, `--retry` or
+/// `--state`.
 fn is_spelled(options: &ReadOptions<'_>) -> bool
     ensures { result ≡ is_spelled (options_asked options.now) }
 {
-    options.last.is_none() || (options.begin.is_some() && !options.fetch && options.retry.is_none())
+    options.last.is_none() || (options.begin.is_some() && !options.fetch && !goes_on(options))
 }
 
 /// Whether they can stand together: SeedLink can spell them, and records go to an archive or to an output alone.
@@ -217,7 +265,7 @@ fn job_in<'a>(alloc: Global, matches: &ArgMatches<'a>) -> Result<Option<Job<'a>>
     } else if name == "serve" {
         Ok(serve_job(arguments))
     } else if name == "feed" {
-        Ok(feed_job(arguments))
+        feed_job(alloc, arguments)
     } else if name == "read" {
         read_job(alloc, arguments)
     } else {
@@ -275,13 +323,13 @@ fn refused(alloc: Global, error: clap::Error) -> WordsFault
 }
 
 /// What is wrong with words that `clap` takes and that are no job: those of `read` have an end without a begin, or beside
-/// `--fetch` or `--retry`, an archive beside an output, or a number with a sign or with leading zeros beyond ten digits;
-/// others such a number, or what says not how often something is done.
+/// `--fetch`, `--retry` or `--state`, an archive beside an output, or a number with a sign or with leading zeros beyond
+/// ten digits; others such a number, or what says not how often something is done.
 fn mistake_in(matches: &ArgMatches<'_>) -> &'static str {
     match matches.subcommand() {
         Some(("read", _)) =>
-            "error: --end needs --begin, and can't be used with --fetch or --retry; --archive can't be used with \
-             --output; N is 1 to 1000000000 in 1 to 10 decimal digits\n",
+            "error: --end needs --begin, and can't be used with --fetch, --retry or --state; --archive can't be used \
+             with --output; N is 1 to 1000000000 in 1 to 10 decimal digits\n",
         _ =>
             "error: N is 1 to 1000000000 in 1 to 10 decimal digits, and an s behind it stands for seconds\n",
     }

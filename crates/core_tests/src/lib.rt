@@ -1,5 +1,6 @@
-//! Tests of the whole core: worked dialogues at the server, rows of bits, and random lists of events, records and
-//! clients, at the server and at small plain programs that share no code with it. Nothing but tests.
+//! Tests of the whole core: worked dialogues at the server, rows of bits, what is listed of random configurations, and
+//! random lists of events, records and clients, at the server and at small plain programs that share no code with it.
+//! Nothing but tests.
 #![tactic(auto)]
 
 #[cfg(test)]
@@ -12,3 +13,5 @@ mod random_records;
 mod rows;
 #[cfg(test)]
 mod slots;
+#[cfg(test)]
+mod views;

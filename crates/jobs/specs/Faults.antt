@@ -48,6 +48,7 @@ failure_number (failure.Moment fault) = time_fault_number fault
 failure_number (failure.Want fault) = reader_fault_number fault
 failure_number (failure.Packets fault) = listing_fault_number fault
 failure_number (failure.Numbers fault) = 49
+failure_number (failure.State fault) = 53
 
 -- its name
 abbrev pub failure_name : Failure → List ℕ
@@ -71,21 +72,24 @@ failure_name (failure.Moment fault) = time_fault_name fault
 failure_name (failure.Want fault) = reader_fault_name fault
 failure_name (failure.Packets fault) = listing_fault_name fault
 failure_name (failure.Numbers fault) = codes "Numbers"
+failure_name (failure.State fault) = codes "State"
 
 -- the connection ended before the end of the transfer, by whether HELLO was answered
 abbrev pub lost : (is_answered : Bool) → Failure
 lost true = failure.Packets listing.Read
 lost false = failure.Unanswered
 
--- why packets were not listed to the end, by whether HELLO was answered, and whether the connection took no command
-abbrev pub unlisted : ListingFault → (is_answered is_cut : Bool) → Failure
-unlisted listing.Read is_answered is_cut = lost is_answered
-unlisted listing.Write is_answered true = lost is_answered
-unlisted fault is_answered is_cut = failure.Packets fault
+-- why packets were not listed to the end, by whether HELLO was answered
+abbrev pub unlisted : ListingFault → (is_answered : Bool) → Failure
+unlisted listing.Read is_answered = lost is_answered
+unlisted fault is_answered = failure.Packets fault
 
--- Another connection may mend it: none could be made (47), or it ended before the end of the transfer (42).
+-- Another connection may mend it: none could be made, or it ended before the end of the transfer.
 abbrev pub is_mendable : Failure → Bool
-is_mendable failure = failure_number failure == 42 || failure_number failure == 47
+is_mendable failure.Connect = true
+is_mendable failure.Unanswered = true
+is_mendable (failure.Packets listing.Read) = true
+is_mendable failure = false
 
 -- another server is asked after it, or the first one again
 abbrev pub goes_on : Failure → (is_last is_retried : Bool) → Bool

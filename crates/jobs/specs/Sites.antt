@@ -56,6 +56,11 @@ abbrev pub output_site : Bor (List ℕ) → Option Error → Site → Site
 output_site path None other = other
 output_site path (Some reason) other = Unwritten path reason
 
+-- of a job that also keeps a state: where that could not be kept, if that is so, or else another place
+abbrev pub state_site : Option Site → Site → Site
+state_site None other = other
+state_site (Some site) other = site
+
 -- of a job that reads a file: that file, if it could not be read for that reason, or else another place
 abbrev pub input_site : Bor (List ℕ) → Option Error → Site → Site
 input_site path None other = other

@@ -2,7 +2,7 @@
 ghost use Rattle.std.specs.Prelude.{◌≡◌};
 ghost use Rattle.jobs.specs.Faults.{failure_number, failure_name};
 
-use crate::faults::{NumbersFault, ReplayFault};
+use crate::faults::{NumbersFault, ReplayFault, StateFault};
 use catalog::ConfigFault;
 use feeder::SendFault;
 use packet_listing::ListingFault;
@@ -79,11 +79,14 @@ pub enum Failure {
     /// The numbers of an earlier run were not read.
     #[error("{0}")]
     Numbers(NumbersFault),
+    /// The state of an earlier reader was not read.
+    #[error("{0}")]
+    State(StateFault),
 }
 
 impl Failure {
     /// The number and the name by which the program reports it: 1 to 6, 10, 11, 20 to 25, 34, 40 to 47, 49, 51,
-    /// 52, 60 or 61.
+    /// 52, 53, 60 or 61.
     pub fn report(self) -> Report
         ensures number { result.number ≡ failure_number self }
         ensures name { result.name.now ≡ failure_name self }
@@ -109,6 +112,7 @@ impl Failure {
             Failure::Want(fault) => fault.report(),
             Failure::Packets(fault) => fault.report(),
             Failure::Numbers(fault) => fault.report(),
+            Failure::State(fault) => fault.report(),
         }
     }
 }

@@ -1,4 +1,4 @@
-//! Why a script was not replayed, and why numbers were not read.
+//! Why a script was not replayed, and why numbers or a state were not read.
 ghost use Rattle.std.specs.Prelude.{◌≡◌};
 ghost use Rattle.std.specs.Prelude.{codes};
 ghost use Rattle.jobs.specs.Faults.{replay_fault_number, replay_fault_name};
@@ -50,5 +50,26 @@ impl NumbersFault {
         ensures name { result.name.now ≡ codes "Numbers" }
     {
         Report::new(49, "Numbers")
+    }
+}
+
+/// Why the state of an earlier reader was not read.
+#[derive(Clone, Copy, Debug, PartialEq, Eq, Drop, Error)]
+pub enum StateFault {
+    /// The file can't be opened, or not be read to its end.
+    #[error("the file with the state can't be read")]
+    Unread,
+    /// Its text is not as it has to be.
+    #[error("the file with the state is not in lines of a network, a station, a number and an end")]
+    Invalid,
+}
+
+impl StateFault {
+    /// The number and the name by which the program reports it: 53 State.
+    pub fn report(self) -> Report
+        ensures number { result.number ≡ 53 }
+        ensures name { result.name.now ≡ codes "State" }
+    {
+        Report::new(53, "State")
     }
 }

@@ -114,19 +114,49 @@ impl<T: OpenStream + Read + Drop> SentFeed<T> {
     }
 }
 
+/// A feed under way: a connection over which so many records were sent.
+#[derive(Drop)]
+pub struct Feed<T> {
+    server: Outer<T>,
+    count: u64,
+}
+
+impl<T: OpenStream + Write + Drop> Feed<T> {
+    /// Before the first record.
+    pub fn new(stream: T) -> Feed<T> {
+        Feed {
+            server: Outer::new(stream),
+            count: 0,
+        }
+    }
+
+    /// Sends the whole records that are left of a reader. It fails as `feed_records` does.
+    pub fn send<S: Source>(&mut self, records: &mut S) -> Result<(), Failure> {
+        let count = feed_records(records, &mut self.server)?;
+        self.count = self.count.saturating_add(count);
+        Ok(())
+    }
+
+    /// Shuts the sending half. It fails with 43 if the server ended the connection before.
+    pub fn shut(self) -> Result<SentFeed<T>, Failure> {
+        let Feed { server, count } = self;
+        let stream = server.into_inner();
+        if is_over(&stream) || stream.shutdown(Shutdown::Write).is_err() {
+            return Err(Failure::Untaken);
+        }
+        Ok(SentFeed { stream, count })
+    }
+}
+
 /// Sends the whole records that are left of a reader over a connection, and shuts its sending half. It fails as
 /// `feed_records` does, and with 43 if the server ended the connection before.
 pub fn send_feed<T: OpenStream + Write + Drop, S: Source>(
     stream: T,
     records: &mut S,
 ) -> Result<SentFeed<T>, Failure> {
-    let mut server = Outer::new(stream);
-    let count = feed_records(records, &mut server)?;
-    let stream = server.into_inner();
-    if is_over(&stream) || stream.shutdown(Shutdown::Write).is_err() {
-        return Err(Failure::Untaken);
-    }
-    Ok(SentFeed { stream, count })
+    let mut feed = Feed::new(stream);
+    feed.send(records)?;
+    feed.shut()
 }
 
 /// Connects to a server's feed port, sends the whole records that are left of a reader, and shuts the sending half.

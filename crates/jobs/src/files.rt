@@ -1,32 +1,89 @@
 //! Jobs over files and the standard output. Files are read in blocks, and what is written goes out in as few calls as
 //! the system takes.
+ghost use Rattle.std.specs.Prelude.{◌≡◌};
+ghost use Rattle.jobs.specs.Listings.{listing_by};
+
+use crate::configured::ConfiguredStations;
 use crate::failure::Failure;
 use crate::incident::{Incident, Site};
+use crate::progress::{Watched, is_output_terminal, is_terminal, size_of};
 use crate::reasons::ReasonKeeper;
 use crate::replaying::replay;
+use crate::times::times_of;
 use catalog::{Config, ConfigError};
+use command_line::CheckOptions;
 use config_findings::{Finding, finding_of};
-use record_listing::check_records;
-use sl_io::{Outer, ReadFault, read_all};
+use record_listing::{
+    AllStations, Finding as FileFinding, ListingOptions, Stations, check_records,
+};
+use sl_io::{Outer, ReadFault, StreamFault, read_all};
 use std::alloc::Global;
-use std::rt::Files;
+use std::fs::File;
+use std::io::Read;
+use std::rt::{Clock, Files};
 use std::{fs, io};
 
-/// Writes a line for each record of a file. It fails where one is refused, or where the file ends inside one.
-pub fn check_file<'a, R: Files + Print + AllocGlobal>(
+/// What a check lists, by the options of the command line.
+fn listing_options(options: CheckOptions<'_>) -> ListingOptions
+    ensures { result ≡ listing_by options.entry.is_iso options.entry.has_summary options.entry.is_quiet }
+{
+    ListingOptions {
+        times: times_of(options.is_iso),
+        has_lines: !options.is_quiet,
+        has_summary: options.has_summary,
+    }
+}
+
+/// Writes a line for each record of a file, or what else the options ask for. It fails where a record is refused, or
+/// where the file ends inside one. With a configuration, records of stations that it has not are refused too.
+pub fn check_file<'a, R: Files<File = File> + Print + Eprint + Clock + AllocGlobal>(
     rt: &R,
     path: &'a str,
+    options: CheckOptions<'a>,
 ) -> Result<(), Incident<'a>> {
-    let mut file = Outer::new(ReasonKeeper::new(open(rt, path)?));
-    let mut out = Outer::new(io::writer(rt));
-    match check_records(rt.alloc(), &mut file, &mut out) {
+    match options.config {
+        Some(config) => {
+            let config = config_at(rt, config)?;
+            check_at(rt, path, options, &ConfiguredStations::new(&config))
+        }
+        None => check_at(rt, path, options, &AllStations),
+    }
+}
+
+/// The same, of a file that may have records of these stations. How far it is is shown at a terminal, unless lines of
+/// records show it there.
+fn check_at<'a, R: Files<File = File> + Print + Eprint + Clock + AllocGlobal, S: Stations>(
+    rt: &R,
+    path: &'a str,
+    options: CheckOptions<'a>,
+    stations: &S,
+) -> Result<(), Incident<'a>> {
+    let file = open(rt, path)?;
+    let size = size_of(&file);
+    let is_shown = is_terminal() && (options.is_quiet || !is_output_terminal());
+    let mut watched = Watched::new(rt, ReasonKeeper::new(file), size, is_shown);
+    let checked = list(rt, listing_options(options), stations, &mut watched);
+    let file = watched.end();
+    match checked {
         Ok(None) => Ok(()),
         Ok(Some(finding)) => Err(Incident::of_records(path, finding)),
         Err(fault) => {
             let incident = Failure::Check(fault).in_file(path);
-            Err(incident.at_input(path, file.into_inner().into_reason()))
+            Err(incident.at_input(path, file.into_reason()))
         }
     }
+}
+
+/// Writes what is listed of records to the standard output.
+fn list<R: Print + AllocGlobal, S: Stations, T: Read + Drop>(
+    rt: &R,
+    options: ListingOptions,
+    stations: &S,
+    records: &mut T,
+) -> Result<Option<FileFinding>, StreamFault> {
+    let mut records = Outer::new(records);
+    let mut out = Outer::new(io::writer(rt));
+    check_records(rt.alloc(), options, stations, &mut records, &mut out)
 }
 
 /// Writes the output of a script. The configuration is judged before the script is opened.

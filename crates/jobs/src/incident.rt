@@ -2,7 +2,7 @@
 ghost use Rattle.std.specs.Prelude.{◌≡◌, ◌≢◌};
 ghost use Rattle.jobs.specs.Sites.{config_site, difference_site, feed_site, file_site, input_site, is_memory};
 ghost use Rattle.jobs.specs.Sites.{is_output};
-ghost use Rattle.jobs.specs.Sites.{listening_site, output_site, server_site, want_site, word_site};
+ghost use Rattle.jobs.specs.Sites.{listening_site, output_site, server_site, state_site, want_site, word_site};
 ghost use Rattle.slreader.specs.WantTexts.{window_value};
 ghost use Rattle.socket_ports.specs.Faults.{fault_of};
 ghost use Rattle.jobs.specs.Faults.{failure_number};
@@ -234,6 +234,24 @@ impl<'a> Incident<'a> {
                 site: Site::Unwritten(path, reason),
             },
             None => Incident { failure, site },
+        }
+    }
+
+    /// It, in a job that also keeps a state: where that could not be kept, if that is so.
+    pub fn at_state(self, site: Option<Site<'a>>) -> Incident<'a>
+        ensures failure { result.failure ≡ self.entry.failure }
+        ensures site { result.site ≡ state_site site.entry self.entry.site }
+    {
+        let Incident {
+            failure,
+            site: other,
+        } = self;
+        match site {
+            Some(site) => Incident { failure, site },
+            None => Incident {
+                failure,
+                site: other,
+            },
         }
     }
 

@@ -5,15 +5,17 @@ ghost use Rattle.jobs.specs.Faults.{unlisted};
 use crate::admitting::admission_of;
 use crate::endpoint::Endpoint;
 use crate::failure::Failure;
-use crate::feeding::{SentFeed, send_feed};
-use crate::files::{config_at, open, unopened};
+use crate::files::{config_at, unopened};
 use crate::incident::{Incident, Site};
 use crate::misspelled::checked_config_at;
 use crate::numbers::NumberFile;
 use crate::operator::{ServeOptions, serve_by};
 use crate::reasons::ReasonKeeper;
+use crate::visits::{SharedLines, VisitLines};
 use catalog::Config;
-use error_lines::StandardError;
+use error_lines::{Device, StandardError};
+use logged_ports::LoggedPorts;
+use serving::ServeFault;
 use sl_io::Outer;
 use socket_ports::{Admission, MioPorts};
 use std::io;
@@ -93,11 +95,42 @@ where
     };
     let numbers = numbers_for(rt, options.numbers, &mut config)?;
     let ports = listen_at(rt, clients, feeds, admission)?;
-    let errors = StandardError::open(rt);
-    match serve_by(rt, config, ports, options, numbers, errors) {
+    let lines = SharedLines::new(StandardError::open(rt));
+    let served = if options.log {
+        serve_logged(rt, config, ports, options, numbers, &lines)
+    } else {
+        serve_by(rt, config, ports, options, numbers, &lines)
+    };
+    match served {
         Ok(mut ports) => {
             ports.finish();
             Ok(())
+        }
+        Err(incident) => Err(incident),
+    }
+}
+
+/// Serves as the options say, and tells who comes and goes.
+fn serve_logged<'a, R: Files + Clock + AllocGlobal, D: Device + Drop>(
+    rt: &R,
+    config: Config,
+    ports: MioPorts,
+    options: ServeOptions<'a>,
+    numbers: Option<NumberFile<'a>>,
+    lines: &SharedLines<D>,
+) -> Result<MioPorts, Incident<'a>> {
+    let most = config.max_connections();
+    let journal = VisitLines::new(lines);
+    let Ok(logged) = LoggedPorts::new(rt.alloc(), ports, most, journal) else {
+        return Err(Incident {
+            failure: Failure::Serve(ServeFault::OutOfMemory),
+            site: Site::Unnamed,
+        });
+    };
+    match serve_by(rt, config, logged, options, numbers, lines) {
+        Ok(logged) => {
+            let (ports, _journal) = logged.into_parts();
+            Ok(ports)
         }
         Err(incident) => Err(incident),
     }
@@ -112,43 +145,5 @@ fn numbers_for<'a, R: Files + AllocGlobal>(
     match path {
         Some(path) => Ok(Some(NumberFile::open(rt, path, config)?)),
         None => Ok(None),
-    }
-}
-
-/// Sends the records of a file to a server, and shuts the sending half of the connection.
-pub fn send_file<'a, R: Files + Net>(
-    rt: &R,
-    server: &'a str,
-    path: &'a str,
-) -> Result<SentFeed<R::Stream>, Incident<'a>> {
-    let server = server_of(server)?;
-    let mut file = Outer::new(ReasonKeeper::new(open(rt, path)?));
-    let stream = connection(rt, server)?;
-    match send_feed(stream, &mut file) {
-        Ok(feed) => Ok(feed),
-        Err(failure) => {
-            let incident = failure.in_feed(path, server.word);
-            Err(incident.at_input(path, file.into_inner().into_reason()))
-        }
-    }
-}
-
-/// Sends the records of a file to a server, and waits until it has read them. With `is_verbose` the last line of the
-/// standard error says how many they were.
-pub fn feed_file<'a, R: Files + Eprint + Net>(
-    rt: &R,
-    server: &'a str,
-    path: &'a str,
-    is_verbose: bool,
-) -> Result<(), Incident<'a>> {
-    let feed = send_file(rt, server, path)?;
-    match feed.wait() {
-        Ok(count) => {
-            if is_verbose {
-                let _ = eprintln!(rt; "sent {count} records");
-            }
-            Ok(())
-        }
-        Err(failure) => Err(failure.in_feed(path, server)),
     }
 }

@@ -99,7 +99,7 @@ fn set_numbers(table: &mut NumberTable, numbers: &Ahead<'_>)
 }
 
 /// Writes a file under another name first, which takes the file's place once all of it is on the disk.
-fn replace<R: Files>(rt: &R, new_path: &str, path: &str, text: &[u8]) -> io::Result<()> {
+pub fn replace<R: Files>(rt: &R, new_path: &str, path: &str, text: &[u8]) -> io::Result<()> {
     let mut file = fs::create(rt, new_path)?;
     file.write_all(text)?;
     file.sync_all()?;

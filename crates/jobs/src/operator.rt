@@ -1,22 +1,24 @@
 //! What a server asks and reports between its turns, over the file of its configuration and lines to standard error.
 ghost use Rattle.std.specs.Prelude.{◌≡◌, ◌∷◌, [], None, IfErr, IfOk};
 ghost use Rattle.serving.specs.Asked.{Tells};
-ghost use Rattle.serving.specs.Asked.Asked.{Refuses};
+ghost use Rattle.serving.specs.Asked.Asked.{Looks, Refuses};
+ghost use Rattle.serving.specs.Paces.{IsPaced};
 ghost use Rattle.serving.specs.declared.faults.ServeFault.TheVariants.{Poll};
 ghost use Rattle.jobs.specs.declared.failure.Failure.TheVariants.{Serve};
 ghost use Rattle.jobs.specs.Serving.{ServedByFile, EndedByFile};
+ghost use Rattle.jobs.specs.declared.incident.Incident.{Incident};
 
 use crate::failure::Failure;
 use crate::files::config_at;
 use crate::incident::{Incident, Site};
 use crate::numbers::NumberFile;
-use crate::pace::Pace;
+use crate::visits::SharedLines;
 use catalog::Config;
 use config_findings::{Difference, first_difference};
-use error_lines::{Device, ErrorLines, Line};
+use error_lines::{Device, Line};
 use ports::Ports;
 use protocol::report::Report;
-use serving::{Activity, Ahead, Between, Due, Refusal, ServeFault, Timetable, serve_between};
+use serving::{Activity, Ahead, Between, Due, Pace, Refusal, ServeFault, Timetable, serve_between};
 use std::fmt::Write;
 use std::rt::{Clock, Files};
 use std::time::Duration;
@@ -38,12 +40,14 @@ pub struct ServeOptions<'a> {
     pub report_seconds: Option<usize>,
     /// Whether a configuration that is not taken is explained.
     pub is_verbose: bool,
+    /// Whether it is told who comes and goes.
+    pub log: bool,
 }
 
 /// The files of a configuration and of numbers, and lines to a device that never waits: whoever reads them can't stop
 /// the server.
 #[derive(Drop)]
-pub struct Operator<'r, 'a, R, D> {
+pub struct Operator<'r, 'a, 'l, R, D> {
     rt: &'r R,
     path: &'a str,
     /// When the server began, by the system's clock, and what is done by it.
@@ -55,29 +59,29 @@ pub struct Operator<'r, 'a, R, D> {
     has_kept: bool,
     unkept: Site<'a>,
     is_verbose: bool,
-    errors: ErrorLines<D>,
+    errors: &'l SharedLines<D>,
     /// The configuration that the server began with.
     begun: Config,
     /// What the configuration that was read last differs in first, but for access lists.
     difference: Option<Difference>,
 }
 
-impl<'r, 'a, R, D: Device> Operator<'r, 'a, R, D> {
+impl<'r, 'a, 'l, R, D: Device> Operator<'r, 'a, 'l, R, D> {
     /// Tells an incident that ends nothing.
     fn tell(&mut self, incident: &Incident<'_>) {
-        let _is_written = self.errors.write_line(&line_of(incident, self.is_verbose));
+        self.errors.write_line(&line_of(incident, self.is_verbose));
     }
 }
 
-impl<'r, 'a, R: Clock, D> Operator<'r, 'a, R, D> {
-    /// How many milliseconds have passed since the server began; none if the system can't tell the time.
-    fn passed(&self) -> u64 {
+impl<'r, 'a, 'l, R: Clock, D> Operator<'r, 'a, 'l, R, D> {
+    /// How many milliseconds have passed since the server began, if the system can tell the time.
+    fn passed(&self) -> Option<u64> {
         match self.rt.monotonic() {
             Ok(now) => {
                 let passed = now.saturating_sub(self.began).as_millis();
-                u64::try_from(passed).unwrap_or(u64::MAX)
+                Some(u64::try_from(passed).unwrap_or(u64::MAX))
             }
-            Err(_) => 0,
+            Err(_) => None,
         }
     }
 }
@@ -96,14 +100,17 @@ fn line_of(incident: &Incident<'_>, is_verbose: bool) -> Line {
     line
 }
 
-impl<'r, 'a, R: Files + Clock + AllocGlobal, D: Device> Between for Operator<'r, 'a, R, D> {
+impl<'r, 'a, 'l, R: Files + Clock + AllocGlobal, D: Device> Between for Operator<'r, 'a, 'l, R, D> {
     type Fault = Incident<'a>;
 
     // What a clock tells, a file holds and the standard error takes, no contract can say.
     ghost asked = { λ _. None };
 
     /// By one look at the clock.
-    fn due(&mut self) -> Due {
+    fn due(&mut self) -> Due
+        ensures call { Tells {F = Incident} None None (Looks result ∷ []) }
+        ensures paced { IsPaced self.old.reread self.old.report result self.new.reread self.new.report }
+    {
         let now = self.passed();
         Due {
             reread: self.reread.comes(now),
@@ -146,7 +153,7 @@ impl<'r, 'a, R: Files + Clock + AllocGlobal, D: Device> Between for Operator<'r,
     fn report(&mut self, activity: Activity) {
         let mut line = Line::new();
         let _ = write!(line, "seedlinkd: {activity}");
-        let _is_written = self.errors.write_line(&line);
+        self.errors.write_line(&line);
     }
 
     fn keep(&mut self, numbers: &Ahead<'_>) -> Result<(), Incident<'a>> {
@@ -167,7 +174,7 @@ pub fn serve_by<'a, R: Files + Clock + AllocGlobal, P: Ports + Drop, D: Device +
     ports: P,
     options: ServeOptions<'a>,
     numbers: Option<NumberFile<'a>>,
-    device: D,
+    errors: &SharedLines<D>,
 ) -> Result<P, Incident<'a>>
     ensures served { IfOk result (λ left.
         ServedByFile options.entry.timetable config (P.calls ports) (P.calls left)) }
@@ -191,7 +198,7 @@ pub fn serve_by<'a, R: Files + Clock + AllocGlobal, P: Ports + Drop, D: Device +
         has_kept: false,
         unkept: Site::Unnamed,
         is_verbose: options.is_verbose,
-        errors: ErrorLines::new(device),
+        errors,
         begun,
         difference: None,
     };

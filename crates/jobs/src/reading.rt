@@ -3,21 +3,27 @@ ghost use Rattle.std.specs.Prelude.{◌≡◌};
 ghost use Rattle.jobs.specs.Faults.{goes_on, is_mendable, lost, unlisted};
 ghost use Rattle.jobs.specs.Places.{is_last_place, place_after};
 
-use crate::archiving::{archive_at, at_archive, tell_unplaced};
+use crate::archiving::{Lasting, archive_at, at_archive, tell_unplaced};
+use crate::connections::Connections;
 use crate::failure::Failure;
+use crate::files::unopened;
 use crate::incident::{Incident, Site};
-use crate::network::{Server, connection, server_of, unconnected};
-use crate::reasons::{AnswerCounter, ReasonKeeper};
+use crate::network::{Server, server_of};
+use crate::reasons::ReasonKeeper;
 use crate::standard_error::StandardError as Eprinted;
+use crate::states::{StateFile, StateKeeper};
 use crate::telling::tell_incident;
+use crate::times::times_of;
 use crate::windows::Moments;
 use command_line::ReadOptions;
-use packet_listing::{ListingFault, Nowhere, read_further};
+use packet_listing::{Break, ListingFault, Nowhere, follow};
+use record_listing::Times;
 use sl_io::{Outer, Sink};
 use slreader::{Tally, Want, Window};
-use std::alloc::Global;
+use std::alloc::{AllocError, Global};
+use std::cell::RefCell;
 use std::fs::{File, OpenOptions};
-use std::net::{Net, OpenStream};
+use std::net::Net;
 use std::rt::{Clock, Files};
 use std::time::Duration;
 use std::{io, thread};
@@ -36,18 +42,20 @@ fn servers_of<'a>(alloc: Global, word: &'a str) -> Result<Vec<Server<'a>>, Incid
 
 /// What is read, and of which servers.
 #[derive(Drop)]
-struct Reading<'a, 'w> {
-    servers: Vec<Server<'a>>,
+pub struct Reading<'a, 'w> {
+    pub servers: Vec<Server<'a>>,
     wants: Vec<Want<'w>>,
     /// After how long the next server is asked, or the first one again, if none is to be left out for good.
     pause: Option<Duration>,
     is_verbose: bool,
+    /// How times are written.
+    times: Times,
 }
 
 impl<'a> Reading<'a, '_> {
     /// Tells a failure after which the next server is asked, and waits before that: a server that is a moment behind the
     /// last one would hand out records again. It fails with a failure that ends the reading.
-    fn pass_over<R: Eprint + Clock>(
+    pub fn pass_over<R: Eprint + Clock>(
         &self,
         rt: &R,
         incident: Incident<'a>,
@@ -66,28 +74,35 @@ impl<'a> Reading<'a, '_> {
 
 /// The place of the server that is asked, among so many.
 #[derive(Clone, Copy)]
-struct Places {
+pub struct Places {
     place: usize,
     count: usize,
 }
 
 impl Places {
     /// The first.
-    fn new(count: usize) -> Places
+    pub fn new(count: usize) -> Places
         ensures { (result.place ≡ 0) × (result.count ≡ count) }
     {
         Places { place: 0, count }
     }
 
+    /// Its place.
+    pub fn place(&self) -> usize
+        ensures { result ≡ self.now.place }
+    {
+        self.place
+    }
+
     /// Whether none comes after it.
-    fn is_last(&self) -> bool
+    pub fn is_last(&self) -> bool
         ensures { result ≡ is_last_place self.now.place self.now.count }
     {
         self.count.saturating_sub(self.place) <= 1
     }
 
     /// The next one, and after the last the first.
-    fn pass(&mut self)
+    pub fn pass(&mut self)
         ensures { self.new ≡ record self.old { place = place_after self.old.place self.old.count } }
     {
         self.place = if self.is_last() { 0 } else { self.place + 1 };
@@ -136,45 +151,14 @@ fn opened_to_add<'a, R: Files>(rt: &R, path: &'a str) -> Result<R::File, Inciden
     }
 }
 
-/// Lists the packets that a server sends for wants as they go on, and writes their records.
-fn list<'a, R: Net + AllocGlobal, O: Sink, P: Sink>(
-    rt: &R,
-    server: Server<'a>,
-    wants: &[Want<'_>],
-    tally: &mut Tally,
-    out: &mut O,
-    records: &mut P,
-) -> Result<(), Incident<'a>> {
-    let stream = connection(rt, server)?;
-    let other = match stream.try_clone() {
-        Ok(other) => other,
-        Err(reason) => return Err(unconnected(server, reason)),
-    };
-    let mut reader = Outer::new(AnswerCounter::new(stream));
-    let mut writer = Outer::new(ReasonKeeper::new(other));
-    match read_further(
-        rt.alloc(),
-        wants,
-        tally,
-        &mut reader,
-        &mut writer,
-        out,
-        records,
-    ) {
-        Ok(()) => Ok(()),
-        Err(fault) => {
-            let is_cut = writer.into_inner().into_reason().is_some();
-            let failure = unlisted(fault, reader.into_inner().is_answered(), is_cut);
-            Err(failure.at_server(server.word))
-        }
-    }
-}
-
 /// Whether another connection may mend a failure: none could be made, or it ended before the end of the transfer.
 fn is_mendable(failure: Failure) -> bool
     ensures { result ≡ is_mendable failure }
 {
-    matches!(failure.report().number, 42 | 47)
+    matches!(
+        failure,
+        Failure::Connect | Failure::Unanswered | Failure::Packets(ListingFault::Read)
+    )
 }
 
 /// Whether another server is asked after a failure, or the first one again.
@@ -185,38 +169,64 @@ fn goes_on(failure: Failure, is_last: bool, is_retried: bool) -> bool
 }
 
 /// Asks one server after the other, and the first one again after a pause if there is one, each of them for what comes
-/// after the packets that were written. A failure after which it goes on is told.
-fn list_on<'a, R: Eprint + Clock + Net + AllocGlobal, O: Sink, P: Sink>(
+/// after the packets that were written. With a state it begins after what that tells of, and keeps there how far it is.
+/// A failure after which it goes on is told.
+fn list_on<'a, R, O: Sink, P: Sink + Lasting>(
     rt: &R,
     reading: &Reading<'a, '_>,
+    state: Option<StateFile<'a>>,
+    output: Option<File>,
     out: &mut O,
     records: &mut P,
-) -> Result<(), Incident<'a>> {
-    let Ok(mut tally) = Tally::before(rt.alloc(), &reading.wants) else {
+) -> Result<(), Incident<'a>>
+where
+    R: Files + Eprint + Clock + Net + AllocGlobal,
+{
+    let Ok(mut tally) = tally_after(rt.alloc(), &reading.wants, &state) else {
         return Err(Incident::from(Failure::OutOfMemory));
     };
-    let mut places = Places::new(reading.servers.len());
-    for _ in 0..u64::MAX {
-        let Some(server) = reading.servers.get(places.place) else {
-            return Ok(());
-        };
-        match list(rt, *server, &reading.wants, &mut tally, out, records) {
-            Ok(()) => return Ok(()),
-            Err(incident) => reading.pass_over(rt, incident, places.is_last())?,
+    let present = RefCell::new(None);
+    let mut servers = Connections::new(rt, reading, &present);
+    let mut keeper = StateKeeper::new(rt, state, &reading.wants, output, &present);
+    let read = follow(
+        rt.alloc(),
+        reading.times,
+        &reading.wants,
+        &mut tally,
+        &mut servers,
+        out,
+        records,
+        &mut keeper,
+    );
+    match read {
+        Ok(()) => Ok(()),
+        Err(Break::Server(incident)) => Err(incident),
+        Err(Break::Listing(fault)) => {
+            let server = servers.server()?;
+            let incident = Failure::Packets(fault).at_server(server.word);
+            Err(incident.at_state(keeper.site()))
         }
-        places.pass();
     }
-    Ok(())
 }
 
-/// Why packets were not listed to the end, by whether HELLO was answered before, and whether the connection took no
-/// command.
-fn unlisted(fault: ListingFault, is_answered: bool, is_cut: bool) -> Failure
-    ensures { result ≡ unlisted fault is_answered is_cut }
+/// What is counted before the first packet: what the state tells of, if there is one.
+fn tally_after(
+    alloc: Global,
+    wants: &[Want<'_>],
+    state: &Option<StateFile<'_>>,
+) -> Result<Tally, AllocError> {
+    match state {
+        Some(state) => Tally::after(alloc, wants, state.before()),
+        None => Tally::before(alloc, wants),
+    }
+}
+
+/// Why packets were not listed to the end, by whether HELLO was answered before.
+pub fn unlisted(fault: ListingFault, is_answered: bool) -> Failure
+    ensures { result ≡ unlisted fault is_answered }
 {
     match fault {
         ListingFault::Read => lost(is_answered),
-        ListingFault::Write if is_cut => lost(is_answered),
         _ => Failure::Packets(fault),
     }
 }
@@ -233,33 +243,41 @@ fn lost(is_answered: bool) -> Failure
 }
 
 /// Lists packets on the standard output, and writes no records.
-fn list_lines<'a, R: Print + Eprint + Clock + Net + AllocGlobal>(
+fn list_lines<'a, R: Files + Print + Eprint + Clock + Net + AllocGlobal>(
     rt: &R,
     reading: &Reading<'a, '_>,
+    state: Option<StateFile<'a>>,
 ) -> Result<(), Incident<'a>> {
     let mut lines = Outer::new(io::writer(rt));
-    list_on(rt, reading, &mut lines, &mut Nowhere::new())
+    list_on(rt, reading, state, None, &mut lines, &mut Nowhere::new())
 }
 
 /// Lists packets on the standard error, and writes their records to the standard output.
-fn list_records<'a, R: Print + Eprint + Clock + Net + AllocGlobal>(
+fn list_records<'a, R: Files + Print + Eprint + Clock + Net + AllocGlobal>(
     rt: &R,
     reading: &Reading<'a, '_>,
+    state: Option<StateFile<'a>>,
 ) -> Result<(), Incident<'a>> {
     let mut lines = Outer::new(Eprinted::new(rt));
     let mut records = Outer::new(io::writer(rt));
-    list_on(rt, reading, &mut lines, &mut records)
+    list_on(rt, reading, state, None, &mut lines, &mut records)
 }
 
 /// Lists packets on the standard output, and adds their records to a file.
-fn list_and_add<'a, R: Files + Print + Eprint + Clock + Net + AllocGlobal>(
+fn list_and_add<'a, R: Files<File = File> + Print + Eprint + Clock + Net + AllocGlobal>(
     rt: &R,
     reading: &Reading<'a, '_>,
+    state: Option<StateFile<'a>>,
     path: &'a str,
 ) -> Result<(), Incident<'a>> {
     let mut lines = Outer::new(io::writer(rt));
-    let mut records = Outer::new(ReasonKeeper::new(opened_to_add(rt, path)?));
-    match list_on(rt, reading, &mut lines, &mut records) {
+    let file = opened_to_add(rt, path)?;
+    let same = match file.try_clone() {
+        Ok(same) => same,
+        Err(reason) => return Err(unopened(path, reason)),
+    };
+    let mut records = Outer::new(ReasonKeeper::new(file));
+    match list_on(rt, reading, state, Some(same), &mut lines, &mut records) {
         Ok(()) => Ok(()),
         Err(incident) => Err(incident.at_output(path, records.into_inner().into_reason())),
     }
@@ -269,11 +287,12 @@ fn list_and_add<'a, R: Files + Print + Eprint + Clock + Net + AllocGlobal>(
 fn list_and_archive<'a, R: Files<File = File> + Print + Eprint + Clock + Net + AllocGlobal>(
     rt: &R,
     reading: &Reading<'a, '_>,
+    state: Option<StateFile<'a>>,
     top: &'a str,
 ) -> Result<(), Incident<'a>> {
     let mut lines = Outer::new(io::writer(rt));
-    let mut archive = archive_at(rt, top)?;
-    let read = list_on(rt, reading, &mut lines, &mut archive);
+    let mut archive = archive_at(rt, top, state.is_some())?;
+    let read = list_on(rt, reading, state, None, &mut lines, &mut archive);
     tell_unplaced(rt, &archive);
     match read {
         Ok(()) => Ok(()),
@@ -281,9 +300,21 @@ fn list_and_archive<'a, R: Files<File = File> + Print + Eprint + Clock + Net + A
     }
 }
 
+/// The state in a file, if one is named.
+fn state_in<'a, R: Files + AllocGlobal>(
+    rt: &R,
+    path: Option<&'a str>,
+) -> Result<Option<StateFile<'a>>, Incident<'a>> {
+    match path {
+        Some(path) => Ok(Some(StateFile::open(rt, path)?)),
+        None => Ok(None),
+    }
+}
+
 /// Asks servers for records, and writes a line for each packet to the standard output. With an output each record is
 /// added to that file. If the output is `-`, records go to the standard output, and lines to the standard error. With an
-/// archive each record is added to the file of its stream and day there.
+/// archive each record is added to the file of its stream and day there. With a state it goes on after what that tells
+/// of, and keeps there how far it is.
 pub fn read_servers<'a, R: Files<File = File> + Print + Eprint + Clock + Net + AllocGlobal>(
     rt: &R,
     servers: &'a str,
@@ -298,11 +329,13 @@ pub fn read_servers<'a, R: Files<File = File> + Print + Eprint + Clock + Net + A
         wants: wants_of(rt.alloc(), wants, moments.window())?,
         pause: options.retry.map(|count| Duration::from_secs(count as u64)),
         is_verbose,
+        times: times_of(options.is_iso),
     };
+    let state = state_in(rt, options.state)?;
     match (options.archive, options.output) {
-        (Some(top), _) => list_and_archive(rt, &reading, top),
-        (None, None) => list_lines(rt, &reading),
-        (None, Some("-")) => list_records(rt, &reading),
-        (None, Some(path)) => list_and_add(rt, &reading, path),
+        (Some(top), _) => list_and_archive(rt, &reading, state, top),
+        (None, None) => list_lines(rt, &reading, state),
+        (None, Some("-")) => list_records(rt, &reading, state),
+        (None, Some(path)) => list_and_add(rt, &reading, state, path),
     }
 }

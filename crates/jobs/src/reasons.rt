@@ -1,6 +1,7 @@
 //! Readers and writers of which the reason of a failure is kept.
 use std::io;
 use std::io::{Read, Write};
+use std::net::{OpenStream, Shutdown};
 
 /// Passes on what is read and written, and keeps why the last call that failed did.
 #[derive(Drop)]
@@ -47,6 +48,44 @@ impl<T: Write> Write for ReasonKeeper<T> {
         match self.inner.write(bytes) {
             Ok(count) => Ok(count),
             Err(reason) => Err(self.keep(reason)),
+        }
+    }
+
+    fn flush(&mut self) -> io::Result<()> {
+        self.inner.flush()
+    }
+}
+
+/// Passes on commands until one can't be sent. The connection is over then: nothing more is passed on, and the next
+/// read says so.
+#[derive(Drop)]
+pub struct CommandWriter<T> {
+    inner: T,
+    is_over: bool,
+}
+
+impl<T> CommandWriter<T> {
+    /// What is written to `inner`.
+    pub fn new(inner: T) -> CommandWriter<T> {
+        CommandWriter {
+            inner,
+            is_over: false,
+        }
+    }
+}
+
+impl<T: Write + OpenStream> Write for CommandWriter<T> {
+    fn write(&mut self, bytes: &[u8]) -> io::Result<usize> {
+        if self.is_over {
+            return Ok(bytes.len());
+        }
+        match self.inner.write(bytes) {
+            Ok(count) => Ok(count),
+            Err(_) => {
+                self.is_over = true;
+                let _ = self.inner.shutdown(Shutdown::Both);
+                Ok(bytes.len())
+            }
         }
     }
 

@@ -2,9 +2,10 @@
 ghost use Rattle.std.specs.Prelude.{◌≡◌, ◌||◌, is_some, option_and_then};
 ghost use Rattle.jobs.specs.Words.{seconds_of, turns_of};
 
+use crate::feeds::feed_files;
 use crate::files::{check_file, replay_files};
 use crate::incident::Incident;
-use crate::network::{feed_file, serve_sockets};
+use crate::network::serve_sockets;
 use crate::operator::ServeOptions;
 use crate::reading::read_servers;
 use crate::viewing::view_file;
@@ -69,7 +70,7 @@ where
     R::File: AsRawFd,
 {
     match job {
-        Job::Check { file } => check_file(rt, file),
+        Job::Check { file, options } => check_file(rt, file, options),
         Job::Replay { config, script } => replay_files(rt, config, script),
         Job::View { config, address } => view_file(rt, config, address),
         Job::Serve {
@@ -82,6 +83,7 @@ where
             feed_from,
             per_address,
             numbers,
+            log,
         } => {
             let timetable = timetable_of(turns, reread, report, numbers);
             let options = ServeOptions {
@@ -93,10 +95,11 @@ where
                 reread_seconds: seconds_in(reread),
                 report_seconds: seconds_in(report),
                 is_verbose,
+                log,
             };
             serve_sockets(rt, listen, feed, options)
         }
-        Job::Feed { server, file } => feed_file(rt, server, file, is_verbose),
+        Job::Feed { server, files } => feed_files(rt, server, files.as_slice(), is_verbose),
         Job::Read {
             server,
             wants,

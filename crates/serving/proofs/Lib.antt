@@ -4,3 +4,5 @@ pub mod RunLemmas
 pub mod CountLemmas
 pub mod AheadLemmas
 pub mod KeepLemmas
+pub mod LookLemmas
+pub mod PaceLemmas

@@ -8,3 +8,5 @@ pub mod Runs
 pub mod Served
 pub mod Counting
 pub mod Keeping
+pub mod Looking
+pub mod Paces

@@ -1,6 +1,8 @@
 //! What follows of a run.
 ghost use Rattle.serving.specs.Counting.{AsksAsDue};
 ghost use Rattle.serving.specs.Keeping.{KeepsAhead};
+ghost use Rattle.serving.specs.Looking.{AsksByTime};
+ghost use Rattle.serving.specs.Paces.{ComesOnTime};
 
 use crate::between::Between;
 
@@ -13,4 +15,16 @@ pub fn asks_as_due<B: Between>()
 /// are given.
 pub fn keeps_ahead<B: Between>()
     ensures { KeepsAhead B.Fault }
+{}
+
+/// In a run of all its turns, the configuration is asked for after exactly those turns at which it was said to be due
+/// by time, if it goes by time alone.
+pub fn asks_by_time<B: Between>()
+    ensures { AsksByTime B.Fault }
+{}
+
+/// What is done every so many seconds comes at the first look at a clock at which so many have passed since it came
+/// last, over any times that don't fall, and not at a look that fails.
+pub fn comes_on_time()
+    ensures { ComesOnTime }
 {}

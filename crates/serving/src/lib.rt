@@ -9,6 +9,7 @@ mod faults;
 pub mod laws;
 mod memory_between;
 mod new_server;
+mod pace;
 mod running;
 mod timetable;
 
@@ -18,5 +19,6 @@ pub use between::{Between, Due, NoConfiguration, NothingBetween, Refusal};
 pub use faults::ServeFault;
 pub use memory_between::{Made, MemoryBetween};
 pub use new_server::{serve, serve_between};
+pub use pace::Pace;
 pub use running::{run, serve_block};
 pub use timetable::Timetable;

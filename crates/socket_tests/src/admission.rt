@@ -1,11 +1,16 @@
 //! Who may connect: feeds from a list of addresses alone, and so many clients of one address.
 use access_list::AccessList;
-use loopback::{Centre, GREETING, at_limited_centre, connect_from, packet, record};
-use socket_ports::Admission;
+use logged_ports::{Doors, Reason};
+use loopback::{Centre, GREETING, any_port, at_limited_centre, connect_from, packet, record};
+use ports::Ports;
+use socket_ports::{Admission, MioPorts};
 use std::alloc::Global;
 use std::io::{Read, Write};
 use std::net::{Ipv4Addr, Net};
 use std::test::Fail;
+
+/// How many calls say what happened, until all has.
+const HAPPENINGS: u8 = 12;
 
 /// A second address of this machine.
 fn other() -> Ipv4Addr {
@@ -83,5 +88,35 @@ fn frees_a_place<R: Net + AllocGlobal>(rt: &R, centre: &mut Centre) -> Result<bo
 fn a_client_that_goes_leaves_its_place(rt: HostRuntime) -> Result<(), Fail> {
     let admission = admission(rt.alloc())?;
     assert!(rt; at_limited_centre(&rt, admission, frees_a_place)?);
+    Ok(())
+}
+
+/// Whether the ports tell from where a client came, and whom they turned away.
+fn tell_addresses<R: Net + AllocGlobal>(rt: &R, ports: &mut MioPorts) -> Result<bool, Fail> {
+    let (clients, feeds) = ports.bound();
+    let _first = connect_from(rt, other(), clients)?;
+    let _second = connect_from(rt, other(), clients)?;
+    let _third = connect_from(rt, other(), clients)?;
+    let _stranger = connect_from(rt, Ipv4Addr::LOCALHOST, feeds)?;
+    let mut away = 0usize;
+    for _ in 0..HAPPENINGS {
+        let _ = ports.next();
+        for one in ports.turned_away() {
+            let is_client = one.address == other() && one.reason == Reason::PerAddress;
+            let is_feed = one.address == Ipv4Addr::LOCALHOST && one.reason == Reason::FeedFrom;
+            if !is_client && !is_feed {
+                return Ok(false);
+            }
+            away = away.saturating_add(1);
+        }
+    }
+    Ok(away == 2 && ports.address(1) == other() && ports.address(9) == Ipv4Addr::UNSPECIFIED)
+}
+
+#[test]
+fn ports_tell_addresses_and_whom_they_turn_away(rt: HostRuntime) -> Result<(), Fail> {
+    let admission = admission(rt.alloc())?;
+    let mut ports = MioPorts::listen_to(&rt, rt.alloc(), any_port(), any_port(), admission)?;
+    assert!(rt; tell_addresses(&rt, &mut ports)?);
     Ok(())
 }

@@ -1,13 +1,14 @@
 //! What `feed` does over sockets.
-use jobs::{Endpoint, Failure, await_end, begin_feed, feed_records, send_feed, send_file};
+use jobs::{Endpoint, Failure, await_end, begin_feed, feed_records, send_feed, send_files};
 use loopback::{CENTRE, Centre, any_port, at_centre, packet, record};
+use record_listing::FeedTally;
 use sl_io::{Failing, MemorySource, Outer};
 use socket_ports::MioPorts;
 use std::alloc::Global;
-use std::fs;
+use std::fs::{self, File};
 use std::io::Write;
 use std::net::{Ipv4Addr, Net, OpenStream};
-use std::rt::Files;
+use std::rt::{Clock, Files};
 use std::test::Fail;
 
 /// A port of this machine.
@@ -71,25 +72,32 @@ fn a_feed_that_ends_inside_a_record_is_fault_41_and_its_whole_records_arrive(
     Ok(())
 }
 
-/// Sends a file of two records as the job `feed` does, and answers whether they have arrived once the server has ended
-/// the feed in order.
-fn fed_from_a_file<R: Files + Net + AllocGlobal>(
+/// Sends two files of a record each as the job `feed` does, and answers whether both have arrived once the server has
+/// ended the feed in order, and whether a server takes both.
+fn fed_from_files<R: Files<File = File> + Eprint + Clock + Net + AllocGlobal>(
     rt: &R,
     centre: &mut Centre,
 ) -> Result<bool, Fail> {
-    let bytes = two_records(rt.alloc(), b"")?;
-    fs::write(rt, "two.mseed", bytes.as_slice())?;
+    fs::write(rt, "first.mseed", &record(b"APE", b"BHZ", 1)?)?;
+    fs::write(rt, "second.mseed", &record(b"APE", b"BHZ", 2)?)?;
     let server = format!(in rt.alloc(); "127.0.0.1:{}", centre.ports().1)?;
-    let Ok(feed) = send_file(rt, server.as_str(), "two.mseed") else {
+    let mut tally = FeedTally::new();
+    let sent = send_files(
+        rt,
+        server.as_str(),
+        &["first.mseed", "second.mseed"],
+        &mut tally,
+    );
+    let Ok(Some(feed)) = sent else {
         return Ok(false);
     };
     centre.turns(3);
-    Ok(matches!(feed.wait(), Ok(2)) && holds_two(rt, centre)?)
+    Ok(matches!(feed.wait(), Ok(2)) && holds_two(rt, centre)? && tally.refused() == 0)
 }
 
 #[test]
-fn the_records_of_a_file_are_sent(rt: HostRuntime) -> Result<(), Fail> {
-    let has_arrived = at_centre(&rt, |rt, centre| fed_from_a_file(rt, centre))?;
+fn the_records_of_files_are_sent(rt: HostRuntime) -> Result<(), Fail> {
+    let has_arrived = at_centre(&rt, |rt, centre| fed_from_files(rt, centre))?;
     assert!(rt; has_arrived);
     Ok(())
 }

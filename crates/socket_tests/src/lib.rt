@@ -18,6 +18,8 @@ mod failing_jobs;
 #[cfg(test)]
 mod feeds;
 #[cfg(test)]
+mod followers;
+#[cfg(test)]
 mod hostile;
 #[cfg(test)]
 mod libslink;

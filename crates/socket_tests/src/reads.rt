@@ -1,7 +1,7 @@
 //! What `read` does over sockets.
 use jobs::Failure;
 use loopback::{Centre, at_centre, record};
-use packet_listing::{ListingFault, read_over};
+use packet_listing::{ListingFault, Times, read_over};
 use sl_io::{MemorySink, Outer};
 use slreader::{Plan, Want, Window};
 use std::alloc::Global;
@@ -65,6 +65,7 @@ fn read<R: Net + AllocGlobal>(
     let mut records = MemorySink::new(rt.alloc());
     let ended = read_over(
         rt.alloc(),
+        Times::Ticks,
         plan,
         &mut reader,
         &mut writer,

@@ -270,3 +270,27 @@ fn a_reread_by_seconds_is_a_reread(rt: HostRuntime) -> Result<(), Fail> {
     assert!(rt; run.errors.as_str().starts_with("seedlinkd: clients "));
     Ok(())
 }
+
+#[test]
+fn serve_tells_who_comes_and_goes(rt: HostRuntime) -> Result<(), Fail> {
+    let run = run_server_with(&rt, CLOSED, "--reread 1 --log")?;
+    assert!(rt; run.status == ExitCode::SUCCESS);
+    assert_eq!(rt;
+        run.errors.as_str(),
+        "seedlinkd: open 0 127.0.0.1\nseedlinkd: open 1 127.0.0.2\nseedlinkd: feed 2 127.0.0.1\n\
+        seedlinkd: close 1 127.0.0.2 bytes 587\nseedlinkd: feed 3 127.0.0.1\n"
+    );
+    Ok(())
+}
+
+#[test]
+fn serve_tells_whom_it_turns_away(rt: HostRuntime) -> Result<(), Fail> {
+    let run = run_server_with(&rt, OPEN, "--reread 1 --log --feed-from 127.0.0.2")?;
+    assert!(rt; run.status == ExitCode::SUCCESS);
+    assert_eq!(rt;
+        run.errors.as_str(),
+        "seedlinkd: open 0 127.0.0.1\nseedlinkd: open 1 127.0.0.2\nseedlinkd: away 127.0.0.1 feed-from\n\
+        seedlinkd: away 127.0.0.1 feed-from\n"
+    );
+    Ok(())
+}

@@ -149,6 +149,47 @@ fn a_new_client_is_marked_by_what_it_sends(rt: HostRuntime) -> Result<(), Fail> 
     Ok(())
 }
 
+/// How many bytes wait for a client.
+fn waiting_count(server: &Server, client: Client) -> usize {
+    match server.waiting(client) {
+        Ok(bytes) => bytes.len(),
+        Err(_) => 0,
+    }
+}
+
+/// What is found once so many bytes of those that wait were handed, and how many wait then.
+fn gone_on(server: &mut Server, client: Client, count: usize) -> Result<(Offer, usize), Fail> {
+    let Ok(bytes) = server.waiting(client) else {
+        return Ok((Offer::Ended, 0));
+    };
+    if count == 0 || bytes.len() < count {
+        return Ok((Offer::Ended, 0));
+    }
+    let found = server.go_on(client, count)?;
+    Ok((found, waiting_count(server, client)))
+}
+
+/// A client to which two records are handed on: after half of the first one's packet, after the rest of it, and after the
+/// second one's. The last is whether it is marked then.
+fn found_going_on(server: &mut Server, alloc: Global) -> Result<([(Offer, usize); 3], bool), Fail> {
+    let client = settled(server, alloc, outside(), FOREST)?;
+    server.arrive(&made(Record::Forest(1))?)?;
+    server.arrive(&made(Record::Forest(2))?)?;
+    let _found = server.offer(client)?;
+    let half = gone_on(server, client, 260)?;
+    let rest = gone_on(server, client, 260)?;
+    let second = gone_on(server, client, 520)?;
+    Ok(([half, rest, second], server.marked(client)?))
+}
+
+#[test]
+fn a_take_is_followed_by_an_offer(rt: HostRuntime) -> Result<(), Fail> {
+    let (found, is_marked) = at_server(rt.alloc(), found_going_on)?;
+    assert!(rt; found == [(Offer::Bytes, 260), (Offer::Bytes, 520), (Offer::Idle, 0)]);
+    assert!(rt; !is_marked);
+    Ok(())
+}
+
 /// How many clients there are: their bits take four words.
 const CROWD: usize = 200;
 

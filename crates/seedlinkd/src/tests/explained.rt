@@ -1,10 +1,10 @@
 //! The lines that explain a fault.
 use super::replays::config;
 use catalog::Config;
-use command_line::{Job, ReadOptions};
+use command_line::{CheckOptions, Job, ReadOptions};
 use config_findings::{finding_of, first_difference};
 use jobs::{Failure, Incident, replay, run_job};
-use record_listing::check_records;
+use record_listing::{AllStations, ListingOptions, check_records};
 use sl_io::{MemorySink, MemorySource};
 use std::alloc::Global;
 use std::test::Fail;
@@ -242,7 +242,13 @@ fn a_line_of_a_script(rt: HostRuntime) -> Result<(), Fail> {
 fn unchecked(alloc: Global, bytes: &[u8]) -> Result<String, Fail> {
     let mut source = MemorySource::new(bytes);
     let mut sink = MemorySink::new(alloc);
-    match check_records(alloc, &mut source, &mut sink)? {
+    match check_records(
+        alloc,
+        ListingOptions::lines(),
+        &AllStations,
+        &mut source,
+        &mut sink,
+    )? {
         None => Ok(String::new(alloc)),
         Some(finding) => {
             let incident = Incident::of_records("day.mseed", finding);
@@ -294,6 +300,7 @@ fn a_list_of_feeders(rt: HostRuntime) -> Result<(), Fail> {
         feed_from: Some("10.0.0.7, 10.0.0.0/33, localhost"),
         per_address: None,
         numbers: None,
+        log: false,
     };
     let wanted =
         "  cause: an access list is refused: a token has no mask behind its first slash\n  \
@@ -303,12 +310,21 @@ fn a_list_of_feeders(rt: HostRuntime) -> Result<(), Fail> {
     Ok(())
 }
 
+/// The lines of a file's records.
+const LINES: CheckOptions<'static> = CheckOptions {
+    is_iso: false,
+    has_summary: false,
+    is_quiet: false,
+    config: None,
+};
+
 #[test]
 fn a_file_that_is_not_there(rt: HostRuntime) -> Result<(), Fail> {
     let wanted = "  cause: a file could not be opened\n  file: none/at.all\n  \
         reason: No such file or directory (os error 2)\n";
     let check = Job::Check {
         file: "none/at.all",
+        options: LINES,
     };
     assert!(rt; unfinished(&rt, check)?.as_str() == wanted);
     let replay = Job::Replay {
@@ -322,7 +338,13 @@ fn a_file_that_is_not_there(rt: HostRuntime) -> Result<(), Fail> {
 #[test]
 fn a_folder_in_place_of_a_file(rt: HostRuntime) -> Result<(), Fail> {
     let lines = "  file: /\n  reason: Is a directory (os error 21)\n";
-    let told = unfinished(&rt, Job::Check { file: "/" })?;
+    let told = unfinished(
+        &rt,
+        Job::Check {
+            file: "/",
+            options: LINES,
+        },
+    )?;
     assert!(rt; told.as_str().ends_with(lines), "{told}");
     let replay = Job::Replay {
         config: "/",
@@ -335,9 +357,11 @@ fn a_folder_in_place_of_a_file(rt: HostRuntime) -> Result<(), Fail> {
 
 #[test]
 fn a_word_that_is_refused(rt: HostRuntime) -> Result<(), Fail> {
+    let mut files = Vec::new(rt.alloc());
+    files.push("none/at.all")?;
     let feed = Job::Feed {
         server: "localhost:18001",
-        file: "none/at.all",
+        files,
     };
     assert!(rt;
         unfinished(&rt, feed)?.as_str()
@@ -377,6 +401,8 @@ const HELD: ReadOptions<'static> = ReadOptions {
     retry: None,
     archive: None,
     output: None,
+    state: None,
+    is_iso: false,
 };
 
 #[test]

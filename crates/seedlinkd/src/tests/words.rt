@@ -1,5 +1,5 @@
 //! Words of the command line.
-use command_line::{Every, Job, ReadOptions, WordsFault, read_words};
+use command_line::{CheckOptions, Every, Job, ReadOptions, WordsFault, read_words};
 use std::alloc::{AllocError, Global};
 use std::test::Fail;
 
@@ -44,7 +44,42 @@ fn check_has_one_text(rt: HostRuntime) -> Result<(), Fail> {
     let job = read_words(rt.alloc(), words.as_slice())?.job;
     assert!(rt;
         job == Job::Check {
-            file: "records.mseed"
+            file: "records.mseed",
+            options: CheckOptions {
+                is_iso: false,
+                has_summary: false,
+                is_quiet: false,
+                config: None,
+            },
+        }
+    );
+    Ok(())
+}
+
+#[test]
+fn check_has_options(rt: HostRuntime) -> Result<(), Fail> {
+    let words = strings(
+        rt.alloc(),
+        &[
+            "seedlinkd",
+            "check",
+            "--quiet",
+            "f",
+            "--iso",
+            "--config",
+            "c",
+        ],
+    )?;
+    let job = read_words(rt.alloc(), words.as_slice())?.job;
+    assert!(rt;
+        job == Job::Check {
+            file: "f",
+            options: CheckOptions {
+                is_iso: true,
+                has_summary: false,
+                is_quiet: true,
+                config: Some("c"),
+            },
         }
     );
     Ok(())
@@ -97,6 +132,7 @@ fn serve_has_two_addresses_and_may_have_turns(rt: HostRuntime) -> Result<(), Fai
         feed_from: None,
         per_address: None,
         numbers: None,
+        log: false,
     };
     assert!(rt; job == wanted);
     Ok(())
@@ -128,6 +164,7 @@ fn serve_has_who_may_connect(rt: HostRuntime) -> Result<(), Fail> {
         feed_from: Some("10.0.0.7, 10.1.0.0/16"),
         per_address: Some(3),
         numbers: None,
+        log: false,
     };
     assert!(rt; job == wanted);
     Ok(())
@@ -233,15 +270,27 @@ fn a_report_goes_by_turns_or_seconds(rt: HostRuntime) -> Result<(), Fail> {
     Ok(())
 }
 
+/// Whether it is the feeder's job with a file and the standard input after it.
+fn is_feed(job: &Job<'_>) -> bool {
+    match job {
+        Job::Feed { server, files } => {
+            *server == "a:1"
+                && files.len() == 2
+                && files.first() == Some(&"records.mseed")
+                && files.last() == Some(&"-")
+        }
+        _ => false,
+    }
+}
+
 #[test]
-fn feed_has_a_server_and_a_file(rt: HostRuntime) -> Result<(), Fail> {
-    let words = strings(rt.alloc(), &["seedlinkd", "feed", "a:1", "records.mseed"])?;
+fn feed_has_a_server_and_files(rt: HostRuntime) -> Result<(), Fail> {
+    let words = strings(
+        rt.alloc(),
+        &["seedlinkd", "feed", "a:1", "records.mseed", "-"],
+    )?;
     let job = read_words(rt.alloc(), words.as_slice())?.job;
-    let wanted = Job::Feed {
-        server: "a:1",
-        file: "records.mseed",
-    };
-    assert!(rt; job == wanted);
+    assert!(rt; is_feed(&job));
     Ok(())
 }
 
@@ -291,6 +340,8 @@ fn read_has_wants_and_options(rt: HostRuntime) -> Result<(), Fail> {
         retry: None,
         archive: None,
         output: Some("-"),
+        state: None,
+        is_iso: false,
     };
     assert!(rt; is_read(&job, wanted));
     Ok(())
@@ -319,13 +370,15 @@ fn read_has_a_begin_and_an_end(rt: HostRuntime) -> Result<(), Fail> {
         retry: None,
         archive: None,
         output: None,
+        state: None,
+        is_iso: false,
     };
     assert!(rt; is_read(&job, wanted));
     Ok(())
 }
 
 #[test]
-fn read_has_servers_and_seconds(rt: HostRuntime) -> Result<(), Fail> {
+fn read_has_seconds_and_a_state(rt: HostRuntime) -> Result<(), Fail> {
     let words = strings(
         rt.alloc(),
         &[
@@ -336,6 +389,8 @@ fn read_has_servers_and_seconds(rt: HostRuntime) -> Result<(), Fail> {
             "XX_APE",
             "--retry",
             "5",
+            "--state",
+            "ape.state",
         ],
     )?;
     let job = read_words(rt.alloc(), words.as_slice())?.job;
@@ -346,6 +401,8 @@ fn read_has_servers_and_seconds(rt: HostRuntime) -> Result<(), Fail> {
         retry: Some(5),
         archive: None,
         output: None,
+        state: Some("ape.state"),
+        is_iso: false,
     };
     assert!(rt; is_read(&job, wanted));
     Ok(())

@@ -1,0 +1,35 @@
+//! What is done every so many seconds.
+ghost use Rattle.std.specs.Prelude.{◌≡◌};
+ghost use Rattle.serving.specs.Paces.{after, comes, new_pace};
+
+/// What is done every so many seconds, if it is, and when it was done last, in milliseconds of some clock.
+#[derive(Clone, Copy, Debug, PartialEq, Eq, Drop)]
+pub struct Pace {
+    seconds: Option<usize>,
+    last: u64,
+}
+
+impl Pace {
+    /// From the time 0 on.
+    pub fn new(seconds: Option<usize>) -> Pace
+        ensures { result ≡ new_pace seconds }
+    {
+        Pace { seconds, last: 0 }
+    }
+
+    /// Whether it comes at a time: so many seconds have passed since it came last. It does not come if there is no
+    /// time, as when a clock fails.
+    pub fn comes(&mut self, now: Option<u64>) -> bool
+        ensures comes { result ≡ comes self.old now }
+        ensures after { self.new ≡ after self.old now }
+    {
+        let (Some(seconds), Some(now)) = (self.seconds, now) else {
+            return false;
+        };
+        let is_due = now.saturating_sub(self.last) / 1_000 >= seconds as u64;
+        if is_due {
+            self.last = now;
+        }
+        is_due
+    }
+}
