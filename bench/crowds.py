@@ -77,34 +77,12 @@ def newcomers(words, sleepers):
     return used / count * 1e3
 
 
-def taken(reader):
-    """Takes one packet."""
-    left = load.PACKET
-    while left:
-        piece = reader.recv(left)
-        if not piece:
-            raise SystemExit("the connection ended")
-        left -= len(piece)
-
-
 def latency(words, sleepers):
     """The median of the milliseconds from a lone record's sending until the last of 16 readers has it."""
     with RunningProgram(words) as server:
         asleep = [sleeper(server.client_port) for _ in range(sleepers)]
-        readers = [load.reader(server.client_port) for _ in range(16)]
-        for reader in readers:
-            reader.setblocking(True)
-        feed = load.dial(server.feed_port)
-        time.sleep(0.4)
-        seen = []
-        for number in range(scaled(1000)):
-            start = time.monotonic()
-            feed.sendall(load.record(number))
-            for reader in readers:
-                taken(reader)
-            seen.append((time.monotonic() - start) * 1e3)
-            time.sleep(0.002)
-        for client in [*asleep, *readers, feed]:
+        seen = load.lone_latencies(*server.ports, 16, scaled(1000))
+        for client in asleep:
             client.close()
     return statistics.median(seen)
 

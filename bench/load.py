@@ -69,6 +69,36 @@ def idle_client(port):
     return client
 
 
+def take_packet(client):
+    """Takes one packet of a reader that may wait for it."""
+    left = PACKET
+    while left:
+        piece = client.recv(left)
+        if not piece:
+            raise SystemExit("the connection ended")
+        left -= len(piece)
+
+
+def lone_latencies(client_port, feed_port, readers, records):
+    """The milliseconds from each lone record's sending until the last of so many readers has it."""
+    clients = [reader(client_port) for _ in range(readers)]
+    for client in clients:
+        client.setblocking(True)
+    feed = dial(feed_port)
+    time.sleep(0.4)
+    seen = []
+    for number in range(records):
+        start = time.monotonic()
+        feed.sendall(record(number))
+        for client in clients:
+            take_packet(client)
+        seen.append((time.monotonic() - start) * 1e3)
+        time.sleep(0.002)
+    for client in [*clients, feed]:
+        client.close()
+    return seen
+
+
 class Load:
     """Readers that were sent nothing yet, and the records that they will be sent."""
 

@@ -41,12 +41,15 @@ put_compressed() { mkdir -p "$(dirname "$tree/$1")" && gzip -9 -n >"$tree/$1"; }
 put 755 crates/seedlinkd/out/seedlinkd usr/bin/seedlinkd
 strip --remove-section=.comment --remove-section=.note "$tree/usr/bin/seedlinkd"
 sed "s/^\.Os\$/.Os seedlinkd $version/; s|examples/loopback.toml|/etc/seedlinkd/seedlinkd.toml|; s|docs/\([A-Z]*\.md\)|/usr/share/doc/seedlinkd/\1|
-    s|^\.It Pa examples/seedlinkd.service|.It Pa /usr/lib/systemd/system/seedlinkd.service|" docs/seedlinkd.1 |
+    s|^\.It Pa examples/\(seedlinkd[-a-z@]*.service\)|.It Pa /usr/lib/systemd/system/\1|" docs/seedlinkd.1 |
     put_compressed usr/share/man/man1/seedlinkd.1.gz
 for unit in examples/*.service; do
+    case $unit in
+        *@.service) head='# A unit of which each instance is a server' ;;
+        *) head="# The configuration is /etc/seedlinkd/seedlinkd.toml. To run it: systemctl enable --now $(basename "$unit" .service)" ;;
+    esac
     sed '/^# A unit for systemd/,/^# \/etc/d; s|/usr/local/bin/|/usr/bin/|; s|/etc/seedlinkd.toml|/etc/seedlinkd/seedlinkd.toml|' "$unit" |
-        sed '1i # The configuration is /etc/seedlinkd/seedlinkd.toml. To run it: systemctl enable --now '"$(basename "$unit" .service)" |
-        put_text "usr/lib/systemd/system/$(basename "$unit")"
+        sed "1i $head" | put_text "usr/lib/systemd/system/$(basename "$unit")"
 done
 put 644 "$parts/seedlinkd.toml" etc/seedlinkd/seedlinkd.toml
 put 644 "$parts/sysusers.conf" usr/lib/sysusers.d/seedlinkd.conf

@@ -53,7 +53,7 @@ def faults_of_sources():
 def faults_of_tables(page):
     """The numbers and names in the first column of its tables, where a cell may have several."""
     cells = re.findall(r"^\| ([^|]*) \|", page, re.M)
-    return {(int(number), word) for cell in cells for number, word in re.findall(r"\b(\d+) ([A-Z]\w+)", cell)}
+    return {(int(number), word) for cell in cells for number, word in re.findall(r"\b(\d+) ([A-Z][a-z]\w*)", cell)}
 
 
 def examples_of_configurations(page):

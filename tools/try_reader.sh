@@ -1,6 +1,7 @@
 #!/bin/sh
-# Tries `read --retry` over loopback: servers are ended and started again while records come, a reader that follows them has
-# each record once, in order; and one that is given two servers goes on with the second.
+# Tries `read --retry` over loopback: servers are ended and started again while records come, and a reader that follows
+# them has each record once, in order. Then `read --state`: the reader is killed and started again. What its state tells
+# of comes once, and nothing is lost if it is killed before that is written.
 #
 #     tools/try_reader.sh [ROUNDS]
 set -u
@@ -83,4 +84,52 @@ for turn in $(seq "$rounds"); do
 done
 cmp "$room/fed" "$room/read" || fail "what was read is not what was fed"
 echo "a server that was started again $rounds times: $((rounds * each)) records were read, each once and in order"
+
+# A reader with a state, which is killed and started again.
+kill "$reader"
+wait "$reader" 2>/dev/null
+follow() {
+    "$program" read "127.0.0.1:$port" GE_APE --retry 1 --output "$room/$1" --state "$room/$1.state" >>"$room/lines" \
+        2>>"$room/told" &
+    reader=$!
+    sleep 1
+}
+killed() {
+    kill -KILL "$reader"
+    wait "$reader" 2>/dev/null
+}
+: >"$room/fed"
+follow kept
+turn=100
+for _ in $(seq "$rounds"); do
+    feed_round "$port" $((turn + 1))
+    await kept $(((turn - 99) * each))
+    sleep 2.2
+    killed
+    feed_round "$port" $((turn + 2))
+    follow kept
+    await kept $(((turn - 98) * each))
+    turn=$((turn + 2))
+done
+cmp "$room/fed" "$room/kept" || fail "what was read by a state is not what was fed"
+echo "a reader that was killed $rounds times: $(((turn - 100) * each)) records were read, each once and in order"
+
+# Killed at once: some records may come again, and none is lost.
+killed
+: >"$room/fed"
+cp "$room/kept.state" "$room/again.state"
+follow again
+for _ in $(seq "$rounds"); do
+    feed_round "$port" $((turn + 1))
+    killed
+    follow again
+    turn=$((turn + 1))
+done
+sleep 2
+python3 - "$room/fed" "$room/again" <<'PYTHON' || fail "a record was lost"
+import sys
+fed, read = ([data[at:at + 512] for at in range(0, len(data), 512)] for data in (open(name, "rb").read() for name in sys.argv[1:]))
+print(f"a reader that was killed amid records: {len(fed)} were fed, and {len(read) - len(set(read))} came again")
+sys.exit(set(fed) != set(read))
+PYTHON
 sort -u "$room/told"

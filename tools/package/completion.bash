@@ -12,15 +12,16 @@ _seedlinkd() {
         local options="--verbose --help"
         case $command in
             "") options+=" --version" ;;
-            serve) options+=" --listen --feed --turns --reread --report --feed-from --per-address --numbers" ;;
-            read) options+=" --fetch --begin --end --retry --archive --output" ;;
+            serve) options+=" --listen --feed --turns --reread --report --feed-from --per-address --numbers --log" ;;
+            check) options+=" --iso --summary --quiet --config" ;;
+            read) options+=" --fetch --begin --end --retry --archive --state --iso --output" ;;
         esac
         mapfile -t COMPREPLY < <(compgen -W "$options" -- "$current")
     elif [ -z "$command" ]; then
         mapfile -t COMPREPLY < <(compgen -W "serve feed read view check replay" -- "$current")
     else
         case $command,$previous,$count in
-            *,--output,* | *,--numbers,* | serve,serve,0 | view,view,0 | check,* | replay,* | feed,*,[1-9]*)
+            *,--output,* | *,--numbers,* | *,--state,* | *,--config,* | serve,serve,0 | view,view,0 | check,* | replay,* | feed,*,[1-9]*)
                 mapfile -t COMPREPLY < <(compgen -f -- "$current") ;;
         esac
     fi

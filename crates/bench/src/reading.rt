@@ -1,6 +1,6 @@
 //! A reader over memory: packets are read, cut out and listed.
 use crate::centre::record_of;
-use packet_listing::{Nowhere, read_over};
+use packet_listing::{Nowhere, Times, read_over};
 use sl_io::{MemorySink, MemorySource};
 use sl_packet::{Seq, frame};
 use slreader::{Plan, Want, Window};
@@ -35,6 +35,7 @@ pub fn list_packets(alloc: Global, packets: u32) -> anyhow::Result<u64> {
     let mut lines = MemorySink::new(alloc);
     read_over(
         alloc,
+        Times::Ticks,
         Plan::Multi(wants),
         &mut reader,
         &mut Nowhere::new(),
