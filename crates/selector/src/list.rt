@@ -24,21 +24,12 @@ impl Full {
 
 /// Whether a record with that location, channel and type passes selectors: there is none that isn't negated, or one
 /// matches, and no negated one matches.
-#[inline]
 pub(crate) fn passes_among(
     selectors: &[Selector],
     location: &[u8; 2],
     channel: &[u8; 3],
     kind: Kind,
 ) -> bool
-    ensures { result ≡ passes_parts location.now channel.now kind selectors.now }
-{
-    selectors.is_empty() || passes_some(selectors, location, channel, kind)
-}
-
-/// The same, if there are some. It is kept out of its callers, which mostly have none.
-#[inline(never)]
-fn passes_some(selectors: &[Selector], location: &[u8; 2], channel: &[u8; 3], kind: Kind) -> bool
     ensures { result ≡ passes_parts location.now channel.now kind selectors.now }
 {
     let mut is_chosen = false;

@@ -1,7 +1,7 @@
 use Rattle.std.proofs.Common.{◌≡◌, ◌&&◌, ◌||◌, not, drop}
 use Rattle.std.specs.List.{list_any}
 use Rattle.selector.specs.Matching.{matches_parts}
-use Rattle.selector.proofs.list.passes_some.Given as goal
+use Rattle.selector.proofs.list.passes_among.Given as goal
 
 abbrev pub invariant-loop-selector : goal.invariant-loop-selector
 invariant-loop-selector l =
