@@ -79,8 +79,10 @@ equal_codes : (s : Station) (network code : List ℕ) → AreCodes s.network s.c
     → codes_eq (key s.network s.code) (key network code) ≡ has_codes network code s
 equal_codes s network code its those =
     ap₂ (λ a b. a && b)
-    (equal_spelled s.network network (omega (arith, its.short.0)) (omega (arith, those.short.0)) its.network_bytes those.network_bytes)
-    (equal_spelled s.code code (omega (arith, its.short.1)) (omega (arith, those.short.1)) its.code_bytes those.code_bytes)
+    (equal_spelled s.network network (omega (arith, its.short.0)) (omega (arith, those.short.0))
+    its.network_bytes those.network_bytes)
+    (equal_spelled s.code code (omega (arith, its.short.1)) (omega (arith, those.short.1))
+    its.code_bytes those.code_bytes)
 
 -- two tests that both pass
 both_pass : (a b : Bool) → (a && b) ≡ true → (a ≡ true) × (b ≡ true)

@@ -12,8 +12,8 @@ use crate::fault::ConfigFault;
 use std::alloc::Global;
 use toml::{Table, Value};
 
-/// The table that a text spells, which is TOML in UTF-8. It fails with Toml if the text is not, and with OutOfMemory only
-/// where there is no memory.
+/// The table that a text spells, which is TOML in UTF-8. It fails with Toml if the text is not, and with OutOfMemory
+/// only where there is no memory.
 pub fn table_of(alloc: Global, text: &[u8]) -> Result<Table, ConfigFault>
     ensures ok { IfOk result (λ table. parse_document text.now ≡ Some (table_view table)) }
     ensures text { OnOk result (IsUtf8 text.now) }

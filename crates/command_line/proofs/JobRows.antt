@@ -235,7 +235,8 @@ archive_asked = refl
 
 -- an archive beside an output
 pub one_or_the_other :
-    job_of (codes "seedlinkd" ∷ codes "read" ∷ codes "a" ∷ codes "GE_WLF" ∷ codes "--archive=d" ∷ codes "--output=f" ∷ [])
+    job_of (codes "seedlinkd" ∷ codes "read" ∷ codes "a" ∷ codes "GE_WLF"
+    ∷ codes "--archive=d" ∷ codes "--output=f" ∷ [])
     ≡ None
 unfolding clap_on_literals
 one_or_the_other = refl

@@ -1,6 +1,7 @@
 -- What the words of a command line ask, by the definitions of `clap`: which subcommand they name, and which text or
 -- number stands at each of its arguments.
-use Rattle.std.specs.Prelude.{◌≡◌, ◌⊎◌, ◌&&◌, ◌||◌, not, is_some, ℕ, Bool, true, false, List, [], Option, Some, None, option_map, map}
+use Rattle.std.specs.Prelude.{◌≡◌, ◌⊎◌, ◌&&◌, ◌||◌, not, is_some, ℕ, Bool, true, false, List, [], map}
+use Rattle.std.specs.Prelude.{Option, Some, None, option_map}
 use Rattle.std.specs.Prelude.{◌∷◌, ◌+◌, ◌==◌, if◌then◌else◌, codes, drop, nat_lt, option_and_then, position, take}
 use Rattle.std.specs.Prelude.{IsSome}
 use Rattle.std.specs.Option.{option_map_or}

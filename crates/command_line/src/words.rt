@@ -322,9 +322,9 @@ fn refused(alloc: Global, error: clap::Error) -> WordsFault
     }
 }
 
-/// What is wrong with words that `clap` takes and that are no job: those of `read` have an end without a begin, or beside
-/// `--fetch`, `--retry` or `--state`, an archive beside an output, or a number with a sign or with leading zeros beyond
-/// ten digits; others such a number, or what says not how often something is done.
+/// What is wrong with words that `clap` takes and that are no job: those of `read` have an end without a begin, or
+/// beside `--fetch`, `--retry` or `--state`, an archive beside an output, or a number with a sign or with leading zeros
+/// beyond ten digits; others have such a number, or a word that doesn't say how often something is done.
 fn mistake_in(matches: &ArgMatches<'_>) -> &'static str {
     match matches.subcommand() {
         Some(("read", _)) =>

@@ -1,6 +1,6 @@
 -- A moment of the command line, and the text of a command's time that stands for it.
--- ISO 8601, date and time in UTC, to the second; SeedLink 3, the times of DATA, FETCH and TIME. Left out: fractions of a
--- second, other zones.
+-- ISO 8601, date and time in UTC, to the second; SeedLink 3, the times of DATA, FETCH and TIME. Left out: fractions of
+-- a second, other zones.
 use Rattle.std.specs.Prelude.{ℕ, Bool, ◌&&◌, ◌||◌, ◌==◌, if◌then◌else◌, List, length, map, take, slice_index}
 
 -- a text without the `Z` (90) that may stand behind its date and time

@@ -41,9 +41,9 @@ fn with_comma(byte: u8) -> u8
     }
 }
 
-/// The text of a command's time (SeedLink 3) for a moment of the command line: of `2024-02-29T00:00:00`, with or without
-/// a `Z` behind it, that is `2024,02,29,00,00,00`, and any other word is passed on as it stands. Whether the text spells
-/// a time is for `sl_time::parse` to say.
+/// The text of a command's time (SeedLink 3) for a moment of the command line: of `2024-02-29T00:00:00`, with or
+/// without a `Z` behind it, that is `2024,02,29,00,00,00`, and any other word is passed on as it stands. Whether the
+/// text spells a time is for `sl_time::parse` to say.
 pub fn command_time(alloc: Global, word: &[u8]) -> Result<Vec<u8>, AllocError>
     ensures { IfOk result (λ text. text.items ≡ command_text word.now) }
 {

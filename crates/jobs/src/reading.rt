@@ -53,8 +53,8 @@ pub struct Reading<'a, 'w> {
 }
 
 impl<'a> Reading<'a, '_> {
-    /// Tells a failure after which the next server is asked, and waits before that: a server that is a moment behind the
-    /// last one would hand out records again. It fails with a failure that ends the reading.
+    /// Tells a failure after which the next server is asked, and waits before that: a server that is a moment behind
+    /// the last one would hand out records again. It fails with a failure that ends the reading.
     pub fn pass_over<R: Eprint + Clock>(
         &self,
         rt: &R,
@@ -312,9 +312,9 @@ fn state_in<'a, R: Files + AllocGlobal>(
 }
 
 /// Asks servers for records, and writes a line for each packet to the standard output. With an output each record is
-/// added to that file. If the output is `-`, records go to the standard output, and lines to the standard error. With an
-/// archive each record is added to the file of its stream and day there. With a state it goes on after what that tells
-/// of, and keeps there how far it is.
+/// added to that file. If the output is `-`, records go to the standard output, and lines to the standard error. With
+/// an archive each record is added to the file of its stream and day. With a state the reading goes on after the
+/// packets that the state names, and the last packet of each station is kept in it.
 pub fn read_servers<'a, R: Files<File = File> + Print + Eprint + Clock + Net + AllocGlobal>(
     rt: &R,
     servers: &'a str,

@@ -160,8 +160,8 @@ fn lasts_in(alloc: Global, bytes: &[u8]) -> Result<Vec<LastPacket>, StateFault>
 }
 
 /// Reads the text of a state, exactly as it is written: for each station a line `NET STA NUMBER END`, with codes of
-/// 1 to 2 and 1 to 5 bytes of `A` to `Z` and `0` to `9`, the number in six hexadecimal digits in upper case, and the end in
-/// decimal ticks of 0.0001 s since 1970 or `-`.
+/// 1 to 2 and 1 to 5 bytes of `A` to `Z` and `0` to `9`, the number in six hexadecimal digits in upper case, and the
+/// end in decimal ticks of 0.0001 s since 1970 or `-`.
 ///
 /// It fails with Invalid where the text is none that is written, and with OutOfMemory only where memory lacks. What was
 /// written is read back.

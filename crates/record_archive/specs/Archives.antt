@@ -1,5 +1,6 @@
 -- What an archive holds of records: each record that has a place is put into its file, in order.
-use Rattle.std.specs.Prelude.{◌≡◌, ◌⊎◌, ℕ, ◌+◌, ◌-◌, ◌^◌, ◌<ℤ◌, ◌≤ℤ◌, nat_lt, min, if◌then◌else◌, length, List, [], ◌∷◌, ◌++◌}
+use Rattle.std.specs.Prelude.{◌≡◌, ◌⊎◌, ℕ, ◌+◌, ◌-◌, ◌^◌, ◌<ℤ◌, ◌≤ℤ◌, nat_lt, min, if◌then◌else◌}
+use Rattle.std.specs.Prelude.{length, List, [], ◌∷◌, ◌++◌}
 use Rattle.std.specs.Prelude.{Ok, Err, Result, true, false, Option, Some, None}
 use Rattle.protocol.specs.Record.{Facts, header_of}
 use Rattle.protocol.specs.declared.record.RecordFault.{RecordFault}

@@ -1,5 +1,5 @@
--- The place of a record in an archive: the SeisComP Data Structure, YEAR/NET/STA/CHA.TYPE/NET.STA.LOC.CHA.TYPE.YEAR.DAY,
--- by the day in which the record starts. LOC may be empty.
+-- The place of a record in an archive, by the day in which the record starts: the SeisComP Data Structure,
+-- YEAR/NET/STA/CHA.TYPE/NET.STA.LOC.CHA.TYPE.YEAR.DAY. LOC may be empty.
 use Rattle.std.specs.Prelude.{ℕ, ◌+◌, ◌/◌, ◌%◌, Bool, true, false, ◌&&◌, not, ◌==◌, nat_lt, List, [], ◌∷◌, ◌++◌}
 use Rattle.std.specs.List.{list_all}
 use Rattle.protocol.specs.Record.{Facts, trimmed}

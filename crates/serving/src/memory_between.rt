@@ -23,8 +23,8 @@ pub enum Made {
 }
 
 /// Answers in memory: they follow a script, the last first, and keep each call with its answer. Nothing is due by time,
-/// and numbers are kept, unless they were told otherwise. Once there was no memory to keep a call, they tell their calls
-/// no more.
+/// and numbers are kept, unless they were told otherwise. Once there was no memory to keep a call, no more calls are
+/// told.
 #[derive(Drop)]
 pub struct MemoryBetween {
     alloc: Global,

@@ -1,7 +1,7 @@
 -- What is counted of the packets that a reader was given.
 -- SeedLink 3, data packets. Left out: packets that no want asked for, which are counted like others.
-use Rattle.std.specs.Prelude.{ℕ, ℤ, ◌+◌, ◌-◌, ◌^◌, Bool, true, false, ◌&&◌, ◌||◌, if◌then◌else◌, List, [], ◌∷◌, map, min}
-use Rattle.std.specs.Prelude.{slice_range, Option, Some, None, option_map, option_and_then, slice_get}
+use Rattle.std.specs.Prelude.{ℕ, ℤ, ◌+◌, ◌-◌, ◌^◌, Bool, true, false, ◌&&◌, ◌||◌, if◌then◌else◌, List, [], ◌∷◌, map}
+use Rattle.std.specs.Prelude.{min, slice_range, Option, Some, None, option_map, option_and_then, slice_get}
 use Rattle.std.specs.Result.{result_ok}
 use Rattle.std.specs.Str.{bytes_eq}
 use Rattle.protocol.specs.Packet.{next_number, number_of}

@@ -45,8 +45,8 @@ pub data WindowValue : Type 0 where
   Held : (begin : Option (List ℕ)) → WindowValue
   Between : (begin last : List ℕ) → WindowValue
 
--- The action that asks for them, with or without a number. SeedLink 3 has TIME for a begin without a number, and nothing
--- for an end beside a number.
+-- The action that asks for them, with or without a number. SeedLink 3 has TIME for a begin without a number, and
+-- nothing for an end beside a number.
 abbrev pub action_of : WindowValue → Option ℕ → Option Action
 action_of (Following None) number = Some (Data number None)
 action_of (Following (Some begin)) None = Some (Time (Some begin) None)

@@ -1,6 +1,7 @@
 -- How many clients of each address are connected, by addresses that rise.
 use Rattle.std.proofs.Common.{◌≡◌, ℕ, zero, suc, ◌+◌, ◌<◌, ◌≤◌, ◌==◌, nat_lt, nat_le, Bool, true, false, List}
-use Rattle.std.proofs.Common.{◌&&◌, [], ◌∷◌, ◌++◌, length, get_or, count_by, IsTrue, ◌↔◌, Option, Some, None, refl, sym, ap, subst, ◌∙◌, arith}
+use Rattle.std.proofs.Common.{◌&&◌, [], ◌∷◌, ◌++◌, length, get_or, count_by, IsTrue, ◌↔◌, Option, Some, None}
+use Rattle.std.proofs.Common.{refl, sym, ap, subst, ◌∙◌, arith}
 use Rattle.std.specs.List.{insert, remove}
 use Rattle.std.specs.List.Sorted.{IsNonDecreasing, IsPartitionPoint}
 use Rattle.std.proofs.lemmas.List.Sorted.{IsNonDecreasingBy-from_default}

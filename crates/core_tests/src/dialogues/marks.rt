@@ -169,8 +169,8 @@ fn gone_on(server: &mut Server, client: Client, count: usize) -> Result<(Offer, 
     Ok((found, waiting_count(server, client)))
 }
 
-/// A client to which two records are handed on: after half of the first one's packet, after the rest of it, and after the
-/// second one's. The last is whether it is marked then.
+/// A client to which two records are handed on: after half of the first one's packet, after the rest of it, and after
+/// the second one's. The last is whether it is marked then.
 fn found_going_on(server: &mut Server, alloc: Global) -> Result<([(Offer, usize); 3], bool), Fail> {
     let client = settled(server, alloc, outside(), FOREST)?;
     server.arrive(&made(Record::Forest(1))?)?;

@@ -7,7 +7,8 @@ pub returns-in-Ok : goal.returns-in-Ok
 returns-in-Ok c =
     let vs = c.args.present.now in
     let found : IsVisitorAt vs c.args.port c.in-Ok.at = search rules in
-    ap (λ b. set vs c.in-Ok.at (record (slice_index_or vs c.in-Ok.at nobody) { bytes = b })) c.saturating_add-visitor.ensures
+    ap (λ b. set vs c.in-Ok.at (record (slice_index_or vs c.in-Ok.at nobody) { bytes = b }))
+    c.saturating_add-visitor.ensures
     ∙ sym (bytes-found c.args.port c.args.bytes vs c.in-Ok.at c.requires found)
 
 pub returns-in_default : goal.returns-in_default

@@ -16,7 +16,8 @@ slots-preserved c =
     let row = c.args.row.now in
     let here = c.slots.slot in
     let next = c.next_set-slot-in-slots.result in
-    let inside : here < length numbers = omega (arith, c.slots-test.true, c.len-end.ensures, c.args.self.now.numbers.ok.0) in
+    let inside : here < length numbers =
+    omega (arith, c.slots-test.true, c.len-end.ensures, c.args.self.now.numbers.ok.0) in
     let there : slice_get numbers here ≡ Some c.new.result =
     slice_get-get_or numbers here c.index.result.now inside
     ∙ ap (λ (n : ℕ). Some n) (sym c.index.ensures ∙ sym c.new.ensures) in

@@ -3,8 +3,8 @@ use Rattle.std.specs.Prelude.{◌+◌, slice_index_or, ◌∷◌, [], ◌++◌}
 use Rattle.slab.specs.Slab.{Slab, Updates, get}
 use Rattle.session_state.specs.Sessions.{SessionValue}
 use Rattle.server_core.specs.declared.clients.Clients.{Clients}
-use Rattle.server_core.proofs.SlotLemmas.{numbers-kept, opens-addresses, opens-sessions, opens-table, room-sessions, room-table}
-use Rattle.server_core.proofs.SlotLemmas.{settled-goes}
+use Rattle.server_core.proofs.SlotLemmas.{numbers-kept, opens-addresses, opens-sessions, opens-table}
+use Rattle.server_core.proofs.SlotLemmas.{room-sessions, room-table, settled-goes}
 use Rattle.server_core.proofs.NumberLemmas.{slot_in-more}
 use Rattle.server_core.specs.Clients.{IsTable, slot_in}
 use Rattle.server_core.proofs.clients.Clients.open.Goals as goal

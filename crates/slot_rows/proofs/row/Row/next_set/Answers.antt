@@ -10,7 +10,8 @@ returns-then-rest-ne0-clause-set c = λ inside.
     let some : 0 < c.word.result / 2 ^ (c.groups.at % 64) = omega (arith, c.if-rest-ne0.true) in
     let is : c.min.result ≡ min c.args.end
     (c.groups.at + lowest words c.groups.at c.word.result c.word.ensures c.word.type_inv some) = c.min.ensures in
-    let there : c.min.result ≡ c.groups.at + lowest words c.groups.at c.word.result c.word.ensures c.word.type_inv some =
+    let there : c.min.result
+    ≡ c.groups.at + lowest words c.groups.at c.word.result c.word.ensures c.word.type_inv some =
     omega (arith, is, inside) in
     ap (bit_in words) there ∙ lowest-set words c.groups.at c.word.result c.word.ensures c.word.type_inv some
 
