@@ -1,5 +1,5 @@
 -- What a keeper in memory tells.
-use Rattle.std.specs.Prelude.{ℕ, List, Option, Some, None, map, if◌then◌else◌}
+use Rattle.std.specs.Prelude.{List, Option, Some, None, map, if◌then◌else◌}
 use Rattle.packet_listing.specs.Keeping.{Deed}
 use Rattle.packet_listing.specs.Keeping.Deed.{Flushed, Kept}
 use Rattle.packet_listing.specs.declared.memory_keeper.Done.{Done}

@@ -1,7 +1,7 @@
 -- Why a listing of packets stops, by what its reader and its writers count.
 use Rattle.std.specs.Prelude.{◌≡◌, ℕ, ◌⊎◌, ◌-◌, ◌^◌, List, Option}
 use Rattle.std.specs.Io.KnownBytes.{IsAtEnd}
-use Rattle.sl_io.specs.Counts.{IsMore}
+use Rattle.sl_io.specs.Counts.{IsMore, StopsWriting}
 use Rattle.packet_listing.specs.declared.fault.ListingFault.{ListingFault}
 use Rattle.packet_listing.specs.declared.fault.ListingFault.TheVariants.{Reader, Read, Write, State}
 
@@ -26,3 +26,40 @@ StopsListing (Reader fault) ended no_read_failed quiet stopped = no_read_failed 
 StopsListing Read ended no_read_failed quiet stopped = ended × quiet
 StopsListing Write ended no_read_failed quiet stopped = no_read_failed × stopped
 StopsListing State ended no_read_failed quiet stopped = Unit {0}
+
+-- ---- over three writers: that of commands, that of lines and that of records
+
+-- how many writes of a writer failed, and how many took nothing
+pub record Writes : Type 0 where
+  pub failures : ℕ
+  pub empty : ℕ
+
+abbrev pub writes : (failures empty : ℕ) → Writes
+writes failures empty = record { failures = failures; empty = empty }
+
+-- none more, before and after
+abbrev pub AreQuiet : (before after : Writes) → Type 0
+AreQuiet before after = IsQuiet before.failures after.failures before.empty after.empty
+
+-- one of them stopped the writing
+abbrev pub Stop : (before after : Writes) → Type 0
+Stop before after = StopsWriting before.failures after.failures before.empty after.empty
+
+-- no write of lines or of records failed
+abbrev pub AreBothQuiet : (lines lines' records records' : Writes) → Type 0
+AreBothQuiet lines lines' records records' = AreQuiet lines lines' × AreQuiet records records'
+
+-- one of the two stopped the writing, and the other one did not
+abbrev pub OneStops : (lines lines' records records' : Writes) → Type 0
+OneStops lines lines' records records' =
+    (Stop lines lines' × AreQuiet records records') ⊎ (AreQuiet lines lines' × Stop records records')
+
+-- Why a listing stops, by whether the reading ended or no read failed, and by what each writer counts: all but one of
+-- them are quiet, and all of them where the fault is not one of writing.
+abbrev pub StopsOver : ListingFault → (ended no_read_failed : Type 0)
+    → (sent sent' lines lines' records records' : Writes) → Type 0
+StopsOver fault ended no_read_failed sent sent' lines lines' records records' =
+    StopsListing fault ended no_read_failed
+    (AreQuiet sent sent' × AreBothQuiet lines lines' records records')
+    ((Stop sent sent' × AreBothQuiet lines lines' records records')
+    ⊎ (AreQuiet sent sent' × OneStops lines lines' records records'))

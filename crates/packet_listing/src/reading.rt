@@ -17,7 +17,8 @@ ghost use Rattle.packet_listing.specs.Whole.{IsNotBegunBy};
 ghost use Rattle.packet_listing.specs.Whole.{CountsWritten, Ends, RecordsFirst, StopsAt, is_told_before};
 ghost use Rattle.packet_listing.specs.Keeping.{CountsKeeping, EndsKept, KeepsCounted, Steps, Tells};
 ghost use Rattle.packet_listing.specs.Keeping.Deed.{Flushed, Kept};
-ghost use Rattle.packet_listing.specs.Stops.{EndsReading, EndsReads, IsQuiet, StopsListing};
+ghost use Rattle.packet_listing.specs.Stops.{AreBothQuiet, EndsReading, EndsReads, IsQuiet, OneStops, StopsOver};
+ghost use Rattle.packet_listing.specs.Stops.{writes};
 
 use crate::fault::ListingFault;
 use crate::keeping::{Keeper, NothingKept, keep_behind, keep_if_due};
@@ -61,17 +62,14 @@ fn write_output<O: Sink, P: Sink>(
     ensures lines { OnOk result (Appends (O.written out.old) (O.written out.new) output.old.lines) }
     ensures records { OnOk result (Appends (P.written records.old) (P.written records.new) output.old.records) }
     ensures cleared { OnOk result (output.new ≡ record output.old { lines = []; records = [] }) }
-    ensures quiet { OnOk result (IsQuiet (O.failures out.old) (O.failures out.new)
-        (O.empty_writes out.old) (O.empty_writes out.new)
-        × IsQuiet (P.failures records.old) (P.failures records.new)
-        (P.empty_writes records.old) (P.empty_writes records.new)) }
-    ensures stopped { OnErr result ((StopsWriting (O.failures out.old) (O.failures out.new)
-        (O.empty_writes out.old) (O.empty_writes out.new)
-        × IsQuiet (P.failures records.old) (P.failures records.new)
-        (P.empty_writes records.old) (P.empty_writes records.new))
-        ⊎ (IsQuiet (O.failures out.old) (O.failures out.new) (O.empty_writes out.old) (O.empty_writes out.new)
-        × StopsWriting (P.failures records.old) (P.failures records.new)
-        (P.empty_writes records.old) (P.empty_writes records.new))) }
+    ensures quiet { OnOk result (AreBothQuiet
+        (writes (O.failures out.old) (O.empty_writes out.old)) (writes (O.failures out.new) (O.empty_writes out.new))
+        (writes (P.failures records.old) (P.empty_writes records.old))
+        (writes (P.failures records.new) (P.empty_writes records.new))) }
+    ensures stopped { OnErr result (OneStops
+        (writes (O.failures out.old) (O.empty_writes out.old)) (writes (O.failures out.new) (O.empty_writes out.new))
+        (writes (P.failures records.old) (P.empty_writes records.old))
+        (writes (P.failures records.new) (P.empty_writes records.new))) }
     ensures order { OnErr result (WritesRecordsFirst output.old
         (O.written out.old) (O.written out.new) (P.written records.old) (P.written records.new)) }
 {
@@ -180,28 +178,15 @@ fn read_blocks<R: Source, W: Sink, O: Sink, P: Sink, K: Keeper<P>>(
     ensures plan { IfErr result (λ fault. fault ≢ Reader Limit) }
     ensures behind { KeepsCounted core.old (P.written records.old) (K.done keeper.old) (K.done keeper.new) }
     ensures keeper { CountsKeeping result (K.failures keeper.old) (K.failures keeper.new) }
-    ensures stopped { IfErr result (λ fault. StopsListing fault
+    ensures stopped { IfErr result (λ fault. StopsOver fault
         (EndsReads (R.failures reader.old) (R.failures reader.new)
         (R.calls reader.old) (R.calls reader.new) (R.left reader.new))
         (R.failures reader.new ≡ R.failures reader.old)
-        (IsQuiet (W.failures writer.old) (W.failures writer.new) (W.empty_writes writer.old)
-        (W.empty_writes writer.new)
-        × IsQuiet (O.failures out.old) (O.failures out.new) (O.empty_writes out.old) (O.empty_writes out.new)
-        × IsQuiet (P.failures records.old) (P.failures records.new)
-        (P.empty_writes records.old) (P.empty_writes records.new))
-        ((StopsWriting (W.failures writer.old) (W.failures writer.new)
-        (W.empty_writes writer.old) (W.empty_writes writer.new)
-        × IsQuiet (O.failures out.old) (O.failures out.new) (O.empty_writes out.old) (O.empty_writes out.new)
-        × IsQuiet (P.failures records.old) (P.failures records.new)
-        (P.empty_writes records.old) (P.empty_writes records.new))
-        ⊎ (IsQuiet (W.failures writer.old) (W.failures writer.new)
-        (W.empty_writes writer.old) (W.empty_writes writer.new)
-        × ((StopsWriting (O.failures out.old) (O.failures out.new) (O.empty_writes out.old) (O.empty_writes out.new)
-        × IsQuiet (P.failures records.old) (P.failures records.new)
-        (P.empty_writes records.old) (P.empty_writes records.new))
-        ⊎ (IsQuiet (O.failures out.old) (O.failures out.new) (O.empty_writes out.old) (O.empty_writes out.new)
-        × StopsWriting (P.failures records.old) (P.failures records.new)
-        (P.empty_writes records.old) (P.empty_writes records.new)))))) }
+        (writes (W.failures writer.old) (W.empty_writes writer.old))
+        (writes (W.failures writer.new) (W.empty_writes writer.new))
+        (writes (O.failures out.old) (O.empty_writes out.old)) (writes (O.failures out.new) (O.empty_writes out.new))
+        (writes (P.failures records.old) (P.empty_writes records.old))
+        (writes (P.failures records.new) (P.empty_writes records.new))) }
 {
     let mut kept = core.records();
     'reads: for _ in 0..u64::MAX {
@@ -271,28 +256,15 @@ pub fn read_over<R: Source, W: Sink, O: Sink, P: Sink>(
     ensures plan { OnOk result (is_plan (plan_value plan.entry) ≡ true) }
     ensures untouched { IfErr result (λ fault. fault ≡ Reader Limit → (reader.new ≡ reader.old)
         × (writer.new ≡ writer.old) × (out.new ≡ out.old) × (records.new ≡ records.old)) }
-    ensures stopped { IfErr result (λ fault. StopsListing fault
+    ensures stopped { IfErr result (λ fault. StopsOver fault
         (EndsReads (R.failures reader.old) (R.failures reader.new)
         (R.calls reader.old) (R.calls reader.new) (R.left reader.new))
         (R.failures reader.new ≡ R.failures reader.old)
-        (IsQuiet (W.failures writer.old) (W.failures writer.new) (W.empty_writes writer.old)
-        (W.empty_writes writer.new)
-        × IsQuiet (O.failures out.old) (O.failures out.new) (O.empty_writes out.old) (O.empty_writes out.new)
-        × IsQuiet (P.failures records.old) (P.failures records.new)
-        (P.empty_writes records.old) (P.empty_writes records.new))
-        ((StopsWriting (W.failures writer.old) (W.failures writer.new)
-        (W.empty_writes writer.old) (W.empty_writes writer.new)
-        × IsQuiet (O.failures out.old) (O.failures out.new) (O.empty_writes out.old) (O.empty_writes out.new)
-        × IsQuiet (P.failures records.old) (P.failures records.new)
-        (P.empty_writes records.old) (P.empty_writes records.new))
-        ⊎ (IsQuiet (W.failures writer.old) (W.failures writer.new)
-        (W.empty_writes writer.old) (W.empty_writes writer.new)
-        × ((StopsWriting (O.failures out.old) (O.failures out.new) (O.empty_writes out.old) (O.empty_writes out.new)
-        × IsQuiet (P.failures records.old) (P.failures records.new)
-        (P.empty_writes records.old) (P.empty_writes records.new))
-        ⊎ (IsQuiet (O.failures out.old) (O.failures out.new) (O.empty_writes out.old) (O.empty_writes out.new)
-        × StopsWriting (P.failures records.old) (P.failures records.new)
-        (P.empty_writes records.old) (P.empty_writes records.new)))))) }
+        (writes (W.failures writer.old) (W.empty_writes writer.old))
+        (writes (W.failures writer.new) (W.empty_writes writer.new))
+        (writes (O.failures out.old) (O.empty_writes out.old)) (writes (O.failures out.new) (O.empty_writes out.new))
+        (writes (P.failures records.old) (P.empty_writes records.old))
+        (writes (P.failures records.new) (P.empty_writes records.new))) }
 {
     let Ok(mut output) = Output::new(alloc, times, &plan) else {
         return Err(ListingFault::Reader(ReaderFault::OutOfMemory));
@@ -450,28 +422,15 @@ pub fn read_further<R: Source, W: Sink, O: Sink, P: Sink, K: Keeper<P>>(
     ensures last_at { IfErr result (λ fault. is_told_before fault ≡ true
         → EndsKept tally.new (P.written records.new) (K.done keeper.old) (K.done keeper.new)) }
     ensures keeper { CountsKeeping result (K.failures keeper.old) (K.failures keeper.new) }
-    ensures stopped { IfErr result (λ fault. StopsListing fault
+    ensures stopped { IfErr result (λ fault. StopsOver fault
         (EndsReads (R.failures reader.old) (R.failures reader.new)
         (R.calls reader.old) (R.calls reader.new) (R.left reader.new))
         (R.failures reader.new ≡ R.failures reader.old)
-        (IsQuiet (W.failures writer.old) (W.failures writer.new) (W.empty_writes writer.old)
-        (W.empty_writes writer.new)
-        × IsQuiet (O.failures out.old) (O.failures out.new) (O.empty_writes out.old) (O.empty_writes out.new)
-        × IsQuiet (P.failures records.old) (P.failures records.new)
-        (P.empty_writes records.old) (P.empty_writes records.new))
-        ((StopsWriting (W.failures writer.old) (W.failures writer.new)
-        (W.empty_writes writer.old) (W.empty_writes writer.new)
-        × IsQuiet (O.failures out.old) (O.failures out.new) (O.empty_writes out.old) (O.empty_writes out.new)
-        × IsQuiet (P.failures records.old) (P.failures records.new)
-        (P.empty_writes records.old) (P.empty_writes records.new))
-        ⊎ (IsQuiet (W.failures writer.old) (W.failures writer.new)
-        (W.empty_writes writer.old) (W.empty_writes writer.new)
-        × ((StopsWriting (O.failures out.old) (O.failures out.new) (O.empty_writes out.old) (O.empty_writes out.new)
-        × IsQuiet (P.failures records.old) (P.failures records.new)
-        (P.empty_writes records.old) (P.empty_writes records.new))
-        ⊎ (IsQuiet (O.failures out.old) (O.failures out.new) (O.empty_writes out.old) (O.empty_writes out.new)
-        × StopsWriting (P.failures records.old) (P.failures records.new)
-        (P.empty_writes records.old) (P.empty_writes records.new)))))) }
+        (writes (W.failures writer.old) (W.empty_writes writer.old))
+        (writes (W.failures writer.new) (W.empty_writes writer.new))
+        (writes (O.failures out.old) (O.empty_writes out.old)) (writes (O.failures out.new) (O.empty_writes out.new))
+        (writes (P.failures records.old) (P.empty_writes records.old))
+        (writes (P.failures records.new) (P.empty_writes records.new))) }
 {
     let Ok(mut block) = vec![in alloc; 0; BLOCK] else {
         return Err(ListingFault::Reader(ReaderFault::OutOfMemory));

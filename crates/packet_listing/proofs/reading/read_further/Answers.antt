@@ -37,7 +37,7 @@ returns-in-Err-clause-order g c = nothing-written _ _ _ _ _
 pub returns-in-Err-clause-stopped : goal.returns-in-Err-clause-stopped
 returns-in-Err-clause-stopped g c =
     stops-quietly c.in-Err.fault _ _ _ _ _ c.in-Err.ensures.fault refl
-    ((refl, refl), (refl, refl), (refl, refl))
+    ((refl, refl), ((refl, refl), (refl, refl)))
 
 pub returns-in-Err-clause-behind : goal.returns-in-Err-clause-behind
 returns-in-Err-clause-behind g c = keeps-none _ _
