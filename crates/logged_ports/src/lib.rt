@@ -1,8 +1,9 @@
 //! Ports over ports that note who comes and goes: each call is passed on as it is, and what it says of a visit is noted
 //! in a journal. A visit is a connection's, from its join to its end.
 //!
-//! What is noted is a function of the calls, of the connections that the inner ports turned away themselves, and of the
-//! addresses from which feeds came. Nothing is allocated once the ports are made. Left out: when something is noted.
+//! What is noted is a function of the calls, of the connections that the inner ports turned away themselves, of the
+//! addresses from which feeds came, and of which records a judge takes. Nothing is allocated once the ports are made.
+//! Left out: when something is noted.
 #![tactic(auto)]
 
 ghost use Rattle.std.specs.Prelude.{ℕ, ◌≡◌, ◌∷◌, [], Bool, List};
