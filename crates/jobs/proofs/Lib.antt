@@ -1,1 +1,2 @@
+pub mod ConfiguredLemmas
 mod Examples

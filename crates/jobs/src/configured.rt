@@ -1,5 +1,7 @@
-//! The stations of a configuration.
+//! The stations of a configuration, and the records of them.
 use catalog::Config;
+use logged_ports::RecordJudge;
+use mseed_header::read;
 use record_listing::Stations;
 
 /// The stations of a configuration, of which a file may have records.
@@ -22,5 +24,34 @@ impl Stations for ConfiguredStations<'_> {
 
     fn has(&self, network: &[u8], station: &[u8]) -> bool {
         self.config.place_of(network, station).is_some()
+    }
+}
+
+/// The records that a server with a configuration takes.
+#[derive(Drop)]
+pub struct ConfiguredRecords {
+    config: Config,
+}
+
+impl ConfiguredRecords {
+    /// Those of that configuration.
+    pub fn new(config: Config) -> ConfiguredRecords {
+        ConfiguredRecords { config }
+    }
+}
+
+impl RecordJudge for ConfiguredRecords {
+    ghost use Rattle.jobs.specs.Configured.{is_accepted};
+
+    ghost takes = { λ s bytes. is_accepted s.config bytes };
+
+    fn takes(&self, bytes: &[u8; 512]) -> bool {
+        match read(bytes) {
+            Ok(header) => {
+                let place = self.config.place_of(header.network(), header.station());
+                place.is_some()
+            }
+            Err(_) => false,
+        }
     }
 }

@@ -3,6 +3,7 @@ ghost use Rattle.std.specs.Prelude.{◌≡◌};
 ghost use Rattle.jobs.specs.Faults.{unlisted};
 
 use crate::admitting::admission_of;
+use crate::configured::ConfiguredRecords;
 use crate::endpoint::Endpoint;
 use crate::failure::Failure;
 use crate::files::{config_at, unopened};
@@ -18,6 +19,7 @@ use logged_ports::LoggedPorts;
 use serving::ServeFault;
 use sl_io::Outer;
 use socket_ports::{Admission, MioPorts};
+use std::alloc::{AllocError, Global};
 use std::io;
 use std::net::{Net, SocketAddr, TcpStream};
 use std::os::fd::AsRawFd;
@@ -110,6 +112,19 @@ where
     }
 }
 
+/// Ports that tell who comes and goes, and how many records of a feed were refused. Which are taken never changes, since
+/// no reread changes the stations: so those of the configuration as it is now serve to the end.
+fn ports_that_log<'l, D: Device + Drop>(
+    alloc: Global,
+    config: &Config,
+    ports: MioPorts,
+    lines: &'l SharedLines<D>,
+) -> Result<LoggedPorts<MioPorts, VisitLines<'l, D>, ConfiguredRecords>, AllocError> {
+    let judge = ConfiguredRecords::new(config.copy(alloc)?);
+    let most = config.max_connections();
+    LoggedPorts::new(alloc, ports, most, VisitLines::new(lines), judge)
+}
+
 /// Serves as the options say, and tells who comes and goes.
 fn serve_logged<'a, R: Files + Clock + AllocGlobal, D: Device + Drop>(
     rt: &R,
@@ -119,9 +134,7 @@ fn serve_logged<'a, R: Files + Clock + AllocGlobal, D: Device + Drop>(
     numbers: Option<NumberFile<'a>>,
     lines: &SharedLines<D>,
 ) -> Result<MioPorts, Incident<'a>> {
-    let most = config.max_connections();
-    let journal = VisitLines::new(lines);
-    let Ok(logged) = LoggedPorts::new(rt.alloc(), ports, most, journal) else {
+    let Ok(logged) = ports_that_log(rt.alloc(), &config, ports, lines) else {
         return Err(Incident {
             failure: Failure::Serve(ServeFault::OutOfMemory),
             site: Site::Unnamed,

@@ -1,2 +1,4 @@
+pub mod FeedTallyLemmas
 pub mod NoteLemmas
+pub mod OpenFeedLemmas
 pub mod VisitorLemmas

@@ -1,3 +1,5 @@
 pub mod Books
+pub mod FeedTallies
+pub mod OpenFeeds
 pub mod Visitors
 pub mod Visits

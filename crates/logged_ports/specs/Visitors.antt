@@ -1,4 +1,4 @@
--- Who is at the open ports of a kind.
+-- The clients that are connected.
 -- Ports are this project's own. Left out: whose a port is.
 use Rattle.std.specs.Prelude.{◌≡◌, ℕ, ◌+◌, ◌-◌, ◌^◌, ◌<◌, ◌≤◌, ◌==◌, ◌&&◌, nat_lt, not, Bool, true, if◌then◌else◌}
 use Rattle.std.specs.Prelude.{List, [], ◌∷◌, ◌++◌, length, min, slice_index_or, Option, Some, None}

@@ -1,11 +1,15 @@
 //! What is known of the open ports.
 ghost use Rattle.std.specs.Prelude.{◌≡◌, IfOk, None, IfNone, OnSome, Some, find};
-ghost use Rattle.logged_ports.specs.Books.{after_read, after_write, client_reason, closed, feed_reason, gone, heard};
-ghost use Rattle.logged_ports.specs.Books.{new_book, opened, over, settled, turned};
+ghost use Rattle.logged_ports.specs.Books.{after_read, after_write, client_reason, closed, feed_gone, feed_reason};
+ghost use Rattle.logged_ports.specs.Books.{gone, heard, new_book, opened, over, settled, turned};
+ghost use Rattle.logged_ports.specs.OpenFeeds.{count_at};
 ghost use Rattle.logged_ports.specs.Visitors.{fresh, is_at};
 ghost use Rattle.logged_ports.specs.Visits.{listed};
 ghost use Rattle.ports.specs.declared.answers.Happening.TheVariants.{Joined};
 
+use crate::RecordJudge;
+use crate::feed_tally::RecordCount;
+use crate::open_feeds::OpenFeeds;
 use crate::visit::{Away, Reason, Visit};
 use crate::visitor::{Newcomer, Visitor};
 use crate::visitors::Visitors;
@@ -15,9 +19,6 @@ use std::net::Ipv4Addr;
 /// How many feeds may be connected.
 const FEEDS: usize = 16;
 
-/// How many bytes a record has.
-const RECORD: u64 = 512;
-
 /// Who is at the open ports, and who joined last. Ports join at rising numbers; one that does not, or for which there
 /// is no room, is let in without being followed, and its end is not noted.
 #[derive(Drop)]
@@ -25,7 +26,7 @@ pub struct Book {
     /// How many clients may be connected.
     most: usize,
     clients: Visitors,
-    feeds: Visitors,
+    feeds: OpenFeeds,
     joined: Option<Newcomer>,
 }
 
@@ -35,7 +36,7 @@ impl Book {
         ensures { IfOk result (λ book. book ≡ new_book most) }
     {
         let clients = Visitors::new(alloc, most)?;
-        let feeds = Visitors::new(alloc, FEEDS)?;
+        let feeds = OpenFeeds::new(alloc, FEEDS)?;
         Ok(Book {
             most,
             clients,
@@ -59,13 +60,10 @@ impl Book {
                     address: client.address,
                 })
             }
-            Some(Newcomer::Feed(feed)) => {
+            Some(Newcomer::Feed { port, address }) => {
                 self.joined = None;
-                self.feeds.add(feed);
-                Some(Visit::Feed {
-                    port: feed.port,
-                    address: feed.address,
-                })
+                self.feeds.add(port);
+                Some(Visit::Feed { port, address })
             }
         }
     }
@@ -79,16 +77,16 @@ impl Book {
 
     /// A feed's port joins.
     pub fn join_feed(&mut self, port: u64, address: Ipv4Addr)
-        ensures { self.new ≡ record self.old { joined = Some (Newcomer.Feed (fresh port address)) } }
+        ensures { self.new ≡ record self.old { joined = Some (Newcomer.Feed port address) } }
     {
-        self.joined = Some(Newcomer::Feed(Visitor::new(port, address)));
+        self.joined = Some(Newcomer::Feed { port, address });
     }
 
-    /// A port gave so many bytes.
-    pub fn read(&mut self, port: u64, bytes: u64)
-        ensures { self.new ≡ after_read port bytes self.old }
+    /// A port gave some bytes.
+    pub fn read<K: RecordJudge>(&mut self, port: u64, bytes: &[u8], judge: &K)
+        ensures { self.new ≡ after_read (K.takes judge.now) port bytes.now self.old }
     {
-        self.feeds.add_bytes(port, bytes);
+        self.feeds.see(port, bytes, judge);
     }
 
     /// A port took so many bytes.
@@ -129,8 +127,13 @@ impl Book {
                 address: client.address,
                 reason: self.client_reason(),
             }),
-            Some(Newcomer::Feed(feed)) if feed.port == port => Some(Away {
-                address: feed.address,
+            Some(
+                Newcomer::Feed {
+                    port: last,
+                    address,
+                },
+            ) if last == port => Some(Away {
+                address,
                 reason: self.feed_reason(),
             }),
             _ => None,
@@ -167,13 +170,14 @@ impl Book {
 
     /// A feed's port is shut, if it is one.
     pub fn end_feed(&mut self, port: u64) -> Option<Visit>
-        ensures visit { listed result ≡ over (find (is_at port) self.old.feeds.present) }
-        ensures book { self.new ≡ record self.old { feeds = gone port self.old.feeds } }
+        ensures visit { listed result ≡ over port (count_at port self.old.feeds.present) }
+        ensures book { self.new ≡ record self.old { feeds = feed_gone port self.old.feeds } }
     {
         match self.feeds.remove(port) {
-            Some(gone) => Some(Visit::FeedOver {
-                port: gone.port,
-                records: gone.bytes / RECORD,
+            Some(RecordCount { records, refused }) => Some(Visit::FeedOver {
+                port,
+                records,
+                refused,
             }),
             None => None,
         }

@@ -57,16 +57,18 @@ pub enum Visit {
         port: u64,
         address: Ipv4Addr,
     },
-    /// A feed's port was shut, after it gave so many whole records of 512 bytes.
+    /// A feed's port was shut, after it gave so many whole records of 512 bytes, of which so many were refused; at most
+    /// 2^64 - 1 of each.
     FeedOver {
         port: u64,
         records: u64,
+        refused: u64,
     },
 }
 
 impl Display for Visit {
     /// As `open 17 10.0.0.7`, `away 10.0.0.7 max_connections`, `close 17 10.0.0.7 bytes 52000`, `feed 3 10.0.0.2` and
-    /// `feed 3 over records 120`.
+    /// `feed 3 over records 120 refused 2`.
     fn fmt<W: Write>(&self, f: &mut Formatter<W>) -> fmt::Result {
         match self {
             Visit::Open { port, address } => write!(f, "open {port} {address}"),
@@ -80,7 +82,11 @@ impl Display for Visit {
                 bytes,
             } => write!(f, "close {port} {address} bytes {bytes}"),
             Visit::Feed { port, address } => write!(f, "feed {port} {address}"),
-            Visit::FeedOver { port, records } => write!(f, "feed {port} over records {records}"),
+            Visit::FeedOver {
+                port,
+                records,
+                refused,
+            } => write!(f, "feed {port} over records {records} refused {refused}"),
         }
     }
 }

@@ -1,15 +1,15 @@
-//! Who is at a port.
+//! The client at a port.
 ghost use Rattle.std.specs.Prelude.{◌≡◌};
 ghost use Rattle.logged_ports.specs.Visitors.{fresh};
 
 use std::net::Ipv4Addr;
 
-/// Who is at a port.
+/// The client at a port.
 #[derive(Clone, Copy, Debug, PartialEq, Eq, Drop)]
 pub struct Visitor {
     pub port: u64,
     pub address: Ipv4Addr,
-    /// How many bytes a client took, or a feed gave. It stays at 2^64 - 1.
+    /// How many bytes it took. It stays at 2^64 - 1.
     pub bytes: u64,
 }
 
@@ -30,5 +30,5 @@ impl Visitor {
 #[derive(Clone, Copy, Debug, PartialEq, Eq, Drop)]
 pub enum Newcomer {
     Client(Visitor),
-    Feed(Visitor),
+    Feed { port: u64, address: Ipv4Addr },
 }

@@ -1,4 +1,4 @@
-//! Who is at the open ports of a kind.
+//! The clients that are connected.
 ghost use Rattle.std.specs.Prelude.{◌≡◌, ◌≤◌, ◌<◌, [], None, IfErr, IfOk, find, length, map};
 ghost use Rattle.logged_ports.specs.Visitors.{IsGapFor, IsVisitorAt, Rise, is_at, is_next, with_bytes, with_visitor};
 ghost use Rattle.logged_ports.specs.Visitors.{without};
@@ -7,8 +7,8 @@ use crate::visitor::Visitor;
 use std::alloc::{AllocError, Global};
 use std::marker::Model;
 
-/// Who is at the open ports of a kind, by rising number. In a contract it is for how many there is room, the last port
-/// that was added, and who is there. There is room for so many when it is made, and no call takes more.
+/// The clients that are connected, by rising number of their ports. In a contract it is for how many there is room, the
+/// last port that was added, and the clients. There is room for so many when it is made, and no call allocates.
 #[derive(Drop)]
 pub struct Visitors {
     last: Option<u64>,
@@ -27,7 +27,7 @@ impl Model for Visitors {
 }
 
 /// Whether a port is above the last one.
-fn is_next(last: Option<u64>, port: u64) -> bool
+pub fn is_next(last: Option<u64>, port: u64) -> bool
     ensures { result ≡ is_next last port }
 {
     match last {

@@ -1,8 +1,9 @@
 //! What is noted of who comes and goes at a server over ports in memory.
 use super::runs::Row::{Feed, Inside, Outside, Quiet, Reads};
-use super::runs::{Row, happenings};
+use super::runs::{Row, happenings, pieces, record};
 use catalog::Config;
-use logged_ports::{Away, LoggedPorts, MemoryJournal, Reason, ScriptedDoors, Visit};
+use logged_ports::{Away, LoggedPorts, MemoryJournal, Reason, RecordJudge, ScriptedDoors, Visit};
+use mseed_header::read;
 use ports::{MemoryPorts, PortScript, ReadAnswer, Script};
 use serving::serve;
 use std::alloc::Global;
@@ -14,6 +15,28 @@ use test_centre::CENTRE;
 /// The address from which feeds come.
 fn feeder() -> Ipv4Addr {
     Ipv4Addr::new(10, 0, 0, 2)
+}
+
+/// Takes the records of a configuration's stations.
+#[derive(Drop)]
+struct StationRecords {
+    config: Config,
+}
+
+impl RecordJudge for StationRecords {
+    ghost use Rattle.loop_tests.specs.StationRecords.{is_of_a_station};
+
+    ghost takes = { λ s bytes. is_of_a_station s.config bytes };
+
+    fn takes(&self, bytes: &[u8; 512]) -> bool {
+        match read(bytes) {
+            Ok(header) => {
+                let place = self.config.place_of(header.network(), header.station());
+                place.is_some()
+            }
+            Err(_) => false,
+        }
+    }
 }
 
 /// The lines of some visits.
@@ -38,7 +61,10 @@ fn noted(
     let ports = MemoryPorts::new(alloc, Script::new(happenings(alloc, rows)?, scripts));
     let doors = ScriptedDoors::new(alloc, ports, feeder(), away);
     let journal = MemoryJournal::new(alloc);
-    let logged = LoggedPorts::new(alloc, doors, config.max_connections(), journal)?;
+    let judge = StationRecords {
+        config: config.copy(alloc)?,
+    };
+    let logged = LoggedPorts::new(alloc, doors, config.max_connections(), journal, judge)?;
     let (_, journal) = serve(alloc, config, logged, turns)?.into_parts();
     lines_of(alloc, journal.visits())
 }
@@ -73,7 +99,38 @@ fn those_who_come_and_go_are_noted(rt: HostRuntime) -> Result<(), Fail> {
     let lines = noted(rt.alloc(), &VISITS, scripts, Vec::new(rt.alloc()), 2)?;
     assert_eq!(rt;
         lines.as_str(),
-        "open 0 10.0.0.7\nopen 1 172.16.0.9\nfeed 2 10.0.0.2\nfeed 2 over records 2\nclose 0 10.0.0.7 bytes 45\n"
+        "open 0 10.0.0.7\nopen 1 172.16.0.9\nfeed 2 10.0.0.2\nfeed 2 over records 2 refused 2\n\
+        close 0 10.0.0.7 bytes 45\n"
+    );
+    Ok(())
+}
+
+/// A record of a station, one of a station that isn't configured, and one that is not valid.
+fn three_records(alloc: Global) -> Result<Vec<u8>, Fail> {
+    let mut bytes = record(b"GE", b"WLF", 1)?.to_vec(alloc)?;
+    bytes.extend_from_slice(&record(b"ZZ", b"SHUT", 1)?)?;
+    bytes.extend_from_slice(&[b'?'; 512])?;
+    Ok(bytes)
+}
+
+#[test]
+fn refused_records_of_a_feed_are_noted(rt: HostRuntime) -> Result<(), Fail> {
+    let bytes = three_records(rt.alloc())?;
+    // No piece but the last ends where a record does.
+    let mut reads = pieces(rt.alloc(), bytes.as_slice(), 500)?;
+    reads.push(ReadAnswer::Closed)?;
+    let mut scripts = Vec::new(rt.alloc());
+    scripts.push(PortScript::new(2, reads, Vec::new(rt.alloc())))?;
+    let lines = noted(
+        rt.alloc(),
+        &[Feed(2), Quiet, Quiet],
+        scripts,
+        Vec::new(rt.alloc()),
+        2,
+    )?;
+    assert_eq!(rt;
+        lines.as_str(),
+        "feed 2 10.0.0.2\nfeed 2 over records 3 refused 2\n"
     );
     Ok(())
 }
