@@ -1,13 +1,12 @@
 -- Records that a server takes, by the place of their station.
-use Rattle.std.proofs.Common.{◌≡◌, ℕ, suc, ◌+◌, Bool, true, false, if◌then◌else◌, List, [], ◌∷◌, length, position, refl}
-use Rattle.std.proofs.Common.{sym, ap, ◌∙◌, Option, Some, None, is_some, Result, Ok, Err, arith}
+use Rattle.std.proofs.Common.{◌≡◌, ℕ, suc, ◌+◌, Bool, true, false, List, [], ◌∷◌, length, position, refl}
+use Rattle.std.proofs.Common.{sym, ◌∙◌, is_some, Ok, arith}
 use Rattle.std.specs.List.{list_any, position_or_len}
 use Rattle.std.specs.Prelude.{nat_lt}
 use Rattle.std.proofs.lemmas.Bool.Decides.{nat_tests}
 use Rattle.protocol.specs.Catalog.{Config, has_codes}
-use Rattle.protocol.specs.declared.record.RecordFault.{RecordFault}
 use Rattle.protocol.specs.Record.{Facts, header_of}
-use Rattle.protocol.specs.World.{arrival_with, is_configured}
+use Rattle.protocol.specs.World.{is_configured}
 use Rattle.protocol.proofs.FoundLemmas.{both}
 use Rattle.jobs.specs.Configured.{has_station, is_accepted}
 
@@ -33,8 +32,3 @@ pub accepted-read : (config : Config) (bytes : List ℕ) (x : Facts) → header_
 accepted-read config bytes x read =
     placed-any (λ e. has_codes x.network x.station e.station) config.entries
     ∙ rw read (both (is_configured config x) (λ y. rw y refl) (λ n. rw n refl))
-
--- Any other is refused.
-pub accepted-refused : (config : Config) (bytes : List ℕ) (fault : RecordFault) → header_of bytes ≡ Err fault
-    → false ≡ is_accepted config bytes
-accepted-refused config bytes fault refused = rw refused refl

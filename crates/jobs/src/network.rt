@@ -112,8 +112,8 @@ where
     }
 }
 
-/// Ports that tell who comes and goes, and how many records of a feed were refused. Which are taken never changes, since
-/// no reread changes the stations: so those of the configuration as it is now serve to the end.
+/// Ports that tell who comes and goes, and how many records of each feed were refused. A reread never changes the
+/// stations, so the judge keeps a copy of the configuration from the start.
 fn ports_that_log<'l, D: Device + Drop>(
     alloc: Global,
     config: &Config,
