@@ -1,5 +1,5 @@
 -- Records that a server takes, by the place of their station.
-use Rattle.std.proofs.Common.{◌≡◌, ℕ, suc, ◌+◌, Bool, true, false, List, [], ◌∷◌, length, position, refl}
+use Rattle.std.proofs.Common.{◌≡◌, ℕ, suc, ◌+◌, Bool, true, List, [], ◌∷◌, length, position, refl}
 use Rattle.std.proofs.Common.{sym, ◌∙◌, is_some, Ok, arith}
 use Rattle.std.specs.List.{list_any, position_or_len}
 use Rattle.std.specs.Prelude.{nat_lt}

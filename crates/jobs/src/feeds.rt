@@ -61,6 +61,21 @@ fn send_input<'a, R: Files<File = File> + Eprint + Clock, T: OpenStream + io::Wr
     }
 }
 
+/// Sends the records of files, one file after the other.
+fn send_each<'a, R: Files<File = File> + Eprint + Clock, T: OpenStream + io::Write + Drop>(
+    rt: &R,
+    feed: &mut Feed<T>,
+    tally: &mut FeedTally,
+    files: &[&'a str],
+    server: &'a str,
+) -> Result<(), Incident<'a>> {
+    for path in files {
+        let file = input(rt, path)?;
+        send_input(rt, feed, tally, file, path, server)?;
+    }
+    Ok(())
+}
+
 /// Sends the records of files to a server, one file after the other, and shuts the sending half of the connection. The
 /// first file is opened before the connection is made.
 pub fn send_files<'a, R: Files<File = File> + Eprint + Clock + Net>(
@@ -76,10 +91,7 @@ pub fn send_files<'a, R: Files<File = File> + Eprint + Clock + Net>(
     let file = input(rt, first)?;
     let mut feed = Feed::new(connection(rt, endpoint)?);
     send_input(rt, &mut feed, tally, file, first, server)?;
-    for path in others {
-        let file = input(rt, path)?;
-        send_input(rt, &mut feed, tally, file, path, server)?;
-    }
+    send_each(rt, &mut feed, tally, others, server)?;
     match feed.shut() {
         Ok(sent) => Ok(Some(sent)),
         Err(failure) => Err(failure.in_feed(first, server)),

@@ -316,36 +316,15 @@ impl Display for Site<'_> {
         match self {
             Site::Unnamed => Ok(()),
             Site::File(path) => writeln!(f, "  file: {path}"),
-            Site::Setting(path, error, finding) => {
-                writeln!(f, "  file: {path}")?;
-                put_key(f, error.step, &error.network, &error.code)?;
-                write!(f, "{finding}")?;
-                writeln!(f, "  allowed: {}", limit_of(error.step))
-            }
-            Site::Differing(path, difference) => {
-                writeln!(f, "  file: {path}")?;
-                put_key(f, difference.step, &difference.network, &difference.code)?;
-                writeln!(f, "  in force: {}", difference.in_force)?;
-                writeln!(f, "  in the file: {}", difference.in_file)
-            }
-            Site::Record(path, finding) => {
-                writeln!(f, "  file: {path}")?;
-                writeln!(f, "  record: {}", finding.number)?;
-                writeln!(f, "  offset: {}", finding.offset)
-            }
+            Site::Setting(path, error, finding) => put_setting(f, path, error, finding),
+            Site::Differing(path, difference) => put_difference(f, path, difference),
+            Site::Record(path, finding) => put_record(f, path, finding),
             Site::Unopened(path, reason)
             | Site::Unread(path, reason)
             | Site::Unwritten(path, reason) => { writeln!(f, "  file: {path}\n  reason: {reason}") }
             Site::Word(word) => writeln!(f, "  word: {word}"),
-            Site::AccessWord(word, entry) => {
-                writeln!(f, "  word: {word}")?;
-                put_entry(f, entry)?;
-                writeln!(f, "  allowed: {}", limit_of(Step::Access))
-            }
-            Site::Want(word, part) => {
-                writeln!(f, "  word: {word}")?;
-                put_part(f, part)
-            }
+            Site::AccessWord(word, entry) => put_access_word(f, word, entry),
+            Site::Want(word, part) => put_want(f, word, part),
             Site::Server(address) => writeln!(f, "  address: {address}"),
             Site::Socket(address, reason) => writeln!(
                 f,
@@ -353,6 +332,55 @@ impl Display for Site<'_> {
             ),
         }
     }
+}
+
+/// The lines of a step that failed, and of what is found there.
+fn put_setting<W: Write>(
+    f: &mut Formatter<W>,
+    path: &str,
+    error: &ConfigError,
+    finding: &ConfigFinding,
+) -> fmt::Result {
+    writeln!(f, "  file: {path}")?;
+    put_key(f, error.step, &error.network, &error.code)?;
+    write!(f, "{finding}")?;
+    writeln!(f, "  allowed: {}", limit_of(error.step))
+}
+
+/// The lines of a difference from the configuration in force.
+fn put_difference<W: Write>(
+    f: &mut Formatter<W>,
+    path: &str,
+    difference: &Difference,
+) -> fmt::Result {
+    writeln!(f, "  file: {path}")?;
+    put_key(f, difference.step, &difference.network, &difference.code)?;
+    writeln!(f, "  in force: {}", difference.in_force)?;
+    writeln!(f, "  in the file: {}", difference.in_file)
+}
+
+/// The lines of a record of a file.
+fn put_record<W: Write>(f: &mut Formatter<W>, path: &str, finding: &Finding) -> fmt::Result {
+    writeln!(f, "  file: {path}")?;
+    writeln!(f, "  record: {}", finding.number)?;
+    writeln!(f, "  offset: {}", finding.offset)
+}
+
+/// The lines of a word that is no access list.
+fn put_access_word<W: Write>(
+    f: &mut Formatter<W>,
+    word: &str,
+    entry: &Option<&[u8]>,
+) -> fmt::Result {
+    writeln!(f, "  word: {word}")?;
+    put_entry(f, entry)?;
+    writeln!(f, "  allowed: {}", limit_of(Step::Access))
+}
+
+/// The lines of a word that is no want.
+fn put_want<W: Write>(f: &mut Formatter<W>, word: &str, part: &Option<WantPart>) -> fmt::Result {
+    writeln!(f, "  word: {word}")?;
+    put_part(f, part)
 }
 
 /// The lines that say which station and key a step reads.

@@ -3,7 +3,7 @@ ghost use Rattle.std.specs.Prelude.{◌≡◌, ◌∷◌, [], None, IfErr, IfOk}
 ghost use Rattle.serving.specs.Asked.{Tells};
 ghost use Rattle.serving.specs.Asked.Asked.{Looks, Refuses};
 ghost use Rattle.serving.specs.Paces.{IsPaced};
-ghost use Rattle.serving.specs.declared.faults.ServeFault.TheVariants.{Poll};
+ghost use Rattle.serving.specs.declared.faults.ServeFault.TheVariants.{OutOfMemory, Poll};
 ghost use Rattle.jobs.specs.declared.failure.Failure.TheVariants.{Serve};
 ghost use Rattle.jobs.specs.Serving.{ServedByFile, EndedByFile};
 ghost use Rattle.jobs.specs.declared.incident.Incident.{Incident};
@@ -71,6 +71,71 @@ impl<'r, 'a, 'l, R, D: Device> Operator<'r, 'a, 'l, R, D> {
     fn tell(&mut self, incident: &Incident<'_>) {
         self.errors.write_line(&line_of(incident, self.is_verbose));
     }
+
+    /// Tells that the configuration that was read last differs in more than access lists.
+    fn tell_difference(&mut self) {
+        let incident = Incident::of_difference(self.path, self.difference.take());
+        self.tell(&incident);
+    }
+
+    /// Tells that numbers could not be kept; before any were kept, that ends the run, which tells it then.
+    fn note_unkept(&mut self, incident: Incident<'a>) {
+        if self.has_kept {
+            self.tell(&incident);
+        } else {
+            self.unkept = incident.site;
+        }
+    }
+}
+
+impl<'r, 'a, 'l, R: Clock + AllocGlobal, D> Operator<'r, 'a, 'l, R, D> {
+    /// An operator that begins with a configuration now. It fails only for want of memory.
+    fn new(
+        rt: &'r R,
+        config: &Config,
+        options: ServeOptions<'a>,
+        numbers: Option<NumberFile<'a>>,
+        errors: &'l SharedLines<D>,
+    ) -> Result<Operator<'r, 'a, 'l, R, D>, Incident<'a>>
+        ensures { IfErr result (λ incident. incident.failure ≡ Serve OutOfMemory) }
+    {
+        let Ok(begun) = config.copy(rt.alloc()) else {
+            return Err(Incident {
+                failure: Failure::Serve(ServeFault::OutOfMemory),
+                site: Site::Unnamed,
+            });
+        };
+        Ok(Operator {
+            rt,
+            path: options.path,
+            began: rt.monotonic().unwrap_or(Duration::ZERO),
+            reread: Pace::new(options.reread_seconds),
+            report: Pace::new(options.report_seconds),
+            numbers,
+            has_kept: false,
+            unkept: Site::Unnamed,
+            is_verbose: options.is_verbose,
+            errors,
+            begun,
+            difference: None,
+        })
+    }
+}
+
+impl<'r, 'a, 'l, R, D> Operator<'r, 'a, 'l, R, D> {
+    /// What ended a run, and where, if that is known.
+    fn incident_of(self, fault: ServeFault) -> Incident<'a>
+        ensures { result.failure ≡ Serve fault }
+    {
+        let unkept = self.unkept;
+        Incident {
+            failure: Failure::Serve(fault),
+            site: match fault {
+                ServeFault::Numbers => unkept,
+                _ => Site::Unnamed,
+            },
+        }
+    }
 }
 
 impl<'r, 'a, 'l, R: Clock, D> Operator<'r, 'a, 'l, R, D> {
@@ -135,17 +200,8 @@ impl<'r, 'a, 'l, R: Files + Clock + AllocGlobal, D: Device> Between for Operator
     {
         match refusal {
             Refusal::Unread(incident) => self.tell(&incident),
-            Refusal::Different => {
-                let incident = Incident::of_difference(self.path, self.difference.take());
-                self.tell(&incident);
-            }
-            Refusal::Unkept(incident) => {
-                if self.has_kept {
-                    self.tell(&incident);
-                } else {
-                    self.unkept = incident.site;
-                }
-            }
+            Refusal::Different => self.tell_difference(),
+            Refusal::Unkept(incident) => self.note_unkept(incident),
         }
     }
 
@@ -181,36 +237,12 @@ pub fn serve_by<'a, R: Files + Clock + AllocGlobal, P: Ports + Drop, D: Device +
     ensures ended { IfErr result (λ incident. incident.failure ≡ Serve Poll →
         EndedByFile options.entry.timetable config (P.calls ports)) }
 {
-    let Ok(begun) = config.copy(rt.alloc()) else {
-        return Err(Incident {
-            failure: Failure::Serve(ServeFault::OutOfMemory),
-            site: Site::Unnamed,
-        });
-    };
-    let began = rt.monotonic().unwrap_or(Duration::ZERO);
-    let mut operator = Operator {
-        rt,
-        path: options.path,
-        began,
-        reread: Pace::new(options.reread_seconds),
-        report: Pace::new(options.report_seconds),
-        numbers,
-        has_kept: false,
-        unkept: Site::Unnamed,
-        is_verbose: options.is_verbose,
-        errors,
-        begun,
-        difference: None,
+    let mut operator = match Operator::new(rt, &config, options, numbers, errors) {
+        Ok(operator) => operator,
+        Err(incident) => return Err(incident),
     };
     match serve_between(rt.alloc(), config, ports, &mut operator, options.timetable) {
         Ok(ports) => Ok(ports),
-        Err(ServeFault::Numbers) => Err(Incident {
-            failure: Failure::Serve(ServeFault::Numbers),
-            site: operator.unkept,
-        }),
-        Err(fault) => Err(Incident {
-            failure: Failure::Serve(fault),
-            site: Site::Unnamed,
-        }),
+        Err(fault) => Err(operator.incident_of(fault)),
     }
 }

@@ -1,4 +1,4 @@
-use Rattle.std.proofs.Common.{◌≡◌, ◌∙◌, ◌<◌, ℕ, zero, suc, List, [], ◌∷◌, Some, Option, ap, sym, length, slice_get}
+use Rattle.std.proofs.Common.{◌≡◌, ◌∙◌, ◌<◌, ℕ, zero, suc, List, [], ◌∷◌, Some, ap, sym, length, slice_get}
 use Rattle.std.proofs.Common.{get_or}
 use Rattle.std.proofs.Common.{add-one, arith, take}
 use Rattle.number_file.specs.Tables.{with_next, with_nexts}
