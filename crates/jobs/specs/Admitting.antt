@@ -5,9 +5,9 @@ use Rattle.protocol.specs.Access.{Token}
 use Rattle.access_list.specs.Tokens.{list_of}
 use Rattle.access_list.specs.declared.fault.AccessFault.{AccessFault}
 use Rattle.catalog.specs.declared.fault.ConfigFault.TheVariants.{Access}
-use Rattle.jobs.specs.declared.failure.Failure.TheVariants.{Config}
-use Rattle.jobs.specs.declared.incident.Incident.{Incident}
-use Rattle.jobs.specs.Sites.{IsListSite}
+use Rattle.incidents.specs.declared.failure.Failure.TheVariants.{Config}
+use Rattle.incidents.specs.declared.incident.Incident.{Incident}
+use Rattle.incidents.specs.Sites.{IsListSite}
 
 -- Feeds are taken from the addresses of the list that a word spells, or from all without one.
 abbrev pub FeedsFrom : Option (Bor (List ℕ)) → Option (List Token) → Type 0

@@ -1,8 +1,8 @@
 -- What feeding a server does, and why it stops.
 use Rattle.std.specs.Prelude.{ℕ}
 use Rattle.feeder.specs.Sending.{StopsSending}
-use Rattle.jobs.specs.declared.failure.Failure.{Failure}
-use Rattle.jobs.specs.declared.failure.Failure.TheVariants as failure
+use Rattle.incidents.specs.declared.failure.Failure.{Failure}
+use Rattle.incidents.specs.declared.failure.Failure.TheVariants as failure
 
 -- A feed stopped as its sender says, and for nothing else.
 abbrev pub StopsFeeding : Failure → (failures failures' calls calls' : ℕ)

@@ -1,15 +1,13 @@
 pub mod Admitting
 pub mod Configured
+pub mod Endings
 pub mod Endpoints
-pub mod Faults
 pub mod Feeding
 pub mod Listings
 pub mod Meters
 pub mod Output
-pub mod PartTexts
 pub mod Places
 pub mod Replaying
 pub mod Serving
-pub mod Sites
 pub mod Windows
 pub mod Words

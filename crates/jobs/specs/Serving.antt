@@ -4,7 +4,7 @@ use Rattle.protocol.specs.Catalog.{Config}
 use Rattle.ports.specs.Calls.{Call}
 use Rattle.serving.specs.declared.timetable.Timetable.{Timetable}
 use Rattle.serving.specs.Served.{Served, Ended}
-use Rattle.jobs.specs.declared.incident.Incident.{Incident}
+use Rattle.incidents.specs.declared.incident.Incident.{Incident}
 
 -- It made all its turns. What the file held is not told.
 abbrev pub ServedByFile : Timetable → Config → Option (List Call) → Option (List Call) → Type 0

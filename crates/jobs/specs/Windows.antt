@@ -6,8 +6,8 @@ use Rattle.sl_time.specs.declared.command.TimeFault.{TimeFault}
 use Rattle.iso_time.specs.Spelled.{command_text}
 use Rattle.slreader.specs.Words.{WindowValue}
 use Rattle.slreader.specs.Words.WindowValue.{Following, Held, Between}
-use Rattle.jobs.specs.declared.failure.Failure.{Failure}
-use Rattle.jobs.specs.declared.failure.Failure.TheVariants.{Moment, OutOfMemory}
+use Rattle.incidents.specs.declared.failure.Failure.{Failure}
+use Rattle.incidents.specs.declared.failure.Failure.TheVariants.{Moment, OutOfMemory}
 
 -- The text is the one that stands for the word, and spells a time.
 abbrev pub IsMoment : List ℕ → List ℕ → Type 0

@@ -1,11 +1,10 @@
 //! Who may connect to a server, by the words of its command line.
 ghost use Rattle.std.specs.Prelude.{◌≡◌, ◌≢◌, IfErr, IfOk};
 ghost use Rattle.jobs.specs.Admitting.{FeedsFrom, RefusesList};
-ghost use Rattle.jobs.specs.declared.failure.Failure.TheVariants.{OutOfMemory};
+ghost use Rattle.incidents.specs.declared.failure.Failure.TheVariants.{OutOfMemory};
 
-use crate::failure::Failure;
-use crate::incident::Incident;
 use access_list::AccessList;
+use incidents::{Failure, Incident};
 use socket_ports::Admission;
 use std::alloc::Global;
 

@@ -1,7 +1,6 @@
 //! Records that are read into an archive.
-use crate::failure::Failure;
 use crate::files::unopened;
-use crate::incident::Incident;
+use incidents::{Failure, Incident};
 use packet_listing::Nowhere;
 use record_archive::{Archive, ArchiveFault, DiskFolders, TopFault};
 use sl_io::Outer;

@@ -1,9 +1,8 @@
 //! Connections to servers that are asked one after the other.
-use crate::failure::Failure;
-use crate::incident::Incident;
 use crate::network::{Server, connection, unconnected};
 use crate::reading::{Places, Reading, unlisted};
 use crate::reasons::{AnswerCounter, CommandWriter};
+use incidents::{Failure, Incident};
 use packet_listing::{ListingFault, Servers};
 use sl_io::Outer;
 use socket_ports::notice_silence;

@@ -6,14 +6,14 @@ ghost use Rattle.sl_io.specs.Known.{AppendsBeginning, ConsumesSome};
 ghost use Rattle.sl_io.specs.declared.faults.ReadFault.TheVariants.{Read as ReadingFailed};
 ghost use Rattle.protocol.specs.Streams.{feed_of};
 ghost use Rattle.feeder.specs.Sending.{capped, whole_part};
-ghost use Rattle.jobs.specs.Faults.{failure_number};
+ghost use Rattle.incidents.specs.Faults.{failure_number};
 ghost use Rattle.jobs.specs.Feeding.{StopsFeeding};
-ghost use Rattle.jobs.specs.declared.failure.Failure.TheVariants.{Untaken};
+ghost use Rattle.incidents.specs.declared.failure.Failure.TheVariants.{Untaken};
 
 use crate::endpoint::Endpoint;
-use crate::failure::Failure;
 use crate::network::connect;
 use feeder::send;
+use incidents::Failure;
 use sl_io::{Outer, Sink, Source};
 use std::io::{ErrorKind, Read, Write};
 use std::net::{Net, OpenStream, Shutdown};

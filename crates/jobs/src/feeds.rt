@@ -1,11 +1,10 @@
 //! Files of records go to a server.
-use crate::failure::Failure;
 use crate::feeding::{Feed, SentFeed};
 use crate::files::open;
-use crate::incident::Incident;
 use crate::network::{connection, server_of};
 use crate::progress::{Watched, is_terminal, size_of};
 use crate::reasons::ReasonKeeper;
+use incidents::{Failure, Incident};
 use record_listing::FeedTally;
 use sl_io::Outer;
 use std::fs::File;

@@ -1,5 +1,5 @@
 //! The jobs of `seedlinkd`, over files, sockets and the standard output: a server, a feeder, a reader, a replay of a
-//! script and a check of records. Why they fail, and what the exit status is.
+//! script and a check of records, and what the exit status is.
 #![tactic(auto)]
 
 mod admitting;
@@ -7,17 +7,13 @@ mod archiving;
 mod configured;
 mod connections;
 mod endpoint;
-mod failure;
-mod faults;
 mod feeding;
 mod feeds;
 mod files;
-mod incident;
 mod misspelled;
 mod network;
 mod numbers;
 mod operator;
-mod part_texts;
 mod progress;
 mod reading;
 mod reasons;
@@ -33,11 +29,9 @@ mod windows;
 mod work;
 
 pub use endpoint::Endpoint;
-pub use failure::Failure;
-pub use faults::{NumbersFault, ReplayFault, StateFault};
 pub use feeding::{Feed, SentFeed, await_end, begin_feed, feed_records, send_feed};
 pub use feeds::send_files;
-pub use incident::{Incident, Site};
+pub use incidents::{Failure, Incident, NumbersFault, ReplayFault, Site, StateFault};
 pub use replaying::replay;
 pub use serving::{Activity, ServeFault, serve, serve_block};
 pub use statuses::{failed, obey, told};

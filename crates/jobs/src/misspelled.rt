@@ -1,8 +1,7 @@
 //! Keys of a configuration that are not known, and so may be misspelled.
-use crate::failure::Failure;
 use crate::files::{config_in, text_at};
-use crate::incident::Incident;
 use catalog::Config;
+use incidents::{Failure, Incident};
 use std::rt::Files;
 use unknown_keys::unknown_keys;
 

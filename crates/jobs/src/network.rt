@@ -1,13 +1,11 @@
 //! Jobs over sockets.
 ghost use Rattle.std.specs.Prelude.{◌≡◌};
-ghost use Rattle.jobs.specs.Faults.{unlisted};
+ghost use Rattle.jobs.specs.Endings.{unlisted};
 
 use crate::admitting::admission_of;
 use crate::configured::ConfiguredRecords;
 use crate::endpoint::Endpoint;
-use crate::failure::Failure;
 use crate::files::{config_at, unopened};
-use crate::incident::{Incident, Site};
 use crate::misspelled::checked_config_at;
 use crate::numbers::NumberFile;
 use crate::operator::{ServeOptions, serve_by};
@@ -15,6 +13,7 @@ use crate::reasons::ReasonKeeper;
 use crate::visits::{SharedLines, VisitLines};
 use catalog::Config;
 use error_lines::{Device, StandardError};
+use incidents::{Failure, Incident, Site};
 use logged_ports::LoggedPorts;
 use serving::ServeFault;
 use sl_io::Outer;

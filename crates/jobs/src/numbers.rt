@@ -4,10 +4,8 @@ ghost use Rattle.catalog.specs.Numbers.{config_by};
 ghost use Rattle.number_file.specs.Tables.{with_nexts};
 ghost use Rattle.serving.specs.Ahead.{ahead_of};
 
-use crate::failure::Failure;
-use crate::faults::NumbersFault;
-use crate::incident::{Incident, Site};
 use catalog::{Config, ConfigFault, KeptNumber};
+use incidents::{Failure, Incident, NumbersFault, Site};
 use number_file::{NumberTable, read_numbers};
 use serving::{Ahead, ServeFault};
 use sl_io::{Outer, ReadFault, read_all};

@@ -1,13 +1,11 @@
 //! Reads records from a server.
 ghost use Rattle.std.specs.Prelude.{◌≡◌};
-ghost use Rattle.jobs.specs.Faults.{goes_on, is_mendable, lost, unlisted};
+ghost use Rattle.jobs.specs.Endings.{goes_on, is_mendable, lost, unlisted};
 ghost use Rattle.jobs.specs.Places.{is_last_place, place_after};
 
 use crate::archiving::{Lasting, archive_at, at_archive, tell_unplaced};
 use crate::connections::Connections;
-use crate::failure::Failure;
 use crate::files::unopened;
-use crate::incident::{Incident, Site};
 use crate::network::{Server, server_of};
 use crate::reasons::ReasonKeeper;
 use crate::standard_error::StandardError as Eprinted;
@@ -16,6 +14,7 @@ use crate::telling::tell_incident;
 use crate::times::times_of;
 use crate::windows::Moments;
 use command_line::ReadOptions;
+use incidents::{Failure, Incident, Site};
 use packet_listing::{Break, ListingFault, Nowhere, follow};
 use record_listing::Times;
 use sl_io::{Outer, Sink};

@@ -7,12 +7,12 @@ ghost use Rattle.event_script.specs.Script.{is_line_feed};
 ghost use Rattle.jobs.specs.Output.{output_after, replayed};
 ghost use Rattle.jobs.specs.Replaying.{IfScript, LeavesReader, LeavesWriter, WritesAll, WritesBeginning};
 ghost use Rattle.event_script.specs.declared.fault.ScriptFault.TheVariants.{Script as ScriptIsNone};
-ghost use Rattle.jobs.specs.declared.faults.ReplayFault.TheVariants.{Stream};
+ghost use Rattle.incidents.specs.declared.faults.ReplayFault.TheVariants.{Stream};
 ghost use Rattle.sl_io.specs.declared.faults.StreamFault.TheVariants.{Write};
 
-use crate::faults::ReplayFault;
 use catalog::Config;
 use event_script::{ScriptError, ScriptFault, events_of, output_of};
+use incidents::ReplayFault;
 use server_core::{Event, run};
 use sl_io::{Sink, Source, StreamFault, read_all, write_all};
 use std::alloc::{AllocError, Global};

@@ -1,6 +1,5 @@
 //! Lines on the standard error.
-use crate::failure::Failure;
-use crate::incident::Incident;
+use incidents::{Failure, Incident};
 use protocol::report::Report;
 
 /// Tells a failure, in the line `seedlinkd: N Name`.

@@ -8,12 +8,11 @@ ghost use Rattle.protocol.specs.Catalog.{stations_of, view_of};
 ghost use Rattle.view_listing.specs.Holders.{holders_text};
 ghost use Rattle.view_listing.specs.Seen.{seen_text};
 
-use crate::failure::Failure;
 use crate::files::{config_in, text_at};
-use crate::incident::Incident;
 use crate::misspelled::tell_unknown_keys;
 use access_list::address;
 use catalog::Config;
+use incidents::{Failure, Incident};
 use sl_io::{Outer, Sink, StreamFault, write_all};
 use std::alloc::Global;
 use std::io;

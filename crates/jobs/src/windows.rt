@@ -3,9 +3,8 @@ ghost use Rattle.std.specs.Prelude.{◌≡◌, option_map, IfErr, IfOk};
 ghost use Rattle.slreader.specs.WantTexts.{window_value};
 ghost use Rattle.jobs.specs.Windows.{IsNoMoment, IsMoment, window_by};
 
-use crate::failure::Failure;
-use crate::incident::Incident;
 use command_line::ReadOptions;
+use incidents::{Failure, Incident};
 use iso_time::command_time;
 use slreader::Window;
 use std::alloc::Global;

@@ -4,12 +4,12 @@ ghost use Rattle.jobs.specs.Words.{seconds_of, turns_of};
 
 use crate::feeds::feed_files;
 use crate::files::{check_file, replay_files};
-use crate::incident::Incident;
 use crate::network::serve_sockets;
 use crate::operator::ServeOptions;
 use crate::reading::read_servers;
 use crate::viewing::view_file;
 use command_line::{Every, Job};
+use incidents::Incident;
 use serving::{KEEP_EVERY, Timetable};
 use std::fs::File;
 use std::net::Net;

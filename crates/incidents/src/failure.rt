@@ -1,6 +1,6 @@
 //! Why the program ends with status 1.
 ghost use Rattle.std.specs.Prelude.{◌≡◌};
-ghost use Rattle.jobs.specs.Faults.{failure_number, failure_name};
+ghost use Rattle.incidents.specs.Faults.{failure_number, failure_name};
 
 use crate::faults::{NumbersFault, ReplayFault, StateFault};
 use catalog::ConfigFault;

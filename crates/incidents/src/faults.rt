@@ -1,7 +1,7 @@
 //! Why a script was not replayed, and why numbers or a state were not read.
 ghost use Rattle.std.specs.Prelude.{◌≡◌};
 ghost use Rattle.std.specs.Prelude.{codes};
-ghost use Rattle.jobs.specs.Faults.{replay_fault_number, replay_fault_name};
+ghost use Rattle.incidents.specs.Faults.{replay_fault_number, replay_fault_name};
 
 use protocol::report::Report;
 use sl_io::StreamFault;

@@ -1,17 +1,17 @@
 //! A failure, and where it happened.
 ghost use Rattle.std.specs.Prelude.{◌≡◌, ◌≢◌};
-ghost use Rattle.jobs.specs.Sites.{config_site, difference_site, feed_site, file_site, input_site, is_memory};
-ghost use Rattle.jobs.specs.Sites.{is_output};
-ghost use Rattle.jobs.specs.Sites.{listening_site, output_site, server_site, state_site, want_site, word_site};
+ghost use Rattle.incidents.specs.Sites.{config_site, difference_site, feed_site, file_site, input_site, is_memory};
+ghost use Rattle.incidents.specs.Sites.{is_output};
+ghost use Rattle.incidents.specs.Sites.{listening_site, output_site, server_site, state_site, want_site, word_site};
 ghost use Rattle.slreader.specs.WantTexts.{window_value};
 ghost use Rattle.socket_ports.specs.Faults.{fault_of};
-ghost use Rattle.jobs.specs.Faults.{failure_number};
-ghost use Rattle.jobs.specs.Sites.{IsListSite};
-ghost use Rattle.jobs.specs.declared.failure.Failure.TheVariants.{Config, Listen, OutOfMemory, Records};
-ghost use Rattle.jobs.specs.declared.failure.Failure.TheVariants.{Want as WantFailure};
+ghost use Rattle.incidents.specs.Faults.{failure_number};
+ghost use Rattle.incidents.specs.Sites.{IsListSite};
+ghost use Rattle.incidents.specs.declared.failure.Failure.TheVariants.{Config, Listen, OutOfMemory, Records};
+ghost use Rattle.incidents.specs.declared.failure.Failure.TheVariants.{Want as WantFailure};
 ghost use Rattle.access_list.specs.declared.fault.AccessFault.TheVariants.{OutOfMemory as AccessMemory};
 ghost use Rattle.catalog.specs.declared.fault.ConfigFault.TheVariants.{Access};
-ghost use Rattle.jobs.specs.declared.incident.Site.TheVariants.{Record};
+ghost use Rattle.incidents.specs.declared.incident.Site.TheVariants.{Record};
 
 use crate::failure::Failure;
 use crate::faults::ReplayFault;

@@ -1,20 +1,18 @@
 -- The numbers and names by which the program reports a replay that failed, and any other failure of its own.
-use Rattle.std.specs.Prelude.{ℕ, ◌&&◌, ◌||◌, not, Bool, true, false, List, codes}
+use Rattle.std.specs.Prelude.{ℕ, List, codes}
 use Rattle.catalog.specs.Faults.{fault_number, fault_name}
 use Rattle.feeder.specs.Sending.{send_fault_number, send_fault_name}
 use Rattle.sl_time.specs.Parsed.{fault_number as time_fault_number, fault_name as time_fault_name}
 use Rattle.slreader.specs.Faults.{reader_fault_number, reader_fault_name}
 use Rattle.packet_listing.specs.Faults.{listing_fault_number, listing_fault_name}
-use Rattle.packet_listing.specs.declared.fault.ListingFault.{ListingFault}
-use Rattle.packet_listing.specs.declared.fault.ListingFault.TheVariants as listing
 use Rattle.serving.specs.Faults.{serve_fault_number, serve_fault_name}
 use Rattle.socket_ports.specs.Faults.{listen_fault_number, listen_fault_name}
 use Rattle.sl_io.specs.Faults.{stream_fault_number, stream_fault_name}
 use Rattle.record_listing.specs.Listing.{file_fault_number, file_fault_name}
-use Rattle.jobs.specs.declared.failure.Failure.{Failure}
-use Rattle.jobs.specs.declared.failure.Failure.TheVariants as failure
-use Rattle.jobs.specs.declared.faults.ReplayFault.{ReplayFault}
-use Rattle.jobs.specs.declared.faults.ReplayFault.TheVariants as replay
+use Rattle.incidents.specs.declared.failure.Failure.{Failure}
+use Rattle.incidents.specs.declared.failure.Failure.TheVariants as failure
+use Rattle.incidents.specs.declared.faults.ReplayFault.{ReplayFault}
+use Rattle.incidents.specs.declared.faults.ReplayFault.TheVariants as replay
 
 -- the number of a replay that failed
 abbrev pub replay_fault_number : ReplayFault → ℕ
@@ -73,24 +71,3 @@ failure_name (failure.Want fault) = reader_fault_name fault
 failure_name (failure.Packets fault) = listing_fault_name fault
 failure_name (failure.Numbers fault) = codes "Numbers"
 failure_name (failure.State fault) = codes "State"
-
--- the connection ended before the end of the transfer, by whether HELLO was answered
-abbrev pub lost : (is_answered : Bool) → Failure
-lost true = failure.Packets listing.Read
-lost false = failure.Unanswered
-
--- why packets were not listed to the end, by whether HELLO was answered
-abbrev pub unlisted : ListingFault → (is_answered : Bool) → Failure
-unlisted listing.Read is_answered = lost is_answered
-unlisted fault is_answered = failure.Packets fault
-
--- Another connection may mend it: none could be made, or it ended before the end of the transfer.
-abbrev pub is_mendable : Failure → Bool
-is_mendable failure.Connect = true
-is_mendable failure.Unanswered = true
-is_mendable (failure.Packets listing.Read) = true
-is_mendable failure = false
-
--- another server is asked after it, or the first one again
-abbrev pub goes_on : Failure → (is_last is_retried : Bool) → Bool
-goes_on failure is_last is_retried = is_mendable failure && (is_retried || not is_last)

@@ -1,6 +1,6 @@
 //! The parts of a WANT, and what is allowed there, in words.
 ghost use Rattle.std.specs.Prelude.{◌≡◌};
-ghost use Rattle.jobs.specs.PartTexts.{part_limit, part_name};
+ghost use Rattle.incidents.specs.PartTexts.{part_limit, part_name};
 
 use slreader::WantPart;
 

@@ -2,11 +2,11 @@
 use Rattle.std.specs.Prelude.{◌≡◌, ℕ, ◌==◌, ◌||◌, Bool, if◌then◌else◌, List, Option, Some, None, option_map}
 use Rattle.std.specs.Borrow.{Bor}
 use Rattle.std.specs.declared.io.Error.{Error}
-use Rattle.jobs.specs.Faults.{failure_number}
-use Rattle.jobs.specs.declared.failure.Failure.{Failure}
-use Rattle.jobs.specs.declared.incident.Site.{Site}
-use Rattle.jobs.specs.declared.incident.Site.TheVariants.{Unnamed, File, Setting, Differing, Unread, Unwritten, Word}
-use Rattle.jobs.specs.declared.incident.Site.TheVariants.{AccessWord, Want, Server, Socket}
+use Rattle.incidents.specs.Faults.{failure_number}
+use Rattle.incidents.specs.declared.failure.Failure.{Failure}
+use Rattle.incidents.specs.declared.incident.Site.{Site}
+use Rattle.incidents.specs.declared.incident.Site.TheVariants.{Unnamed, File, Setting, Differing, Unread, Unwritten, Word}
+use Rattle.incidents.specs.declared.incident.Site.TheVariants.{AccessWord, Want, Server, Socket}
 use Rattle.access_list.specs.Tokens.{first_refused}
 use Rattle.socket_ports.specs.declared.fault.ListenError.{ListenError}
 use Rattle.socket_ports.specs.declared.fault.ListenError.TheVariants as error
