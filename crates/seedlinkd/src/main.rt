@@ -1,7 +1,7 @@
 //! A SeedLink 3 server whose stations are open to stated addresses only, as a program of several jobs. It ends with
-//! status 0 where its job was done or help was asked for; with status 1 at an input or device fault, of which the
-//! standard error has the line `seedlinkd: N Name`, and on request lines that explain it; and with status 2 where its
-//! words are none that it takes.
+//! status 0 if its job was done or help was asked for; with status 1 at an input or device fault, of which the standard
+//! error has the line `seedlinkd: N Name`, and on request lines that explain it; and with status 2 if the command line
+//! is invalid.
 #![tactic(auto)]
 
 #[cfg(test)]

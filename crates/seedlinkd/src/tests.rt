@@ -1,6 +1,7 @@
 //! Tests of what the program does: the words of its command line, the lines of scripts, and replays.
 mod endpoints;
 mod explained;
+mod read_words;
 mod replays;
 mod scripts;
 mod views;

@@ -1,0 +1,118 @@
+//! The words that ask to read from servers.
+use super::words::strings;
+use command_line::{Job, ReadOptions, read_words};
+use std::test::Fail;
+
+/// Whether a word is among the wants.
+fn is_among(wants: &[&str], want: &str) -> bool {
+    wants.iter().any(|word| *word == want)
+}
+
+/// Whether it is the reader's job with both wants and those options.
+fn is_read(job: &Job<'_>, wanted: ReadOptions<'_>) -> bool {
+    match job {
+        Job::Read {
+            server,
+            wants,
+            options,
+        } => {
+            *server == "a:1"
+                && wants.len() == 2
+                && is_among(wants.as_slice(), "GE_WLF")
+                && is_among(wants.as_slice(), "XX_APE")
+                && *options == wanted
+        }
+        _ => false,
+    }
+}
+
+#[test]
+fn read_has_wants_and_options(rt: HostRuntime) -> Result<(), Fail> {
+    let words = strings(
+        rt.alloc(),
+        &[
+            "seedlinkd",
+            "read",
+            "a:1",
+            "GE_WLF",
+            "XX_APE",
+            "--fetch",
+            "--output",
+            "-",
+        ],
+    )?;
+    let job = read_words(rt.alloc(), words.as_slice())?.job;
+    let wanted = ReadOptions {
+        fetch: true,
+        begin: None,
+        last: None,
+        retry: None,
+        archive: None,
+        output: Some("-"),
+        state: None,
+        is_iso: false,
+    };
+    assert!(rt; is_read(&job, wanted));
+    Ok(())
+}
+
+#[test]
+fn read_has_a_begin_and_an_end(rt: HostRuntime) -> Result<(), Fail> {
+    let words = strings(
+        rt.alloc(),
+        &[
+            "seedlinkd",
+            "read",
+            "a:1",
+            "GE_WLF",
+            "XX_APE",
+            "--begin",
+            "2024,2,29",
+            "--end=2024-03-01T00:00:00",
+        ],
+    )?;
+    let job = read_words(rt.alloc(), words.as_slice())?.job;
+    let wanted = ReadOptions {
+        fetch: false,
+        begin: Some("2024,2,29"),
+        last: Some("2024-03-01T00:00:00"),
+        retry: None,
+        archive: None,
+        output: None,
+        state: None,
+        is_iso: false,
+    };
+    assert!(rt; is_read(&job, wanted));
+    Ok(())
+}
+
+#[test]
+fn read_has_seconds_and_a_state(rt: HostRuntime) -> Result<(), Fail> {
+    let words = strings(
+        rt.alloc(),
+        &[
+            "seedlinkd",
+            "read",
+            "a:1",
+            "GE_WLF",
+            "XX_APE",
+            "--retry",
+            "5",
+            "--state",
+            "ape.state",
+        ],
+    )?;
+    let job = read_words(rt.alloc(), words.as_slice())?.job;
+    let wanted = ReadOptions {
+        fetch: false,
+        begin: None,
+        last: None,
+        retry: Some(5),
+        archive: None,
+        output: None,
+        state: Some("ape.state"),
+        is_iso: false,
+    };
+    assert!(rt; is_read(&job, wanted));
+    Ok(())
+}
