@@ -1,6 +1,7 @@
 //! Why a text is no list of addresses and masks.
 ghost use Rattle.std.specs.Prelude.{◌≡◌};
-ghost use Rattle.access_list.specs.Faults.{fault_number, fault_name};
+ghost use Rattle.protocol.specs.Report.{IsReport};
+ghost use Rattle.access_list.specs.Faults.{access_report};
 
 use protocol::report::Report;
 use thiserror::Error;
@@ -22,8 +23,7 @@ pub enum AccessFault {
 impl AccessFault {
     /// The number and the name by which the program reports it: 11, 12 or 25.
     pub fn report(self) -> Report
-        ensures number { result.number ≡ fault_number self }
-        ensures name { result.name.now ≡ fault_name self }
+        ensures { IsReport (access_report self) result }
     {
         match self {
             AccessFault::Address => Report::new(11, "Address"),

@@ -1,6 +1,7 @@
 //! Why a configuration is refused.
 ghost use Rattle.std.specs.Prelude.{◌≡◌};
-ghost use Rattle.catalog.specs.Faults.{fault_number, fault_name, fault_cause};
+ghost use Rattle.protocol.specs.Report.{IsReport};
+ghost use Rattle.catalog.specs.Faults.{config_report, fault_cause};
 
 use access_list::AccessFault;
 use protocol::report::Report;
@@ -32,8 +33,7 @@ pub enum ConfigFault {
 impl ConfigFault {
     /// The number and the name by which the program reports it: 20 to 25.
     pub fn report(self) -> Report
-        ensures number { result.number ≡ fault_number self }
-        ensures name { result.name.now ≡ fault_name self }
+        ensures { IsReport (config_report self) result }
     {
         match self {
             ConfigFault::Toml => Report::new(20, "Toml"),

@@ -1,6 +1,7 @@
 //! Why a text is no script.
 ghost use Rattle.std.specs.Prelude.{◌≡◌};
-ghost use Rattle.event_script.specs.Faults.{script_fault_number, script_fault_name};
+ghost use Rattle.protocol.specs.Report.{IsReport};
+ghost use Rattle.event_script.specs.Faults.{script_report};
 ghost use Rattle.event_script.specs.declared.fault.ScriptFault.TheVariants.{OutOfMemory as ScriptOutOfMemory};
 
 use protocol::report::Report;
@@ -21,8 +22,7 @@ pub enum ScriptFault {
 impl ScriptFault {
     /// The number and the name by which the program reports it: 25 or 45.
     pub fn report(self) -> Report
-        ensures number { result.number ≡ script_fault_number self }
-        ensures name { result.name.now ≡ script_fault_name self }
+        ensures { IsReport (script_report self) result }
     {
         match self {
             ScriptFault::OutOfMemory => Report::new(25, "OutOfMemory"),

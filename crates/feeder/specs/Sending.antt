@@ -7,19 +7,15 @@ use Rattle.std.specs.declared.option.Option.{Option}
 use Rattle.sl_io.specs.Counts.{StopsReading, StopsWriting}
 use Rattle.sl_io.specs.Known.{AppendsBeginning}
 use Rattle.sl_io.specs.declared.faults.ReadFault.TheVariants.{Read as ReadingFailed}
+use Rattle.protocol.specs.Report.{Told, told}
 use Rattle.protocol.specs.Streams.{feed_of}
 use Rattle.feeder.specs.declared.sending.SendFault.{SendFault}
 use Rattle.feeder.specs.declared.sending.SendFault.TheVariants.{Partial, Read, Write}
 
-abbrev pub send_fault_number : SendFault → ℕ
-send_fault_number Partial = 41
-send_fault_number Read = 42
-send_fault_number Write = 43
-
-abbrev pub send_fault_name : SendFault → List ℕ
-send_fault_name Partial = codes "Partial"
-send_fault_name Read = codes "Read"
-send_fault_name Write = codes "Write"
+abbrev pub send_report : SendFault → Told
+send_report Partial = told 41 (codes "Partial")
+send_report Read = told 42 (codes "Read")
+send_report Write = told 43 (codes "Write")
 
 -- a count that stays at 2^64 - 1
 abbrev pub capped : ℕ → ℕ

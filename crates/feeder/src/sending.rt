@@ -4,8 +4,9 @@ ghost use Rattle.std.specs.Prelude.{IfSome};
 ghost use Rattle.std.specs.Io.KnownBytes.{Appends, Consumes, IsAtEnd, Keeps};
 ghost use Rattle.sl_io.specs.Counts.{IsMore};
 ghost use Rattle.sl_io.specs.Known.{AppendsBeginning};
+ghost use Rattle.protocol.specs.Report.{IsReport};
 ghost use Rattle.protocol.specs.Streams.{feed_of};
-ghost use Rattle.feeder.specs.Sending.{Breaks, Passes, StopsSending, capped, send_fault_number, send_fault_name};
+ghost use Rattle.feeder.specs.Sending.{Breaks, Passes, StopsSending, capped, send_report};
 ghost use Rattle.feeder.specs.Sending.{whole_part};
 ghost use Rattle.feeder.specs.declared.sending.SendFault.TheVariants.{Partial, Read};
 
@@ -36,8 +37,7 @@ pub enum SendFault {
 impl SendFault {
     /// The number and the name by which the program reports it: 41, 42 or 43.
     pub fn report(self) -> Report
-        ensures number { result.number ≡ send_fault_number self }
-        ensures name { result.name.now ≡ send_fault_name self }
+        ensures { IsReport (send_report self) result }
     {
         match self {
             SendFault::Partial => Report::new(41, "Partial"),

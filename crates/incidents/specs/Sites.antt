@@ -2,7 +2,7 @@
 use Rattle.std.specs.Prelude.{◌≡◌, ℕ, ◌==◌, ◌||◌, Bool, if◌then◌else◌, List, Option, Some, None, option_map}
 use Rattle.std.specs.Borrow.{Bor}
 use Rattle.std.specs.declared.io.Error.{Error}
-use Rattle.incidents.specs.Faults.{failure_number}
+use Rattle.incidents.specs.Faults.{failure_report}
 use Rattle.incidents.specs.declared.failure.Failure.{Failure}
 use Rattle.incidents.specs.declared.incident.Site.{Site}
 use Rattle.incidents.specs.declared.incident.Site.TheVariants.{Unnamed, File, Setting, Differing, Unread, Unwritten, Word}
@@ -22,11 +22,11 @@ use Rattle.config_findings.specs.declared.finding.Finding.{Finding}
 
 -- memory was refused
 abbrev pub is_memory : Failure → Bool
-is_memory failure = failure_number failure == 25
+is_memory failure = (failure_report failure).number == 25
 
 -- an output took no more
 abbrev pub is_output : Failure → Bool
-is_output failure = failure_number failure == 43
+is_output failure = (failure_report failure).number == 43
 
 -- of a job that reads a file
 abbrev pub file_site : Failure → Bor (List ℕ) → Site

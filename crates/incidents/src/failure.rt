@@ -1,6 +1,7 @@
 //! Why the program ends with status 1.
 ghost use Rattle.std.specs.Prelude.{◌≡◌};
-ghost use Rattle.incidents.specs.Faults.{failure_number, failure_name};
+ghost use Rattle.protocol.specs.Report.{IsReport};
+ghost use Rattle.incidents.specs.Faults.{failure_report};
 
 use crate::faults::{NumbersFault, ReplayFault, StateFault};
 use catalog::ConfigFault;
@@ -88,8 +89,7 @@ impl Failure {
     /// The number and the name by which the program reports it: 1 to 6, 10, 11, 20 to 25, 34, 40 to 47, 49, 51,
     /// 52, 53, 60 or 61.
     pub fn report(self) -> Report
-        ensures number { result.number ≡ failure_number self }
-        ensures name { result.name.now ≡ failure_name self }
+        ensures { IsReport (failure_report self) result }
     {
         match self {
             Failure::OutOfMemory => Report::new(25, "OutOfMemory"),

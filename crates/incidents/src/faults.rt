@@ -1,7 +1,8 @@
 //! Why a script was not replayed, and why numbers or a state were not read.
 ghost use Rattle.std.specs.Prelude.{◌≡◌};
+ghost use Rattle.protocol.specs.Report.{IsReport};
 ghost use Rattle.std.specs.Prelude.{codes};
-ghost use Rattle.incidents.specs.Faults.{replay_fault_number, replay_fault_name};
+ghost use Rattle.incidents.specs.Faults.{replay_report};
 
 use protocol::report::Report;
 use sl_io::StreamFault;
@@ -22,8 +23,7 @@ pub enum ReplayFault {
 impl ReplayFault {
     /// The number and the name by which the program reports it: 25, 42, 43 or 45.
     pub fn report(self) -> Report
-        ensures number { result.number ≡ replay_fault_number self }
-        ensures name { result.name.now ≡ replay_fault_name self }
+        ensures { IsReport (replay_report self) result }
     {
         match self {
             ReplayFault::Stream(fault) => fault.report(),

@@ -5,7 +5,7 @@ ghost use Rattle.incidents.specs.Sites.{is_output};
 ghost use Rattle.incidents.specs.Sites.{listening_site, output_site, server_site, state_site, want_site, word_site};
 ghost use Rattle.slreader.specs.WantTexts.{window_value};
 ghost use Rattle.socket_ports.specs.Faults.{fault_of};
-ghost use Rattle.incidents.specs.Faults.{failure_number};
+ghost use Rattle.incidents.specs.Faults.{failure_report};
 ghost use Rattle.incidents.specs.Sites.{IsListSite};
 ghost use Rattle.incidents.specs.declared.failure.Failure.TheVariants.{Config, Listen, OutOfMemory, Records};
 ghost use Rattle.incidents.specs.declared.failure.Failure.TheVariants.{Want as WantFailure};
@@ -162,7 +162,7 @@ impl<'a> Incident<'a> {
 
     /// A configuration in a file that differs in more than its access lists, and in what first, if that is known.
     pub fn of_difference(path: &'a str, difference: Option<Difference>) -> Incident<'a>
-        ensures failure { failure_number result.failure ≡ 34 }
+        ensures failure { (failure_report result.failure).number ≡ 34 }
         ensures site { result.site ≡ difference_site path.entry difference }
     {
         let site = match difference {

@@ -1,6 +1,7 @@
 //! Why a listing of packets stops.
 ghost use Rattle.std.specs.Prelude.{◌≡◌};
-ghost use Rattle.packet_listing.specs.Faults.{listing_fault_number, listing_fault_name};
+ghost use Rattle.protocol.specs.Report.{IsReport};
+ghost use Rattle.packet_listing.specs.Faults.{listing_report};
 
 use protocol::report::Report;
 use slreader::ReaderFault;
@@ -26,8 +27,7 @@ pub enum ListingFault {
 impl ListingFault {
     /// The number and the name by which the program reports it: those of the reader's fault, 42, 43 or 53.
     pub fn report(self) -> Report
-        ensures number { result.number ≡ listing_fault_number self }
-        ensures name { result.name.now ≡ listing_fault_name self }
+        ensures { IsReport (listing_report self) result }
     {
         match self {
             ListingFault::Reader(fault) => fault.report(),

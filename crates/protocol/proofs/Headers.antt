@@ -10,12 +10,12 @@ use Rattle.std.proofs.lemmas.Bool.Decides.{not_from_Decides, Decides-eqb}
 use Rattle.protocol.specs.declared.record.ByteOrder.{ByteOrder}
 use Rattle.protocol.specs.Record.{Facts, word, start_of, ticks_of, quotient, kind_of, trimmed, order_of, has_date}
 use Rattle.protocol.specs.Record.{has_time, chain_of, first_of_type, facts_in, is_sequence_byte, is_quality}
-use Rattle.protocol.specs.Record.{read_length, read_chain, read_in, header_of, fault_number}
+use Rattle.protocol.specs.Record.{read_length, read_chain, read_in, header_of}
 use Rattle.protocol.specs.declared.record.RecordFault.{RecordFault}
 use Rattle.protocol.specs.declared.record.ByteOrder.TheVariants.{Big, Little}
 use Rattle.protocol.specs.declared.record.RecordFault.TheVariants.{Sequence, Quality, Time, Blockettes, No1000, Length}
 use Rattle.protocol.specs.Reading.{Not, IsSequenceByte, IsQuality, HasDate, IsOrderOf, IsLate, IsChain, IsFirst, Is1000}
-use Rattle.protocol.specs.Reading.{HasFacts, IsTrueOf, IsFirstFault}
+use Rattle.protocol.specs.Reading.{HasFacts, IsTrueOf, IsFirstFault, fault_number}
 use Rattle.protocol.proofs.FoundLemmas.{both}
 use Rattle.protocol.proofs.TestLemmas.{decides-all, decides-sequence_byte, decides-quality, decides-date, decides-time}
 use Rattle.protocol.proofs.TestLemmas.{late, some_fails, not_all, found_first, found_none, finds_first, finds_none}

@@ -1,5 +1,6 @@
 pub mod Pieces
 pub mod Time
+pub mod Report
 pub mod Record
 pub mod Reading
 pub mod Made

@@ -11,6 +11,7 @@ use Rattle.protocol.specs.declared.record.Kind.{Kind}
 use Rattle.protocol.specs.declared.record.Kind.TheVariants.{D, E, C, O, T, L}
 use Rattle.protocol.specs.declared.record.RecordFault.{RecordFault}
 use Rattle.protocol.specs.declared.record.RecordFault.TheVariants.{Sequence, Quality, Time, Blockettes, No1000, Length}
+use Rattle.protocol.specs.Report.{Told, told}
 use Rattle.protocol.specs.Time.{is_day, is_time_of_day, tick}
 
 -- What a server keeps of a record. Network and station have no spaces at their end; start and stop are ticks, and stop
@@ -182,23 +183,14 @@ is_quality b = b == 68 || b == 82 || b == 81 || b == 77
 abbrev pub has_time : ByteOrder → List ℕ → Bool
 has_time o r = is_time_of_day (slice_index r 24) (slice_index r 25) (slice_index r 26) (word o r 28)
 
--- the number of a fault, and its place in the order in which faults are looked for
-abbrev pub fault_number : RecordFault → ℕ
-fault_number Sequence = 1
-fault_number Quality = 2
-fault_number Time = 3
-fault_number Blockettes = 4
-fault_number No1000 = 5
-fault_number Length = 6
-
--- its name
-abbrev pub fault_name : RecordFault → List ℕ
-fault_name Sequence = codes "Sequence"
-fault_name Quality = codes "Quality"
-fault_name Time = codes "Time"
-fault_name Blockettes = codes "Blockettes"
-fault_name No1000 = codes "No1000"
-fault_name Length = codes "Length"
+-- what the program tells of a fault
+abbrev pub record_report : RecordFault → Told
+record_report Sequence = told 1 (codes "Sequence")
+record_report Quality = told 2 (codes "Quality")
+record_report Time = told 3 (codes "Time")
+record_report Blockettes = told 4 (codes "Blockettes")
+record_report No1000 = told 5 (codes "No1000")
+record_report Length = told 6 (codes "Length")
 
 -- The byte at 6 of the first blockette 1000 gives the record's length, as a power of two: 2^9 is 512.
 abbrev pub read_length : ByteOrder → List ℕ → List ℕ → Option ℕ → Result Facts RecordFault

@@ -1,6 +1,7 @@
 //! The words of a record that the definitions and the code share.
 ghost use Rattle.std.specs.Prelude.{◌≡◌};
-ghost use Rattle.protocol.specs.Record.{fault_number, fault_name};
+ghost use Rattle.protocol.specs.Report.{IsReport};
+ghost use Rattle.protocol.specs.Record.{record_report};
 
 use crate::report::Report;
 use thiserror::Error;
@@ -58,8 +59,7 @@ pub enum RecordFault {
 impl RecordFault {
     /// The number and the name by which the program reports it: 1 to 6.
     pub fn report(self) -> Report
-        ensures number { result.number ≡ fault_number self }
-        ensures name { result.name.now ≡ fault_name self }
+        ensures { IsReport (record_report self) result }
     {
         match self {
             RecordFault::Sequence => Report::new(1, "Sequence"),

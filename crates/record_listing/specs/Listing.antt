@@ -3,7 +3,8 @@
 use Rattle.std.specs.Prelude.{ℕ, ◌+◌, ◌==◌, Bool, if◌then◌else◌, List, [], ◌∷◌, ◌++◌, length, codes}
 use Rattle.std.specs.Prelude.{decimal, Option, Some, None, Result, Ok, Err}
 use Rattle.protocol.specs.declared.record.RecordFault.{RecordFault}
-use Rattle.protocol.specs.Record.{Facts, header_of, fault_number, fault_name}
+use Rattle.protocol.specs.Report.{Told, told}
+use Rattle.protocol.specs.Record.{Facts, header_of, record_report}
 use Rattle.protocol.specs.Streams.{FeedRead, feed_of}
 use Rattle.record_listing.specs.declared.fault.FileFault.{FileFault}
 use Rattle.record_listing.specs.declared.fault.FileFault.TheVariants.{Record, Station, Partial}
@@ -35,21 +36,15 @@ extent_text times x =
 abbrev pub header_text : Times → Facts → List ℕ
 header_text times x = stream_text x.network x.station x.location x.channel ++ extent_text times x
 
--- the number of what is wrong with a file
-abbrev pub file_fault_number : FileFault → ℕ
-file_fault_number (Record fault) = fault_number fault
-file_fault_number Station = 32
-file_fault_number Partial = 41
-
--- its name
-abbrev pub file_fault_name : FileFault → List ℕ
-file_fault_name (Record fault) = fault_name fault
-file_fault_name Station = codes "UnknownStation"
-file_fault_name Partial = codes "Partial"
+-- what the program tells of what is wrong with a file
+abbrev pub file_report : FileFault → Told
+file_report (Record fault) = record_report fault
+file_report Station = told 32 (codes "UnknownStation")
+file_report Partial = told 41 (codes "Partial")
 
 -- why a record is refused
 abbrev pub refusal_text : FileFault → List ℕ
-refusal_text fault = codes "refused " ++ word_text (decimal (file_fault_number fault)) ++ file_fault_name fault
+refusal_text fault = codes "refused " ++ word_text (decimal (file_report fault).number) ++ (file_report fault).name
 
 -- what a record says, or why it is refused
 abbrev pub record_text : Times → Result Facts FileFault → List ℕ

@@ -1,6 +1,7 @@
 //! What is wrong with a file of records.
 ghost use Rattle.std.specs.Prelude.{◌≡◌};
-ghost use Rattle.record_listing.specs.Listing.{file_fault_number, file_fault_name};
+ghost use Rattle.protocol.specs.Report.{IsReport};
+ghost use Rattle.record_listing.specs.Listing.{file_report};
 
 use mseed_header::RecordFault;
 use protocol::report::Report;
@@ -23,8 +24,7 @@ pub enum FileFault {
 impl FileFault {
     /// The number and the name by which the program reports it: those of the record's fault, 1 to 6, or 32 or 41.
     pub fn report(self) -> Report
-        ensures number { result.number ≡ file_fault_number self }
-        ensures name { result.name.now ≡ file_fault_name self }
+        ensures { IsReport (file_report self) result }
     {
         match self {
             FileFault::Record(fault) => fault.report(),

@@ -3,7 +3,8 @@
 use Rattle.std.specs.Prelude.{◌≡◌, ℕ, List, ◌-◌, ◌^◌, true, is_some, length, position, Option, Some, None, Result, Ok}
 use Rattle.std.specs.Prelude.{Err, codes}
 use Rattle.protocol.specs.declared.record.RecordFault.{RecordFault}
-use Rattle.protocol.specs.Record.{Facts, header_of, fault_number, fault_name}
+use Rattle.protocol.specs.Report.{Told, told}
+use Rattle.protocol.specs.Record.{Facts, header_of, record_report}
 use Rattle.protocol.specs.Catalog.{Config, has_codes}
 use Rattle.protocol.specs.History.{Arrival, number_at}
 use Rattle.protocol.specs.World.{accepted}
@@ -13,17 +14,11 @@ use Rattle.held_records.specs.Rings.{summary_of}
 use Rattle.server_core.specs.declared.arrivals.ArriveFault.{ArriveFault}
 use Rattle.server_core.specs.declared.arrivals.ArriveFault.TheVariants.{Record, UnknownStation, Exhausted}
 
--- the number of a fault
-abbrev pub arrive_number : ArriveFault → ℕ
-arrive_number (Record f) = fault_number f
-arrive_number UnknownStation = 32
-arrive_number Exhausted = 33
-
--- its name
-abbrev pub arrive_name : ArriveFault → List ℕ
-arrive_name (Record f) = fault_name f
-arrive_name UnknownStation = codes "UnknownStation"
-arrive_name Exhausted = codes "Exhausted"
+-- what the program tells of a fault
+abbrev pub arrive_report : ArriveFault → Told
+arrive_report (Record f) = record_report f
+arrive_report UnknownStation = told 32 (codes "UnknownStation")
+arrive_report Exhausted = told 33 (codes "Exhausted")
 
 -- the place of the first station with a record's codes
 abbrev pub place_of : Config → Facts → Option ℕ

@@ -1,19 +1,16 @@
 -- Why bytes are not taken, and what a server answers.
 use Rattle.std.specs.Prelude.{ℕ, nat_lt, ◌-◌, Bool, true, false, if◌then◌else◌, List, length, Option, Some, None}
 use Rattle.std.specs.Prelude.{Result, Ok, Err, codes}
+use Rattle.protocol.specs.Report.{Told, told}
 use Rattle.protocol.specs.Client.{Client, inbox, is_nothing, is_ending}
 use Rattle.server_core.specs.declared.client.Refusal.{Refusal}
 use Rattle.server_core.specs.declared.client.Refusal.TheVariants.{Gone, NoRoom}
 use Rattle.server_core.specs.declared.client.Offer.{Offer}
 use Rattle.server_core.specs.declared.client.Offer.TheVariants.{Bytes, Ended, Idle}
 
-abbrev pub refusal_number : Refusal → ℕ
-refusal_number Gone = 30
-refusal_number NoRoom = 31
-
-abbrev pub refusal_name : Refusal → List ℕ
-refusal_name Gone = codes "Gone"
-refusal_name NoRoom = codes "NoRoom"
+abbrev pub refusal_report : Refusal → Told
+refusal_report Gone = told 30 (codes "Gone")
+refusal_report NoRoom = told 31 (codes "NoRoom")
 
 -- how many bytes a client may send
 abbrev pub room_of : Client → ℕ

@@ -1,8 +1,9 @@
 //! Records that arrive.
 ghost use Rattle.std.specs.Prelude.{◌≡◌, ◌≢◌, IfOk, IfErr, Err};
+ghost use Rattle.protocol.specs.Report.{IsReport};
 ghost use Rattle.protocol.specs.Record.{header_of};
 ghost use Rattle.held_records.specs.Rings.{summary_of};
-ghost use Rattle.server_core.specs.Arrivals.{arrive_number, arrive_name, placed_by, IsPlaced};
+ghost use Rattle.server_core.specs.Arrivals.{arrive_report, placed_by, IsPlaced};
 ghost use Rattle.server_core.specs.declared.arrivals.ArriveFault.TheVariants.{Exhausted};
 
 use catalog::Config;
@@ -28,8 +29,7 @@ pub enum ArriveFault {
 impl ArriveFault {
     /// The number and the name by which the program reports it: those of the record's fault, 1 to 6, or 32 or 33.
     pub fn report(self) -> Report
-        ensures number { result.number ≡ arrive_number self }
-        ensures name { result.name.now ≡ arrive_name self }
+        ensures { IsReport (arrive_report self) result }
     {
         match self {
             ArriveFault::Record(fault) => fault.report(),

@@ -1,6 +1,7 @@
 //! Clients by their numbers, and why one is not answered.
 ghost use Rattle.std.specs.Prelude.{◌≡◌, codes};
-ghost use Rattle.server_core.specs.Refusals.{refusal_number, refusal_name};
+ghost use Rattle.protocol.specs.Report.{IsReport};
+ghost use Rattle.server_core.specs.Refusals.{refusal_report};
 
 use protocol::report::Report;
 use std::marker::Model;
@@ -78,8 +79,7 @@ pub enum Refusal {
 impl Refusal {
     /// The number and the name by which the program reports it: 30 or 31.
     pub fn report(self) -> Report
-        ensures number { result.number ≡ refusal_number self }
-        ensures name { result.name.now ≡ refusal_name self }
+        ensures { IsReport (refusal_report self) result }
     {
         match self {
             Refusal::Gone => Report::new(30, "Gone"),

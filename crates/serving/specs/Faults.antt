@@ -1,16 +1,11 @@
 -- The number and the name by which the program reports a server that ended early.
-use Rattle.std.specs.Prelude.{ℕ, List, codes}
+use Rattle.std.specs.Prelude.{codes}
+use Rattle.protocol.specs.Report.{Told, told}
 use Rattle.serving.specs.declared.faults.ServeFault.{ServeFault}
 use Rattle.serving.specs.declared.faults.ServeFault.TheVariants.{OutOfMemory, Poll, Numbers}
 
--- its number
-abbrev pub serve_fault_number : ServeFault → ℕ
-serve_fault_number OutOfMemory = 25
-serve_fault_number Poll = 40
-serve_fault_number Numbers = 49
-
--- its name
-abbrev pub serve_fault_name : ServeFault → List ℕ
-serve_fault_name OutOfMemory = codes "OutOfMemory"
-serve_fault_name Poll = codes "Poll"
-serve_fault_name Numbers = codes "Numbers"
+-- what the program tells of it
+abbrev pub serve_report : ServeFault → Told
+serve_report OutOfMemory = told 25 (codes "OutOfMemory")
+serve_report Poll = told 40 (codes "Poll")
+serve_report Numbers = told 49 (codes "Numbers")

@@ -1,6 +1,7 @@
 //! Why a server ends early.
 ghost use Rattle.std.specs.Prelude.{◌≡◌};
-ghost use Rattle.serving.specs.Faults.{serve_fault_number, serve_fault_name};
+ghost use Rattle.protocol.specs.Report.{IsReport};
+ghost use Rattle.serving.specs.Faults.{serve_report};
 ghost use Rattle.serving.specs.declared.faults.ServeFault.TheVariants.{Poll};
 
 use event_loop::LoopFault;
@@ -24,8 +25,7 @@ pub enum ServeFault {
 impl ServeFault {
     /// The number and the name by which the program reports it: 25, 40 or 49.
     pub fn report(self) -> Report
-        ensures number { result.number ≡ serve_fault_number self }
-        ensures name { result.name.now ≡ serve_fault_name self }
+        ensures { IsReport (serve_report self) result }
     {
         match self {
             ServeFault::OutOfMemory => Report::new(25, "OutOfMemory"),

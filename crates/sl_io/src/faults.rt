@@ -1,6 +1,7 @@
 //! Why a read or a write was refused, and why bytes didn't get from an input to an output.
 ghost use Rattle.std.specs.Prelude.{◌≡◌, codes};
-ghost use Rattle.sl_io.specs.Faults.{read_fault_number, read_fault_name, stream_fault_number, stream_fault_name};
+ghost use Rattle.protocol.specs.Report.{IsReport};
+ghost use Rattle.sl_io.specs.Faults.{read_report, stream_report};
 ghost use Rattle.sl_io.specs.Faults.{stream_of};
 ghost use Rattle.sl_io.specs.declared.faults.StreamFault.TheVariants.{OutOfMemory, Write};
 
@@ -37,8 +38,7 @@ pub enum ReadFault {
 impl ReadFault {
     /// The number and the name by which the program reports it: 25 or 42.
     pub fn report(self) -> Report
-        ensures number { result.number ≡ read_fault_number self }
-        ensures name { result.name.now ≡ read_fault_name self }
+        ensures { IsReport (read_report self) result }
     {
         match self {
             ReadFault::OutOfMemory => Report::new(25, "OutOfMemory"),
@@ -79,8 +79,7 @@ pub enum StreamFault {
 impl StreamFault {
     /// The number and the name by which the program reports it: 25, 42 or 43.
     pub fn report(self) -> Report
-        ensures number { result.number ≡ stream_fault_number self }
-        ensures name { result.name.now ≡ stream_fault_name self }
+        ensures { IsReport (stream_report self) result }
     {
         match self {
             StreamFault::OutOfMemory => Report::new(25, "OutOfMemory"),

@@ -1,6 +1,7 @@
 -- What the text of a command's time is read as.
 use Rattle.std.specs.Prelude.{ℕ, List, ℤ, Option, Some, None, Result, Err, codes}
 use Rattle.std.specs.Option.{ok_or}
+use Rattle.protocol.specs.Report.{Told, told}
 use Rattle.protocol.specs.Time.{CivilTime, civil_of, civil_tick}
 use Rattle.sl_time.specs.declared.command.TimeFault.{TimeFault}
 use Rattle.sl_time.specs.declared.command.TimeFault.TheVariants.{Shape, Range}
@@ -14,10 +15,6 @@ tick_or_fault (Some t) = ok_or (civil_tick t) Range
 abbrev pub parsed : List ℕ → Result ℤ TimeFault
 parsed text = tick_or_fault (civil_of text)
 
-abbrev pub fault_number : TimeFault → ℕ
-fault_number Shape = 60
-fault_number Range = 61
-
-abbrev pub fault_name : TimeFault → List ℕ
-fault_name Shape = codes "Shape"
-fault_name Range = codes "Range"
+abbrev pub time_report : TimeFault → Told
+time_report Shape = told 60 (codes "Shape")
+time_report Range = told 61 (codes "Range")

@@ -1,8 +1,9 @@
 //! The times of commands.
 ghost use Rattle.std.specs.Prelude.{◌≡◌};
+ghost use Rattle.protocol.specs.Report.{IsReport};
 ghost use Rattle.protocol.specs.Time.{civil_of, civil_tick, time_of};
 ghost use Rattle.std.specs.Result.{result_ok};
-ghost use Rattle.sl_time.specs.Parsed.{fault_number, fault_name, parsed};
+ghost use Rattle.sl_time.specs.Parsed.{time_report, parsed};
 
 use crate::calendar;
 use crate::parts::Parts;
@@ -25,8 +26,7 @@ pub enum TimeFault {
 impl TimeFault {
     /// The number and the name by which the program reports it: 60 or 61.
     pub fn report(self) -> Report
-        ensures number { result.number ≡ fault_number self }
-        ensures name { result.name.now ≡ fault_name self }
+        ensures { IsReport (time_report self) result }
     {
         match self {
             TimeFault::Shape => Report::new(60, "Shape"),

@@ -1,6 +1,7 @@
 //! Why a reader stops.
 ghost use Rattle.std.specs.Prelude.{◌≡◌};
-ghost use Rattle.slreader.specs.Faults.{reader_fault_number, reader_fault_name};
+ghost use Rattle.protocol.specs.Report.{IsReport};
+ghost use Rattle.slreader.specs.Faults.{reader_report};
 
 use protocol::report::Report;
 use thiserror::Error;
@@ -28,8 +29,7 @@ pub enum ReaderFault {
 impl ReaderFault {
     /// The number and the name by which the program reports it: 10, 22, 25, 51 or 52.
     pub fn report(self) -> Report
-        ensures number { result.number ≡ reader_fault_number self }
-        ensures name { result.name.now ≡ reader_fault_name self }
+        ensures { IsReport (reader_report self) result }
     {
         match self {
             ReaderFault::NotAPacket => Report::new(10, "NotAPacket"),

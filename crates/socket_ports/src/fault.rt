@@ -1,6 +1,7 @@
 //! Why no sockets can be listened on.
 ghost use Rattle.std.specs.Prelude.{◌≡◌};
-ghost use Rattle.socket_ports.specs.Faults.{fault_of, listen_fault_number, listen_fault_name};
+ghost use Rattle.protocol.specs.Report.{IsReport};
+ghost use Rattle.socket_ports.specs.Faults.{fault_of, listen_report};
 
 use protocol::report::Report;
 use std::io;
@@ -21,8 +22,7 @@ pub enum ListenFault {
 impl ListenFault {
     /// The number and the name by which the program reports it: 25 or 46.
     pub fn report(self) -> Report
-        ensures number { result.number ≡ listen_fault_number self }
-        ensures name { result.name.now ≡ listen_fault_name self }
+        ensures { IsReport (listen_report self) result }
     {
         match self {
             ListenFault::OutOfMemory => Report::new(25, "OutOfMemory"),
