@@ -32,6 +32,9 @@ pub(crate) fn passes_among(
 ) -> bool
     ensures { result ≡ passes_parts location.now channel.now kind selectors.now }
 {
+    if selectors.is_empty() {
+        return true;
+    }
     let mut is_chosen = false;
     let mut chooses = false;
     for selector in selectors {
