@@ -99,6 +99,29 @@ fn digits(alloc: Global, taken: &[u8]) -> Result<Vec<u8>, Fail> {
     Ok(all)
 }
 
+/// What a server leaves to the next one.
+#[derive(Drop)]
+struct Left {
+    /// The digits of the packets that its client took.
+    digits: Vec<u8>,
+    kept: Vec<KeptNumber>,
+    /// How often numbers were to be kept.
+    keeps: usize,
+}
+
+/// Runs a server that begins with the numbers that the one before it left.
+fn follow(alloc: Global, text: &[u8], before: &[KeptNumber], keep: usize) -> Result<Left, Fail> {
+    let run = served(alloc, text, before, keep, Vec::new(alloc))?;
+    let kept = kept_by(alloc, text, before, &run)?;
+    let digits = digits(alloc, run.taken.as_slice())?;
+    let keeps = keeps(&run);
+    Ok(Left {
+        digits,
+        kept,
+        keeps,
+    })
+}
+
 /// How often numbers were to be kept.
 fn keeps(run: &Run) -> usize {
     run.between
@@ -123,11 +146,10 @@ fn the_first_server_counts_from_the_first_numbers(rt: HostRuntime) -> Result<(),
 #[test]
 fn the_next_server_goes_on_beyond_them(rt: HostRuntime) -> Result<(), Fail> {
     let alloc = rt.alloc();
-    let first = served(alloc, CENTRE, &[], 2, Vec::new(alloc))?;
-    let kept = kept_by(alloc, CENTRE, &[], &first)?;
-    let next = served(alloc, CENTRE, kept.as_slice(), 2, Vec::new(alloc))?;
+    let first = follow(alloc, CENTRE, &[], 2)?;
+    let next = follow(alloc, CENTRE, first.kept.as_slice(), 2)?;
     assert_eq!(rt;
-        digits(alloc, next.taken.as_slice())?.as_slice(),
+        next.digits.as_slice(),
         b"004003004000004004004001004005".as_slice()
     );
     Ok(())
@@ -136,12 +158,11 @@ fn the_next_server_goes_on_beyond_them(rt: HostRuntime) -> Result<(), Fail> {
 #[test]
 fn numbers_that_were_kept_at_the_start_are_ahead_too(rt: HostRuntime) -> Result<(), Fail> {
     let alloc = rt.alloc();
-    let first = served(alloc, CENTRE, &[], 5, Vec::new(alloc))?;
-    assert_eq!(rt; keeps(&first), 1);
-    let kept = kept_by(alloc, CENTRE, &[], &first)?;
-    let next = served(alloc, CENTRE, kept.as_slice(), 5, Vec::new(alloc))?;
+    let first = follow(alloc, CENTRE, &[], 5)?;
+    assert_eq!(rt; first.keeps, 1);
+    let next = follow(alloc, CENTRE, first.kept.as_slice(), 5)?;
     assert_eq!(rt;
-        digits(alloc, next.taken.as_slice())?.as_slice(),
+        next.digits.as_slice(),
         b"004000003FFE004001003FFF004002".as_slice()
     );
     Ok(())
@@ -179,22 +200,19 @@ first = "FFFFFE"
 #[test]
 fn a_station_that_comes_back_goes_on(rt: HostRuntime) -> Result<(), Fail> {
     let alloc = rt.alloc();
-    let first = served(alloc, FOREST, &[], 1, Vec::new(alloc))?;
-    let kept = kept_by(alloc, FOREST, &[], &first)?;
-    assert_eq!(rt; kept.len(), 1);
-    let second = served(alloc, CENTRE, kept.as_slice(), 1, Vec::new(alloc))?;
+    let first = follow(alloc, FOREST, &[], 1)?;
+    assert_eq!(rt; first.kept.len(), 1);
+    let second = follow(alloc, CENTRE, first.kept.as_slice(), 1)?;
     assert_eq!(rt;
-        digits(alloc, second.taken.as_slice())?.as_slice(),
+        second.digits.as_slice(),
         b"000000004000000001004001000002".as_slice()
     );
-    let all = kept_by(alloc, CENTRE, kept.as_slice(), &second)?;
-    assert_eq!(rt; all.len(), 3);
-    let third = served(alloc, FOREST, all.as_slice(), 1, Vec::new(alloc))?;
-    let still = kept_by(alloc, FOREST, all.as_slice(), &third)?;
-    assert_eq!(rt; still.len(), 3);
-    let last = served(alloc, CENTRE, still.as_slice(), 1, Vec::new(alloc))?;
+    assert_eq!(rt; second.kept.len(), 3);
+    let third = follow(alloc, FOREST, second.kept.as_slice(), 1)?;
+    assert_eq!(rt; third.kept.len(), 3);
+    let last = follow(alloc, CENTRE, third.kept.as_slice(), 1)?;
     assert_eq!(rt;
-        digits(alloc, last.taken.as_slice())?.as_slice(),
+        last.digits.as_slice(),
         b"00400300C00400400400C005004005".as_slice()
     );
     Ok(())
