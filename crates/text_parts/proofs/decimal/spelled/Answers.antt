@@ -1,6 +1,6 @@
 use Rattle.std.proofs.Common.{arith}
-use Rattle.decimal.proofs.DigitLemmas.{power_nine}
-use Rattle.decimal.proofs.spelled.Goals as goal
+use Rattle.text_parts.proofs.DigitLemmas.{power_nine}
+use Rattle.text_parts.proofs.decimal.spelled.Goals as goal
 
 pub overflow_mul-number : goal.overflow_mul-number
 overflow_mul-number c =

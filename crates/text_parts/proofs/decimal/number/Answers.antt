@@ -1,6 +1,6 @@
 use Rattle.std.proofs.Common.{arith, length}
-use Rattle.decimal.proofs.DigitLemmas.{below_more}
-use Rattle.decimal.proofs.number.Goals as goal
+use Rattle.text_parts.proofs.DigitLemmas.{below_more}
+use Rattle.text_parts.proofs.decimal.number.Goals as goal
 
 pub returns-clause-below : goal.returns-clause-below
 returns-clause-below c =

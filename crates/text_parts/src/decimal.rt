@@ -1,5 +1,4 @@
 //! Numbers as decimal digits spell them, with leading zeros or without. No call takes memory.
-#![tactic(auto)]
 
 ghost use Rattle.std.specs.Prelude.{◌≡◌, ◌<◌, ◌≤◌, ◌^◌, IfSome, length};
 ghost use Rattle.protocol.specs.Time.{decimal_digit, decimal_number, digits_between};

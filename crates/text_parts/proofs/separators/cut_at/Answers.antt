@@ -2,7 +2,7 @@
 use Rattle.std.proofs.Common.{◌+◌}
 use Rattle.std.specs.Prelude.{◌==◌}
 use Rattle.protocol.proofs.SplitLemmas.{first_cut, rest_whole}
-use Rattle.separators.proofs.cut_at.Goals as goal
+use Rattle.text_parts.proofs.separators.cut_at.Goals as goal
 
 pub returns-in_err-place-clause-pieces : goal.returns-in_err-place-clause-pieces
 returns-in_err-place-clause-pieces c =

@@ -1,5 +1,4 @@
 //! Texts that are cut where a separator stands. No call takes memory.
-#![tactic(auto)]
 
 ghost use Rattle.std.specs.Prelude.{◌≡◌, ◌==◌, ◌+◌, ◌∷◌, [], length, take, drop, position, None, Some};
 ghost use Rattle.std.specs.Prelude.{IfSome, MatchOption};

@@ -1,6 +1,6 @@
 use Rattle.std.proofs.Common.{◌≡◌, ◌<◌, ◌^◌, drop}
 use Rattle.protocol.specs.Time.{decimal_number}
-use Rattle.decimal.proofs.spelled.Given as goal
+use Rattle.text_parts.proofs.decimal.spelled.Given as goal
 
 abbrev pub invariant-loop-byte : goal.invariant-loop-byte
 invariant-loop-byte l = record {
