@@ -13,7 +13,7 @@ use Rattle.protocol.specs.History.{Arrival}
 use Rattle.protocol.specs.Client.{Client, is_ending, is_nothing, offered}
 use Rattle.protocol.proofs.FoundLemmas.{both}
 use Rattle.catalog.specs.Places.{view_in}
-use Rattle.held_records.specs.Rings.{RingsValue}
+use Rattle.station_ring.specs.HeldRecords.{RingsValue}
 use Rattle.session_state.specs.NamedValues.{Choice}
 use Rattle.session_state.specs.NamedValues.{ModeValue}
 use Rattle.session_state.specs.NamedValues.ModeValue.{Uni, Multi}

@@ -22,9 +22,9 @@ ghost use Rattle.server_core.specs.ServerValues.{goes_on, handing, open_client, 
 use crate::client::{Gone, Offer, Refusal};
 use crate::marks::Marks;
 use catalog::Config;
-use held_records::Rings;
 use session_state::{Session, Settled, State};
 use slab::Slab;
+use station_ring::Rings;
 use transfer::{choose, finds, start};
 
 /// A session that settled goes on with its transfer, where one is to start.
