@@ -3,9 +3,9 @@ use Rattle.std.specs.Prelude.{bit_and}
 use Rattle.std.specs.Int.{bit_not}
 use Rattle.std.proofs.lemmas.Bool.Decides.{nat_tests}
 use Rattle.std.proofs.lemmas.List.{get_or_read}
-use Rattle.slot_rows.specs.Rows.{bit_in}
-use Rattle.slot_rows.proofs.RowLemmas.{clear-here, clear-others}
-use Rattle.slot_rows.proofs.row.Row.clear.Goals as goal
+use Rattle.server_core.specs.Rows.{bit_in}
+use Rattle.server_core.proofs.WordLemmas.{clear-here, clear-others}
+use Rattle.server_core.proofs.rows.Row.clear.Goals as goal
 
 inside : (c : goal.After-self-1) → c.args.slot / 64 < length c.args.self.now.words.items
 inside c =

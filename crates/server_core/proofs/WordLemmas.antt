@@ -11,7 +11,7 @@ use Rattle.std.proofs.lemmas.List.{get_or_past}
 use Rattle.std.proofs.lemmas.Nat.Bits.{bit_at-trailing_zeros, bit_at_above}
 use Rattle.std.proofs.lemmas.Nat.Bits.{bit_at-lt, bit_at-zero, bit_at_and, bit_at_clear_other, bit_at_clear_same}
 use Rattle.std.proofs.lemmas.Nat.Bits.{bit_at_or, bit_at_set_other, bit_at_set_same}
-use Rattle.slot_rows.specs.Rows.{bit_in}
+use Rattle.server_core.specs.Rows.{bit_in}
 
 -- A word that is written leaves the bits of the other words.
 other-word : (words : List ℕ) (n k v : ℕ) → (k / 64 ≡ n / 64 → ⊥) → bit_in (set words (n / 64) v) k ≡ bit_in words k

@@ -1,8 +1,8 @@
 use Rattle.std.proofs.Common.{◌≡◌, ◌∙◌, ◌/◌, ◌%◌, ◌^◌, ◌<◌, ◌+◌, min, arith, ap, inl, inr}
 use Rattle.std.proofs.lemmas.Bool.{cases_lt}
-use Rattle.slot_rows.specs.Rows.{bit_in}
-use Rattle.slot_rows.proofs.RowLemmas.{lowest, lowest-set, none-below, nothing-left}
-use Rattle.slot_rows.proofs.row.Row.next_set.Goals as goal
+use Rattle.server_core.specs.Rows.{bit_in}
+use Rattle.server_core.proofs.WordLemmas.{lowest, lowest-set, none-below, nothing-left}
+use Rattle.server_core.proofs.rows.Row.next_set.Goals as goal
 
 pub returns-then-rest-ne0-clause-set : goal.returns-then-rest-ne0-clause-set
 returns-then-rest-ne0-clause-set c = λ inside.

@@ -1,4 +1,5 @@
-//! A row of bits.
+//! Rows of bits over slots: a bit for each slot, which says yes or no of what is in the slot. Only `reserve` takes
+//! memory.
 ghost use Rattle.std.specs.Prelude.{◌≡◌, ◌≢◌, ◌<◌, ◌≤◌, ◌^◌, ℕ, ◌*◌, ◌||◌, ◌&&◌, length, nat_lt, true, false, OnOk};
 ghost use Rattle.std.specs.List.{slice_index};
 
@@ -11,7 +12,7 @@ pub struct Row {
 }
 
 impl Row {
-    ghost use Rattle.slot_rows.specs.Rows.{bit_of, HasRoom};
+    ghost use Rattle.server_core.specs.Rows.{bit_of, HasRoom};
 
     /// A row with no bit.
     pub fn new(alloc: Global) -> Row
