@@ -4,9 +4,9 @@ ghost use Rattle.std.specs.Option.{option_map};
 ghost use Rattle.std.specs.Net.Addr.{ipv4_bits};
 ghost use Rattle.access_list.specs.Addresses.{address_of, octet_of, octets_of};
 
-use decimal::number;
-use separators::cut_at;
 use std::net::Ipv4Addr;
+use text_parts::decimal::number;
+use text_parts::separators::cut_at;
 
 /// The address that a text spells: four decimal numbers 0 to 255 of one to three digits each, joined by dots. Leading
 /// zeros are allowed, as in `010.000.0.7`. None where it is anything else.

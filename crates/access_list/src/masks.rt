@@ -3,7 +3,7 @@ ghost use Rattle.std.specs.Prelude.{◌≡◌, ◌≤◌};
 ghost use Rattle.access_list.specs.Tokens.{mask_of, leading_ones_of, ones};
 
 use crate::addresses::address;
-use decimal::number;
+use text_parts::decimal::number;
 
 /// The mask that a text spells, its high byte for the first number of an address: a number 0 to 32 of one or two
 /// digits, which is that many leading one-bits, or four numbers joined by dots, whose one-bits may stand anywhere.

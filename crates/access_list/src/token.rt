@@ -4,8 +4,8 @@ ghost use Rattle.std.specs.Prelude.{◌≡◌};
 use crate::addresses::address;
 use crate::fault::AccessFault;
 use crate::masks::mask;
-use separators::cut_at;
 use std::marker::Model;
+use text_parts::separators::cut_at;
 
 /// An address and a mask, each with the first of its four numbers as its high byte.
 #[derive(Clone, Copy)]

@@ -14,8 +14,9 @@ use crate::commands::program;
 use crate::job::{CheckOptions, Every, Job, ReadOptions, Request, WordsFault};
 use clap::ArgMatches;
 use clap::error::ErrorKind;
-use separators::cut_at;
 use std::alloc::{AllocError, Global};
+use text_parts::decimal;
+use text_parts::separators::cut_at;
 
 /// The text of an argument, where it has one.
 fn text_at<'a>(arguments: &ArgMatches<'a>, name: &str) -> Option<&'a str>

@@ -3,7 +3,7 @@ ghost use Rattle.std.specs.Prelude.{◌≡◌, ◌≢◌, ◌<◌, ◌≤◌, �
 ghost use Rattle.std.specs.List.{before_first, count_by};
 ghost use Rattle.config_findings.specs.Places.{IsPlaceAfter, begins_character, is_line_end};
 
-use separators::cut_at;
+use text_parts::separators::cut_at;
 
 /// A place in a text: its line and its column, both from 1 on, and the offset at which its line begins. LF ends a line,
 /// and a column is a character.

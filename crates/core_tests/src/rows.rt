@@ -1,5 +1,5 @@
 //! Rows of bits: at the ends of words, and merged.
-use slot_rows::Row;
+use server_core::rows::Row;
 use std::alloc::Global;
 use std::test::Fail;
 

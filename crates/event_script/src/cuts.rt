@@ -4,6 +4,7 @@ ghost use Rattle.event_script.specs.Script.{addressed_of, cut_by, six_of};
 ghost use Rattle.event_script.specs.ScriptValues.{addressed_value, cut_value, six_value};
 
 use crate::numbers::decimal;
+use text_parts::separators;
 
 /// A text cut at its first separator.
 #[derive(Clone, Copy)]

@@ -5,9 +5,9 @@ ghost use Rattle.event_script.specs.Script.{count_of, decimal_of, hex_of, hex_re
 ghost use Rattle.event_script.specs.declared.fault.ScriptFault.TheVariants.{Script};
 
 use crate::fault::ScriptFault;
-use decimal::number;
 use hex::{FromHex, FromHexError};
 use std::alloc::Global;
+use text_parts::decimal::number;
 
 /// The digits of a number, at most.
 const DIGITS: usize = 10;

@@ -4,9 +4,9 @@ ghost use Rattle.access_list.specs.Addresses.{address_of};
 ghost use Rattle.jobs.specs.Endpoints.{both_of, endpoint_of, endpoint_value, port_of};
 
 use access_list::address;
-use decimal::number;
-use separators::cut_at;
 use std::net::{Ipv4Addr, SocketAddrV4};
+use text_parts::decimal::number;
+use text_parts::separators::cut_at;
 
 /// An address with a port.
 #[derive(Clone, Copy, Debug, PartialEq, Eq)]

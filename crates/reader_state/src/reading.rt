@@ -11,11 +11,11 @@ ghost use Rattle.reader_state.specs.States.{AreLast, IsEnd, IsLast, Lacks, end_t
 ghost use Rattle.reader_state.specs.declared.reading.StateFault.TheVariants.{OutOfMemory};
 
 use crate::writing::put_lines;
-use separators::cut_at;
 use sl_packet::Seq;
 use sl_time::Tick;
 use slreader::{LastPacket, Reached};
 use std::alloc::Global;
+use text_parts::separators::cut_at;
 use thiserror::Error;
 
 /// Why a text is no state.

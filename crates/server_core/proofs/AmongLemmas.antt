@@ -6,8 +6,8 @@ use Rattle.std.proofs.lemmas.List.{get_or_append_left}
 use Rattle.std.proofs.lemmas.Option.{slice_get_within}
 use Rattle.std.proofs.Math.Seq.{get_or-append_seam}
 use Rattle.std.proofs.Common.{length-append}
-use Rattle.slot_rows.specs.declared.row.Row.{Row}
-use Rattle.slot_rows.specs.Rows.{bit_of}
+use Rattle.server_core.specs.declared.rows.Row.{Row}
+use Rattle.server_core.specs.Rows.{bit_of}
 use Rattle.server_core.specs.Marks.{IsAmong}
 
 pub among-more : (k : ℕ) (xs ys : List ℕ) → IsAmong k xs → IsAmong k (xs ++ ys)

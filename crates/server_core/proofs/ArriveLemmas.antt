@@ -16,7 +16,7 @@ use Rattle.protocol.specs.World.Event.{Arrive}
 use Rattle.protocol.proofs.FoundLemmas.{both}
 use Rattle.catalog.specs.Places.{station_at, nowhere, HasDistinctCodes}
 use Rattle.station_ring.specs.declared.held.Summary.{Summary}
-use Rattle.held_records.specs.Rings.{AllGrow, GrowByOne, RingsValue, holdings_of, summary_of}
+use Rattle.station_ring.specs.HeldRecords.{AllGrow, GrowByOne, RingsValue, holdings_of, summary_of}
 use Rattle.transfer.proofs.PassedLemmas.{grown-passed}
 use Rattle.session_state.specs.declared.session.State.{State}
 use Rattle.session_state.specs.declared.session.State.TheVariants.{Negotiating, Listing, Starting, Transfer, Ending}

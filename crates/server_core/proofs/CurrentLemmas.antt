@@ -13,7 +13,7 @@ use Rattle.protocol.specs.Client.{Client, inbox, is_ending, is_nothing, filled_i
 use Rattle.protocol.specs.Client.State.{Ending as ClientEnding}
 use Rattle.protocol.proofs.FoundLemmas.{both}
 use Rattle.protocol.proofs.Configs.{views_compared}
-use Rattle.held_records.specs.Rings.{RingsValue}
+use Rattle.station_ring.specs.HeldRecords.{RingsValue}
 use Rattle.catalog.specs.Places.{HasDistinctCodes}
 use Rattle.station_ring.specs.declared.held.Summary.{Summary}
 use Rattle.session_state.specs.declared.session.State.{State}

@@ -6,6 +6,7 @@ pub mod NumberLemmas
 pub mod SlotLemmas
 pub mod SessionLemmas
 pub mod TakeLemmas
+pub mod WordLemmas
 pub mod RowLemmas
 pub mod MarkLemmas
 pub mod SpareLemmas

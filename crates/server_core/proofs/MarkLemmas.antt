@@ -6,14 +6,14 @@ use Rattle.std.proofs.Common.{suc, eqb-true}
 use Rattle.std.specs.Prelude.{◌≢◌, IsSome, is_some}
 use Rattle.std.proofs.lemmas.Bool.{eqb-false}
 use Rattle.slab.specs.Slab.{Slab, get, Updates}
-use Rattle.slot_rows.specs.declared.row.Row.{Row}
-use Rattle.slot_rows.specs.Rows.{bit_of, HasRoom}
+use Rattle.server_core.specs.declared.rows.Row.{Row}
+use Rattle.server_core.specs.Rows.{bit_of, HasRoom}
 use Rattle.protocol.specs.Catalog.{Config, listing}
 use Rattle.protocol.specs.History.{Arrival}
 use Rattle.protocol.specs.Client.{Client, is_ending, is_nothing, offered}
 use Rattle.protocol.proofs.FoundLemmas.{both}
 use Rattle.catalog.specs.Places.{view_in}
-use Rattle.held_records.specs.Rings.{RingsValue}
+use Rattle.station_ring.specs.HeldRecords.{RingsValue}
 use Rattle.session_state.specs.NamedValues.{Choice}
 use Rattle.session_state.specs.NamedValues.{ModeValue}
 use Rattle.session_state.specs.NamedValues.ModeValue.{Uni, Multi}

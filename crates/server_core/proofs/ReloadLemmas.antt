@@ -22,7 +22,7 @@ use Rattle.protocol.proofs.Configs.{configurations_compared, reloaded_where, rel
 use Rattle.protocol.proofs.Connections.{slice_get-each, length-each}
 use Rattle.protocol.proofs.FoundLemmas.{both}
 use Rattle.catalog.specs.Places.{station_at, nowhere, view_in}
-use Rattle.held_records.specs.Rings.{RingsValue, holdings_of, ring_of}
+use Rattle.station_ring.specs.HeldRecords.{RingsValue, holdings_of, ring_of}
 use Rattle.sl_lines.specs.declared.actions.Action.{Action}
 use Rattle.session_state.specs.NamedValues.{Choice}
 use Rattle.session_state.specs.NamedValues.{ModeValue}

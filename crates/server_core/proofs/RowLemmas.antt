@@ -6,8 +6,8 @@ use Rattle.std.specs.Prelude.{◌≢◌, is_some}
 use Rattle.std.proofs.lemmas.Bool.{eqb-false}
 use Rattle.std.proofs.lemmas.List.{drop_more}
 use Rattle.protocol.proofs.FoundLemmas.{both}
-use Rattle.slot_rows.specs.declared.row.Row.{Row}
-use Rattle.slot_rows.specs.Rows.{bit_of, HasRoom}
+use Rattle.server_core.specs.declared.rows.Row.{Row}
+use Rattle.server_core.specs.Rows.{bit_of, HasRoom}
 use Rattle.session_state.specs.declared.choices.Entry.{Entry}
 use Rattle.session_state.specs.NamedValues.{Choice, entry_of}
 use Rattle.server_core.specs.Marks.{Elsewhere, KeepsRows, RoomBy, asked, asked_of, bit_by}

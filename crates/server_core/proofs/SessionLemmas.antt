@@ -6,7 +6,7 @@ use Rattle.protocol.specs.Catalog.{View, Config}
 use Rattle.protocol.specs.Client.{Client}
 use Rattle.protocol.specs.World.{Connection, World, at, changed, client_of, step}
 use Rattle.protocol.specs.World.Event.{Take}
-use Rattle.held_records.specs.Rings.{RingsValue}
+use Rattle.station_ring.specs.HeldRecords.{RingsValue}
 use Rattle.protocol.specs.History.{Arrival}
 use Rattle.session_state.specs.Sessions.{SessionValue, client_in}
 use Rattle.server_core.specs.declared.clients.Clients.{Clients}

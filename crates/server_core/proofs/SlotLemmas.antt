@@ -15,7 +15,7 @@ use Rattle.protocol.proofs.FoundLemmas.{both}
 use Rattle.protocol.specs.Catalog.{View, Config}
 use Rattle.protocol.specs.Client.{Client}
 use Rattle.protocol.specs.History.{Arrival}
-use Rattle.held_records.specs.Rings.{RingsValue}
+use Rattle.station_ring.specs.HeldRecords.{RingsValue}
 use Rattle.session_state.specs.Sessions.{SessionValue}
 use Rattle.server_core.specs.declared.clients.Opened.{Opened}
 use Rattle.server_core.specs.declared.clients.Clients.{Clients}

@@ -4,11 +4,11 @@ use Rattle.std.proofs.Common.{length, slice_get, slice_index_or, refl, sym, ap, 
 use Rattle.std.specs.Prelude.{IsSome, is_some, ◌≢◌, ◌+◌}
 use Rattle.std.specs.List.{range_with_len}
 use Rattle.slab.specs.Slab.{get}
-use Rattle.slot_rows.specs.Rows.{bit_of, HasRoom}
+use Rattle.server_core.specs.Rows.{bit_of, HasRoom}
 use Rattle.protocol.specs.Catalog.{Config}
 use Rattle.protocol.specs.Client.{Client, offered}
 use Rattle.protocol.specs.World.{World, client_of}
-use Rattle.held_records.specs.Rings.{RingsValue}
+use Rattle.station_ring.specs.HeldRecords.{RingsValue}
 use Rattle.session_state.specs.Choices.{chosen_of}
 use Rattle.session_state.specs.Sessions.{SessionValue}
 use Rattle.transfer.specs.Choosing.{is_transfer}

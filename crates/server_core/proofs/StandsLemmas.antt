@@ -9,7 +9,7 @@ use Rattle.protocol.specs.World.{client_of, Connection, World, at, opened, chang
 use Rattle.protocol.specs.World.Event.{Open, Close}
 use Rattle.protocol.proofs.FoundLemmas.{both}
 use Rattle.protocol.proofs.Connections.{length-at, slice_get-at_same, slice_get-at_here, slice_get-at_apart}
-use Rattle.held_records.specs.Rings.{holdings_of}
+use Rattle.station_ring.specs.HeldRecords.{holdings_of}
 use Rattle.slab.specs.Slab.{Slab, get, Updates}
 use Rattle.session_state.specs.Sessions.{SessionValue, client_in, session_view}
 use Rattle.server_core.proofs.OfferLemmas.{offered-waiting}

@@ -10,7 +10,7 @@ use Rattle.protocol.specs.History.{Arrival, number_at}
 use Rattle.protocol.specs.World.{accepted}
 use Rattle.catalog.specs.Places.{station_at}
 use Rattle.station_ring.specs.declared.held.Summary.{Summary}
-use Rattle.held_records.specs.Rings.{summary_of}
+use Rattle.station_ring.specs.HeldRecords.{summary_of}
 use Rattle.server_core.specs.declared.arrivals.ArriveFault.{ArriveFault}
 use Rattle.server_core.specs.declared.arrivals.ArriveFault.TheVariants.{Record, UnknownStation, Exhausted}
 

@@ -5,10 +5,10 @@ use Rattle.std.specs.Prelude.{Option}
 use Rattle.std.specs.Prelude.{Some, None, is_some, slice_get, slice_index_or}
 use Rattle.std.specs.List.{list_any, range_with_len}
 use Rattle.slab.specs.Slab.{Slab, get}
-use Rattle.slot_rows.specs.declared.row.Row.{Row}
-use Rattle.slot_rows.specs.Rows.{bit_of, HasRoom}
+use Rattle.server_core.specs.declared.rows.Row.{Row}
+use Rattle.server_core.specs.Rows.{bit_of, HasRoom}
 use Rattle.protocol.specs.Catalog.{Config, listing}
-use Rattle.held_records.specs.Rings.{RingsValue}
+use Rattle.station_ring.specs.HeldRecords.{RingsValue}
 use Rattle.session_state.specs.declared.choices.Entry.{Entry}
 use Rattle.session_state.specs.NamedValues.{Choice}
 use Rattle.session_state.specs.declared.session.Settled.{Settled}

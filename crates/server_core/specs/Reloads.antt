@@ -4,7 +4,7 @@ use Rattle.std.specs.Prelude.{◌≡◌, ℕ, false, if◌then◌else◌, List, 
 use Rattle.slab.specs.Slab.{Slab, get}
 use Rattle.protocol.specs.Catalog.{Config, view_of, is_same_view}
 use Rattle.protocol.specs.History.{Arrival}
-use Rattle.held_records.specs.Rings.{RingsValue}
+use Rattle.station_ring.specs.HeldRecords.{RingsValue}
 use Rattle.session_state.specs.declared.session.State.TheVariants.{Ending}
 use Rattle.session_state.specs.Sessions.{SessionValue, session_view}
 use Rattle.server_core.specs.declared.clients.Opened.{Opened}

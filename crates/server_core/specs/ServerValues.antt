@@ -7,7 +7,7 @@ use Rattle.protocol.specs.Catalog.{Config, View}
 use Rattle.protocol.specs.Client.{Client, after_take, offered}
 use Rattle.protocol.specs.History.{Arrival}
 use Rattle.protocol.specs.World.{Event, World, Connection, config_after, world_after}
-use Rattle.held_records.specs.Rings.{RingsValue, holdings_of}
+use Rattle.station_ring.specs.HeldRecords.{RingsValue, holdings_of}
 use Rattle.session_state.specs.declared.session.State.TheVariants.{Starting}
 use Rattle.session_state.specs.Sessions.{SessionValue, HasPlaces, client_in, session_view}
 use Rattle.transfer.specs.Cursors.{ArePassed}

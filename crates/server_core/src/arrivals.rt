@@ -2,7 +2,7 @@
 ghost use Rattle.std.specs.Prelude.{◌≡◌, ◌≢◌, IfOk, IfErr, Err};
 ghost use Rattle.protocol.specs.Report.{IsReport};
 ghost use Rattle.protocol.specs.Record.{header_of};
-ghost use Rattle.held_records.specs.Rings.{summary_of};
+ghost use Rattle.station_ring.specs.HeldRecords.{summary_of};
 ghost use Rattle.server_core.specs.Arrivals.{arrive_report, placed_by, IsPlaced};
 ghost use Rattle.server_core.specs.declared.arrivals.ArriveFault.TheVariants.{Exhausted};
 

@@ -5,14 +5,14 @@ ghost use Rattle.std.specs.Prelude.{slice_get, slice_set};
 ghost use Rattle.std.specs.Net.Addr.{ipv4_bits};
 ghost use Rattle.slab.specs.Slab.{get, Updates};
 ghost use Rattle.protocol.specs.Catalog.{Config as ProtocolConfig};
-ghost use Rattle.held_records.specs.Rings.{RingsValue};
-ghost use Rattle.slot_rows.specs.Rows.{bit_of};
+ghost use Rattle.station_ring.specs.HeldRecords.{RingsValue};
+ghost use Rattle.server_core.specs.Rows.{bit_of};
 ghost use Rattle.server_core.specs.Marks.{IsAmong};
 
 use crate::client::Client;
+use crate::rows::Row;
 use session_state::Session;
 use slab::Slab;
-use slot_rows::Row;
 use std::alloc::{AllocError, Global};
 use std::net::Ipv4Addr;
 

@@ -7,6 +7,7 @@ mod clients;
 pub mod events;
 mod marks;
 mod reviewing;
+pub mod rows;
 pub mod server;
 mod slots;
 

@@ -1,6 +1,6 @@
 //! Which clients an offer may find something for, by the slots of their sessions.
 ghost use Rattle.std.specs.Prelude.{◌≡◌, ◌<◌, ◌||◌, ◌&&◌, ℕ, length, not, slice_get, true, false, IfOk, OnOk};
-ghost use Rattle.slot_rows.specs.Rows.{bit_of, HasRoom};
+ghost use Rattle.server_core.specs.Rows.{bit_of, HasRoom};
 ghost use Rattle.session_state.specs.Choices.{chosen_of};
 ghost use Rattle.session_state.specs.declared.session.Settled.TheVariants.{Rest, Start};
 ghost use Rattle.transfer.specs.Choosing.{is_transfer};
@@ -8,8 +8,8 @@ ghost use Rattle.server_core.specs.Refusals.{is_idle};
 ghost use Rattle.server_core.specs.Marks.{Anywhere, Elsewhere, HasRooms, Keeps, asked, bit_by, sends_after};
 
 use crate::client::Offer;
+use crate::rows::Row;
 use session_state::{Session, Settled, State};
-use slot_rows::Row;
 use std::alloc::{AllocError, Global};
 
 mod requests;

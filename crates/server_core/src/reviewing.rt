@@ -13,9 +13,9 @@ ghost use Rattle.server_core.specs.ServerValues.{AreSettled, StayOpen};
 use crate::clients::Opened;
 use crate::marks::Marks;
 use catalog::{Changes, Config};
-use held_records::Rings;
 use session_state::{Session, Settled};
 use slab::Slab;
+use station_ring::Rings;
 use std::net::Ipv4Addr;
 
 /// A session is cut, where its address has another view under the configuration. It answers whether it was.

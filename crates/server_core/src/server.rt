@@ -16,9 +16,9 @@ use crate::marks::Marks;
 use crate::reviewing::review_all;
 use crate::slots;
 use catalog::Config;
-use held_records::Rings;
 use session_state::Session;
 use sl_packet::Seq;
+use station_ring::Rings;
 use std::alloc::{AllocError, Global};
 use std::marker::Model;
 use std::net::Ipv4Addr;
@@ -58,7 +58,7 @@ impl Model for Server {
 impl Server {
     ghost use Rattle.session_state.specs.Sessions.{SessionValue};
     ghost use Rattle.station_ring.specs.declared.held.Summary.{Summary};
-    ghost use Rattle.held_records.specs.Rings.{holdings_of};
+    ghost use Rattle.station_ring.specs.HeldRecords.{holdings_of};
     ghost use Rattle.server_core.specs.ServerValues.{MayTake, StandsAt, mark_at};
     ghost use Rattle.server_core.specs.Marks.{IsAmong, IsSpared, LeavesOthers, MarksThose, OpensNext};
     ghost use Rattle.server_core.specs.Refusals.{is_idle, room_of, receipt, offer_of};

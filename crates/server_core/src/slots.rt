@@ -7,7 +7,7 @@ ghost use Rattle.protocol.specs.History.{Arrival};
 ghost use Rattle.protocol.specs.Client.{Client as ProtocolClient, received, offered, after_take, is_ending, is_nothing};
 ghost use Rattle.protocol.specs.Client.{taken_of};
 ghost use Rattle.slab.specs.Slab.{get};
-ghost use Rattle.slot_rows.specs.Rows.{bit_of};
+ghost use Rattle.server_core.specs.Rows.{bit_of};
 ghost use Rattle.session_state.specs.Sessions.{SessionValue, client_in, session_view, Comes, HasPlaces, HasFirsts};
 ghost use Rattle.session_state.specs.declared.session.State.TheVariants.{Starting, Ending};
 ghost use Rattle.session_state.specs.declared.session.Settled.TheVariants.{Rest, Start};
@@ -22,9 +22,9 @@ ghost use Rattle.server_core.specs.ServerValues.{goes_on, handing, open_client, 
 use crate::client::{Gone, Offer, Refusal};
 use crate::marks::Marks;
 use catalog::Config;
-use held_records::Rings;
 use session_state::{Session, Settled, State};
 use slab::Slab;
+use station_ring::Rings;
 use transfer::{choose, finds, start};
 
 /// A session that settled goes on with its transfer, where one is to start.

@@ -9,7 +9,7 @@ use Rattle.protocol.specs.History.{Arrival}
 use Rattle.protocol.specs.World.{Event, World, accepted, arrived, config_after, config_by, step, world_from}
 use Rattle.protocol.specs.World.Event.{Open, Bytes, Take, Close, Arrive, Reload}
 use Rattle.protocol.proofs.Connections.{world_from-append}
-use Rattle.held_records.specs.Rings.{numbers_after}
+use Rattle.station_ring.specs.HeldRecords.{numbers_after}
 use Rattle.event_loop.specs.Deeds.{Deed, events_in, world_beyond}
 use Rattle.event_loop.specs.Loops.{LoopValue}
 use Rattle.event_loop.specs.Turns.{BringsAtMost}

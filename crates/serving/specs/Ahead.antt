@@ -5,7 +5,7 @@ use Rattle.std.specs.Prelude.{ℕ, ◌+◌, ◌%◌, List, map}
 use Rattle.protocol.specs.Packet.{numbers}
 use Rattle.protocol.specs.Catalog.{Config}
 use Rattle.protocol.specs.History.{Arrival}
-use Rattle.held_records.specs.Rings.{RingsValue, next_numbers, numbers_after}
+use Rattle.station_ring.specs.HeldRecords.{RingsValue, next_numbers, numbers_after}
 use Rattle.serving.specs.declared.ahead.Ahead.{Ahead as Numbers}
 
 -- how far they are ahead

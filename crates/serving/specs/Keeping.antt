@@ -6,7 +6,7 @@ use Rattle.protocol.specs.Packet.{numbers}
 use Rattle.protocol.specs.Catalog.{Config}
 use Rattle.protocol.specs.History.{Arrival}
 use Rattle.protocol.specs.World.{Event, World, world_from}
-use Rattle.held_records.specs.Rings.{numbers_after}
+use Rattle.station_ring.specs.HeldRecords.{numbers_after}
 use Rattle.event_loop.specs.declared.turning.Turned.{Turned}
 use Rattle.event_loop.specs.Deeds.{events_in}
 use Rattle.event_loop.specs.Loops.{LoopValue, TurnMade, TurnFailed}

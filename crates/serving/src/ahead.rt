@@ -3,11 +3,11 @@ ghost use Rattle.std.specs.Prelude.{◌≡◌, ◌+◌, ◌%◌, length, slice_g
 ghost use Rattle.protocol.specs.Catalog.{Config as ProtocolConfig};
 ghost use Rattle.protocol.specs.History.{Arrival};
 ghost use Rattle.std.specs.Prelude.{List};
-ghost use Rattle.held_records.specs.Rings.{holdings_of};
+ghost use Rattle.station_ring.specs.HeldRecords.{holdings_of};
 ghost use Rattle.serving.specs.Ahead.{ahead_of, number_ahead, numbers_ahead};
 
-use held_records::Rings;
 use sl_packet::Seq;
+use station_ring::Rings;
 
 /// How far a kept number is ahead of the next one that is given.
 const ROOM: u32 = 16_384;

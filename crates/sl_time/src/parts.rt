@@ -6,9 +6,9 @@ ghost use Rattle.protocol.specs.Time.{digits_between};
 ghost use Rattle.sl_time.specs.Parts.{is_comma, first_part, first_number, first_year, is_over, number_or_zero};
 ghost use Rattle.sl_time.specs.Parts.{other_parts};
 
-use decimal::number;
-use separators::cut_at;
 use std::marker::Model;
+use text_parts::decimal::number;
+use text_parts::separators::cut_at;
 
 /// The parts that are left of a text.
 #[derive(Drop)]

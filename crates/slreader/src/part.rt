@@ -11,7 +11,7 @@ use crate::spelling::{NETWORK, PATTERNS, STATION, is_action, is_code, is_pattern
 use crate::want::Want;
 use crate::window::{Window, action_of};
 use crate::words::{front_and_rest, number_behind};
-use separators::cut_at;
+use text_parts::separators::cut_at;
 
 /// A part of the word that spells a want.
 #[derive(Clone, Copy, Debug, PartialEq, Eq)]

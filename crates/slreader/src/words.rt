@@ -9,9 +9,9 @@ ghost use Rattle.slreader.specs.Words.{IsNoWant};
 use crate::fault::ReaderFault;
 use crate::want::Want;
 use crate::window::{Window, action_of};
-use separators::cut_at;
 use sl_packet::Seq;
 use std::alloc::{AllocError, Global};
+use text_parts::separators::cut_at;
 
 /// A text cut at its first separator.
 #[derive(Clone, Copy)]

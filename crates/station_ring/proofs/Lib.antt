@@ -3,3 +3,9 @@ pub mod NumberLemmas
 pub mod ReachLemmas
 pub mod GrowthLemmas
 pub mod BriefLemmas
+pub mod ArrivalLemmas
+pub mod HeldNumberLemmas
+pub mod PlaceLemmas
+pub mod RingsLemmas
+pub mod HistoryLemmas
+pub mod FirstLemmas

@@ -1,2 +1,3 @@
 pub mod Briefs
 pub mod Rings
+pub mod HeldRecords

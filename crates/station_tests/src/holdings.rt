@@ -1,8 +1,8 @@
 //! Rings of three records, of one, and of as many as there may be, at stations whose records come in turn.
 use crate::arrivals::{record, summary};
 use catalog::Config;
-use held_records::Rings;
 use sl_packet::Seq;
+use station_ring::Rings;
 use std::alloc::Global;
 use std::test::Fail;
 

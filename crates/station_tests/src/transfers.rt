@@ -3,11 +3,10 @@ ghost use Rattle.std.specs.Prelude.{◌≡◌, IfOk};
 ghost use Rattle.session_state.specs.Sessions.{HasPlaces};
 
 use catalog::Config;
-use held_records::Rings;
 use protocol::record::Kind;
 use session_state::{Session, State};
 use sl_time::Tick;
-use station_ring::Summary;
+use station_ring::{Rings, Summary};
 use std::alloc::{AllocError, Global};
 use std::net::Ipv4Addr;
 use std::test::Fail;

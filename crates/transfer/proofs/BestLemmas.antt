@@ -4,7 +4,7 @@ use Rattle.std.proofs.Common.{Option, Some, None, true, false, nat_le, unwrap_or
 use Rattle.std.specs.Prelude.{◌==◌, nat_lt}
 use Rattle.std.proofs.lemmas.Bool.Decides.{nat_tests}
 use Rattle.protocol.proofs.FoundLemmas.{both}
-use Rattle.held_records.specs.Rings.{RingsValue}
+use Rattle.station_ring.specs.HeldRecords.{RingsValue}
 use Rattle.session_state.specs.declared.choices.Entry.{Entry}
 use Rattle.session_state.specs.NamedValues.{Choice, ahead_of, entry_of}
 use Rattle.session_state.specs.Choices.{chosen_of}

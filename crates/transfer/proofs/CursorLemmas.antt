@@ -6,7 +6,7 @@ use Rattle.std.specs.Prelude.{find, if◌then◌else◌, nat_lt, ◌==◌}
 use Rattle.std.specs.List.{list_any}
 use Rattle.std.proofs.lemmas.Bool.Decides.{nat_tests}
 use Rattle.protocol.proofs.FoundLemmas.{both}
-use Rattle.held_records.proofs.PlaceLemmas.{oldest-first, any-here}
+use Rattle.station_ring.proofs.PlaceLemmas.{oldest-first, any-here}
 use Rattle.station_ring.specs.declared.held.Held.{Held}
 use Rattle.station_ring.specs.Rings.{RingValue, IsRing, first_place, held_at, oldest_place}
 use Rattle.station_ring.proofs.GrowthLemmas.{held_at-low}

@@ -8,8 +8,8 @@ use Rattle.protocol.specs.History.{Arrival, next}
 use Rattle.protocol.proofs.FoundLemmas.{both}
 use Rattle.station_ring.specs.declared.held.Held.{Held}
 use Rattle.station_ring.specs.Rings.{RingValue, held_at}
-use Rattle.held_records.specs.Rings.{RingsValue, holdings_of}
-use Rattle.held_records.proofs.HistoryLemmas.{walk_all}
+use Rattle.station_ring.specs.HeldRecords.{RingsValue, holdings_of}
+use Rattle.station_ring.proofs.HistoryLemmas.{walk_all}
 use Rattle.sl_lines.specs.declared.actions.Action.{Action}
 use Rattle.session_state.specs.NamedValues.{Choice, ahead_of}
 use Rattle.session_state.specs.Choices.{request_in}

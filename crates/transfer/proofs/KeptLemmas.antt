@@ -7,7 +7,7 @@ use Rattle.protocol.specs.History.{Arrival}
 use Rattle.protocol.specs.Session.{wish_of}
 use Rattle.protocol.specs.Client.{request_of}
 use Rattle.protocol.specs.Client.State.{Transfer as ClientTransfer}
-use Rattle.held_records.specs.Rings.{RingsValue, holdings_of}
+use Rattle.station_ring.specs.HeldRecords.{RingsValue, holdings_of}
 use Rattle.session_state.specs.NamedValues.{Choice}
 use Rattle.session_state.specs.NamedValues.{ModeValue}
 use Rattle.session_state.specs.NamedValues.ModeValue.{Uni, Multi}

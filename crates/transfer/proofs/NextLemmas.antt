@@ -12,8 +12,8 @@ use Rattle.protocol.specs.History.{Arrival, first_position, next, is_held}
 use Rattle.catalog.specs.Places.{station_at, nowhere}
 use Rattle.station_ring.specs.declared.held.Held.{Held}
 use Rattle.station_ring.specs.Rings.{RingValue, last_of}
-use Rattle.held_records.specs.Rings.{RingsValue, holdings_of, held_of, ring_of, arrivals_of}
-use Rattle.held_records.proofs.RingsLemmas.{ring_is, station_is_nowhere}
+use Rattle.station_ring.specs.HeldRecords.{RingsValue, holdings_of, held_of, ring_of, arrivals_of}
+use Rattle.station_ring.proofs.RingsLemmas.{ring_is, station_is_nowhere}
 use Rattle.sl_lines.specs.declared.actions.Action.{Action}
 use Rattle.session_state.specs.NamedValues.{Choice}
 use Rattle.session_state.specs.Choices.{request_in}

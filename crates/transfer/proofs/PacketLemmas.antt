@@ -13,9 +13,9 @@ use Rattle.protocol.proofs.Places.{slice_get-seam}
 use Rattle.catalog.specs.Places.{station_at, HasDistinctCodes}
 use Rattle.station_ring.specs.Rings.{RingValue, held_at, number_at as ring_number}
 use Rattle.station_ring.specs.declared.held.Held.{Held}
-use Rattle.held_records.specs.Rings.{RingsValue, holdings_of, ring_of, IsArrival}
+use Rattle.station_ring.specs.HeldRecords.{RingsValue, holdings_of, ring_of, IsArrival}
 use Rattle.transfer.proofs.NextLemmas.{ring-within}
-use Rattle.held_records.proofs.RingsLemmas.{ring_is, same_codes}
+use Rattle.station_ring.proofs.RingsLemmas.{ring_is, same_codes}
 use Rattle.sl_lines.specs.declared.actions.Action.{Action}
 use Rattle.session_state.specs.NamedValues.{Choice}
 use Rattle.session_state.specs.Choices.{request_in}

@@ -6,7 +6,7 @@ use Rattle.std.proofs.lemmas.Bool.Decides.{nat_tests}
 use Rattle.protocol.proofs.FoundLemmas.{both}
 use Rattle.station_ring.specs.declared.held.Held.{Held}
 use Rattle.station_ring.specs.Rings.{RingValue}
-use Rattle.held_records.specs.Rings.{RingsValue, AllGrow, GrowByOne}
+use Rattle.station_ring.specs.HeldRecords.{RingsValue, AllGrow, GrowByOne}
 use Rattle.sl_lines.specs.declared.actions.Action.{Action}
 use Rattle.session_state.specs.NamedValues.{Choice, ahead_of}
 use Rattle.session_state.specs.declared.choices.Cursor.{Cursor}

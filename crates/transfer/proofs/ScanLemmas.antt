@@ -6,7 +6,7 @@ use Rattle.std.specs.Prelude.{find, if◌then◌else◌}
 use Rattle.std.proofs.lemmas.Bool.Decides.{nat_tests}
 use Rattle.std.proofs.lemmas.List.{drop_all}
 use Rattle.protocol.proofs.FoundLemmas.{both}
-use Rattle.held_records.proofs.PlaceLemmas.{oldest-first}
+use Rattle.station_ring.proofs.PlaceLemmas.{oldest-first}
 use Rattle.station_ring.specs.declared.held.Held.{Held}
 use Rattle.station_ring.specs.Rings.{RingValue, IsRing, first_place, held_at, oldest_place}
 

@@ -9,7 +9,7 @@ use Rattle.protocol.specs.History.{ends_from}
 use Rattle.protocol.proofs.FoundLemmas.{both}
 use Rattle.station_ring.specs.declared.held.Held.{Held}
 use Rattle.station_ring.specs.Rings.{RingValue, held_at}
-use Rattle.held_records.specs.Rings.{RingsValue}
+use Rattle.station_ring.specs.HeldRecords.{RingsValue}
 use Rattle.sl_lines.specs.declared.actions.Action.{Action}
 use Rattle.sl_lines.specs.declared.actions.Action.TheVariants.{Data, Fetch, Time}
 use Rattle.session_state.specs.NamedValues.{Choice, ahead_of}

@@ -14,9 +14,9 @@ use Rattle.protocol.proofs.Places.{slice_get-seam}
 use Rattle.catalog.specs.Places.{station_at}
 use Rattle.station_ring.specs.declared.held.Held.{Held}
 use Rattle.station_ring.specs.Rings.{RingValue}
-use Rattle.held_records.specs.Rings.{RingsValue, holdings_of}
-use Rattle.held_records.proofs.RingsLemmas.{ring_is, station_is_nowhere}
-use Rattle.held_records.proofs.HistoryLemmas.{holds_after-nowhere, holds_after-ring, walk_all}
+use Rattle.station_ring.specs.HeldRecords.{RingsValue, holdings_of}
+use Rattle.station_ring.proofs.RingsLemmas.{ring_is, station_is_nowhere}
+use Rattle.station_ring.proofs.HistoryLemmas.{holds_after-nowhere, holds_after-ring, walk_all}
 use Rattle.sl_lines.specs.declared.actions.Action.{Action}
 use Rattle.sl_lines.specs.declared.actions.Action.TheVariants.{Data, Fetch, Time}
 use Rattle.session_state.specs.NamedValues.{Choice}

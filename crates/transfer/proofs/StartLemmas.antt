@@ -10,7 +10,7 @@ use Rattle.protocol.proofs.FoundLemmas.{both}
 use Rattle.station_ring.specs.declared.held.Held.{Held}
 use Rattle.station_ring.specs.Rings.{RingValue, held_at}
 use Rattle.station_ring.proofs.GrowthLemmas.{held_at-low}
-use Rattle.held_records.specs.Rings.{RingsValue, IsBehind, IsBefore}
+use Rattle.station_ring.specs.HeldRecords.{RingsValue, IsBehind, IsBefore}
 use Rattle.sl_lines.specs.declared.actions.Action.{Action}
 use Rattle.sl_lines.specs.declared.actions.Action.TheVariants.{Data, Fetch, Time}
 use Rattle.session_state.specs.NamedValues.{Choice, ahead_of}

@@ -11,7 +11,7 @@ use Rattle.protocol.specs.History.Action.{Data as DataAction, Fetch as FetchActi
 use Rattle.protocol.specs.Pattern.{passes}
 use Rattle.catalog.specs.Places.{station_at}
 use Rattle.station_ring.specs.declared.held.Held.{Held}
-use Rattle.held_records.specs.Rings.{held_of, ring_of, summary_of}
+use Rattle.station_ring.specs.HeldRecords.{held_of, ring_of, summary_of}
 use Rattle.sl_lines.specs.declared.actions.Action.{Action}
 use Rattle.session_state.specs.NamedValues.{Choice}
 use Rattle.session_state.specs.Choices.{action_value}

@@ -3,7 +3,7 @@ use Rattle.std.specs.Prelude.{◌≡◌, ℕ, ◌<◌, Bool, true, false, if◌t
 use Rattle.std.specs.Prelude.{None, slice_get}
 use Rattle.protocol.specs.Catalog.{Config, Station}
 use Rattle.protocol.specs.History.{Arrival, is_over_by}
-use Rattle.held_records.specs.Rings.{RingsValue, IsArrival}
+use Rattle.station_ring.specs.HeldRecords.{RingsValue, IsArrival}
 use Rattle.station_ring.specs.Rings.{RingValue, held_at}
 use Rattle.catalog.specs.Places.{station_at}
 use Rattle.sl_lines.specs.declared.actions.Action.{Action}

@@ -5,7 +5,7 @@ use Rattle.std.specs.Prelude.{◌∷◌}
 use Rattle.std.specs.Prelude.{Option, Some, None, option_map, slice_get}
 use Rattle.station_ring.specs.declared.held.Held.{Held}
 use Rattle.station_ring.specs.Rings.{RingValue, IsRing, first_place, held_at}
-use Rattle.held_records.specs.Rings.{RingsValue, IsBefore, place_from}
+use Rattle.station_ring.specs.HeldRecords.{RingsValue, IsBefore, place_from}
 use Rattle.sl_lines.specs.declared.actions.Action.{Action}
 use Rattle.sl_lines.specs.declared.actions.Action.TheVariants.{Data, Fetch, Time}
 use Rattle.session_state.specs.NamedValues.{Choice, ahead_of}

@@ -4,7 +4,7 @@ use Rattle.std.specs.Prelude.{◌≡◌, ℕ, ◌<◌, ◌≤◌, Bool, true, na
 use Rattle.std.specs.Prelude.{filter_map, slice_get, Option, Some, None, IfSome, option_map, ⊤}
 use Rattle.protocol.specs.Catalog.{Config}
 use Rattle.protocol.specs.History.{Arrival, next}
-use Rattle.held_records.specs.Rings.{RingsValue, holdings_of}
+use Rattle.station_ring.specs.HeldRecords.{RingsValue, holdings_of}
 use Rattle.session_state.specs.NamedValues.{Choice, ahead_of}
 use Rattle.session_state.specs.Choices.{request_in}
 use Rattle.transfer.specs.declared.choosing.First.{First}

@@ -3,7 +3,7 @@
 use Rattle.std.specs.Prelude.{◌≡◌, ℕ, Bool, true, false, find, is_some, List, [], Option, Some, None, slice_get, ℤ}
 use Rattle.std.specs.List.{list_any}
 use Rattle.station_ring.specs.Rings.{RingValue}
-use Rattle.held_records.specs.Rings.{RingsValue}
+use Rattle.station_ring.specs.HeldRecords.{RingsValue}
 use Rattle.sl_lines.specs.declared.actions.Action.{Action}
 use Rattle.sl_lines.specs.declared.actions.Action.TheVariants.{Data, Fetch, Time}
 use Rattle.session_state.specs.NamedValues.{Choice}

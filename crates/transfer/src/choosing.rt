@@ -8,7 +8,7 @@ ghost use Rattle.protocol.specs.Client.{is_nothing, offered};
 ghost use Rattle.catalog.specs.Places.{station_at};
 ghost use Rattle.protocol.specs.Packet.{packet};
 ghost use Rattle.station_ring.specs.Rings.{held_at, number_at};
-ghost use Rattle.held_records.specs.Rings.{RingsValue, holdings_of};
+ghost use Rattle.station_ring.specs.HeldRecords.{RingsValue, holdings_of};
 ghost use Rattle.sl_lines.specs.declared.actions.Action.TheVariants.{Time};
 ghost use Rattle.session_state.specs.NamedValues.{Choice, entry_of};
 ghost use Rattle.session_state.specs.Entries.{TellsAhead};
@@ -26,8 +26,8 @@ ghost use Rattle.transfer.specs.Choosing.{answer_of, is_over_of, comes_before, i
 use crate::searching::{Reached, search_from};
 use crate::wanting::{Candidate, cursor_in, has_passed_its_end, unasked};
 use catalog::Config;
-use held_records::{Rings, arrivals_by_place};
 use session_state::{Action, Ahead, Cursor, Entry, Session, State};
+use station_ring::{Rings, arrivals_by_place};
 
 /// What an offer in a transfer leads to.
 #[derive(Clone, Copy, Debug, PartialEq, Eq)]

@@ -3,7 +3,7 @@ ghost use Rattle.std.specs.Prelude.{◌≡◌, ℕ, List, Some, is_some, slice_g
 ghost use Rattle.protocol.specs.Catalog.{Config as ProtocolConfig};
 ghost use Rattle.protocol.specs.Client.{offered};
 ghost use Rattle.protocol.specs.History.{Arrival};
-ghost use Rattle.held_records.specs.Rings.{RingsValue, holdings_of};
+ghost use Rattle.station_ring.specs.HeldRecords.{RingsValue, holdings_of};
 ghost use Rattle.session_state.specs.NamedValues.{Choice as ChoiceValue};
 ghost use Rattle.session_state.specs.declared.session.State.TheVariants.{Transfer};
 ghost use Rattle.session_state.specs.Choices.{chosen_of};

@@ -4,7 +4,7 @@ ghost use Rattle.protocol.specs.Catalog.{Config as ProtocolConfig};
 ghost use Rattle.protocol.specs.History.{Arrival, first_wanted};
 ghost use Rattle.catalog.specs.Places.{station_at};
 ghost use Rattle.station_ring.specs.Rings.{RingValue, first_place};
-ghost use Rattle.held_records.specs.Rings.{IsBefore, holdings_of, place_from};
+ghost use Rattle.station_ring.specs.HeldRecords.{IsBefore, holdings_of, place_from};
 ghost use Rattle.session_state.specs.NamedValues.{Choice, entry_of};
 ghost use Rattle.session_state.specs.Choices.{action_value, chosen_of};
 ghost use Rattle.session_state.specs.Sessions.{client_in, but_for_cursors, HasFirst};
@@ -12,10 +12,9 @@ ghost use Rattle.transfer.specs.Cursors.{ArePassed, BeginsIn, IsAtBegin, OfAll, 
 ghost use Rattle.session_state.specs.declared.session.State.TheVariants.{Starting, Transfer};
 
 use crate::wanting::unasked;
-use held_records::Rings;
 use session_state::{Action, Cursor, Entry, Session};
 use sl_packet::Seq;
-use station_ring::{Ring, places_found};
+use station_ring::{Ring, Rings, places_found};
 
 /// The position from which on a request that starts now wants records of the station at a place: with the number of a
 /// held record, that record; else, for DATA without a number and for the number that is to come, the next arrival; else

@@ -3,8 +3,8 @@ ghost use Rattle.std.specs.Prelude.{◌≡◌, ◌<◌, ◌||◌, ℕ, length, s
 ghost use Rattle.session_state.specs.Choices.{chosen_of};
 ghost use Rattle.server_core.specs.Marks.{Anywhere, Elsewhere, KeepsRows, RoomBy, asked, asked_of, bit_by};
 
+use crate::rows::Row;
 use session_state::{Entry, Session};
-use slot_rows::Row;
 use std::alloc::{AllocError, Global};
 
 /// So many rows with no bit. It fails only where there is no memory.

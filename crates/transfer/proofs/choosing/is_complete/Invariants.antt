@@ -2,7 +2,7 @@ use Rattle.std.proofs.Common.{◌≡◌, ℕ, List, drop, filter_map, map}
 use Rattle.std.specs.List.{list_all}
 use Rattle.protocol.specs.Catalog.{Config}
 use Rattle.protocol.specs.History.{Arrival, is_over}
-use Rattle.held_records.specs.Rings.{holdings_of}
+use Rattle.station_ring.specs.HeldRecords.{holdings_of}
 use Rattle.session_state.specs.NamedValues.{Choice, entry_of}
 use Rattle.session_state.specs.Choices.{request_in}
 use Rattle.transfer.specs.Cursors.{IsReached, OfAll, RestsIn}

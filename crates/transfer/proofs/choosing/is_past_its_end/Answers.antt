@@ -5,8 +5,8 @@ use Rattle.std.specs.List.{list_any}
 use Rattle.protocol.specs.History.{holds_after}
 use Rattle.station_ring.specs.Rings.{RingValue}
 use Rattle.catalog.specs.Places.{station_at}
-use Rattle.held_records.proofs.RingsLemmas.{ring_is, station_is_nowhere}
-use Rattle.held_records.proofs.HistoryLemmas.{holds_after-ring, holds_after-nowhere}
+use Rattle.station_ring.proofs.RingsLemmas.{ring_is, station_is_nowhere}
+use Rattle.station_ring.proofs.HistoryLemmas.{holds_after-ring, holds_after-nowhere}
 use Rattle.transfer.specs.Cursors.{is_after_end}
 use Rattle.transfer.specs.Sleeping.{starts_after}
 use Rattle.transfer.proofs.choosing.is_past_its_end.Goals as goal

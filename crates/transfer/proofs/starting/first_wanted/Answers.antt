@@ -1,4 +1,4 @@
-use Rattle.held_records.proofs.FirstLemmas.{before-next}
+use Rattle.station_ring.proofs.FirstLemmas.{before-next}
 use Rattle.transfer.proofs.StartLemmas.{behind-there}
 use Rattle.transfer.proofs.starting.first_wanted.Goals as goal
 

@@ -1,7 +1,7 @@
 use Rattle.std.proofs.Common.{◌≡◌, ◌+◌, ◌≤◌, ◌<◌, arith, sym, subst}
 use Rattle.station_ring.specs.Rings.{first_place}
 use Rattle.session_state.specs.declared.choices.Entry.{Entry}
-use Rattle.held_records.proofs.PlaceLemmas.{oldest-first}
+use Rattle.station_ring.proofs.PlaceLemmas.{oldest-first}
 use Rattle.transfer.specs.Cursors.{HasPassed, RestsAt}
 use Rattle.transfer.specs.Searches.{at_place}
 use Rattle.transfer.proofs.CursorLemmas.{passed-after, passed-raised, passed-unwanted, rests-empty, rests-end}

@@ -1,5 +1,5 @@
 use Rattle.std.proofs.Common.{◌∙◌, ap, subst, sym}
-use Rattle.held_records.specs.Rings.{holdings_of}
+use Rattle.station_ring.specs.HeldRecords.{holdings_of}
 use Rattle.server_core.specs.ServerValues.{StandsAt}
 use Rattle.server_core.proofs.server.Server.arrivals.Goals as goal
 

@@ -1,5 +1,5 @@
 use Rattle.std.proofs.Common.{◌∙◌, ◌<◌, [], ap, arith, refl, sym, subst, is_some, length}
-use Rattle.held_records.specs.Rings.{holdings_of}
+use Rattle.station_ring.specs.HeldRecords.{holdings_of}
 use Rattle.protocol.specs.Catalog.{Config}
 use Rattle.server_core.specs.Arrivals.{IsPlaced}
 use Rattle.server_core.specs.ServerValues.{ServerValue, StandsAt, mark_at}

@@ -1,5 +1,5 @@
 use Rattle.std.proofs.Common.{◌∙◌, [], ap, length}
-use Rattle.held_records.proofs.RingsLemmas.{rings_count}
+use Rattle.station_ring.proofs.RingsLemmas.{rings_count}
 use Rattle.server_core.proofs.MarkLemmas.{marked-none}
 use Rattle.server_core.proofs.CurrentLemmas.{current-none}
 use Rattle.server_core.proofs.server.Server.new.Goals as goal

@@ -1,6 +1,6 @@
 use Rattle.std.proofs.Common.{◌∙◌, ap, map}
-use Rattle.held_records.specs.Rings.{next_numbers}
-use Rattle.held_records.proofs.NumberLemmas.{numbers-held}
+use Rattle.station_ring.specs.HeldRecords.{next_numbers}
+use Rattle.station_ring.proofs.HeldNumberLemmas.{numbers-held}
 use Rattle.serving.specs.Ahead.{number_ahead}
 use Rattle.serving.proofs.ahead.Ahead.of.Goals as goal
 

@@ -1,8 +1,0 @@
-use Rattle.std.proofs.Common.{arith, length}
-use Rattle.decimal.proofs.DigitLemmas.{below_more}
-use Rattle.decimal.proofs.number.Goals as goal
-
-pub returns-clause-below : goal.returns-clause-below
-returns-clause-below c =
-    below_more (length c.args.digits.now) c.args.most c.spelled.result
-    (omega (arith, c.if-digits-most.false)) c.spelled.ensures.below

@@ -1,6 +1,0 @@
-use Rattle.slot_rows.proofs.RowLemmas.{AddedTo}
-use Rattle.slot_rows.proofs.row.Row.add_common.Given as goal
-
--- So many words are added.
-abbrev pub invariant-loop-i : goal.invariant-loop-i
-invariant-loop-i l = AddedTo l.i l.fn.self.words.items l.one.words.items l.other.words.items l.self.words.items
