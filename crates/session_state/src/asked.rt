@@ -9,7 +9,7 @@ ghost use Rattle.session_state.specs.Asking.{is_bye, is_leaving, outcome_by};
 
 use catalog::{Config, View};
 use selector::Selector;
-use sl_lines::{Action, Line, Order, command};
+use sl_lines::{Action, Command, Line, command};
 
 /// What a client asks a session to do.
 #[derive(Clone, Copy)]
@@ -57,18 +57,18 @@ pub fn asked_by(view: &View, config: &Config, line: Line<'_>) -> Asked
     ensures leaving { is_bye (command_of (line_value line.entry)) ≡ is_leaving result }
 {
     match command(line) {
-        Order::Blank => Asked::Nothing,
-        Order::Hello => Asked::Greeting,
-        Order::Cat => Asked::Listing,
-        Order::Bye => Asked::Leaving,
-        Order::Station { station, network } => Asked::Name(view.find(config, station, network)),
-        Order::Select { pattern: None } => Asked::Clear,
-        Order::Select {
+        Command::Blank => Asked::Nothing,
+        Command::Hello => Asked::Greeting,
+        Command::Cat => Asked::Listing,
+        Command::Bye => Asked::Leaving,
+        Command::Station { station, network } => Asked::Name(view.find(config, station, network)),
+        Command::Select { pattern: None } => Asked::Clear,
+        Command::Select {
             pattern: Some(text),
         } => selecting(text),
-        Order::End => Asked::Finish,
-        Order::Act(action) => Asked::Act(action),
-        Order::Bad => Asked::Refused,
+        Command::End => Asked::Finish,
+        Command::Act(action) => Asked::Act(action),
+        Command::Bad => Asked::Refused,
     }
 }
 
