@@ -13,7 +13,7 @@ use sl_lines::{Action, Command, Line, command};
 
 /// What a client asks a session to do.
 #[derive(Clone, Copy)]
-pub enum Asked {
+pub enum Request {
     /// Spaces alone, or no line yet.
     Nothing,
     /// HELLO.
@@ -36,20 +36,20 @@ pub enum Asked {
     Refused,
 }
 
-impl Asked {
+impl Request {
     ghost use Rattle.session_state.specs.Asking.{is_leaving};
 
     /// Whether it is BYE.
     pub fn is_leaving(self) -> bool
         ensures { result ≡ is_leaving self }
     {
-        matches!(&self, Asked::Leaving)
+        matches!(&self, Request::Leaving)
     }
 }
 
 /// What a line asks.
 #[tactic(auto, using(crate::proofs::AskLemmas::asking_lemmas))]
-pub fn asked_by(view: &View, config: &Config, line: Line<'_>) -> Asked
+pub fn request_of_line(view: &View, config: &Config, line: Line<'_>) -> Request
     requires { All (IsPlace config.now) view.now }
     ensures outcome { (n : Negotiated)
         → outcome_of (view_in config.now view.now) n (command_of (line_value line.entry))
@@ -57,29 +57,29 @@ pub fn asked_by(view: &View, config: &Config, line: Line<'_>) -> Asked
     ensures leaving { is_bye (command_of (line_value line.entry)) ≡ is_leaving result }
 {
     match command(line) {
-        Command::Blank => Asked::Nothing,
-        Command::Hello => Asked::Greeting,
-        Command::Cat => Asked::Listing,
-        Command::Bye => Asked::Leaving,
-        Command::Station { station, network } => Asked::Name(view.find(config, station, network)),
-        Command::Select { pattern: None } => Asked::Clear,
+        Command::Blank => Request::Nothing,
+        Command::Hello => Request::Greeting,
+        Command::Cat => Request::Listing,
+        Command::Bye => Request::Leaving,
+        Command::Station { station, network } => Request::Name(view.find(config, station, network)),
+        Command::Select { pattern: None } => Request::Clear,
         Command::Select {
             pattern: Some(text),
         } => selecting(text),
-        Command::End => Asked::Finish,
-        Command::Act(action) => Asked::Act(action),
-        Command::Bad => Asked::Refused,
+        Command::End => Request::Finish,
+        Command::Act(action) => Request::Act(action),
+        Command::Bad => Request::Refused,
     }
 }
 
 #[tactic(auto, using(crate::proofs::AskLemmas::selecting_lemmas))]
-fn selecting(text: &[u8]) -> Asked
+fn selecting(text: &[u8]) -> Request
     ensures outcome { (config : ProtocolConfig) (v : ProtocolView) (n : Negotiated)
         → select n (Some text.now) ≡ outcome_by config v n result }
     ensures stays { is_leaving result ≡ false }
 {
     match Selector::parse(text) {
-        Some(selector) => Asked::Add(selector),
-        None => Asked::Refused,
+        Some(selector) => Request::Add(selector),
+        None => Request::Refused,
     }
 }
