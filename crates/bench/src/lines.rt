@@ -1,34 +1,34 @@
 //! Commands, lines and sequence numbers.
-use sl_lines::{Action, Line, LineCutter, Order, command};
+use sl_lines::{Action, Command, Line, LineCutter, command};
 use sl_packet::Seq;
 
 /// A number for each command.
 fn weight(line: Line<'_>) -> u64 {
     match command(line) {
-        Order::Blank => 1,
-        Order::Hello => 2,
-        Order::Cat => 3,
-        Order::Bye => 4,
-        Order::End => 5,
-        Order::Station {
+        Command::Blank => 1,
+        Command::Hello => 2,
+        Command::Cat => 3,
+        Command::Bye => 4,
+        Command::End => 5,
+        Command::Station {
             station: _,
             network: _,
         } => 6,
-        Order::Select { pattern: _ } => 7,
-        Order::Act(
+        Command::Select { pattern: _ } => 7,
+        Command::Act(
             Action::Data {
                 number: _,
                 begin: _,
             },
         ) => 8,
-        Order::Act(
+        Command::Act(
             Action::Fetch {
                 number: _,
                 begin: _,
             },
         ) => 9,
-        Order::Act(Action::Time { begin: _, last: _ }) => 10,
-        Order::Bad => 11,
+        Command::Act(Action::Time { begin: _, last: _ }) => 10,
+        Command::Bad => 11,
     }
 }
 

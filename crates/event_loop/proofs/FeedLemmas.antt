@@ -46,9 +46,9 @@ refusals-append config w (r ∷ rs) qs =
 refused_more-twice : (d m n : ℕ) → refused_more (refused_more d m) n ≡ refused_more d (m + n)
 refused_more-twice d m n = omega arith
 
-pub arrives-none : (config : Config) (w : World) (server : ServerValue) (dropped : ℕ) → StandsAt server config w →
-    Arrives config w [] server dropped dropped
-arrives-none config w server dropped stands = record { stands = stands; counted = omega arith }
+pub arrives-none : (config : Config) (w : World) (server : ServerValue) (refused : ℕ) → StandsAt server config w →
+    Arrives config w [] server refused refused
+arrives-none config w server refused stands = record { stands = stands; counted = omega arith }
 
 pub arrives-then : (config : Config) (w : World) (rs qs : List (List ℕ)) (server' server'' : ServerValue) (d d' d'' : ℕ)
     →

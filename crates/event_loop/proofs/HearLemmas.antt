@@ -14,16 +14,16 @@ use Rattle.ports.specs.Calls.{Call, Tells}
 use Rattle.ports.specs.Calls.Call.{Next, Shut}
 use Rattle.event_loop.specs.declared.seat.Seat.{Seat}
 use Rattle.event_loop.specs.declared.seat.Role.TheVariants.{Client as ClientRole, Feed as FeedRole}
-use Rattle.event_loop.specs.declared.hearing.Hark.TheVariants.{Happened, Quiet as HarkQuiet, Fault}
+use Rattle.event_loop.specs.declared.hearing.Heard.TheVariants.{Happened, Quiet as HeardQuiet, Fault}
 use Rattle.event_loop.specs.Deeds.{Deed, Tally, tally_heard, one_more}
 use Rattle.event_loop.specs.Deeds.Deed.{Hears, Opens, Feeds, TurnsAway}
 use Rattle.event_loop.specs.Going.{Does, GoesOn, Ends}
 use Rattle.event_loop.specs.Hearing.{Hearing, heard, is_seated, is_old, marked, open_client, joining, clients_in}
 use Rattle.event_loop.specs.Hearing.{feeds_in}
 use Rattle.event_loop.specs.Hearing.Hearing.{quiet, fault, marks, opens, feeds, turns_away, turns_away_feed}
-use Rattle.event_loop.specs.Tables.{HearsOnce, HeardBy, HeardStep, tally_hark}
+use Rattle.event_loop.specs.Tables.{HearsOnce, HeardBy, HeardStep, tally_next}
 use Rattle.event_loop.specs.Hearing.End.{Quieted, Faulted}
-use Rattle.event_loop.specs.declared.hearing.Hark.{Hark}
+use Rattle.event_loop.specs.declared.hearing.Heard.{Heard as HeardNext}
 use Rattle.event_loop.proofs.DeedLemmas.{Tells-trans}
 
 module _ (config : Config) (most : ℕ) (w : World) (a b : Option (List Call)) (server : ServerValue) (t : Tally)
@@ -39,7 +39,7 @@ module _ (config : Config) (most : ℕ) (w : World) (a b : Option (List Call)) (
   }
 
   pub hears-quiet : Tells a b (Next (Ok Quiet) ∷ []) → StandsAt server config w →
-      HearsOnce config most w a b server t ss ss HarkQuiet
+      HearsOnce config most w a b server t ss ss HeardQuiet
   hears-quiet tells stands = record {
     deeds = Hears (Ok Quiet) ∷ [];
     does = record { tells = tells; stands = stands; counted = refl; faithful = (tt, tt) };
@@ -103,30 +103,30 @@ module _ (config : Config) (most : ℕ) (w : World) (a b : Option (List Call)) (
 
 module _ (config : Config) (most : ℕ) (w : World) (a b : Option (List Call)) (server : ServerValue) (t : Tally)
     (ss ss' : List Seat)
-    (hark : Hark) (o : HearsOnce config most w a b server t ss ss' hark) where
-  pub hark-happened : hark ≡ Happened →
+    (next : HeardNext) (o : HearsOnce config most w a b server t ss ss' next) where
+  pub heard-happened : next ≡ Happened →
       (deeds : List Deed) × Does config w a b server t (one_more t) deeds
       × GoesOn (HeardBy config most) config w ss ss' deeds
-  hark-happened e = (
+  heard-happened e = (
     o.deeds,
-    subst (λ x. Does config w a b server t (tally_hark t x) o.deeds) e o.does,
+    subst (λ x. Does config w a b server t (tally_next t x) o.deeds) e o.does,
     subst (λ x. HeardStep config most w ss ss' o.deeds x) e o.how,
   )
 
-  pub hark-quiet : hark ≡ HarkQuiet →
+  pub heard-quiet : next ≡ HeardQuiet →
       (deeds : List Deed) × Does config w a b server t t deeds
       × Ends (HeardBy config most) config w ss deeds (heard ss' Quieted)
-  hark-quiet e = (
+  heard-quiet e = (
     o.deeds,
-    subst (λ x. Does config w a b server t (tally_hark t x) o.deeds) e o.does,
+    subst (λ x. Does config w a b server t (tally_next t x) o.deeds) e o.does,
     subst (λ x. HeardStep config most w ss ss' o.deeds x) e o.how,
   )
 
-  pub hark-fault : hark ≡ Fault →
+  pub heard-fault : next ≡ Fault →
       (deeds : List Deed) × Does config w a b server t t deeds
       × Ends (HeardBy config most) config w ss deeds (heard ss' Faulted)
-  hark-fault e = (
+  heard-fault e = (
     o.deeds,
-    subst (λ x. Does config w a b server t (tally_hark t x) o.deeds) e o.does,
+    subst (λ x. Does config w a b server t (tally_next t x) o.deeds) e o.does,
     subst (λ x. HeardStep config most w ss ss' o.deeds x) e o.how,
   )

@@ -13,8 +13,8 @@ use Rattle.server_core.specs.Refusals.{offer_of}
 use Rattle.server_core.specs.ServerValues.{ServerValue, StandsAt}
 use Rattle.server_core.proofs.TakeLemmas.{offer-then-take}
 use Rattle.event_loop.specs.declared.seat.Seat.{Seat}
-use Rattle.event_loop.specs.declared.passes.Went.{Went}
-use Rattle.event_loop.specs.declared.passes.Went.TheVariants.{On, Stop, Over}
+use Rattle.event_loop.specs.declared.passes.Onward.{Onward}
+use Rattle.event_loop.specs.declared.passes.Onward.TheVariants.{On, Stop, Over}
 use Rattle.ports.specs.Calls.{Call, Tells}
 use Rattle.ports.specs.Calls.Call.{Write}
 use Rattle.ports.specs.declared.answers.Put.TheVariants.{Took as TookPut}

@@ -7,7 +7,7 @@ use Rattle.protocol.specs.World.{World, step}
 use Rattle.protocol.specs.World.Event.{Bytes, Close}
 use Rattle.server_core.specs.ServerValues.{ServerValue, StandsAt}
 use Rattle.event_loop.specs.declared.seat.Seat.{Seat}
-use Rattle.event_loop.specs.declared.passes.Went.TheVariants.{On, Stop, Over}
+use Rattle.event_loop.specs.declared.passes.Onward.TheVariants.{On, Stop, Over}
 use Rattle.ports.specs.Calls.{Call, Tells}
 use Rattle.ports.specs.Calls.Call.{Read, Shut}
 use Rattle.ports.specs.Calls.Given.{Piece, Nothing, TheEnd, Failure}

@@ -5,7 +5,7 @@ use Rattle.protocol.specs.History.{Arrival}
 use Rattle.protocol.specs.World.{World}
 use Rattle.server_core.specs.ServerValues.{ServerValue, StandsAt}
 use Rattle.event_loop.specs.declared.seat.Seat.{Seat}
-use Rattle.event_loop.specs.declared.hearing.Report.{Report}
+use Rattle.event_loop.specs.declared.hearing.HeardInTurn.{HeardInTurn}
 use Rattle.event_loop.specs.declared.turning.Turned.{Turned}
 use Rattle.ports.specs.Calls.{Call}
 use Rattle.event_loop.specs.Deeds.{Deed, Tally, no_tally, world_beyond}
@@ -20,28 +20,28 @@ use Rattle.event_loop.proofs.FewLemmas.{hearing-brings, passes-few, turn-few}
 use Rattle.event_loop.proofs.HandsLemmas.{hands-as-alone}
 
 -- what a turn answers, by what it heard
-abbrev pub turned_by : Report → ℕ → Turned
-turned_by report dropped = record { happenings = report.happenings; quiet = report.quiet; dropped = dropped }
+abbrev pub turned_by : HeardInTurn → ℕ → Turned
+turned_by in_turn refused = record { happenings = in_turn.happenings; quiet = in_turn.quiet; refused = refused }
 
 none-brought : (w w' : World) → w'.history ≡ w.history → BringsAtMost 0 w w'
 none-brought w w' same = omega (arith, ap (λ (h : List Arrival). length h) same)
 
 module _ (config : Config) (most limit : ℕ) (w : World) (a b : Option (List Call)) (mid : ServerValue)
     (ss mid_ss : List Seat) where
-  pub turn-made : (c : Option (List Call)) (last : ServerValue) (ss' : List Seat) (report : Report) (dropped : ℕ) →
-      WholeHearing config most limit w a b mid (tally_heard_by report) ss mid_ss (heard_end report) →
+  pub turn-made : (c : Option (List Call)) (last : ServerValue) (ss' : List Seat) (in_turn : HeardInTurn) (refused : ℕ)
+      → WholeHearing config most limit w a b mid (tally_heard_by in_turn) ss mid_ss (heard_end in_turn) →
       ((v : World) → StandsAt mid config v →
-      PassesAll limit config v b c last (feed_tally report.happenings 0)
-      (feed_tally report.happenings dropped) mid_ss ss') → feeds_in mid_ss ≤ 16 →
-      Turns config most limit w a c last ss ss' (turned_by report dropped)
-  turn-made c last ss' report dropped hearing passes few =
+      PassesAll limit config v b c last (feed_tally in_turn.happenings 0)
+      (feed_tally in_turn.happenings refused) mid_ss ss') → feeds_in mid_ss ≤ 16 →
+      Turns config most limit w a c last ss ss' (turned_by in_turn refused)
+  turn-made c last ss' in_turn refused hearing passes few =
       let v : World = world_beyond config w hearing.deeds in
-      let x : PassesAll limit config v b c last (feed_tally report.happenings 0)
-      (feed_tally report.happenings dropped) mid_ss ss' = passes v hearing.does.stands in
+      let x : PassesAll limit config v b c last (feed_tally in_turn.happenings 0)
+      (feed_tally in_turn.happenings refused) mid_ss ss' = passes v hearing.does.stands in
       let deeds : List Deed = hearing.deeds ++ x.deeds in
-      let does : Does config w a c last no_tally (tally_of (turned_by report dropped)) deeds =
-      does-then config w a b c mid last no_tally (tally_heard_by report)
-      (tally_of (turned_by report dropped)) hearing.deeds x.deeds hearing.does x.does in
+      let does : Does config w a c last no_tally (tally_of (turned_by in_turn refused)) deeds =
+      does-then config w a b c mid last no_tally (tally_heard_by in_turn)
+      (tally_of (turned_by in_turn refused)) hearing.deeds x.deeds hearing.does x.does in
       record {
         deeds = deeds;
         does = does;

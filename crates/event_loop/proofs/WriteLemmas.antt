@@ -14,7 +14,7 @@ use Rattle.server_core.specs.Marks.{IsSpared}
 use Rattle.event_loop.specs.declared.seat.Seat.{Seat}
 use Rattle.ports.specs.declared.answers.Put.TheVariants.{Took, Later}
 use Rattle.ports.specs.declared.answers.PortFault.{PortFault}
-use Rattle.event_loop.specs.declared.passes.Went.TheVariants.{On, Stop, Over}
+use Rattle.event_loop.specs.declared.passes.Onward.TheVariants.{On, Stop, Over}
 use Rattle.ports.specs.Calls.{Call, Tells}
 use Rattle.ports.specs.Calls.Call.{Write, Shut}
 use Rattle.event_loop.specs.Deeds.{Tally}

@@ -97,11 +97,11 @@ taken_in k deeds = flat_map (taken_at k) deeds
 -- how many happenings other than Quiet were taken, and how many records were refused
 pub record Tally : Type 0 where
   pub happenings : ℕ
-  pub dropped : ℕ
+  pub refused : ℕ
 
 -- nothing yet
 abbrev pub no_tally : Tally
-no_tally = record { happenings = 0; dropped = 0 }
+no_tally = record { happenings = 0; refused = 0 }
 
 -- one happening more
 abbrev pub one_more : Tally → Tally
@@ -109,7 +109,7 @@ one_more t = record t { happenings = t.happenings + 1 }
 
 -- so many refused records more, as far as they can be counted: up to 2^64 - 1
 abbrev pub refused_more : ℕ → ℕ → ℕ
-refused_more dropped n = dropped + min n (2 ^ 64 - 1 - dropped)
+refused_more refused n = refused + min n (2 ^ 64 - 1 - refused)
 
 -- with what was heard
 abbrev pub tally_heard : Tally → Result Happening PortFault → Tally
@@ -123,7 +123,7 @@ tally t (Hears answer) = tally_heard t answer
 tally t (Opens port address) = one_more t
 tally t (Feeds port) = one_more t
 tally t (TurnsAway happening port) = one_more t
-tally t (ReadsFeed port most gave records refused) = record t { dropped = refused_more t.dropped refused }
+tally t (ReadsFeed port most gave records refused) = record t { refused = refused_more t.refused refused }
 tally t _ = t
 
 -- with all of them

@@ -54,9 +54,9 @@ world_fed config w records = world_from config w (map Arrive (countable config w
 
 -- The records arrived, and the refused ones among them were counted.
 pub record Arrives (config : Config) (w : World) (records : List (List ℕ)) (server' : ServerValue)
-    (dropped dropped' : ℕ) : Type 0 where
+    (refused refused' : ℕ) : Type 0 where
   pub stands : StandsAt server' config (world_fed config w records)
-  pub counted : dropped' ≡ refused_more dropped (refusals config w records)
+  pub counted : refused' ≡ refused_more refused (refusals config w records)
 
 -- a feed's bytes with a piece more
 abbrev pub fed : List ℕ → List ℕ → FeedRead
@@ -70,8 +70,8 @@ feed_seat port rest readable writable =
     record { port = port; role = FeedRole rest; readable = readable; writable = writable }
 
 -- the count, with so many refused records
-abbrev pub feed_tally : (happenings dropped : ℕ) → Tally
-feed_tally happenings dropped = record { happenings = happenings; dropped = dropped }
+abbrev pub feed_tally : (happenings refused : ℕ) → Tally
+feed_tally happenings refused = record { happenings = happenings; refused = refused }
 
 -- the deed that a piece is: it is at most so many bytes, and these records became whole by it
 abbrev pub piece_read : Config → World → (port most : ℕ) → (rest bytes : List ℕ) → Deed

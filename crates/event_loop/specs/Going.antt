@@ -4,8 +4,8 @@ use Rattle.protocol.specs.Catalog.{Config}
 use Rattle.protocol.specs.World.{World}
 use Rattle.server_core.specs.ServerValues.{ServerValue, StandsAt}
 use Rattle.event_loop.specs.declared.seat.Seat.{Seat}
-use Rattle.event_loop.specs.declared.passes.Went.{Went}
-use Rattle.event_loop.specs.declared.passes.Went.TheVariants.{On, Stop, Over}
+use Rattle.event_loop.specs.declared.passes.Onward.{Onward}
+use Rattle.event_loop.specs.declared.passes.Onward.TheVariants.{On, Stop, Over}
 use Rattle.ports.specs.Calls.{Call, Tells}
 use Rattle.event_loop.specs.Faithful.{AreFaithful}
 use Rattle.event_loop.specs.Deeds.{Deed, Tally, calls_in, tallied, world_beyond}
@@ -24,7 +24,7 @@ abbrev pub Ends : {S O : Type 0} → Kind S O → Config → World → S → Lis
 Ends {S} {O} R config w s deeds o = (n : ℕ) → R (suc n) w s deeds (world_beyond config w deeds) o
 
 -- what a pass's deeds do from now on, or to its end
-abbrev pub Step : Kind Seat (Option Seat) → Config → World → Seat → Seat → List Deed → Went → Type 0
+abbrev pub Step : Kind Seat (Option Seat) → Config → World → Seat → Seat → List Deed → Onward → Type 0
 Step R config w s s' deeds On = GoesOn R config w s s' deeds
 Step R config w s s' deeds Stop = Ends R config w s deeds (Some s')
 Step R config w s s' deeds Over = Ends R config w s deeds None
@@ -40,10 +40,10 @@ pub record Does (config : Config) (w : World) (calls calls' : Option (List Call)
 
 -- One step of a pass was made.
 pub record Once (R : Kind Seat (Option Seat)) (config : Config) (w : World) (calls calls' : Option (List Call))
-    (server' : ServerValue) (t t' : Tally) (s s' : Seat) (went : Went) : Type 0 where
+    (server' : ServerValue) (t t' : Tally) (s s' : Seat) (onward : Onward) : Type 0 where
   pub deeds : List Deed
   pub does : Does config w calls calls' server' t t' deeds
-  pub how : Step R config w s s' deeds went
+  pub how : Step R config w s s' deeds onward
 
 -- So many steps are left.
 pub record SoFar {S O : Type 0} (R : Kind S O) (limit left : ℕ) (config : Config) (w : World)

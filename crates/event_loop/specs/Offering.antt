@@ -19,7 +19,7 @@ use Rattle.event_loop.specs.declared.passes.Handing.{Handing}
 use Rattle.event_loop.specs.declared.passes.Handing.TheVariants.{Took, Stopped, Closed}
 use Rattle.event_loop.specs.declared.passes.Next.{Next}
 use Rattle.event_loop.specs.declared.passes.Next.TheVariants.{Write as WriteNext, Stop as StopNext, Over as OverNext}
-use Rattle.event_loop.specs.declared.passes.Went.TheVariants.{Stop, Over}
+use Rattle.event_loop.specs.declared.passes.Onward.TheVariants.{Stop, Over}
 use Rattle.event_loop.specs.Deeds.{Deed, Tally, calls_in, tallied, world_beyond}
 use Rattle.event_loop.specs.Faithful.{AreFaithful}
 use Rattle.event_loop.specs.Going.{Kind, GoesOn, Once}

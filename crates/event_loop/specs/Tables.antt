@@ -11,10 +11,10 @@ use Rattle.event_loop.specs.Deeds.{Deed, Tally, no_tally, one_more, world_beyond
 use Rattle.event_loop.specs.Going.{Does, GoesOn, Ends, Whole}
 use Rattle.event_loop.specs.Hearing.{Hearing, Heard, End, heard, clients_in, feeds_in, is_client}
 use Rattle.event_loop.specs.Hearing.End.{Limit, Quieted, Faulted}
-use Rattle.event_loop.specs.declared.hearing.Report.{Report}
+use Rattle.event_loop.specs.declared.hearing.HeardInTurn.{HeardInTurn}
 use Rattle.sl_io.specs.Counts.{IsMore}
-use Rattle.event_loop.specs.declared.hearing.Hark.{Hark}
-use Rattle.event_loop.specs.declared.hearing.Hark.TheVariants.{Happened, Quiet, Fault}
+use Rattle.event_loop.specs.declared.hearing.Heard.{Heard as HeardNext}
+use Rattle.event_loop.specs.declared.hearing.Heard.TheVariants.{Happened, Quiet, Fault}
 use Rattle.event_loop.specs.Turns.{Passes}
 
 -- the seat where there is none
@@ -58,27 +58,27 @@ abbrev pub HeardBy : Config → ℕ → ℕ → World → List Seat → List Dee
 HeardBy config most n w ss ds w' o = Hearing config most n w ss ds w' o
 
 -- what the deeds of one happening do
-abbrev pub HeardStep : Config → ℕ → World → List Seat → List Seat → List Deed → Hark → Type 0
+abbrev pub HeardStep : Config → ℕ → World → List Seat → List Seat → List Deed → HeardNext → Type 0
 HeardStep config most w ss ss' deeds Happened = GoesOn (HeardBy config most) config w ss ss' deeds
 HeardStep config most w ss ss' deeds Quiet = Ends (HeardBy config most) config w ss deeds (heard ss' Quieted)
 HeardStep config most w ss ss' deeds Fault = Ends (HeardBy config most) config w ss deeds (heard ss' Faulted)
 
 -- the count with it
-abbrev pub tally_hark : Tally → Hark → Tally
-tally_hark t Happened = one_more t
-tally_hark t Quiet = t
-tally_hark t Fault = t
+abbrev pub tally_next : Tally → HeardNext → Tally
+tally_next t Happened = one_more t
+tally_next t Quiet = t
+tally_next t Fault = t
 
 -- One call of `next` was heard.
 pub record HearsOnce (config : Config) (most : ℕ) (w : World) (calls calls' : Option (List Call))
     (server' : ServerValue)
-    (t : Tally) (ss ss' : List Seat) (hark : Hark) : Type 0 where
+    (t : Tally) (ss ss' : List Seat) (next : HeardNext) : Type 0 where
   pub deeds : List Deed
-  pub does : Does config w calls calls' server' t (tally_hark t hark) deeds
-  pub how : HeardStep config most w ss ss' deeds hark
+  pub does : Does config w calls calls' server' t (tally_next t next) deeds
+  pub how : HeardStep config most w ss ss' deeds next
 
 -- The count of failures is one more at a fault, and else the same.
-abbrev pub CountsFault : ℕ → ℕ → Hark → Type 0
+abbrev pub CountsFault : ℕ → ℕ → HeardNext → Type 0
 CountsFault old new Happened = new ≡ old
 CountsFault old new Quiet = new ≡ old
 CountsFault old new Fault = IsMore old new 1
@@ -91,14 +91,14 @@ WholeHearing config most limit w calls calls' server' t ss ss' end =
 
 -- the count of so many happenings
 abbrev pub heard_so_far : ℕ → Tally
-heard_so_far n = record { happenings = n; dropped = 0 }
+heard_so_far n = record { happenings = n; refused = 0 }
 
 -- the count of what was heard, and why no more was
-abbrev pub tally_heard_by : Report → Tally
-tally_heard_by report = heard_so_far report.happenings
+abbrev pub tally_heard_by : HeardInTurn → Tally
+tally_heard_by in_turn = heard_so_far in_turn.happenings
 
-abbrev pub heard_end : Report → End
-heard_end report = if report.quiet then Quieted else Limit
+abbrev pub heard_end : HeardInTurn → End
+heard_end in_turn = if in_turn.quiet then Quieted else Limit
 
 -- ---- passes, one after the other
 

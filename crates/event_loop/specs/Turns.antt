@@ -70,7 +70,7 @@ HandsAsAlone config w deeds = (first : Config) (h : List Event) → config_after
 
 -- the count that a turn answers
 abbrev pub tally_of : Turned → Tally
-tally_of turned = record { happenings = turned.happenings; dropped = turned.dropped }
+tally_of turned = record { happenings = turned.happenings; refused = turned.refused }
 
 -- why no more was heard in a turn that was made
 abbrev pub end_of : Turned → End

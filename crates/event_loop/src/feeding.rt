@@ -8,19 +8,19 @@ ghost use Rattle.event_loop.specs.Feeding.{Arrives, FeedReads, fed, feed_seat, f
 ghost use Rattle.event_loop.specs.Going.{Once, Whole, if_open};
 ghost use Rattle.event_loop.specs.Sleeping.{IsQuiet};
 
-use crate::passes::Went;
+use crate::passes::Onward;
 use feeder::{FeedCutter, Feeding};
 use ports::{Got, PortFault, Ports};
 use server_core::Server;
 
 /// A record arrives, and one that is refused is counted. It is told whether one was accepted.
-fn take_record(server: &mut Server, whole: &[u8; 512], dropped: &mut u64, brought: &mut bool)
+fn take_record(server: &mut Server, whole: &[u8; 512], refused: &mut u64, brought: &mut bool)
     ensures arrives { (config : Config) (w : World) → StandsAt server.old config w →
-        Arrives config w (whole.now ∷ []) server.new dropped.old dropped.new }
+        Arrives config w (whole.now ∷ []) server.new refused.old refused.new }
     ensures quiet { IsQuiet brought.old brought.new server.old server.new }
 {
     if server.arrive(whole).is_err() {
-        *dropped = dropped.saturating_add(1);
+        *refused = refused.saturating_add(1);
     } else {
         *brought = true;
     }
@@ -31,11 +31,11 @@ fn take_records(
     server: &mut Server,
     cutter: &mut FeedCutter,
     piece: &[u8],
-    dropped: &mut u64,
+    refused: &mut u64,
     brought: &mut bool,
 )
     ensures arrives { (config : Config) (w : World) → StandsAt server.old config w →
-        Arrives config w (fed cutter.old piece.now).records server.new dropped.old dropped.new }
+        Arrives config w (fed cutter.old piece.now).records server.new refused.old refused.new }
     ensures rest { cutter.new ≡ (fed cutter.old piece.now).rest }
     ensures held { length cutter.old < 512 }
     ensures quiet { IsQuiet brought.old brought.new server.old server.new }
@@ -45,7 +45,7 @@ fn take_records(
     'records: while !left.is_empty() {
         let Feeding { used, whole } = cutter.feed(left);
         match whole {
-            Some(whole) => take_record(server, whole, dropped, brought),
+            Some(whole) => take_record(server, whole, refused, brought),
             None => {}
         }
         left = &left[used..];
@@ -60,36 +60,36 @@ fn read_feed_once<P: Ports>(
     readable: &mut bool,
     cutter: &mut FeedCutter,
     buffer: &mut [u8],
-    dropped: &mut u64,
+    refused: &mut u64,
     brought: &mut bool,
-) -> Went
+) -> Onward
     requires some { 0 < length buffer.old }
     requires short { length buffer.old ≤ 512 }
     ensures goes { (writable : Bool) (happenings : ℕ) (config : Config) (w : World) → StandsAt server.old config w →
         Once (FeedReads config) config w (P.calls ports.old) (P.calls ports.new) server.new
-        (feed_tally happenings dropped.old) (feed_tally happenings dropped.new)
+        (feed_tally happenings refused.old) (feed_tally happenings refused.new)
         (feed_seat port cutter.old readable.old writable) (feed_seat port cutter.new readable.new writable) result }
     ensures quiet { IsQuiet brought.old brought.new server.old server.new }
 {
     if !*readable {
-        return Went::Stop;
+        return Onward::Stop;
     }
     match ports.read(port, buffer) {
         Ok(Got::Bytes(count)) => {
-            take_records(server, cutter, &buffer[..count], dropped, brought);
-            Went::On
+            take_records(server, cutter, &buffer[..count], refused, brought);
+            Onward::On
         }
         Ok(Got::Later) => {
             *readable = false;
-            Went::Stop
+            Onward::Stop
         }
         Ok(Got::Closed) => {
             ports.shut(port);
-            Went::Over
+            Onward::Over
         }
         Err(PortFault) => {
             ports.shut(port);
-            Went::Over
+            Onward::Over
         }
     }
 }
@@ -103,14 +103,14 @@ pub fn read_feed<P: Ports>(
     cutter: &mut FeedCutter,
     buffer: &mut [u8],
     limit: usize,
-    dropped: &mut u64,
+    refused: &mut u64,
     brought: &mut bool,
 ) -> bool
     requires some { 0 < length buffer.old }
     requires short { length buffer.old ≤ 512 }
     ensures goes { (writable : Bool) (happenings : ℕ) (config : Config) (w : World) → StandsAt server.old config w →
         Whole (FeedReads config) limit config w (P.calls ports.old) (P.calls ports.new) server.new
-        (feed_tally happenings dropped.old) (feed_tally happenings dropped.new)
+        (feed_tally happenings refused.old) (feed_tally happenings refused.new)
         (feed_seat port cutter.old readable.old writable)
         (if_open result (feed_seat port cutter.new readable.new writable)) }
     ensures quiet { IsQuiet brought.old brought.new server.old server.new }
@@ -118,11 +118,11 @@ pub fn read_feed<P: Ports>(
     let mut left = limit;
     'reads: while left > 0 {
         match read_feed_once(
-            server, ports, port, readable, cutter, buffer, dropped, brought,
+            server, ports, port, readable, cutter, buffer, refused, brought,
         ) {
-            Went::On => left -= 1,
-            Went::Stop => return true,
-            Went::Over => return false,
+            Onward::On => left -= 1,
+            Onward::Stop => return true,
+            Onward::Over => return false,
         }
     }
     true

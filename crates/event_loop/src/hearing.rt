@@ -18,7 +18,7 @@ ghost use Rattle.event_loop.specs.Tables.{heard_end};
 ghost use Rattle.std.specs.Prelude.{◌<◌, true, vec_len};
 ghost use Rattle.std.specs.Vec.{vec_capacity};
 
-use crate::seat::{Role, Seat, Unfinished};
+use crate::seat::{FeedRest, Role, Seat};
 use crate::table::{clients, mark_readable, mark_writable, place_of};
 use ports::{Happening, PortFault, Ports};
 use server_core::Server;
@@ -30,7 +30,7 @@ const FEEDS: usize = 16;
 
 /// What was heard by one call.
 #[derive(Clone, Copy, Debug, PartialEq, Eq, Drop)]
-pub enum Hark {
+pub enum Heard {
     /// Something happened at a port.
     Happened,
     /// Nothing more happened for now.
@@ -41,7 +41,7 @@ pub enum Hark {
 
 /// What was heard in a turn.
 #[derive(Clone, Copy, Debug, PartialEq, Eq, Drop)]
-pub struct Report {
+pub struct HeardInTurn {
     /// How many happenings other than Quiet.
     pub happenings: usize,
     /// Whether Quiet ended them.
@@ -85,7 +85,7 @@ fn join_client<P: Ports>(
     ensures failures { P.failures ports.new ≡ P.failures ports.old }
     ensures goes { (t : Tally) (calls : Option (List Call)) (config : Config) (w : World) →
         Tells calls (P.calls ports.old) (Next (Ok (Joined port address)) ∷ []) → StandsAt server.old config w →
-        HearsOnce config most w calls (P.calls ports.new) server.new t seats.old.items seats.new.items Hark.Happened }
+        HearsOnce config most w calls (P.calls ports.new) server.new t seats.old.items seats.new.items Heard.Happened }
 {
     let Err(at) = place_of(seats.as_slice(), port) else {
         return;
@@ -125,7 +125,7 @@ fn join_feed<P: Ports>(
     ensures failures { P.failures ports.new ≡ P.failures ports.old }
     ensures goes { (t : Tally) (calls : Option (List Call)) (config : Config) (w : World) →
         Tells calls (P.calls ports.old) (Next (Ok (JoinedFeed port)) ∷ []) → StandsAt server.now config w →
-        HearsOnce config most w calls (P.calls ports.new) server.now t seats.old.items seats.new.items Hark.Happened }
+        HearsOnce config most w calls (P.calls ports.new) server.now t seats.old.items seats.new.items Heard.Happened }
 {
     let Err(at) = place_of(seats.as_slice(), port) else {
         return;
@@ -134,9 +134,9 @@ fn join_feed<P: Ports>(
         ports.shut(port);
         return;
     }
-    match Unfinished::new(alloc) {
-        Ok(unfinished) => {
-            let _kept = seats.insert(at, Seat::joining(port, Role::Feed(unfinished)));
+    match FeedRest::new(alloc) {
+        Ok(rest) => {
+            let _kept = seats.insert(at, Seat::joining(port, Role::Feed(rest)));
             let _woken = awake.insert(at, 1);
             *feeds += 1;
         }
@@ -153,7 +153,7 @@ fn hear_once<P: Ports>(
     feeds: &mut usize,
     alloc: Global,
     most: usize,
-) -> Hark
+) -> Heard
     requires table { IsTable most seats.old.items }
     requires feeds { feeds.old ≡ feeds_in seats.old.items }
     requires known { AreKnown server.old seats.old.items awake.old.items }
@@ -172,22 +172,22 @@ fn hear_once<P: Ports>(
             join_client(
                 server, ports, seats, awake, *feeds, alloc, most, port, address,
             );
-            Hark::Happened
+            Heard::Happened
         }
         Ok(Happening::JoinedFeed(port)) => {
             join_feed(server, ports, seats, awake, feeds, alloc, most, port);
-            Hark::Happened
+            Heard::Happened
         }
         Ok(Happening::Readable(port)) => {
             mark_readable(seats, awake, port);
-            Hark::Happened
+            Heard::Happened
         }
         Ok(Happening::Writable(port)) => {
             mark_writable(seats, awake, port);
-            Hark::Happened
+            Heard::Happened
         }
-        Ok(Happening::Quiet) => Hark::Quiet,
-        Err(PortFault) => Hark::Fault,
+        Ok(Happening::Quiet) => Heard::Quiet,
+        Err(PortFault) => Heard::Fault,
     }
 }
 
@@ -201,7 +201,7 @@ pub fn hear<P: Ports>(
     alloc: Global,
     most: usize,
     limit: usize,
-) -> Result<Report, PortFault>
+) -> Result<HeardInTurn, PortFault>
     requires table { IsTable most seats.old.items }
     requires feeds { feeds.old ≡ feeds_in seats.old.items }
     requires known { AreKnown server.old seats.old.items awake.old.items }
@@ -210,9 +210,9 @@ pub fn hear<P: Ports>(
     ensures feeds { feeds.new ≡ feeds_in seats.new.items }
     ensures known { AreKnown server.new seats.new.items awake.new.items }
     ensures seated { AreSeated server.new seats.new.items }
-    ensures ok { IfOk result (λ report. (config : Config) (w : World) → StandsAt server.old config w →
+    ensures ok { IfOk result (λ in_turn. (config : Config) (w : World) → StandsAt server.old config w →
         WholeHearing config most limit w (P.calls ports.old) (P.calls ports.new) server.new
-        (tally_heard_by report) seats.old.items seats.new.items (heard_end report)) }
+        (tally_heard_by in_turn) seats.old.items seats.new.items (heard_end in_turn)) }
     ensures failed { OnErr result ((config : Config) (w : World) → StandsAt server.old config w →
         (t : Tally) × WholeHearing config most limit w (P.calls ports.old)
         (P.calls ports.new) server.new t seats.old.items seats.new.items Faulted) }
@@ -221,17 +221,17 @@ pub fn hear<P: Ports>(
     let mut left = limit;
     'hearing: while left > 0 {
         match hear_once(server, ports, seats, awake, feeds, alloc, most) {
-            Hark::Happened => left -= 1,
-            Hark::Quiet => {
-                return Ok(Report {
+            Heard::Happened => left -= 1,
+            Heard::Quiet => {
+                return Ok(HeardInTurn {
                     happenings: limit - left,
                     quiet: true,
                 });
             }
-            Hark::Fault => return Err(PortFault),
+            Heard::Fault => return Err(PortFault),
         }
     }
-    Ok(Report {
+    Ok(HeardInTurn {
         happenings: limit,
         quiet: false,
     })

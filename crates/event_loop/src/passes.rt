@@ -21,7 +21,7 @@ use server_core::{Client, Gone, Offer, Server};
 
 /// How a pass goes on after a step.
 #[derive(Clone, Copy, Debug, PartialEq, Eq, Drop)]
-pub enum Went {
+pub enum Onward {
     /// With the next step.
     On,
     /// Not in this turn.
@@ -48,7 +48,7 @@ fn read_piece<P: Ports>(
     client: Client,
     seat: &mut Seat,
     piece: &mut [u8],
-) -> Went
+) -> Onward
     requires role { seat.old.role ≡ Role.Client client }
     requires readable { seat.old.readable ≡ true }
     requires some { 0 < length piece.old }
@@ -63,19 +63,19 @@ fn read_piece<P: Ports>(
     match ports.read(seat.port, piece) {
         Ok(Got::Bytes(count)) => {
             let _ = server.receive(client, &piece[..count]);
-            Went::On
+            Onward::On
         }
         Ok(Got::Later) => {
             seat.readable = false;
-            Went::Stop
+            Onward::Stop
         }
         Ok(Got::Closed) => {
             shut(server, ports, client, seat.port);
-            Went::Over
+            Onward::Over
         }
         Err(PortFault) => {
             shut(server, ports, client, seat.port);
-            Went::Over
+            Onward::Over
         }
     }
 }
@@ -87,7 +87,7 @@ fn read_once<P: Ports>(
     client: Client,
     seat: &mut Seat,
     buffer: &mut [u8],
-) -> Went
+) -> Onward
     requires role { seat.old.role ≡ Role.Client client }
     requires buffer { 0 < length buffer.old }
     ensures goes { (t : Tally) (config : Config) (w : World) → StandsAt server.old config w →
@@ -98,11 +98,11 @@ fn read_once<P: Ports>(
     ensures others { LeavesOthers client server.old server.new }
 {
     if !seat.readable {
-        return Went::Stop;
+        return Onward::Stop;
     }
     let room = server.room(client).unwrap_or(0).min(buffer.len());
     if room == 0 {
-        return Went::Stop;
+        return Onward::Stop;
     }
     read_piece(server, ports, client, seat, &mut buffer[..room])
 }
@@ -128,9 +128,9 @@ pub fn read_client<P: Ports>(
     let mut left = limit;
     'reads: while left > 0 {
         match read_once(server, ports, client, seat, buffer) {
-            Went::On => left -= 1,
-            Went::Stop => return true,
-            Went::Over => return false,
+            Onward::On => left -= 1,
+            Onward::Stop => return true,
+            Onward::Over => return false,
         }
     }
     true
@@ -245,7 +245,7 @@ fn write_last<P: Ports>(
     client: Client,
     seat: &mut Seat,
     found: Result<Offer, Gone>,
-) -> Went
+) -> Onward
     requires role { seat.old.role ≡ Role.Client client }
     requires writable { seat.old.writable ≡ true }
     ensures goes { (t : Tally) (config : Config) (w : World) → IsOffered config w client found server.old →
@@ -258,10 +258,10 @@ fn write_last<P: Ports>(
     match hand(server, ports, client, seat, found) {
         Handing::Took(count) => {
             let _ = server.took(client, count);
-            Went::On
+            Onward::On
         }
-        Handing::Stopped => Went::Stop,
-        Handing::Closed => Went::Over,
+        Handing::Stopped => Onward::Stop,
+        Handing::Closed => Onward::Over,
     }
 }
 
@@ -312,9 +312,9 @@ fn write_all<P: Ports>(
         }
     }
     match write_last(server, ports, client, seat, found) {
-        Went::On => true,
-        Went::Stop => true,
-        Went::Over => false,
+        Onward::On => true,
+        Onward::Stop => true,
+        Onward::Over => false,
     }
 }
 

@@ -10,25 +10,25 @@ use std::marker::Model;
 /// The bytes of a feed's unfinished record. They are kept apart from the feed's seat, so that a client's seat, of which
 /// there may be thousands, has no room for them. In a contract it is these bytes.
 #[derive(Drop)]
-pub struct Unfinished {
+pub struct FeedRest {
     pub cutter: Box<FeedCutter>,
 }
 
-impl Model for Unfinished {
+impl Model for FeedRest {
     ghost use Rattle.std.specs.Prelude.{ℕ, List};
 
     ghost Value = { List ℕ };
 
-    ghost view = { λ u. u.cutter.value };
+    ghost view = { λ r. r.cutter.value };
 }
 
-impl Unfinished {
+impl FeedRest {
     /// No byte. Only memory can lack.
-    pub fn new(alloc: Global) -> Result<Unfinished, AllocError>
-        ensures { IfOk result (λ unfinished. unfinished ≡ []) }
+    pub fn new(alloc: Global) -> Result<FeedRest, AllocError>
+        ensures { IfOk result (λ rest. rest ≡ []) }
     {
         let cutter = Box::new(alloc, FeedCutter::new())?;
-        Ok(Unfinished { cutter })
+        Ok(FeedRest { cutter })
     }
 }
 
@@ -38,7 +38,7 @@ pub enum Role {
     /// A client's.
     Client(Client),
     /// A feed's, with the bytes of its unfinished record.
-    Feed(Unfinished),
+    Feed(FeedRest),
 }
 
 impl Role {

@@ -49,7 +49,7 @@ pub struct Turned {
     /// Whether Quiet ended them.
     pub quiet: bool,
     /// How many records the server refused; it stays at 2^64 - 1.
-    pub dropped: u64,
+    pub refused: u64,
 }
 
 /// The ports could not say what happened.
@@ -74,12 +74,12 @@ fn pass<P: Ports>(
     seat: &mut Seat,
     buffer: &mut [u8; CLIENT_READ],
     limit: usize,
-    dropped: &mut u64,
+    refused: &mut u64,
     brought: &mut bool,
 ) -> bool
     ensures goes { (happenings : ℕ) (config : ProtocolConfig) (w : World) → StandsAt server.old config w →
         Whole (SeatPass config) limit config w (P.calls ports.old) (P.calls ports.new) server.new
-        (feed_tally happenings dropped.old) (feed_tally happenings dropped.new) seat.old (if_open result seat.new) }
+        (feed_tally happenings refused.old) (feed_tally happenings refused.new) seat.old (if_open result seat.new) }
     ensures same { IsSameSeat seat.old seat.new }
     ensures whose { (k : ℕ) → seat.new.role ≡ ClientRole k → seat.old.role ≡ ClientRole k }
     ensures leaves { LeavesRest seat.old brought.new server.old server.new }
@@ -90,15 +90,15 @@ fn pass<P: Ports>(
             read_client(server, ports, client, seat, buffer, limit)
                 && write_client(server, ports, client, seat, limit)
         }
-        Role::Feed(unfinished) => read_feed(
+        Role::Feed(rest) => read_feed(
             server,
             ports,
             seat.port,
             &mut seat.readable,
-            &mut *unfinished.cutter,
+            &mut *rest.cutter,
             &mut buffer[..FEED_READ],
             limit,
-            dropped,
+            refused,
             brought,
         ),
     }
@@ -115,7 +115,7 @@ fn pass_at<P: Ports>(
     at: usize,
     buffer: &mut [u8; CLIENT_READ],
     limit: usize,
-    dropped: &mut u64,
+    refused: &mut u64,
 ) -> usize
     requires inside { at < length seats.old.items }
     requires known { AreKnown server.old seats.old.items awake.old.items }
@@ -128,9 +128,9 @@ fn pass_at<P: Ports>(
     ensures fewer { length seats.new.items + at < length seats.old.items + result }
     ensures goes { (happenings : ℕ) (config : ProtocolConfig) (w : World) (calls : Option (List Call)) (t : Tally)
         (ss : List Seat) → PassesSoFar limit config w calls (P.calls ports.old) server.old t
-        (feed_tally happenings dropped.old) ss (take at seats.old.items) (drop at seats.old.items)
+        (feed_tally happenings refused.old) ss (take at seats.old.items) (drop at seats.old.items)
         → PassesSoFar limit config w calls (P.calls ports.new) server.new t
-        (feed_tally happenings dropped.new) ss (take result seats.new.items) (drop result seats.new.items) }
+        (feed_tally happenings refused.new) ss (take result seats.new.items) (drop result seats.new.items) }
     ensures table { (most : ℕ) → IsTable most seats.old.items → IsTable most seats.new.items }
 {
     let mut brought = false;
@@ -140,7 +140,7 @@ fn pass_at<P: Ports>(
         &mut seats[at],
         buffer,
         limit,
-        dropped,
+        refused,
         &mut brought,
     );
     wake_after(server, seats.as_slice(), awake, marked, brought);
@@ -162,7 +162,7 @@ fn pass_all<P: Ports>(
     marked: &mut Vec<Client>,
     feeds: &mut usize,
     limit: usize,
-    dropped: &mut u64,
+    refused: &mut u64,
 )
     requires known { AreKnown server.old seats.old.items awake.old.items }
     requires seated { AreSeated server.old seats.old.items }
@@ -172,7 +172,7 @@ fn pass_all<P: Ports>(
     ensures feeds { feeds.new ≡ feeds_in seats.new.items }
     ensures goes { (happenings : ℕ) (config : ProtocolConfig) (w : World) → StandsAt server.old config w →
         PassesAll limit config w (P.calls ports.old) (P.calls ports.new) server.new
-        (feed_tally happenings dropped.old) (feed_tally happenings dropped.new) seats.old.items seats.new.items }
+        (feed_tally happenings refused.old) (feed_tally happenings refused.new) seats.old.items seats.new.items }
     ensures table { (most : ℕ) → IsTable most seats.old.items → IsTable most seats.new.items }
 {
     let mut buffer = [0u8; CLIENT_READ];
@@ -188,7 +188,7 @@ fn pass_all<P: Ports>(
             at,
             &mut buffer,
             limit,
-            dropped,
+            refused,
         );
         at = skip(server, seats.as_slice(), awake.as_slice(), next);
     }
@@ -272,7 +272,7 @@ impl<P: Ports> Loop<P> {
         ensures few_clients { clients_in self.new.seats ≤ self.new.most }
         ensures few_feeds { feeds_in self.new.seats ≤ 16 }
         ensures most { self.new.most ≡ self.old.most }
-        ensures refused { MatchResult result (λ turned. self.new.refused ≡ refused_more self.old.refused turned.dropped)
+        ensures refused { MatchResult result (λ turned. self.new.refused ≡ refused_more self.old.refused turned.refused)
             (λ _. self.new.refused ≡ self.old.refused) }
     {
         let Ok(heard) = hear(
@@ -287,7 +287,7 @@ impl<P: Ports> Loop<P> {
         ) else {
             return Err(LoopFault);
         };
-        let mut dropped = 0u64;
+        let mut refused = 0u64;
         pass_all(
             &mut self.server,
             &mut self.ports,
@@ -296,13 +296,13 @@ impl<P: Ports> Loop<P> {
             &mut self.marked,
             &mut self.feeds,
             limit,
-            &mut dropped,
+            &mut refused,
         );
-        self.refused = self.refused.saturating_add(dropped);
+        self.refused = self.refused.saturating_add(refused);
         Ok(Turned {
             happenings: heard.happenings,
             quiet: heard.quiet,
-            dropped,
+            refused,
         })
     }
 

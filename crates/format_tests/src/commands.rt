@@ -1,56 +1,56 @@
 //! The table of commands.
-use sl_lines::{Action, Line, Order, command};
+use sl_lines::{Action, Command, Line, command};
 use sl_packet::Seq;
 use sl_time::Tick;
 
 /// The name of the command that a line is.
 fn name_asked(line: Line<'_>) -> &'static str {
     match command(line) {
-        Order::Blank => "blank",
-        Order::Hello => "hello",
-        Order::Cat => "cat",
-        Order::Bye => "bye",
-        Order::End => "end",
-        Order::Station {
+        Command::Blank => "blank",
+        Command::Hello => "hello",
+        Command::Cat => "cat",
+        Command::Bye => "bye",
+        Command::End => "end",
+        Command::Station {
             station: _,
             network: _,
         } => "station",
-        Order::Select { pattern: _ } => "select",
-        Order::Act(
+        Command::Select { pattern: _ } => "select",
+        Command::Act(
             Action::Data {
                 number: _,
                 begin: _,
             },
         ) => "data",
-        Order::Act(
+        Command::Act(
             Action::Fetch {
                 number: _,
                 begin: _,
             },
         ) => "fetch",
-        Order::Act(Action::Time { begin: _, last: _ }) => "time",
-        Order::Bad => "bad",
+        Command::Act(Action::Time { begin: _, last: _ }) => "time",
+        Command::Bad => "bad",
     }
 }
 
 fn is_station(text: &str, station: &[u8], network: Option<&[u8]>) -> bool {
-    command(Line::Text(text.as_bytes())) == Order::Station { station, network }
+    command(Line::Text(text.as_bytes())) == Command::Station { station, network }
 }
 
 fn is_select(text: &str, pattern: Option<&[u8]>) -> bool {
-    command(Line::Text(text.as_bytes())) == Order::Select { pattern }
+    command(Line::Text(text.as_bytes())) == Command::Select { pattern }
 }
 
 fn is_data(text: &str, number: Option<Seq>, begin: Option<Tick>) -> bool {
-    command(Line::Text(text.as_bytes())) == Order::Act(Action::Data { number, begin })
+    command(Line::Text(text.as_bytes())) == Command::Act(Action::Data { number, begin })
 }
 
 fn is_fetch(text: &str, number: Option<Seq>, begin: Option<Tick>) -> bool {
-    command(Line::Text(text.as_bytes())) == Order::Act(Action::Fetch { number, begin })
+    command(Line::Text(text.as_bytes())) == Command::Act(Action::Fetch { number, begin })
 }
 
 fn is_time(text: &str, begin: Option<Tick>, last: Option<Tick>) -> bool {
-    command(Line::Text(text.as_bytes())) == Order::Act(Action::Time { begin, last })
+    command(Line::Text(text.as_bytes())) == Command::Act(Action::Time { begin, last })
 }
 
 /// Lines, and the names of the commands that they are.

@@ -88,7 +88,7 @@ fn turn(all: &mut Loop<FailingPorts<MemoryPorts>>, limit: usize) -> Seen {
         has_failed: true,
         happenings: 0,
         quiet: false,
-        dropped: 0,
+        refused: 0,
         clients: 0,
         feeds: 0,
     };
@@ -96,7 +96,7 @@ fn turn(all: &mut Loop<FailingPorts<MemoryPorts>>, limit: usize) -> Seen {
         seen.has_failed = false;
         seen.happenings = turned.happenings;
         seen.quiet = turned.quiet;
-        seen.dropped = turned.dropped;
+        seen.refused = turned.refused;
     }
     seen.clients = all.clients();
     seen.feeds = all.feeds();

@@ -89,13 +89,13 @@ pub fn turns(all: &mut Loop<MemoryPorts>, count: usize, limit: usize) -> Result<
     let mut sum = Turned {
         happenings: 0,
         quiet: true,
-        dropped: 0,
+        refused: 0,
     };
     for _ in 0..count {
         let turned = all.turn(limit)?;
         sum.happenings = sum.happenings.saturating_add(turned.happenings);
         sum.quiet = sum.quiet && turned.quiet;
-        sum.dropped = sum.dropped.saturating_add(turned.dropped);
+        sum.refused = sum.refused.saturating_add(turned.refused);
     }
     Ok(sum)
 }

@@ -270,7 +270,7 @@ fn is_sent_and_over(alloc: Global, all: &mut Loop<MemoryPorts>) -> Result<bool, 
 fn goes_on(alloc: Global, all: &mut Loop<MemoryPorts>) -> Result<(u64, usize, bool), Fail> {
     let turned = turns(all, 1, 64)?;
     let feeds = all.feeds();
-    Ok((turned.dropped, feeds, is_sent_and_over(alloc, all)?))
+    Ok((turned.refused, feeds, is_sent_and_over(alloc, all)?))
 }
 
 #[test]

@@ -125,7 +125,7 @@ pub record SomeStop {F : Type 0} (t : Timetable) (done : ℕ) (config : Config) 
 -- A turn was made, and then none has failed in a row; or it failed, and one more has.
 pub data OneTurn (failures failures' : ℕ) (config : Config) (w : World) (v v' : LoopValue) : Type 0 where
   made : (turned : Turned) → failures' ≡ 0 → TurnMade config 64 w v v' turned →
-      v'.refused ≡ refused_more v.refused turned.dropped → OneTurn failures failures' config w v v'
+      v'.refused ≡ refused_more v.refused turned.refused → OneTurn failures failures' config w v v'
   not_made : failures' ≡ suc failures → TurnFailed config 64 w v v' → v'.refused ≡ v.refused →
       OneTurn failures failures' config w v v'
 
@@ -143,7 +143,7 @@ pub data Runs {F : Type 0} (t : Timetable) (config : Config) (w : World) (first 
       (v' : LoopValue) (turned : Turned) (stop : List Act) →
       Runs t config w first first_asked done failures kept acts v asked →
       (x : TurnMade (config_then config acts) 64 (world_then config w acts) v v' turned) →
-      v'.refused ≡ refused_more v.refused turned.dropped →
+      v'.refused ≡ refused_more v.refused turned.refused →
       Stops t (suc done) (config_then config (acts ++ Turning x.deeds ∷ []))
       (world_then config w (acts ++ Turning x.deeds ∷ [])) v' kept asked stop v'' kept' asked'' →
       Runs t config w first first_asked (suc done) 0 kept' ((acts ++ Turning x.deeds ∷ []) ++ stop) v'' asked''

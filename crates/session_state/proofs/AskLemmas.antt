@@ -8,8 +8,8 @@ use Rattle.protocol.specs.Session.Negotiated.{Uni, Multi}
 use Rattle.protocol.specs.Command.Command.{Station as StationCommand}
 use Rattle.sl_lines.specs.declared.actions.Action.{Action}
 use Rattle.sl_lines.specs.declared.actions.Action.TheVariants.{Data, Fetch, Time}
-use Rattle.session_state.specs.declared.asked.Asked.TheVariants.{Add, Refused}
-use Rattle.sl_lines.specs.OrderValues.{action_command}
+use Rattle.session_state.specs.declared.request.Request.TheVariants.{Add, Refused}
+use Rattle.sl_lines.specs.CommandValues.{action_command}
 use Rattle.session_state.specs.Asking.{is_bye, outcome_by}
 use Rattle.session_state.specs.Changes.{selecting, selecting_in}
 use Rattle.session_state.specs.Choices.{action_value}

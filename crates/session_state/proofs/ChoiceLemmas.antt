@@ -22,7 +22,7 @@ use Rattle.session_state.specs.Choices.{action_value, choice_in, choices_in, has
 use Rattle.protocol.proofs.FoundLemmas.{both}
 use Rattle.session_state.specs.Changes.{all_selectors, has_room, outcome_after, selecting_in, widened, widening}
 use Rattle.session_state.proofs.NamedLemmas.{there, with-length, with-push}
-use Rattle.session_state.specs.declared.modes.Effect.{Effect}
+use Rattle.session_state.specs.declared.modes.Change.{Change}
 
 current-there : (config : Config) (cs : List Choice) (i : ℕ) (c : Choice) → slice_get cs i ≡ Some c
     → current_choice (choices_in config cs) (Some i) ≡ Some (choice_in config c)
@@ -68,7 +68,7 @@ all-in config (c ∷ cs) =
     ∙ ap (λ n. length c.selectors + n) (all-in config cs)
     ∙ sym (sum_by-cons (λ x. length x.selectors) c cs)
 
-pub added : (config : Config) (a new : NamedValue) (i : ℕ) (p : Pattern) (effect : Effect) → a.current ≡ Some i
+pub added : (config : Config) (a new : NamedValue) (i : ℕ) (p : Pattern) (change : Change) → a.current ≡ Some i
     → i < length a.choices
     → ((c : Choice) → slice_get a.choices i ≡ Some c
     → new
@@ -76,15 +76,15 @@ pub added : (config : Config) (a new : NamedValue) (i : ℕ) (p : Pattern) (effe
       choices =
           slice_set a.choices i (record c { selectors = widened (all_selectors a.choices) c.selectors p });
     })
-    → ((c : Choice) → slice_get a.choices i ≡ Some c → effect ≡ widening (all_selectors a.choices) c.selectors)
-    → outcome_after effect (Multi (choices_in config new.choices) new.current)
+    → ((c : Choice) → slice_get a.choices i ≡ Some c → change ≡ widening (all_selectors a.choices) c.selectors)
+    → outcome_after change (Multi (choices_in config new.choices) new.current)
     ≡ selecting_in (choices_in config a.choices) a.current (Some p)
     (current_choice (choices_in config a.choices) a.current)
-added config a new i p effect is_i within made led =
+added config a new i p change is_i within made led =
     let c = there a.choices i within in
     let here : slice_get (choices_in config a.choices) i
     ≡ Some (choice_in config c.0) = current-there config a.choices i c.0 c.1 in
-    ap (λ (x : NamedValue). outcome_after effect (Multi (choices_in config x.choices) x.current)) (made c.0 c.1)
+    ap (λ (x : NamedValue). outcome_after change (Multi (choices_in config x.choices) x.current)) (made c.0 c.1)
     ∙ rw (is_i, current-there config a.choices i c.0 c.1, led c.0 c.1, all-in config a.choices)
     (both (has_room (all_selectors a.choices) (c.0).selectors)
     (λ y. rw y

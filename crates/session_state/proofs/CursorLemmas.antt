@@ -7,13 +7,13 @@ use Rattle.session_state.specs.NamedValues.{Choice}
 use Rattle.session_state.specs.declared.choices.Cursor.{Cursor}
 use Rattle.session_state.specs.NamedValues.{ModeValue}
 use Rattle.session_state.specs.NamedValues.ModeValue.{Uni, Multi}
-use Rattle.session_state.specs.declared.modes.Effect.{Effect}
-use Rattle.session_state.specs.declared.modes.Effect.TheVariants.{Done, Refused, Starts}
+use Rattle.session_state.specs.declared.modes.Change.{Change}
+use Rattle.session_state.specs.declared.modes.Change.TheVariants.{Done, Refused, Starts}
 use Rattle.session_state.specs.declared.session.State.{State}
 use Rattle.session_state.specs.declared.session.State.TheVariants.{Negotiating, Listing, Starting, Transfer, Ending}
 use Rattle.session_state.specs.Choices.{all_at_start, at_start, chosen_of, passed_at, passed_in}
-use Rattle.session_state.specs.Sessions.{SessionValue, KeepsTransfer, but_for_cursors, effected, line_made, listed_in}
-use Rattle.session_state.specs.Sessions.{with_line}
+use Rattle.session_state.specs.Sessions.{SessionValue, KeepsTransfer, but_for_cursors, after_change, line_made}
+use Rattle.session_state.specs.Sessions.{listed_in, with_line}
 
 -- ---- how far a request has come
 
@@ -135,11 +135,11 @@ keeps-none a b none = record {
   looked = λ next e. absurd (none next e);
 }
 
-pub effected-elsewhere : (m : SessionValue) (effect : Effect) (next : ℕ) → m.state ≡ Negotiating
-    → (effected m effect).state ≢ Transfer next
-effected-elsewhere m Done next state e = absurd (let t : Negotiating ≡ Transfer next = sym state ∙ e in cc)
-effected-elsewhere m Refused next state e = absurd (let t : Negotiating ≡ Transfer next = sym state ∙ e in cc)
-effected-elsewhere m Starts next state e = absurd (let t : Starting ≡ Transfer next = e in cc)
+pub change-elsewhere : (m : SessionValue) (change : Change) (next : ℕ) → m.state ≡ Negotiating
+    → (after_change m change).state ≢ Transfer next
+change-elsewhere m Done next state e = absurd (let t : Negotiating ≡ Transfer next = sym state ∙ e in cc)
+change-elsewhere m Refused next state e = absurd (let t : Negotiating ≡ Transfer next = sym state ∙ e in cc)
+change-elsewhere m Starts next state e = absurd (let t : Starting ≡ Transfer next = e in cc)
 
 listed-kept : (places : List ℕ) (t : State) (next : ℕ) → listed_in places t ≡ Transfer next → t ≡ Transfer next
 listed-kept places Negotiating next e = e

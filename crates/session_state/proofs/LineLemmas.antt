@@ -6,7 +6,7 @@ use Rattle.protocol.specs.Lines.{Line, is_line_end, open_after, cut_from}
 use Rattle.protocol.specs.Lines.Line.{Text, TooLong}
 use Rattle.protocol.specs.Command.{Command, command_of}
 use Rattle.protocol.specs.Command.Command.{Blank, Hello, Cat, Bye, End, Station, Select, Data, Fetch, Time, Bad}
-use Rattle.protocol.specs.History.{Arrival, Request}
+use Rattle.protocol.specs.History.{Arrival, Request as ProtocolRequest}
 use Rattle.protocol.specs.Session.{Negotiated, Outcome, outcome_of}
 use Rattle.protocol.specs.Session.Outcome.{Stays, Lists, Ends}
 use Rattle.protocol.specs.Client.{Client, follow, leave, read_byte, is_nothing}
@@ -14,16 +14,16 @@ use Rattle.protocol.specs.Client.State.{Negotiating as ClientNegotiating, Transf
 use Rattle.protocol.specs.Client.State.{Ending as ClientEnding}
 use Rattle.protocol.proofs.FoundLemmas.{both}
 use Rattle.session_state.specs.NamedValues.{ModeValue}
-use Rattle.session_state.specs.declared.modes.Effect.{Effect}
-use Rattle.session_state.specs.declared.modes.Effect.TheVariants.{Done, Refused, Starts}
-use Rattle.session_state.specs.declared.asked.Asked.{Asked}
-use Rattle.session_state.specs.declared.asked.Asked.TheVariants.{Nothing}
+use Rattle.session_state.specs.declared.modes.Change.{Change}
+use Rattle.session_state.specs.declared.modes.Change.TheVariants.{Done, Refused, Starts}
+use Rattle.session_state.specs.declared.request.Request.{Request}
+use Rattle.session_state.specs.declared.request.Request.TheVariants.{Nothing}
 use Rattle.session_state.specs.declared.session.State.TheVariants.{Negotiating, Listing, Transfer, Ending}
 use Rattle.session_state.specs.Choices.{negotiated_in, chosen_of, request_in}
 use Rattle.session_state.specs.Changes.{outcome_after}
 use Rattle.session_state.specs.Asking.{outcome_by, outcome_of_lines, is_bye, says_bye, is_leaving}
-use Rattle.session_state.specs.Sessions.{SessionValue, client_in, session_view, effected}
-use Rattle.session_state.proofs.CursorLemmas.{effected-elsewhere}
+use Rattle.session_state.specs.Sessions.{SessionValue, client_in, session_view, after_change}
+use Rattle.session_state.proofs.CursorLemmas.{change-elsewhere}
 
 -- a session that negotiates while nothing waits
 abbrev pub reading : List ℕ → ModeValue → Line → List ℕ → Option ℕ → SessionValue
@@ -65,41 +65,41 @@ pub leaves : (config : Config) (h : List Arrival) (a r : SessionValue) → a.sta
 leaves config h a r state none e = ap (client_in config h) e
 
 -- a session in which a change was made
-effect-follows : (config : Config) (h : List Arrival) (places : List ℕ) (mode new : ModeValue) (l : Line) (u : List ℕ)
-    (looked : Option ℕ) (effect : Effect)
-    → client_in config h (effected (record (reading places mode l u looked) { mode = new }) effect)
+change-follows : (config : Config) (h : List Arrival) (places : List ℕ) (mode new : ModeValue) (l : Line) (u : List ℕ)
+    (looked : Option ℕ) (change : Change)
+    → client_in config h (after_change (record (reading places mode l u looked) { mode = new }) change)
     ≡ follow (session_view config (reading places mode l u looked)) h
     (client_in config h (reading places mode l u looked))
-    (negotiated_in config mode) (outcome_after effect (negotiated_in config new))
-effect-follows config h places mode new l u looked Done = refl
-effect-follows config h places mode new l u looked Refused = refl
-effect-follows config h places mode new l u looked Starts = refl
+    (negotiated_in config mode) (outcome_after change (negotiated_in config new))
+change-follows config h places mode new l u looked Done = refl
+change-follows config h places mode new l u looked Refused = refl
+change-follows config h places mode new l u looked Starts = refl
 
-pub changes : (config : Config) (h : List Arrival) (a r : SessionValue) (mode : ModeValue) (effect : Effect)
-    (outcome : Outcome) → a.state ≡ Negotiating → a.waiting ≡ [] → r ≡ effected (record a { mode = mode }) effect
-    → outcome_after effect (negotiated_in config mode) ≡ outcome
+pub changes : (config : Config) (h : List Arrival) (a r : SessionValue) (mode : ModeValue) (change : Change)
+    (outcome : Outcome) → a.state ≡ Negotiating → a.waiting ≡ [] → r ≡ after_change (record a { mode = mode }) change
+    → outcome_after change (negotiated_in config mode) ≡ outcome
     → client_in config h r
     ≡ follow (session_view config a) h (client_in config h a) (negotiated_in config a.mode) outcome
-changes config h a r mode effect outcome state none e same =
+changes config h a r mode change outcome state none e same =
     ap (client_in config h) e
-    ∙ ap (λ (x : SessionValue). client_in config h (effected (record x { mode = mode }) effect))
+    ∙ ap (λ (x : SessionValue). client_in config h (after_change (record x { mode = mode }) change))
     (is_reading a state none)
-    ∙ effect-follows config h a.places a.mode mode a.open_line a.unread a.looked effect
+    ∙ change-follows config h a.places a.mode mode a.open_line a.unread a.looked change
     ∙ ap (λ (x : SessionValue). follow (session_view config x) h (client_in config h x) (negotiated_in config a.mode)
-    (outcome_after effect (negotiated_in config mode))) (sym (is_reading a state none))
+    (outcome_after change (negotiated_in config mode))) (sym (is_reading a state none))
     ∙ ap (follow (session_view config a) h (client_in config h a) (negotiated_in config a.mode)) same
 
-pub effected-places : (m : SessionValue) (effect : Effect) → (effected m effect).places ≡ m.places
-effected-places m Done = refl
-effected-places m Refused = refl
-effected-places m Starts = refl
+pub change-places : (m : SessionValue) (change : Change) → (after_change m change).places ≡ m.places
+change-places m Done = refl
+change-places m Refused = refl
+change-places m Starts = refl
 
-pub effected-unread : (m : SessionValue) (effect : Effect) → (effected m effect).unread ≡ m.unread
-effected-unread m Done = refl
-effected-unread m Refused = refl
-effected-unread m Starts = refl
+pub change-unread : (m : SessionValue) (change : Change) → (after_change m change).unread ≡ m.unread
+change-unread m Done = refl
+change-unread m Refused = refl
+change-unread m Starts = refl
 
-pub ruleset answer_lemmas = (silent, said, lists, leaves, changes, effected-places, effected-unread, effected-elsewhere)
+pub ruleset answer_lemmas = (silent, said, lists, leaves, changes, change-places, change-unread, change-elsewhere)
 
 -- A byte that ends a line is read as the line's command, also where the line is empty; another byte changes the open
 -- line alone.
@@ -112,20 +112,20 @@ read_byte-lines v h (Text []) n u b = both (is_line_end b) (λ y. rw y) (λ x. r
 read_byte-lines v h (Text (c ∷ bs)) n u b = both (is_line_end b) (λ y. rw y) (λ x. rw x)
 read_byte-lines v h TooLong n u b = both (is_line_end b) (λ y. rw y) (λ x. rw x)
 
-pub reads_byte : (config : Config) (h : List Arrival) (a n r : SessionValue) (asked : Asked) (b : ℕ)
+pub reads_byte : (config : Config) (h : List Arrival) (a n r : SessionValue) (request : Request) (b : ℕ)
     → a.state ≡ Negotiating → a.waiting ≡ [] → n ≡ record a { open_line = open_after a.open_line (b ∷ []) }
     → client_in config h r ≡ follow (session_view config n) h (client_in config h n) (negotiated_in config n.mode)
-    (outcome_by config (session_view config n) (negotiated_in config n.mode) asked)
+    (outcome_by config (session_view config n) (negotiated_in config n.mode) request)
     → ((m : Negotiated) → outcome_of_lines (session_view config a) m (cut_from a.open_line (b ∷ []))
-    ≡ outcome_by config (session_view config a) m asked)
+    ≡ outcome_by config (session_view config a) m request)
     → client_in config h r ≡ read_byte (session_view config a) h b (client_in config h a)
-reads_byte config h a n r asked b state none line answers same =
+reads_byte config h a n r request b state none line answers same =
     let a_is = is_reading a state none in
     let n_is : n ≡ reading a.places a.mode (open_after a.open_line (b ∷ [])) a.unread a.looked = line
     ∙ ap (λ (x : SessionValue). record x { open_line = open_after a.open_line (b ∷ []) }) a_is in
     answers
     ∙ ap (λ (x : SessionValue). follow (session_view config x) h (client_in config h x) (negotiated_in config x.mode)
-    (outcome_by config (session_view config x) (negotiated_in config x.mode) asked)) n_is
+    (outcome_by config (session_view config x) (negotiated_in config x.mode) request)) n_is
     ∙ ap
     (follow (session_view config a) h
     (client_in config h (reading a.places a.mode (open_after a.open_line (b ∷ [])) a.unread a.looked))
@@ -151,7 +151,7 @@ leave-bye c (Fetch number begin) = refl
 leave-bye c (Time begin last) = refl
 leave-bye c Bad = refl
 
-read_byte-past : (v : View) (h : List Arrival) (line : Line) (rs : List Request) (q : ℕ) (u w : List ℕ) (b : ℕ)
+read_byte-past : (v : View) (h : List Arrival) (line : Line) (rs : List ProtocolRequest) (q : ℕ) (u w : List ℕ) (b : ℕ)
     → read_byte v h b (record { state = ClientTransfer rs q; open_line = line; unread = u; waiting = w })
     ≡ left_if (says_bye (cut_from line (b ∷ [])))
     (record { state = ClientTransfer rs q; open_line = open_after line (b ∷ []); unread = u; waiting = w })
@@ -177,23 +177,23 @@ past-line config h a next b state =
     (λ t. left_if (says_bye (cut_from a.open_line (b ∷ [])))
     (client_in config h (record a { state = t; open_line = open_after a.open_line (b ∷ []) }))) (sym state)
 
-pub past-bye : (config : Config) (h : List Arrival) (a n r : SessionValue) (next b : ℕ) (asked : Asked)
+pub past-bye : (config : Config) (h : List Arrival) (a n r : SessionValue) (next b : ℕ) (request : Request)
     → a.state ≡ Transfer next → n ≡ record a { open_line = open_after a.open_line (b ∷ []) }
-    → says_bye (cut_from a.open_line (b ∷ [])) ≡ is_leaving asked → is_leaving asked ≡ true
+    → says_bye (cut_from a.open_line (b ∷ [])) ≡ is_leaving request → is_leaving request ≡ true
     → r ≡ record n { state = Ending }
     → client_in config h r ≡ read_byte (session_view config a) h b (client_in config h a)
-past-bye config h a n r next b asked state line says bye e =
+past-bye config h a n r next b request state line says bye e =
     ap (client_in config h) e
     ∙ ap (λ (x : SessionValue). client_in config h (record x { state = Ending })) line
     ∙ ap (λ t. left_if t (client_in config h (record a { open_line = open_after a.open_line (b ∷ []) })))
     (sym (says ∙ bye))
     ∙ sym (past-line config h a next b state)
 
-pub past-other : (config : Config) (h : List Arrival) (a n : SessionValue) (next b : ℕ) (asked : Asked)
+pub past-other : (config : Config) (h : List Arrival) (a n : SessionValue) (next b : ℕ) (request : Request)
     → a.state ≡ Transfer next → n ≡ record a { open_line = open_after a.open_line (b ∷ []) }
-    → says_bye (cut_from a.open_line (b ∷ [])) ≡ is_leaving asked → is_leaving asked ≡ false
+    → says_bye (cut_from a.open_line (b ∷ [])) ≡ is_leaving request → is_leaving request ≡ false
     → client_in config h n ≡ read_byte (session_view config a) h b (client_in config h a)
-past-other config h a n next b asked state line says bye =
+past-other config h a n next b request state line says bye =
     ap (client_in config h) line
     ∙ ap (λ t. left_if t (client_in config h (record a { open_line = open_after a.open_line (b ∷ []) })))
     (sym (says ∙ bye))
@@ -206,17 +206,17 @@ pub asked_none : (config : Config) (v : View) (n : Negotiated) (lines : List Lin
     → outcome_of_lines v n lines ≡ outcome_by config v n Nothing
 asked_none config v n lines e = ap (outcome_of_lines v n) (sym e)
 
-pub asked_line : (config : Config) (v : View) (n : Negotiated) (lines : List Line) (line : Line) (asked : Asked)
-    → line ∷ [] ≡ lines → outcome_of v n (command_of line) ≡ outcome_by config v n asked
-    → outcome_of_lines v n lines ≡ outcome_by config v n asked
-asked_line config v n lines line asked e same = ap (outcome_of_lines v n) (sym e) ∙ same
+pub asked_line : (config : Config) (v : View) (n : Negotiated) (lines : List Line) (line : Line) (request : Request)
+    → line ∷ [] ≡ lines → outcome_of v n (command_of line) ≡ outcome_by config v n request
+    → outcome_of_lines v n lines ≡ outcome_by config v n request
+asked_line config v n lines line request e same = ap (outcome_of_lines v n) (sym e) ∙ same
 
 pub says_none : (lines : List Line) → [] ≡ lines → says_bye lines ≡ is_leaving Nothing
 says_none lines e = ap says_bye (sym e)
 
-pub says_line : (lines : List Line) (line : Line) (asked : Asked) → line ∷ [] ≡ lines
-    → is_bye (command_of line) ≡ is_leaving asked → says_bye lines ≡ is_leaving asked
-says_line lines line asked e same = ap says_bye (sym e) ∙ same
+pub says_line : (lines : List Line) (line : Line) (request : Request) → line ∷ [] ≡ lines
+    → is_bye (command_of line) ≡ is_leaving request → says_bye lines ≡ is_leaving request
+says_line lines line request e same = ap says_bye (sym e) ∙ same
 
 pub ruleset ask_lemmas = (asked_none, asked_line, says_none, says_line)
 

@@ -16,8 +16,8 @@ use Rattle.protocol.proofs.FoundLemmas.{both}
 use Rattle.selector.specs.Pools.{list_at, together, HasRoom}
 use Rattle.sl_lines.specs.declared.actions.Action.{Action}
 use Rattle.session_state.specs.declared.choices.Cursor.{Cursor}
-use Rattle.session_state.specs.declared.modes.Effect.{Effect}
-use Rattle.session_state.specs.declared.modes.Effect.TheVariants.{Done, Refused}
+use Rattle.session_state.specs.declared.modes.Change.{Change}
+use Rattle.session_state.specs.declared.modes.Change.TheVariants.{Done, Refused}
 use Rattle.session_state.specs.declared.choices.Entry.{Entry}
 use Rattle.session_state.specs.NamedValues.{Choice, NamedValue, IsNamed, choice_of, choices_with, entry_of}
 use Rattle.session_state.specs.Choices.{has_action, is_entry_of_station, is_of_station, kept_at, passed_at}
@@ -385,12 +385,12 @@ widened-ok (Err u) lists new i p iff ok err =
     set-same (l ∷ ls) (suc k) = ap (λ xs. l ∷ xs) (set-same ls k)
 
 -- what comes of an attempt to add one
-abbrev pub effect_of : {A B : Type 0} → Result A B → Effect
-effect_of (Ok u) = Done
-effect_of (Err u) = Refused
+abbrev pub change_of : {A B : Type 0} → Result A B → Change
+change_of (Ok u) = Done
+change_of (Err u) = Refused
 
 pub widening-ok : {A B : Type 0} (r : Result A B) (lists : List (List Pattern)) (i : ℕ) → (IsOk r ↔ HasRoom lists i)
-    → effect_of r ≡ widening (together lists) (list_at lists i)
+    → change_of r ≡ widening (together lists) (list_at lists i)
 widening-ok (Ok u) lists i iff = let y = room-has lists i (iff.0 refl) in rw y refl
 widening-ok (Err u) lists i iff =
     both (has_room (together lists) (list_at lists i))
@@ -421,7 +421,7 @@ list-widened r es current lists new room i p n c iff ok err is view h at =
 pub list-widening : {A B : Type 0} (r : Result A B) (es : List Entry) (current : Option ℕ) (lists : List (List Pattern))
     (room i : ℕ) (n : NamedValue) (c : Choice) → (IsOk r ↔ HasRoom lists i) → IsNamed es current lists room
     → naming es current lists ≡ n → slice_get n.choices i ≡ Some c
-    → effect_of r ≡ widening (all_selectors n.choices) c.selectors
+    → change_of r ≡ widening (all_selectors n.choices) c.selectors
 list-widening r es current lists room i n c iff is view at =
     widening-ok r lists i iff
     ∙ ap₂ widening (all-named es current lists room n is view) (sym (selectors-at es current lists i n c view at))

@@ -8,8 +8,8 @@ use Rattle.protocol.specs.Session.{wish_of, with_pattern, together, max_patterns
 use Rattle.protocol.specs.Session.Negotiated.{Uni, Multi}
 use Rattle.protocol.specs.Session.{current_choice}
 use Rattle.protocol.specs.Session.Outcome.{Stays, Starts as StartsOutcome}
-use Rattle.session_state.specs.declared.modes.Effect.{Effect}
-use Rattle.session_state.specs.declared.modes.Effect.TheVariants.{Done, Refused, Starts}
+use Rattle.session_state.specs.declared.modes.Change.{Change}
+use Rattle.session_state.specs.declared.modes.Change.TheVariants.{Done, Refused, Starts}
 use Rattle.session_state.specs.NamedValues.{Choice as Named}
 
 -- SELECT with a pattern, where a station is current; without a pattern, as for a text that is none, nothing changes
@@ -22,8 +22,8 @@ abbrev pub selecting : Negotiated → Option Pattern → Outcome
 selecting (Uni ps) pattern = select_uni ps (with_pattern (length ps) ps pattern)
 selecting (Multi cs current) pattern = selecting_in cs current pattern (current_choice cs current)
 
--- the outcome of a command with that effect, after which so much is negotiated
-abbrev pub outcome_after : Effect → Negotiated → Outcome
+-- the outcome of a command with that change, after which so much is negotiated
+abbrev pub outcome_after : Change → Negotiated → Outcome
 outcome_after Done n = Stays ok_line n
 outcome_after Refused n = Stays error_line n
 outcome_after Starts n = StartsOutcome (filter_map wish_of (choices_of n))
@@ -41,5 +41,5 @@ abbrev pub widened : (all : ℕ) → List Pattern → Pattern → List Pattern
 widened all ps p = if has_room all ps then ps ++ p ∷ [] else ps
 
 -- what comes of it
-abbrev pub widening : (all : ℕ) → List Pattern → Effect
+abbrev pub widening : (all : ℕ) → List Pattern → Change
 widening all ps = if has_room all ps then Done else Refused

@@ -12,8 +12,8 @@ use Rattle.protocol.specs.Client.State.{Transfer as ClientTransfer, Ending as Cl
 use Rattle.catalog.specs.Places.{station_at, view_in, IsPlace}
 use Rattle.sl_lines.specs.declared.actions.Action.{Action}
 use Rattle.session_state.specs.NamedValues.{Choice, ModeValue}
-use Rattle.session_state.specs.declared.modes.Effect.{Effect}
-use Rattle.session_state.specs.declared.modes.Effect.TheVariants.{Done, Refused, Starts}
+use Rattle.session_state.specs.declared.modes.Change.{Change}
+use Rattle.session_state.specs.declared.modes.Change.TheVariants.{Done, Refused, Starts}
 use Rattle.session_state.specs.declared.session.State.{State}
 use Rattle.session_state.specs.declared.session.State.TheVariants.{Negotiating, Listing, Starting, Transfer, Ending}
 use Rattle.session_state.specs.declared.session.Settled.{Settled}
@@ -59,11 +59,11 @@ client_in config h s =
       waiting = s.waiting;
     }
 
--- the session once an effect is told
-abbrev pub effected : SessionValue → Effect → SessionValue
-effected s Done = record s { waiting = ok_line }
-effected s Refused = record s { waiting = error_line }
-effected s Starts = record s { state = Starting }
+-- the session once a change is answered
+abbrev pub after_change : SessionValue → Change → SessionValue
+after_change s Done = record s { waiting = ok_line }
+after_change s Refused = record s { waiting = error_line }
+after_change s Starts = record s { state = Starting }
 
 -- the session once the bytes before the next line end have joined its open line
 abbrev pub text_taken : SessionValue → SessionValue

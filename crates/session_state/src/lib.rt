@@ -5,13 +5,13 @@
 //! reading, until it is told from which arrival on each request wants records.
 #![tactic(auto)]
 
-mod asked;
 pub mod choices;
 pub mod entries;
 mod modes;
 mod named;
 mod refusals;
 mod replies;
+mod request;
 pub mod session;
 mod waiting;
 mod wishes;

@@ -20,7 +20,7 @@ use std::marker::Model;
 
 /// What a command leads to that may change what was negotiated.
 #[derive(Clone, Copy)]
-pub enum Effect {
+pub enum Change {
     /// It was done, and is answered OK.
     Done,
     /// It is answered ERROR.
@@ -143,7 +143,7 @@ impl Mode {
 /// What commands change of it.
 impl Mode {
     /// STATION: the station that was found becomes the current one; without one, none is.
-    pub fn name(&mut self, config: &Config, found: Option<usize>) -> Effect
+    pub fn name(&mut self, config: &Config, found: Option<usize>) -> Change
         ensures { outcome_after result (negotiated_in config.now self.new)
             ≡ choose_station (choices_of (negotiated_in config.now self.old))
             (option_map (station_at config.now.entries) found) }
@@ -156,7 +156,7 @@ impl Mode {
     }
 
     /// SELECT without a pattern.
-    pub fn clear(&mut self) -> Effect
+    pub fn clear(&mut self) -> Change
         ensures { (config : ProtocolConfig)
             → outcome_after result (negotiated_in config self.new) ≡ select (negotiated_in config self.old) None }
     {
@@ -164,12 +164,12 @@ impl Mode {
             self.named.clear()
         } else {
             self.named.clear_at(0);
-            Effect::Done
+            Change::Done
         }
     }
 
     /// SELECT with a pattern.
-    pub fn add(&mut self, selector: Selector) -> Effect
+    pub fn add(&mut self, selector: Selector) -> Change
         ensures { (config : ProtocolConfig)
             → outcome_after result (negotiated_in config self.new)
             ≡ selecting (negotiated_in config self.old) (Some selector) }
@@ -182,7 +182,7 @@ impl Mode {
     }
 
     /// DATA, FETCH or TIME. In uni-station mode the transfer of the first station starts at once.
-    pub fn act(&mut self, view: &View, action: Action) -> Effect
+    pub fn act(&mut self, view: &View, action: Action) -> Change
         ensures { (config : ProtocolConfig)
             → outcome_after result (negotiated_in config self.new)
             ≡ act (view_in config view.now) (negotiated_in config self.old) (action_value action) }
@@ -194,21 +194,21 @@ impl Mode {
             Some(place) => {
                 self.named.ask_alone(usize::from(*place), action);
                 self.is_multi = true;
-                Effect::Starts
+                Change::Starts
             }
-            None => Effect::Refused,
+            None => Change::Refused,
         }
     }
 
     /// END.
-    pub fn finish(&self) -> Effect
+    pub fn finish(&self) -> Change
         ensures { (config : ProtocolConfig)
             → outcome_after result (negotiated_in config self.now) ≡ end_multi (negotiated_in config self.now) }
     {
         if self.is_multi {
             self.named.finish()
         } else {
-            Effect::Refused
+            Change::Refused
         }
     }
 }

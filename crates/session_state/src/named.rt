@@ -19,7 +19,7 @@ ghost use Rattle.session_state.specs.Changes.{all_selectors, outcome_after, sele
 
 use crate::choices::{Cursor, Entry};
 use crate::entries::{Ahead, CAPACITY, Entries};
-use crate::modes::Effect;
+use crate::modes::Change;
 use catalog::Config;
 use protocol::record::Kind;
 use selector::{Pool, Selector};
@@ -157,7 +157,7 @@ impl Named {
     }
 
     /// The i-th station has a selector more, where there is room.
-    pub fn add_at(&mut self, i: usize, selector: Selector) -> Effect
+    pub fn add_at(&mut self, i: usize, selector: Selector) -> Change
         requires { i < length self.old.choices }
         ensures new { (c : Choice) → slice_get self.old.choices i ≡ Some c →
             self.new ≡ record self.old {
@@ -165,13 +165,13 @@ impl Named {
                   slice_set self.old.choices i
                   (record c { selectors = widened (all_selectors self.old.choices) c.selectors selector });
             } }
-        ensures effect { (c : Choice) → slice_get self.old.choices i ≡ Some c
+        ensures change { (c : Choice) → slice_get self.old.choices i ≡ Some c
             → result ≡ widening (all_selectors self.old.choices) c.selectors }
     {
         let _ = &self.entries;
         match self.pool.add(i, selector) {
-            Ok(()) => Effect::Done,
-            Err(_) => Effect::Refused,
+            Ok(()) => Change::Done,
+            Err(_) => Change::Refused,
         }
     }
 
@@ -184,7 +184,7 @@ impl Named {
     }
 
     /// A station that was not named before becomes the current one, where there is room.
-    fn add(&mut self, place: usize) -> Effect
+    fn add(&mut self, place: usize) -> Change
         requires { (i : ℕ) (c : Choice) → slice_get self.old.choices i ≡ Some c → c.place ≢ place }
         ensures { (config : ProtocolConfig)
             → outcome_after result (NegotiatedMulti (choices_in config self.new.choices) self.new.current)
@@ -193,11 +193,11 @@ impl Named {
         let i = self.entries.len();
         if i >= CAPACITY {
             self.current = None;
-            return Effect::Refused;
+            return Change::Refused;
         }
         self.entries.put(place, None);
         self.current = Some(i);
-        Effect::Done
+        Change::Done
     }
 
     /// The place among the stations of the first that is the station at a place of the configuration.
@@ -210,26 +210,26 @@ impl Named {
 
     /// The station, where one was found, becomes the current one; else none is.
     #[tactic(auto, using(crate::proofs::ChoiceLemmas::naming_lemmas))]
-    pub fn name(&mut self, config: &Config, found: Option<usize>) -> Effect
+    pub fn name(&mut self, config: &Config, found: Option<usize>) -> Change
         ensures { outcome_after result (NegotiatedMulti (choices_in config.now self.new.choices) self.new.current)
             ≡ choose_station (choices_in config.now self.old.choices)
             (option_map (station_at config.now.entries) found) }
     {
         let Some(place) = found else {
             self.set_current(None);
-            return Effect::Refused;
+            return Change::Refused;
         };
         match self.position_of(config, place) {
             Some(i) => {
                 self.set_current(Some(i));
-                Effect::Done
+                Change::Done
             }
             None => self.add(place),
         }
     }
 
     /// The current station's selectors are taken away.
-    pub fn clear(&mut self) -> Effect
+    pub fn clear(&mut self) -> Change
         ensures { (config : ProtocolConfig)
             → outcome_after result (NegotiatedMulti (choices_in config self.new.choices) self.new.current)
             ≡ select_multi (choices_in config self.old.choices) self.old.current None
@@ -238,14 +238,14 @@ impl Named {
         match self.current {
             Some(i) => {
                 self.clear_at(i);
-                Effect::Done
+                Change::Done
             }
-            None => Effect::Refused,
+            None => Change::Refused,
         }
     }
 
     /// The current station has a selector more, where there is room.
-    pub fn add_selector(&mut self, selector: Selector) -> Effect
+    pub fn add_selector(&mut self, selector: Selector) -> Change
         ensures { (config : ProtocolConfig)
             → outcome_after result (NegotiatedMulti (choices_in config self.new.choices) self.new.current)
             ≡ selecting_in (choices_in config self.old.choices) self.old.current (Some selector)
@@ -253,7 +253,7 @@ impl Named {
     {
         match self.current {
             Some(i) => self.add_at(i, selector),
-            None => Effect::Refused,
+            None => Change::Refused,
         }
     }
 
@@ -268,7 +268,7 @@ impl Named {
     }
 
     /// The current station's action, in place of an earlier one.
-    pub fn act(&mut self, action: Action) -> Effect
+    pub fn act(&mut self, action: Action) -> Change
         ensures { (config : ProtocolConfig)
             → outcome_after result (NegotiatedMulti (choices_in config self.new.choices) self.new.current)
             ≡ act_multi (choices_in config self.old.choices) self.old.current (action_value action)
@@ -277,9 +277,9 @@ impl Named {
         match self.current {
             Some(i) => {
                 self.act_for(i, action);
-                Effect::Done
+                Change::Done
             }
-            None => Effect::Refused,
+            None => Change::Refused,
         }
     }
 
@@ -291,16 +291,16 @@ impl Named {
     }
 
     /// A transfer starts where a station has an action.
-    pub fn finish(&self) -> Effect
+    pub fn finish(&self) -> Change
         ensures { (config : ProtocolConfig)
             → outcome_after result (NegotiatedMulti (choices_in config self.now.choices) self.now.current)
             ≡ end_with (choices_in config self.now.choices) self.now.current
             (filter_map wish_of (choices_in config self.now.choices)) }
     {
         if self.is_asked() {
-            Effect::Starts
+            Change::Starts
         } else {
-            Effect::Refused
+            Change::Refused
         }
     }
 

@@ -1,3 +1,3 @@
+pub mod CommandValues
 pub mod LineValues
-pub mod OrderValues
 pub mod WordValues

@@ -1,4 +1,4 @@
--- What the parts of a command say, from its words to the command: for the private steps between a line and an order.
+-- What the parts of a command say, from its words to the command: for the private steps between a line and a command.
 -- SeedLink 3, commands.
 use Rattle.std.specs.Prelude.{◌≡◌, ℕ, ℤ, List, [], ◌∷◌, Option, Some, None}
 use Rattle.protocol.specs.Command.{Command, alone, station_command, select_command, numbered, timed}
@@ -7,10 +7,10 @@ use Rattle.protocol.specs.Command.Command.{End as EndCommand, Data as DataComman
 use Rattle.protocol.specs.Command.Command.{Time as TimeCommand, Bad as BadCommand}
 use Rattle.sl_lines.specs.declared.words.Arguments.{Arguments}
 use Rattle.sl_lines.specs.declared.words.Arguments.TheVariants.{Nothing, One, Two, More}
-use Rattle.sl_lines.specs.declared.orders.Name.{Name}
-use Rattle.sl_lines.specs.declared.orders.Name.TheVariants.{Hello, Cat, Bye, End, Station, Select, Data, Fetch, Time}
-use Rattle.sl_lines.specs.declared.orders.Resumption.{Resumption}
-use Rattle.sl_lines.specs.declared.orders.Interval.{Interval}
+use Rattle.sl_lines.specs.declared.parsing.Name.{Name}
+use Rattle.sl_lines.specs.declared.parsing.Name.TheVariants.{Hello, Cat, Bye, End, Station, Select, Data, Fetch, Time}
+use Rattle.sl_lines.specs.declared.parsing.Resumption.{Resumption}
+use Rattle.sl_lines.specs.declared.parsing.Interval.{Interval}
 
 -- These are all the words, or there are three and more.
 abbrev pub AreWords : Arguments → List (List ℕ) → Type 0

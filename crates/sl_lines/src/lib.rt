@@ -2,10 +2,12 @@
 #![tactic(auto)]
 
 pub mod actions;
+mod commands;
 mod lines;
-mod orders;
+mod parsing;
 mod words;
 
 pub use actions::Action;
+pub use commands::Command;
 pub use lines::{Line, LineCutter};
-pub use orders::{Order, command};
+pub use parsing::command;

@@ -78,7 +78,7 @@ pub struct Seen {
     pub happenings: usize,
     pub quiet: bool,
     /// How many records were refused.
-    pub dropped: u64,
+    pub refused: u64,
     pub clients: usize,
     pub feeds: usize,
 }
@@ -321,7 +321,7 @@ impl PlainLoop {
             None => false,
         };
         if !is_taken && self.slip != Slip::CountsNoRefusal {
-            seen.dropped = seen.dropped.saturating_add(1);
+            seen.refused = seen.refused.saturating_add(1);
         }
         Ok(())
     }
@@ -438,7 +438,7 @@ impl PlainLoop {
             has_failed: false,
             happenings: 0,
             quiet: false,
-            dropped: 0,
+            refused: 0,
             clients: 0,
             feeds: 0,
         };

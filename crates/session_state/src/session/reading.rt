@@ -7,7 +7,7 @@ ghost use Rattle.protocol.specs.Session.{Negotiated};
 ghost use Rattle.protocol.specs.Client.{read_byte, reads, follow};
 
 use super::{Session, State};
-use crate::asked::{Asked, asked_by};
+use crate::request::{Request, request_of_line};
 use catalog::Config;
 
 impl Session {
@@ -19,7 +19,7 @@ impl Session {
 
     /// What the line asks that a byte ends, where it ends one.
     #[tactic(auto, using(crate::proofs::LineLemmas::ask_lemmas))]
-    fn ask(&mut self, config: &Config, byte: u8) -> Asked
+    fn ask(&mut self, config: &Config, byte: u8) -> Request
         requires { HasPlaces config.now self.old }
         ensures line { self.new ≡ record self.old { open_line = open_after self.old.open_line (byte ∷ []) } }
         ensures outcome { (n : Negotiated)
@@ -29,51 +29,51 @@ impl Session {
     {
         let _ = &self.state;
         match self.cutter.push(byte) {
-            Some(line) => asked_by(&self.view, config, line),
-            None => Asked::Nothing,
+            Some(line) => request_of_line(&self.view, config, line),
+            None => Request::Nothing,
         }
     }
 
     /// The command is obeyed, while nothing waits in negotiation.
     #[tactic(auto, using(crate::proofs::LineLemmas::answer_lemmas))]
-    fn answer(&mut self, config: &Config, asked: Asked)
+    fn answer(&mut self, config: &Config, request: Request)
         requires negotiating { self.old.state ≡ Negotiating }
         requires nothing_waits { self.old.waiting ≡ [] }
         ensures client { (h : List Arrival) → client_in config.now h self.new
             ≡ follow (session_view config.now self.old) h (client_in config.now h self.old)
             (negotiated_in config.now self.old.mode)
             (outcome_by config.now (session_view config.now self.old)
-            (negotiated_in config.now self.old.mode) asked) }
+            (negotiated_in config.now self.old.mode) request) }
         ensures places { self.new.places ≡ self.old.places }
         ensures unread { self.new.unread ≡ self.old.unread }
         ensures elsewhere { (next : ℕ) → self.new.state ≢ Transfer next }
     {
-        match asked {
-            Asked::Nothing => {}
-            Asked::Greeting => self.greet(config),
-            Asked::Listing => self.turn_to(State::Listing(0)),
-            Asked::Leaving => self.turn_to(State::Ending),
-            Asked::Name(found) => {
-                let effect = self.mode.name(config, found);
-                self.take_effect(effect);
+        match request {
+            Request::Nothing => {}
+            Request::Greeting => self.greet(config),
+            Request::Listing => self.turn_to(State::Listing(0)),
+            Request::Leaving => self.turn_to(State::Ending),
+            Request::Name(found) => {
+                let change = self.mode.name(config, found);
+                self.take_change(change);
             }
-            Asked::Clear => {
-                let effect = self.mode.clear();
-                self.take_effect(effect);
+            Request::Clear => {
+                let change = self.mode.clear();
+                self.take_change(change);
             }
-            Asked::Add(selector) => {
-                let effect = self.mode.add(selector);
-                self.take_effect(effect);
+            Request::Add(selector) => {
+                let change = self.mode.add(selector);
+                self.take_change(change);
             }
-            Asked::Act(action) => {
-                let effect = self.mode.act(&self.view, action);
-                self.take_effect(effect);
+            Request::Act(action) => {
+                let change = self.mode.act(&self.view, action);
+                self.take_change(change);
             }
-            Asked::Finish => {
-                let effect = self.mode.finish();
-                self.take_effect(effect);
+            Request::Finish => {
+                let change = self.mode.finish();
+                self.take_change(change);
             }
-            Asked::Refused => self.say_error(),
+            Request::Refused => self.say_error(),
         }
     }
 
@@ -90,8 +90,8 @@ impl Session {
         ensures elsewhere { (next : ℕ) → self.new.state ≢ Transfer next }
     {
         let _ = &self.view;
-        let asked = self.ask(config, byte);
-        self.answer(config, asked);
+        let request = self.ask(config, byte);
+        self.answer(config, request);
     }
 
     /// One more byte is read in a transfer, where BYE alone acts.
@@ -107,8 +107,8 @@ impl Session {
         ensures kept { KeepsTransfer self.old self.new }
     {
         let _ = &self.view;
-        let asked = self.ask(config, byte);
-        if asked.is_leaving() {
+        let request = self.ask(config, byte);
+        if request.is_leaving() {
             self.turn_to(State::Ending);
         }
     }

@@ -7,14 +7,14 @@ ghost use Rattle.protocol.specs.Session.{greeting, ok_line, error_line};
 
 use super::{Session, State};
 use crate::choices::Cursor;
-use crate::modes::Effect;
+use crate::modes::Change;
 use crate::replies::{put_end_line, put_error, put_greeting, put_ok, put_station_line};
 use arrayvec::ArrayVec;
 use catalog::Config;
 
 impl Session {
     ghost use Rattle.session_state.specs.Choices.{chosen_of, passed_in};
-    ghost use Rattle.session_state.specs.Sessions.{session_view, effected, kept_unread, listed_in, line_made};
+    ghost use Rattle.session_state.specs.Sessions.{session_view, after_change, kept_unread, listed_in, line_made};
     ghost use Rattle.session_state.specs.Sessions.{text_taken};
     ghost use Rattle.session_state.specs.Sessions.{HasPlaces};
 
@@ -53,13 +53,13 @@ impl Session {
         self.sent = 0;
     }
 
-    pub(super) fn take_effect(&mut self, effect: Effect)
-        ensures { self.new ≡ effected self.old effect }
+    pub(super) fn take_change(&mut self, change: Change)
+        ensures { self.new ≡ after_change self.old change }
     {
-        match effect {
-            Effect::Done => self.say_ok(),
-            Effect::Refused => self.say_error(),
-            Effect::Starts => self.turn_to(State::Starting),
+        match change {
+            Change::Done => self.say_ok(),
+            Change::Refused => self.say_error(),
+            Change::Starts => self.turn_to(State::Starting),
         }
     }
 

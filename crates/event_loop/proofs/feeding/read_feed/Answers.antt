@@ -12,14 +12,14 @@ reads-preserved g c =
     let same : length c.read_feed_once.new.buffer ≡ length c.reads.buffer = search rules in
     record {
       goes = λ writable happenings config w stands.
-          let t = feed_tally happenings c.reads.dropped in
-          let t' = feed_tally happenings c.read_feed_once.new.dropped in
+          let t = feed_tally happenings c.reads.refused in
+          let t' = feed_tally happenings c.read_feed_once.new.refused in
           let s = feed_seat c.args.port c.reads.cutter c.reads.readable writable in
           let s' = feed_seat c.args.port c.read_feed_once.new.cutter c.read_feed_once.new.readable writable in
           goes-on-from (FeedReads config) c.args.limit c.reads.left (omega (arith, c.reads-test.true)) config w
           (calls c.args.ports.now) (calls c.reads.ports)
           (calls c.read_feed_once.new.ports) c.reads.server c.read_feed_once.new.server
-          (feed_tally happenings c.args.dropped.now) t t'
+          (feed_tally happenings c.args.refused.now) t t'
           (feed_seat c.args.port c.args.cutter.now c.args.readable.now writable) s s'
           (c.reads.invariant.goes writable happenings config w stands)
           (λ v there. once-on (FeedReads config) config v (calls c.reads.ports)
@@ -37,14 +37,14 @@ returns-in-Stop g c =
     let calls = g.P.Ports.calls in
     record {
       goes = λ writable happenings config w stands.
-          let t = feed_tally happenings c.reads.dropped in
-          let t' = feed_tally happenings c.read_feed_once.new.dropped in
+          let t = feed_tally happenings c.reads.refused in
+          let t' = feed_tally happenings c.read_feed_once.new.refused in
           let s = feed_seat c.args.port c.reads.cutter c.reads.readable writable in
           let s' = feed_seat c.args.port c.read_feed_once.new.cutter c.read_feed_once.new.readable writable in
           ends-from (FeedReads config) c.args.limit c.reads.left (omega (arith, c.reads-test.true)) config w
           (calls c.args.ports.now) (calls c.reads.ports)
           (calls c.read_feed_once.new.ports) c.reads.server c.read_feed_once.new.server
-          (feed_tally happenings c.args.dropped.now) t t'
+          (feed_tally happenings c.args.refused.now) t t'
           (feed_seat c.args.port c.args.cutter.now c.args.readable.now writable) s (Some s')
           (c.reads.invariant.goes writable happenings config w stands)
           (λ v there. once-stops (FeedReads config) config v (calls c.reads.ports)
@@ -60,14 +60,14 @@ returns-in-Over g c =
     let calls = g.P.Ports.calls in
     record {
       goes = λ writable happenings config w stands.
-          let t = feed_tally happenings c.reads.dropped in
-          let t' = feed_tally happenings c.read_feed_once.new.dropped in
+          let t = feed_tally happenings c.reads.refused in
+          let t' = feed_tally happenings c.read_feed_once.new.refused in
           let s = feed_seat c.args.port c.reads.cutter c.reads.readable writable in
           let s' = feed_seat c.args.port c.read_feed_once.new.cutter c.read_feed_once.new.readable writable in
           ends-from (FeedReads config) c.args.limit c.reads.left (omega (arith, c.reads-test.true)) config w
           (calls c.args.ports.now) (calls c.reads.ports)
           (calls c.read_feed_once.new.ports) c.reads.server c.read_feed_once.new.server
-          (feed_tally happenings c.args.dropped.now) t t'
+          (feed_tally happenings c.args.refused.now) t t'
           (feed_seat c.args.port c.args.cutter.now c.args.readable.now writable) s None
           (c.reads.invariant.goes writable happenings config w stands)
           (λ v there. once-over (FeedReads config) config v (calls c.reads.ports)
@@ -85,8 +85,8 @@ returns g c =
       goes = λ writable happenings config w stands.
           let s = feed_seat c.args.port c.reads.cutter c.reads.readable writable in
           runs-out-at (FeedReads config) c.args.limit c.reads.left (omega (arith, c.reads-test.false)) config w
-          (calls c.args.ports.now) (calls c.reads.ports) c.reads.server (feed_tally happenings c.args.dropped.now)
-          (feed_tally happenings c.reads.dropped)
+          (calls c.args.ports.now) (calls c.reads.ports) c.reads.server (feed_tally happenings c.args.refused.now)
+          (feed_tally happenings c.reads.refused)
           (feed_seat c.args.port c.args.cutter.now c.args.readable.now writable) s (Some s) (λ v. enough)
           (c.reads.invariant.goes writable happenings config w stands);
       quiet = c.reads.invariant.quiet;

@@ -13,7 +13,7 @@ invariant-reads g l =
     record {
       goes : (writable : Bool) (happenings : ℕ) (config : Config) (w : World) → StandsAt l.fn.server config w →
           SoFar (FeedReads config) l.limit l.left config w (calls l.fn.ports) (calls l.ports) l.server
-          (feed_tally happenings l.fn.dropped) (feed_tally happenings l.dropped)
+          (feed_tally happenings l.fn.refused) (feed_tally happenings l.refused)
           (feed_seat l.port l.fn.cutter l.fn.readable writable) (feed_seat l.port l.cutter l.readable writable);
       some : 0 < length l.buffer;
       quiet : IsQuiet l.fn.brought l.brought l.fn.server l.server;

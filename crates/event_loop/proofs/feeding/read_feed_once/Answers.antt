@@ -8,7 +8,7 @@ use Rattle.event_loop.proofs.feeding.read_feed_once.Goals as goal
 pub returns-then-not-readable : goal.returns-then-not-readable
 returns-then-not-readable g c = record {
   goes = λ writable happenings config w stands.
-      feed-refused config w happenings c.args.dropped.now c.args.port c.args.cutter.now c.args.readable.now writable
+      feed-refused config w happenings c.args.refused.now c.args.port c.args.cutter.now c.args.readable.now writable
       (g.P.Ports.calls c.args.ports.now) c.args.server.now stands c.if-not-readable.true;
   quiet = quiet_none c.args.brought.now c.args.server.now;
 }
@@ -19,9 +19,9 @@ returns-in-Ok-Bytes g c = record {
       let a = g.P.Ports.calls c.args.ports.now in
       let b = g.P.Ports.calls c.read.new.self in
       let short : length c.read.new.buffer ≤ 512 = search rules in
-      feed-piece config w happenings c.args.dropped.now c.args.port c.args.cutter.now c.args.readable.now writable
+      feed-piece config w happenings c.args.refused.now c.args.port c.args.cutter.now c.args.readable.now writable
       c.if-not-readable.false (length c.read.new.buffer) short a b
-      (take c.in-Ok-Bytes.count c.read.new.buffer) c.take_records.new.server c.take_records.new.dropped
+      (take c.in-Ok-Bytes.count c.read.new.buffer) c.take_records.new.server c.take_records.new.refused
       c.take_records.new.cutter
       (subst (λ r. Tells a b (Read c.args.port (length c.read.new.buffer) (given r c.read.new.buffer) ∷ []))
       (c.in-Ok-Bytes.is ∙ ap Ok c.in-Ok-Bytes.field-0-is) c.read.ensures.call)
@@ -36,7 +36,7 @@ returns-in-Ok-Later g c = record {
       let a = g.P.Ports.calls c.args.ports.now in
       let b = g.P.Ports.calls c.read.new.self in
       let short : length c.read.new.buffer ≤ 512 = search rules in
-      feed-later config w happenings c.args.dropped.now c.args.port c.args.cutter.now c.args.readable.now writable
+      feed-later config w happenings c.args.refused.now c.args.port c.args.cutter.now c.args.readable.now writable
       c.if-not-readable.false (length c.read.new.buffer) short a b c.args.server.now stands
       (subst (λ r. Tells a b (Read c.args.port (length c.read.new.buffer) (given r c.read.new.buffer) ∷ []))
       (c.in-Ok-Later.is ∙ ap Ok c.in-Ok-Later.field-0-is) c.read.ensures.call);
@@ -49,7 +49,7 @@ returns-in-Ok-Closed g c = record {
       let a = g.P.Ports.calls c.args.ports.now in
       let b = g.P.Ports.calls c.read.new.self in
       let short : length c.read.new.buffer ≤ 512 = search rules in
-      feed-closed config w happenings c.args.dropped.now c.args.port c.args.cutter.now c.args.readable.now writable
+      feed-closed config w happenings c.args.refused.now c.args.port c.args.cutter.now c.args.readable.now writable
       c.if-not-readable.false (length c.read.new.buffer) short a b
       (g.P.Ports.calls c.shut.new.self) c.args.server.now stands
       (subst (λ r. Tells a b (Read c.args.port (length c.read.new.buffer) (given r c.read.new.buffer) ∷ []))
@@ -64,7 +64,7 @@ returns-in-Err g c = record {
       let a = g.P.Ports.calls c.args.ports.now in
       let b = g.P.Ports.calls c.read.new.self in
       let short : length c.read.new.buffer ≤ 512 = search rules in
-      feed-failed config w happenings c.args.dropped.now c.args.port c.args.cutter.now c.args.readable.now writable
+      feed-failed config w happenings c.args.refused.now c.args.port c.args.cutter.now c.args.readable.now writable
       c.if-not-readable.false (length c.read.new.buffer) short a b
       (g.P.Ports.calls c.shut-in-Err.new.self) c.args.server.now stands
       (subst (λ r. Tells a b (Read c.args.port (length c.read.new.buffer) (given r c.read.new.buffer) ∷ [])) c.in-Err.is

@@ -23,18 +23,18 @@ records-preserved c =
       | in-None w ↦ w.cutter-is ∙ c.feed.follows.holds-at-none
     ] in
     let one : (config : Config) (v : World) → StandsAt c.records.server config v
-    → Arrives config v (lent_records whole) c.match-whole.server c.records.dropped c.match-whole.dropped =
+    → Arrives config v (lent_records whole) c.match-whole.server c.records.refused c.match-whole.refused =
     elim c.match-whole.branch [
       | in-Some w ↦ λ config v stands. rw (
         w.in-Some.is,
         w.server-is,
-        w.dropped-is,
+        w.refused-is,
       ) (w.take_record.ensures.arrives config v stands)
       | in-None w ↦ λ config v stands. rw (
         w.in-None.is,
         w.server-is,
-        w.dropped-is,
-      ) (arrives-none config v c.records.server c.records.dropped stands)
+        w.refused-is,
+      ) (arrives-none config v c.records.server c.records.refused stands)
     ] in
     let quiet : IsQuiet c.records.brought c.match-whole.brought c.records.server c.match-whole.server =
     elim c.match-whole.branch [
@@ -49,8 +49,8 @@ records-preserved c =
           let x = h.arrives config w stands in (
             x.0 ++ lent_records whole,
             append_assoc x.0 (lent_records whole) _ ∙ ap (λ (f : FeedRead). x.0 ++ f.records) (sym parts) ∙ x.1,
-            arrives-then config w x.0 (lent_records whole) c.records.server c.match-whole.server c.args.dropped.now
-                c.records.dropped c.match-whole.dropped x.2 (one config (world_fed config w x.0) x.2.stands),
+            arrives-then config w x.0 (lent_records whole) c.records.server c.match-whole.server c.args.refused.now
+                c.records.refused c.match-whole.refused x.2 (one config (world_fed config w x.0) x.2.stands),
           );
       rest = ap (λ (f : FeedRead). f.rest) (sym parts) ∙ h.rest;
       quiet = quiet_then c.args.brought.now c.records.brought c.match-whole.brought c.args.server.now c.records.server
@@ -61,5 +61,5 @@ pub returns-clause-arrives : goal.returns-clause-arrives
 returns-clause-arrives c = λ config w stands.
     let x = c.records.invariant.arrives config w stands in
     let none : c.records.left.now ≡ [] = grind (arith, common_steps) in
-    subst (λ rs. Arrives config w rs c.records.server c.args.dropped.now c.records.dropped)
+    subst (λ rs. Arrives config w rs c.records.server c.args.refused.now c.records.refused)
     (sym (append-nil x.0) ∙ ap (λ l. x.0 ++ (fed c.records.cutter l).records) (sym none) ∙ x.1) x.2

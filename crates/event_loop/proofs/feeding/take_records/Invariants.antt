@@ -11,7 +11,7 @@ abbrev pub invariant-records : goal.invariant-records
 invariant-records l = record {
   arrives : (config : Config) (w : World) → StandsAt l.fn.server config w →
       (done : List (List ℕ)) × (done ++ (fed l.cutter l.left).records ≡ (fed l.fn.cutter l.piece).records)
-      × Arrives config w done l.server l.fn.dropped l.dropped;
+      × Arrives config w done l.server l.fn.refused l.refused;
   rest : (fed l.cutter l.left).rest ≡ (fed l.fn.cutter l.piece).rest;
   quiet : IsQuiet l.fn.brought l.brought l.fn.server l.server;
 }

@@ -6,7 +6,7 @@ use Rattle.event_loop.specs.Hearing.End.{Limit, Quieted, Faulted}
 use Rattle.event_loop.specs.Hearing.Hearing.{enough}
 use Rattle.event_loop.specs.Tables.{HeardBy, heard_so_far, WholeHearing}
 use Rattle.event_loop.proofs.DeedLemmas.{goes-on-from, ends-from, runs-out-at}
-use Rattle.event_loop.proofs.HearLemmas.{hark-happened, hark-quiet, hark-fault}
+use Rattle.event_loop.proofs.HearLemmas.{heard-happened, heard-quiet, heard-fault}
 use Rattle.event_loop.proofs.hearing.hear.Goals as goal
 
 pub hearing-preserved : goal.hearing-preserved
@@ -31,7 +31,7 @@ hearing-preserved g c =
           (calls c.hear_once.new.ports) c.hearing.server c.hear_once.new.server no_tally t
           (one_more t) c.args.seats.now.items c.hearing.seats.items c.hear_once.new.seats.items
           (c.hearing.invariant.goes config w stands)
-          (λ v there. hark-happened config c.args.most v (calls c.hearing.ports)
+          (λ v there. heard-happened config c.args.most v (calls c.hearing.ports)
           (calls c.hear_once.new.ports) c.hear_once.new.server t c.hearing.seats.items c.hear_once.new.seats.items _
           (c.hear_once.ensures.goes t config v there) c.in-Happened.is));
     }
@@ -44,7 +44,7 @@ returns-in-Quiet-clause-ok g c = λ config w stands.
     (calls c.args.ports.now) (calls c.hearing.ports)
     (calls c.hear_once.new.ports) c.hearing.server c.hear_once.new.server no_tally t t c.args.seats.now.items
     c.hearing.seats.items (heard c.hear_once.new.seats.items Quieted) (c.hearing.invariant.goes config w stands)
-    (λ v there. hark-quiet config c.args.most v (calls c.hearing.ports)
+    (λ v there. heard-quiet config c.args.most v (calls c.hearing.ports)
     (calls c.hear_once.new.ports) c.hear_once.new.server t c.hearing.seats.items c.hear_once.new.seats.items _
     (c.hear_once.ensures.goes t config v there) c.in-Quiet.is)
 
@@ -57,7 +57,7 @@ returns-in-Fault-clause-failed g c = λ config w stands.
           (calls c.args.ports.now) (calls c.hearing.ports)
           (calls c.hear_once.new.ports) c.hearing.server c.hear_once.new.server no_tally t t c.args.seats.now.items
           c.hearing.seats.items (heard c.hear_once.new.seats.items Faulted) (c.hearing.invariant.goes config w stands)
-          (λ v there. hark-fault config c.args.most v (calls c.hearing.ports)
+          (λ v there. heard-fault config c.args.most v (calls c.hearing.ports)
           (calls c.hear_once.new.ports) c.hear_once.new.server t c.hearing.seats.items c.hear_once.new.seats.items _
           (c.hear_once.ensures.goes t config v there) c.in-Fault.is),
     )

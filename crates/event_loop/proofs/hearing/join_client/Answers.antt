@@ -8,7 +8,7 @@ use Rattle.event_loop.specs.declared.seat.Role.TheVariants.{Client as ClientRole
 use Rattle.ports.specs.declared.answers.Happening.TheVariants.{Joined}
 use Rattle.event_loop.specs.Hearing.{joining, clients_in, feeds_in}
 use Rattle.event_loop.specs.Tables.{IsTable, IsSeatOf, IsGapFor, HearsOnce}
-use Rattle.event_loop.specs.declared.hearing.Hark.TheVariants.{Happened}
+use Rattle.event_loop.specs.declared.hearing.Heard.TheVariants.{Happened}
 use Rattle.event_loop.proofs.TableLemmas.{client-more, is-seated, is-unseated, inserted, table-client}
 use Rattle.event_loop.proofs.HearLemmas.{hears-old, hears-away, hears-open}
 use Rattle.std.proofs.Common.{List, ℕ}

@@ -8,7 +8,7 @@ use Rattle.event_loop.specs.declared.seat.Role.TheVariants.{Feed as FeedRole}
 use Rattle.ports.specs.declared.answers.Happening.TheVariants.{JoinedFeed}
 use Rattle.event_loop.specs.Hearing.{joining, feeds_in}
 use Rattle.event_loop.specs.Tables.{IsTable, IsSeatOf, IsGapFor, HearsOnce}
-use Rattle.event_loop.specs.declared.hearing.Hark.TheVariants.{Happened}
+use Rattle.event_loop.specs.declared.hearing.Heard.TheVariants.{Happened}
 use Rattle.event_loop.proofs.TableLemmas.{feed-more, is-seated, is-unseated, inserted, table-feed}
 use Rattle.event_loop.proofs.HearLemmas.{hears-old, hears-away-feed, hears-feed}
 use Rattle.event_loop.specs.Sleeping.{AreKnown, AreSeated}

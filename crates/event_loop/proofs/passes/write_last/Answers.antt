@@ -1,7 +1,7 @@
 use Rattle.std.proofs.Common.{subst, sym}
 use Rattle.server_core.specs.ServerValues.{ServerValue, StandsAt}
 use Rattle.event_loop.specs.declared.seat.Seat.{Seat}
-use Rattle.event_loop.specs.declared.passes.Went.TheVariants.{On}
+use Rattle.event_loop.specs.declared.passes.Onward.TheVariants.{On}
 use Rattle.event_loop.specs.Going.{Once}
 use Rattle.event_loop.specs.Passes.{ClientWrites}
 use Rattle.event_loop.proofs.OfferingLemmas.{wrote-last}

@@ -11,7 +11,7 @@ use Rattle.event_loop.proofs.turning.pass.Goals as goal
 pub returns-then-read_client-clause-goes : goal.returns-then-read_client-clause-goes
 returns-then-read_client-clause-goes g c = λ happenings config w stands.
     let calls = g.P.Ports.calls in
-    let t = feed_tally happenings c.args.dropped.now in
+    let t = feed_tally happenings c.args.refused.now in
     pass-both config c.args.limit w (calls c.args.ports.now) c.args.seat.now c.in-Client.client
     (calls c.read_client.new.ports)
     (calls c.write_client.new.ports) c.read_client.new.server c.write_client.new.server t c.read_client.new.seat
@@ -25,7 +25,7 @@ returns-then-read_client-clause-goes g c = λ happenings config w stands.
 pub returns-else-read_client-clause-goes : goal.returns-else-read_client-clause-goes
 returns-else-read_client-clause-goes g c = λ happenings config w stands.
     let calls = g.P.Ports.calls in
-    let t = feed_tally happenings c.args.dropped.now in
+    let t = feed_tally happenings c.args.refused.now in
     subst (λ b. Whole (SeatPass config) c.args.limit config w (calls c.args.ports.now)
     (calls c.read_client.new.ports) c.read_client.new.server t t c.args.seat.now (if_open b c.read_client.new.seat))
     (sym c.if-read_client.false)
@@ -40,9 +40,9 @@ pub returns-in-Feed-clause-goes : goal.returns-in-Feed-clause-goes
 returns-in-Feed-clause-goes g c = λ happenings config w stands.
     let calls = g.P.Ports.calls in
     let rest = c.deref_mut.result.now in
-    let same : c.in-Feed.unfinished ≡ rest = search rules in
+    let same : c.in-Feed.rest ≡ rest = search rules in
     pass-feed config c.args.limit w (calls c.args.ports.now) c.args.seat.now rest (calls c.read_feed.new.ports)
-    c.read_feed.new.server (feed_tally happenings c.args.dropped.now) (feed_tally happenings c.read_feed.new.dropped) _
+    c.read_feed.new.server (feed_tally happenings c.args.refused.now) (feed_tally happenings c.read_feed.new.refused) _
     (c.in-Feed.is ∙ ap FeedRole same)
     (c.read_feed.ensures.goes c.args.seat.now.writable happenings config w stands)
 

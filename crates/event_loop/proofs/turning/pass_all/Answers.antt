@@ -11,10 +11,10 @@ returns-clause-goes g c = λ happenings config w stands.
     let ss = c.passes.seats.items in
     let past : length ss ≤ c.passes.at = search rules in
     subst (PassesAll c.args.limit config w (calls c.args.ports.now) (calls c.passes.ports) c.passes.server
-    (feed_tally happenings c.args.dropped.now) (feed_tally happenings c.passes.dropped) c.args.seats.now.items)
+    (feed_tally happenings c.args.refused.now) (feed_tally happenings c.passes.refused) c.args.seats.now.items)
     (take-past ss c.passes.at past)
     (passes-end c.args.limit config w (calls c.args.ports.now) (calls c.passes.ports) c.passes.server
-    (feed_tally happenings c.args.dropped.now) (feed_tally happenings c.passes.dropped) c.args.seats.now.items
+    (feed_tally happenings c.args.refused.now) (feed_tally happenings c.passes.refused) c.args.seats.now.items
     (take c.passes.at ss) (drop c.passes.at ss) (drop-past ss c.passes.at past)
     (c.passes.invariant.goes happenings config w stands))
 
@@ -28,18 +28,18 @@ passes-preserved g c =
       count = c.pass_at-next.ensures.feeds;
       goes = λ happenings config w stands.
           subst (λ (xs : List Seat). PassesSoFar c.args.limit config w (all c.args.ports.now)
-          (all c.pass_at-next.new.ports) c.pass_at-next.new.server (feed_tally happenings c.args.dropped.now)
-          (feed_tally happenings c.pass_at-next.new.dropped) c.args.seats.now.items
+          (all c.pass_at-next.new.ports) c.pass_at-next.new.server (feed_tally happenings c.args.refused.now)
+          (feed_tally happenings c.pass_at-next.new.refused) c.args.seats.now.items
           (take c.skip-at-in-passes.result xs) (drop c.skip-at-in-passes.result xs)) seen
           (c.skip-at-in-passes.ensures.goes c.args.limit config w (all c.args.ports.now)
-          (all c.pass_at-next.new.ports) (feed_tally happenings c.args.dropped.now)
-          (feed_tally happenings c.pass_at-next.new.dropped) c.args.seats.now.items
+          (all c.pass_at-next.new.ports) (feed_tally happenings c.args.refused.now)
+          (feed_tally happenings c.pass_at-next.new.refused) c.args.seats.now.items
           (subst (λ (xs : List Seat). PassesSoFar c.args.limit config w (all c.args.ports.now)
-          (all c.pass_at-next.new.ports) c.pass_at-next.new.server (feed_tally happenings c.args.dropped.now)
-          (feed_tally happenings c.pass_at-next.new.dropped) c.args.seats.now.items
+          (all c.pass_at-next.new.ports) c.pass_at-next.new.server (feed_tally happenings c.args.refused.now)
+          (feed_tally happenings c.pass_at-next.new.refused) c.args.seats.now.items
           (take c.pass_at-next.result xs) (drop c.pass_at-next.result xs)) (sym seen)
           (c.pass_at-next.ensures.goes happenings config w (all c.args.ports.now)
-          (feed_tally happenings c.args.dropped.now) c.args.seats.now.items
+          (feed_tally happenings c.args.refused.now) c.args.seats.now.items
           (c.passes.invariant.goes happenings config w stands))));
       table = λ most table. c.pass_at-next.ensures.table most (c.passes.invariant.table most table);
       fits = subst (λ (xs : List Seat). c.skip-at-in-passes.result ≤ length xs) seen c.skip-at-in-passes.ensures.within;

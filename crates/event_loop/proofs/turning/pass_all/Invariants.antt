@@ -17,7 +17,7 @@ invariant-passes g l =
       count : l.feeds ≡ feeds_in l.seats.items;
       goes : (happenings : ℕ) (config : Config) (w : World) → StandsAt l.fn.server config w →
           PassesSoFar l.limit config w (calls l.fn.ports) (calls l.ports) l.server
-          (feed_tally happenings l.fn.dropped) (feed_tally happenings l.dropped)
+          (feed_tally happenings l.fn.refused) (feed_tally happenings l.refused)
           l.fn.seats.items (take l.at l.seats.items) (drop l.at l.seats.items);
       table : (most : ℕ) → IsTable most l.fn.seats.items → IsTable most l.seats.items;
       fits : l.at ≤ length l.seats.items;

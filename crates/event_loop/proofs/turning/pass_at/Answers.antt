@@ -66,12 +66,12 @@ returns-then-stays-clause-goes g c = λ happenings config w calls t opened so_fa
     let here : c.index_mut.result.now ≡ get_or ss c.args.at no_seat = c.index_mut.ensures.value
     ∙ get_or_default ss c.args.at c.index_mut.result.now no_seat c.requires.inside in
     passes-stay c.args.limit config w calls (all c.args.ports.now) (all c.pass-stays.new.ports) c.args.server.now
-    c.pass-stays.new.server t (feed_tally happenings c.args.dropped.now)
-    (feed_tally happenings c.pass-stays.new.dropped)
+    c.pass-stays.new.server t (feed_tally happenings c.args.refused.now)
+    (feed_tally happenings c.pass-stays.new.refused)
     opened ss c.args.at c.index_mut.result.now c.pass-stays.new.seat c.requires.inside here so_far
     (λ v there. subst (λ b. Whole (SeatPass config) c.args.limit config v (all c.args.ports.now)
-    (all c.pass-stays.new.ports) c.pass-stays.new.server (feed_tally happenings c.args.dropped.now)
-    (feed_tally happenings c.pass-stays.new.dropped) c.index_mut.result.now (if_open b c.pass-stays.new.seat))
+    (all c.pass-stays.new.ports) c.pass-stays.new.server (feed_tally happenings c.args.refused.now)
+    (feed_tally happenings c.pass-stays.new.refused) c.index_mut.result.now (if_open b c.pass-stays.new.seat))
     c.if-stays.true (c.pass-stays.ensures.goes happenings config v there))
 
 pub returns-then-stays-clause-table : goal.returns-then-stays-clause-table
@@ -122,15 +122,15 @@ returns-else-stays-clause-goes g c = λ happenings config w calls t opened so_fa
     let here : c.index_mut.result.now ≡ get_or ss c.args.at no_seat = c.index_mut.ensures.value
     ∙ get_or_default ss c.args.at c.index_mut.result.now no_seat c.requires.inside in
     subst (λ l. PassesSoFar c.args.limit config w calls (all c.pass-stays.new.ports) c.pass-stays.new.server t
-    (feed_tally happenings c.pass-stays.new.dropped) opened (take c.args.at l) (drop c.args.at l))
+    (feed_tally happenings c.pass-stays.new.refused) opened (take c.args.at l) (drop c.args.at l))
     (sym c.go.ensures.seats)
     (passes-go c.args.limit config w calls (all c.args.ports.now) (all c.pass-stays.new.ports) c.args.server.now
-    c.pass-stays.new.server t (feed_tally happenings c.args.dropped.now)
-    (feed_tally happenings c.pass-stays.new.dropped)
+    c.pass-stays.new.server t (feed_tally happenings c.args.refused.now)
+    (feed_tally happenings c.pass-stays.new.refused)
     opened ss c.args.at c.index_mut.result.now c.pass-stays.new.seat c.requires.inside here so_far
     (λ v there. subst (λ b. Whole (SeatPass config) c.args.limit config v (all c.args.ports.now)
-    (all c.pass-stays.new.ports) c.pass-stays.new.server (feed_tally happenings c.args.dropped.now)
-    (feed_tally happenings c.pass-stays.new.dropped) c.index_mut.result.now (if_open b c.pass-stays.new.seat))
+    (all c.pass-stays.new.ports) c.pass-stays.new.server (feed_tally happenings c.args.refused.now)
+    (feed_tally happenings c.pass-stays.new.refused) c.index_mut.result.now (if_open b c.pass-stays.new.seat))
     c.if-stays.false (c.pass-stays.ensures.goes happenings config v there)))
 
 pub returns-else-stays-clause-table : goal.returns-else-stays-clause-table

@@ -34,12 +34,12 @@ returns-clause-ok g c =
     let old = c.self.inside in
     subst (λ (x : LoopValue). (config : Config) (w : World) → StandsAt x.server config w →
     Turns config x.most c.args.limit w x.calls (calls c.pass_all.new.ports) c.pass_all.new.server x.seats
-    c.pass_all.new.seats.items (turned_by c.in-Ok.heard c.pass_all.new.dropped))
+    c.pass_all.new.seats.items (turned_by c.in-Ok.heard c.pass_all.new.refused))
     c.self.view_is
     (λ config w stands.
     turn-made config old.most c.args.limit w (calls old.ports) (calls c.hear.new.ports) c.hear.new.server
     old.seats.items c.hear.new.seats.items (calls c.pass_all.new.ports) c.pass_all.new.server
-    c.pass_all.new.seats.items c.in-Ok.heard c.pass_all.new.dropped
+    c.pass_all.new.seats.items c.in-Ok.heard c.pass_all.new.refused
     (c.in-Ok.ensures.ok config w stands) (λ v there. c.pass_all.ensures.goes c.in-Ok.heard.happenings config v there)
     (c.hear.ensures.table).few_feeds)
 

@@ -1,5 +1,5 @@
 use Rattle.std.proofs.Common.{ap, sym, ◌∙◌}
-use Rattle.session_state.proofs.NamedLemmas.{added-naming, below, below-all, effect_of, list-widened, list-widening}
+use Rattle.session_state.proofs.NamedLemmas.{added-naming, below, below-all, change_of, list-widened, list-widening}
 use Rattle.session_state.proofs.named.Named.add_at.Goals.{in-Ok, in-Err}
 use Rattle.session_state.proofs.named.Named.add_at.Goals as goal
 
@@ -18,11 +18,11 @@ returns-clause-new c =
     c.args.i c.args.selector _ choice c.add.ensures.room c.add.ensures.added c.add.ensures.unchanged c.self.invariant
     c.self.view_is c.requires there
 
-pub returns-clause-effect : goal.returns-clause-effect
-returns-clause-effect c = λ choice there.
+pub returns-clause-change : goal.returns-clause-change
+returns-clause-change c = λ choice there.
     let led = list-widening c.add.result c.self.inside.entries.items c.self.inside.current c.self.inside.pool _ c.args.i
     _ choice c.add.ensures.room c.self.invariant c.self.view_is there in
     elim c.match-add.branch [
-      | in-Ok w ↦ w.result-is ∙ ap effect_of (sym w.in-Ok.is) ∙ led
-      | in-Err w ↦ w.result-is ∙ ap effect_of (sym w.in-Err.is) ∙ led
+      | in-Ok w ↦ w.result-is ∙ ap change_of (sym w.in-Ok.is) ∙ led
+      | in-Err w ↦ w.result-is ∙ ap change_of (sym w.in-Err.is) ∙ led
     ]

@@ -12,4 +12,4 @@ returns-in-Some c = λ config.
     added config c.args.self.now c.add_at.new.self c.in-Some.i c.args.selector c.add_at.result
     (ap (λ (x : NamedValue). x.current) (sym c.self.view_is) ∙ c.in-Some.is)
     (current-below _ _ _ _ c.in-Some.i _ c.self.invariant c.self.view_is c.in-Some.is) c.add_at.ensures.new
-    c.add_at.ensures.effect
+    c.add_at.ensures.change

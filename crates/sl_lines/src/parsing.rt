@@ -1,14 +1,15 @@
 //! Commands out of lines.
 ghost use Rattle.std.specs.Prelude.{◌≡◌, List, ℕ, ℤ, Option, Some};
-ghost use Rattle.protocol.specs.Command.{Command, command_of, command_of_words, named, numbered, timed, uppercased};
-ghost use Rattle.protocol.specs.Command.{words};
+ghost use Rattle.protocol.specs.Command.{Command as ProtocolCommand, command_of, command_of_words, named, numbered, timed};
+ghost use Rattle.protocol.specs.Command.{uppercased, words};
 ghost use Rattle.protocol.specs.Command.Command.{Data, Fetch};
 ghost use Rattle.protocol.specs.Time.{time_of};
 ghost use Rattle.sl_lines.specs.LineValues.{line_value};
-ghost use Rattle.sl_lines.specs.OrderValues.{order_value};
+ghost use Rattle.sl_lines.specs.CommandValues.{command_value};
 ghost use Rattle.sl_lines.specs.WordValues.{AreWords, command_by, resuming, between};
 
 use crate::actions::Action;
+use crate::commands::Command;
 use crate::lines::Line;
 use crate::words::{Arguments, arguments_of, first_word, is_named};
 use sl_packet::Seq;
@@ -16,36 +17,6 @@ use sl_time::Tick;
 
 /// The most bytes of a line that can be a command.
 const LONGEST: usize = 256;
-
-/// What a line asks (SeedLink 3, commands). Codes and patterns are the line's own bytes, 1 to 256 of them and none a
-/// space: whether a station, a network or a pattern is meant by them is not judged here.
-#[derive(Clone, Copy, Debug, PartialEq, Eq)]
-pub enum Order<'a> {
-    /// Spaces alone.
-    Blank,
-    /// `HELLO`: who the server is.
-    Hello,
-    /// `CAT`: the list of stations.
-    Cat,
-    /// `BYE`: the end of the connection.
-    Bye,
-    /// `END`: the end of the negotiation, with which the transfer begins.
-    End,
-    /// `STATION station [network]`: the station that the commands behind it are for.
-    Station {
-        station: &'a [u8],
-        network: Option<&'a [u8]>,
-    },
-    /// `SELECT [pattern]`: one more pattern of the records that are wanted, or none any more.
-    Select {
-        pattern: Option<&'a [u8]>,
-    },
-    /// `DATA`, `FETCH` or `TIME`: what is asked of the station.
-    Act(Action),
-    /// Anything else: an unknown name, too few words or too many, a word that is no number or no time, or a line of
-    /// more than 256 bytes.
-    Bad,
-}
 
 /// The names of the commands.
 #[derive(Clone, Copy)]
@@ -79,29 +50,29 @@ struct Interval {
 /// takes. Runs of spaces (byte 32) separate words, and those at either end count for nothing. A line of more than 256
 /// bytes is Bad, whatever it holds. A number is 1 to 6 hexadecimal digits; a time is `year,month,day` and up to three
 /// of `,hour`, `,minute` and `,second`.
-pub fn command(line: Line<'_>) -> Order<'_>
-    ensures { order_value result ≡ command_of (line_value line.entry) }
+pub fn command(line: Line<'_>) -> Command<'_>
+    ensures { command_value result ≡ command_of (line_value line.entry) }
 {
     match line {
         Line::Text(text) => {
             if text.len() > LONGEST {
-                return Order::Bad;
+                return Command::Bad;
             }
             command_of_text(text)
         }
-        Line::TooLong => Order::Bad,
+        Line::TooLong => Command::Bad,
     }
 }
 
-fn command_of_text(text: &[u8]) -> Order<'_>
-    ensures { order_value result ≡ command_of_words (words text.now) }
+fn command_of_text(text: &[u8]) -> Command<'_>
+    ensures { command_value result ≡ command_of_words (words text.now) }
 {
     let Some((word, rest)) = first_word(text) else {
-        return Order::Blank;
+        return Command::Blank;
     };
     match name_of(word) {
-        Some(name) => order_of(name, arguments_of(rest)),
-        None => Order::Bad,
+        Some(name) => command_with(name, arguments_of(rest)),
+        None => Command::Bad,
     }
 }
 
@@ -133,63 +104,63 @@ fn name_of(word: &[u8]) -> Option<Name>
 }
 
 /// The command of that name with those words behind it.
-fn order_of(name: Name, arguments: Arguments<'_>) -> Order<'_>
-    ensures { (ws : List (List ℕ)) → AreWords arguments.entry ws → order_value result ≡ command_by (Some name) ws }
+fn command_with(name: Name, arguments: Arguments<'_>) -> Command<'_>
+    ensures { (ws : List (List ℕ)) → AreWords arguments.entry ws → command_value result ≡ command_by (Some name) ws }
 {
     match (name, arguments) {
-        (Name::Hello, Arguments::Nothing) => Order::Hello,
-        (Name::Cat, Arguments::Nothing) => Order::Cat,
-        (Name::Bye, Arguments::Nothing) => Order::Bye,
-        (Name::End, Arguments::Nothing) => Order::End,
-        (Name::Station, Arguments::One(station)) => Order::Station {
+        (Name::Hello, Arguments::Nothing) => Command::Hello,
+        (Name::Cat, Arguments::Nothing) => Command::Cat,
+        (Name::Bye, Arguments::Nothing) => Command::Bye,
+        (Name::End, Arguments::Nothing) => Command::End,
+        (Name::Station, Arguments::One(station)) => Command::Station {
             station,
             network: None,
         },
-        (Name::Station, Arguments::Two(station, network)) => Order::Station {
+        (Name::Station, Arguments::Two(station, network)) => Command::Station {
             station,
             network: Some(network),
         },
-        (Name::Select, Arguments::Nothing) => Order::Select { pattern: None },
-        (Name::Select, Arguments::One(pattern)) => Order::Select {
+        (Name::Select, Arguments::Nothing) => Command::Select { pattern: None },
+        (Name::Select, Arguments::One(pattern)) => Command::Select {
             pattern: Some(pattern),
         },
-        (Name::Data, arguments) => data_order(arguments),
-        (Name::Fetch, arguments) => fetch_order(arguments),
-        (Name::Time, arguments) => time_order(arguments),
-        _ => Order::Bad,
+        (Name::Data, arguments) => data_command(arguments),
+        (Name::Fetch, arguments) => fetch_command(arguments),
+        (Name::Time, arguments) => time_command(arguments),
+        _ => Command::Bad,
     }
 }
 
-fn data_order(arguments: Arguments<'_>) -> Order<'_>
-    ensures { (ws : List (List ℕ)) → AreWords arguments.entry ws → order_value result ≡ numbered Data ws }
+fn data_command(arguments: Arguments<'_>) -> Command<'_>
+    ensures { (ws : List (List ℕ)) → AreWords arguments.entry ws → command_value result ≡ numbered Data ws }
 {
     match resumption_of(arguments) {
-        Some(Resumption { number, begin }) => Order::Act(Action::Data { number, begin }),
-        None => Order::Bad,
+        Some(Resumption { number, begin }) => Command::Act(Action::Data { number, begin }),
+        None => Command::Bad,
     }
 }
 
-fn fetch_order(arguments: Arguments<'_>) -> Order<'_>
-    ensures { (ws : List (List ℕ)) → AreWords arguments.entry ws → order_value result ≡ numbered Fetch ws }
+fn fetch_command(arguments: Arguments<'_>) -> Command<'_>
+    ensures { (ws : List (List ℕ)) → AreWords arguments.entry ws → command_value result ≡ numbered Fetch ws }
 {
     match resumption_of(arguments) {
-        Some(Resumption { number, begin }) => Order::Act(Action::Fetch { number, begin }),
-        None => Order::Bad,
+        Some(Resumption { number, begin }) => Command::Act(Action::Fetch { number, begin }),
+        None => Command::Bad,
     }
 }
 
-fn time_order(arguments: Arguments<'_>) -> Order<'_>
-    ensures { (ws : List (List ℕ)) → AreWords arguments.entry ws → order_value result ≡ timed ws }
+fn time_command(arguments: Arguments<'_>) -> Command<'_>
+    ensures { (ws : List (List ℕ)) → AreWords arguments.entry ws → command_value result ≡ timed ws }
 {
     match interval_of(arguments) {
-        Some(Interval { begin, last }) => Order::Act(Action::Time { begin, last }),
-        None => Order::Bad,
+        Some(Interval { begin, last }) => Command::Act(Action::Time { begin, last }),
+        None => Command::Bad,
     }
 }
 
 /// What the words of DATA and FETCH say; None where they are not `[number [begin]]`.
 fn resumption_of(arguments: Arguments<'_>) -> Option<Resumption>
-    ensures { (make : Option ℕ → Option ℤ → Command) (ws : List (List ℕ)) → AreWords arguments.entry ws
+    ensures { (make : Option ℕ → Option ℤ → ProtocolCommand) (ws : List (List ℕ)) → AreWords arguments.entry ws
         → resuming make result ≡ numbered make ws }
 {
     match arguments {

@@ -9,11 +9,11 @@ ghost use Rattle.session_state.specs.Asking.{is_bye, is_leaving, outcome_by};
 
 use catalog::{Config, View};
 use selector::Selector;
-use sl_lines::{Action, Line, Order, command};
+use sl_lines::{Action, Command, Line, command};
 
 /// What a client asks a session to do.
 #[derive(Clone, Copy)]
-pub enum Asked {
+pub enum Request {
     /// Spaces alone, or no line yet.
     Nothing,
     /// HELLO.
@@ -36,20 +36,20 @@ pub enum Asked {
     Refused,
 }
 
-impl Asked {
+impl Request {
     ghost use Rattle.session_state.specs.Asking.{is_leaving};
 
     /// Whether it is BYE.
     pub fn is_leaving(self) -> bool
         ensures { result ≡ is_leaving self }
     {
-        matches!(&self, Asked::Leaving)
+        matches!(&self, Request::Leaving)
     }
 }
 
 /// What a line asks.
 #[tactic(auto, using(crate::proofs::AskLemmas::asking_lemmas))]
-pub fn asked_by(view: &View, config: &Config, line: Line<'_>) -> Asked
+pub fn request_of_line(view: &View, config: &Config, line: Line<'_>) -> Request
     requires { All (IsPlace config.now) view.now }
     ensures outcome { (n : Negotiated)
         → outcome_of (view_in config.now view.now) n (command_of (line_value line.entry))
@@ -57,29 +57,29 @@ pub fn asked_by(view: &View, config: &Config, line: Line<'_>) -> Asked
     ensures leaving { is_bye (command_of (line_value line.entry)) ≡ is_leaving result }
 {
     match command(line) {
-        Order::Blank => Asked::Nothing,
-        Order::Hello => Asked::Greeting,
-        Order::Cat => Asked::Listing,
-        Order::Bye => Asked::Leaving,
-        Order::Station { station, network } => Asked::Name(view.find(config, station, network)),
-        Order::Select { pattern: None } => Asked::Clear,
-        Order::Select {
+        Command::Blank => Request::Nothing,
+        Command::Hello => Request::Greeting,
+        Command::Cat => Request::Listing,
+        Command::Bye => Request::Leaving,
+        Command::Station { station, network } => Request::Name(view.find(config, station, network)),
+        Command::Select { pattern: None } => Request::Clear,
+        Command::Select {
             pattern: Some(text),
         } => selecting(text),
-        Order::End => Asked::Finish,
-        Order::Act(action) => Asked::Act(action),
-        Order::Bad => Asked::Refused,
+        Command::End => Request::Finish,
+        Command::Act(action) => Request::Act(action),
+        Command::Bad => Request::Refused,
     }
 }
 
 #[tactic(auto, using(crate::proofs::AskLemmas::selecting_lemmas))]
-fn selecting(text: &[u8]) -> Asked
+fn selecting(text: &[u8]) -> Request
     ensures outcome { (config : ProtocolConfig) (v : ProtocolView) (n : Negotiated)
         → select n (Some text.now) ≡ outcome_by config v n result }
     ensures stays { is_leaving result ≡ false }
 {
     match Selector::parse(text) {
-        Some(selector) => Asked::Add(selector),
-        None => Asked::Refused,
+        Some(selector) => Request::Add(selector),
+        None => Request::Refused,
     }
 }
