@@ -152,8 +152,8 @@ module _ (config : Config) where
       first-and-rest : (a b limit x y z : ℕ) → y ≤ x + a * limit → z ≤ y + b * limit → z ≤ x + (a + b) * limit
       first-and-rest a b limit x y z p q = grind (arith, p, q)
 
-  pub hearing-brings : {most n : ℕ} {w w' : World} {ss : List Seat} {ds : List Deed} {o : Heard}
-      → Hearing config most n w ss ds w' o → w'.history ≡ w.history
+  pub hearing-brings : {max_clients n : ℕ} {w w' : World} {ss : List Seat} {ds : List Deed} {o : Heard}
+      → Hearing config max_clients n w ss ds w' o → w'.history ≡ w.history
   hearing-brings heard_enough = refl
   hearing-brings quiet = refl
   hearing-brings (fault f) = refl

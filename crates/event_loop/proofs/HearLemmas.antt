@@ -26,20 +26,20 @@ use Rattle.event_loop.specs.Hearing.End.{Quieted, Faulted}
 use Rattle.event_loop.specs.declared.hearing.Heard.{Heard as HeardNext}
 use Rattle.event_loop.proofs.DeedLemmas.{Tells-trans}
 
-module _ (config : Config) (most : ℕ) (w : World) (a b : Option (List Call)) (server : ServerValue) (t : Tally)
+module _ (config : Config) (max_clients : ℕ) (w : World) (a b : Option (List Call)) (server : ServerValue) (t : Tally)
     (ss : List Seat) where
   -- nothing new comes of it
   pub hears-old : (ss' : List Seat) (happening : Happening) → tally_heard t (Ok happening) ≡ one_more t →
       is_old happening ss ≡ true → ss' ≡ marked happening ss → Tells a b (Next (Ok happening) ∷ []) →
-      StandsAt server config w → HearsOnce config most w a b server t ss ss' Happened
+      StandsAt server config w → HearsOnce config max_clients w a b server t ss ss' Happened
   hears-old ss' happening counts old e tells stands = record {
     deeds = Hears (Ok happening) ∷ [];
     does = record { tells = tells; stands = stands; counted = sym counts; faithful = (tt, tt) };
-    how = λ n ds w' o p. marks happening old (subst (λ x. Hearing config most n w x ds w' o) e p);
+    how = λ n ds w' o p. marks happening old (subst (λ x. Hearing config max_clients n w x ds w' o) e p);
   }
 
   pub hears-quiet : Tells a b (Next (Ok Quiet) ∷ []) → StandsAt server config w →
-      HearsOnce config most w a b server t ss ss HeardQuiet
+      HearsOnce config max_clients w a b server t ss ss HeardQuiet
   hears-quiet tells stands = record {
     deeds = Hears (Ok Quiet) ∷ [];
     does = record { tells = tells; stands = stands; counted = refl; faithful = (tt, tt) };
@@ -47,7 +47,7 @@ module _ (config : Config) (most : ℕ) (w : World) (a b : Option (List Call)) (
   }
 
   pub hears-fault : (f : PortFault) → Tells a b (Next (Err f) ∷ []) → StandsAt server config w →
-      HearsOnce config most w a b server t ss ss Fault
+      HearsOnce config max_clients w a b server t ss ss Fault
   hears-fault f tells stands = record {
     deeds = Hears (Err f) ∷ [];
     does = record { tells = tells; stands = stands; counted = refl; faithful = (tt, tt) };
@@ -57,7 +57,7 @@ module _ (config : Config) (most : ℕ) (w : World) (a b : Option (List Call)) (
   -- a port that joins is shut
   pub hears-away : (c : Option (List Call)) (port : ℕ) (address : Ipv4Addr) → is_seated port ss ≡ false →
       Tells a b (Next (Ok (Joined port address)) ∷ []) → Tells b c (Shut port ∷ []) → StandsAt server config w →
-      HearsOnce config most w a c server t ss ss Happened
+      HearsOnce config max_clients w a c server t ss ss Happened
   hears-away c port address new tells shut stands = record {
     deeds = TurnsAway (Joined port address) port ∷ [];
     does = record { tells = Tells-trans a b c _ _ tells shut; stands = stands; counted = refl; faithful = (tt, tt) };
@@ -66,7 +66,7 @@ module _ (config : Config) (most : ℕ) (w : World) (a b : Option (List Call)) (
 
   pub hears-away-feed : (c : Option (List Call)) (port : ℕ) → is_seated port ss ≡ false →
       Tells a b (Next (Ok (JoinedFeed port)) ∷ []) → Tells b c (Shut port ∷ []) → StandsAt server config w →
-      HearsOnce config most w a c server t ss ss Happened
+      HearsOnce config max_clients w a c server t ss ss Happened
   hears-away-feed c port new tells shut stands = record {
     deeds = TurnsAway (JoinedFeed port) port ∷ [];
     does = record { tells = Tells-trans a b c _ _ tells shut; stands = stands; counted = refl; faithful = (tt, tt) };
@@ -76,15 +76,16 @@ module _ (config : Config) (most : ℕ) (w : World) (a b : Option (List Call)) (
   -- a client's port joins, and the client is opened
   pub hears-open : (server' : ServerValue) (ss' : List Seat) (port : ℕ) (address : Ipv4Addr) (number : ℕ)
       → is_seated port ss ≡ false →
-      clients_in ss < most → number ≡ length w.connections → ss' ≡ open_client (joining port (ClientRole number)) ss →
+      clients_in ss < max_clients → number ≡ length w.connections
+      → ss' ≡ open_client (joining port (ClientRole number)) ss →
       Tells a b (Next (Ok (Joined port address)) ∷ [])
       → StandsAt server' config (step config w (Open (ipv4_bits address))) →
-      HearsOnce config most w a b server' t ss ss' Happened
+      HearsOnce config max_clients w a b server' t ss ss' Happened
   hears-open server' ss' port address number new few is e tells stands = record {
     deeds = Opens port address ∷ [];
     does = record { tells = tells; stands = stands; counted = refl; faithful = (tt, tt) };
     how = λ n ds w' o p. opens port address new few
-        (subst (λ x. Hearing config most n (step config w (Open (ipv4_bits address))) x ds w' o)
+        (subst (λ x. Hearing config max_clients n (step config w (Open (ipv4_bits address))) x ds w' o)
         (e ∙ ap (λ k. open_client (joining port (ClientRole k)) ss) is) p);
   }
 
@@ -92,41 +93,41 @@ module _ (config : Config) (most : ℕ) (w : World) (a b : Option (List Call)) (
   pub hears-feed : (ss' : List Seat) (port : ℕ) → is_seated port ss ≡ false → feeds_in ss < 16 →
       ss' ≡ open_client (joining port (FeedRole [])) ss → Tells a b (Next (Ok (JoinedFeed port)) ∷ [])
       → StandsAt server config w →
-      HearsOnce config most w a b server t ss ss' Happened
+      HearsOnce config max_clients w a b server t ss ss' Happened
   hears-feed ss' port new few e tells stands = record {
     deeds = Feeds port ∷ [];
     does = record { tells = tells; stands = stands; counted = refl; faithful = (tt, tt) };
-    how = λ n ds w' o p. feeds port new few (subst (λ x. Hearing config most n w x ds w' o) e p);
+    how = λ n ds w' o p. feeds port new few (subst (λ x. Hearing config max_clients n w x ds w' o) e p);
   }
 
 -- ---- by the answer
 
-module _ (config : Config) (most : ℕ) (w : World) (a b : Option (List Call)) (server : ServerValue) (t : Tally)
+module _ (config : Config) (max_clients : ℕ) (w : World) (a b : Option (List Call)) (server : ServerValue) (t : Tally)
     (ss ss' : List Seat)
-    (next : HeardNext) (o : HearsOnce config most w a b server t ss ss' next) where
+    (next : HeardNext) (o : HearsOnce config max_clients w a b server t ss ss' next) where
   pub heard-happened : next ≡ Happened →
       (deeds : List Deed) × Does config w a b server t (one_more t) deeds
-      × GoesOn (HeardBy config most) config w ss ss' deeds
+      × GoesOn (HeardBy config max_clients) config w ss ss' deeds
   heard-happened e = (
     o.deeds,
     subst (λ x. Does config w a b server t (tally_next t x) o.deeds) e o.does,
-    subst (λ x. HeardStep config most w ss ss' o.deeds x) e o.how,
+    subst (λ x. HeardStep config max_clients w ss ss' o.deeds x) e o.how,
   )
 
   pub heard-quiet : next ≡ HeardQuiet →
       (deeds : List Deed) × Does config w a b server t t deeds
-      × Ends (HeardBy config most) config w ss deeds (heard ss' Quieted)
+      × Ends (HeardBy config max_clients) config w ss deeds (heard ss' Quieted)
   heard-quiet e = (
     o.deeds,
     subst (λ x. Does config w a b server t (tally_next t x) o.deeds) e o.does,
-    subst (λ x. HeardStep config most w ss ss' o.deeds x) e o.how,
+    subst (λ x. HeardStep config max_clients w ss ss' o.deeds x) e o.how,
   )
 
   pub heard-fault : next ≡ Fault →
       (deeds : List Deed) × Does config w a b server t t deeds
-      × Ends (HeardBy config most) config w ss deeds (heard ss' Faulted)
+      × Ends (HeardBy config max_clients) config w ss deeds (heard ss' Faulted)
   heard-fault e = (
     o.deeds,
     subst (λ x. Does config w a b server t (tally_next t x) o.deeds) e o.does,
-    subst (λ x. HeardStep config most w ss ss' o.deeds x) e o.how,
+    subst (λ x. HeardStep config max_clients w ss ss' o.deeds x) e o.how,
   )

@@ -234,11 +234,12 @@ count-insert p ss new i = sum_by-insert (weight p) ss i new
 is-feed : Seat → Bool
 is-feed s = if is_client s.role then false else true
 
-pub table-set : (most : ℕ) (ss : List Seat) (i : ℕ) (x : Seat) → IsSameSeat (get_or ss i no_seat) x → IsTable most ss
-    → IsTable most (set ss i x)
-table-set most ss i x same table = record {
+pub table-set : (max_clients : ℕ) (ss : List Seat) (i : ℕ) (x : Seat) → IsSameSeat (get_or ss i no_seat) x
+    → IsTable max_clients ss → IsTable max_clients (set ss i x)
+table-set max_clients ss i x same table = record {
   rising = rising-from (set ss i x) (rise-set ss i x same.port (rise-from ss table.rising));
-  few_clients = subst (λ n. n ≤ most) (sym (count-set (λ s. is_client s.role) ss i x same.kind)) table.few_clients;
+  few_clients = subst (λ n. n ≤ max_clients) (sym (count-set (λ s. is_client s.role) ss i x same.kind))
+      table.few_clients;
   few_feeds =
       subst (λ n. n ≤ 16)
       (sym
@@ -246,8 +247,9 @@ table-set most ss i x same table = record {
       (ap (λ b. if b then false else true) same.kind))) table.few_feeds;
 }
 
-pub table-remove : (most : ℕ) (ss : List Seat) (i : ℕ) → IsTable most ss → IsTable most (remove ss i)
-table-remove most ss i table = record {
+pub table-remove : (max_clients : ℕ) (ss : List Seat) (i : ℕ) → IsTable max_clients ss
+    → IsTable max_clients (remove ss i)
+table-remove max_clients ss i table = record {
   rising = rising-from (remove ss i) (rise-remove ss i (rise-from ss table.rising));
   few_clients = let h = count-remove (λ s. is_client s.role) ss i in omega (arith, h, table.few_clients);
   few_feeds = let h = count-remove (λ s. if is_client s.role then false else true) ss i in omega (
@@ -258,10 +260,10 @@ table-remove most ss i table = record {
 }
 
 -- a new client's port, where fewer are open
-pub table-client : (most : ℕ) (ss : List Seat) (new : Seat) (at : ℕ) → is_client new.role ≡ true
+pub table-client : (max_clients : ℕ) (ss : List Seat) (new : Seat) (at : ℕ) → is_client new.role ≡ true
     → IsGapFor ss new.port at →
-    clients_in ss < most → IsTable most ss → IsTable most (insert ss at new)
-table-client most ss new at kind gap few table = record {
+    clients_in ss < max_clients → IsTable max_clients ss → IsTable max_clients (insert ss at new)
+table-client max_clients ss new at kind gap few table = record {
   rising = rising-from (insert ss at new) (rise-insert ss new at gap (rise-from ss table.rising));
   few_clients = let h = count-insert (λ s. is_client s.role) ss new at in let e : ◌≡◌ {A = ℕ}
       (if is_client new.role then 1 else 0) 1 = ap (λ (b : Bool). if b then 1 else 0) kind in omega (arith, h, e, few);
@@ -270,10 +272,10 @@ table-client most ss new at kind gap few table = record {
       ap (λ (b : Bool). if (if b then false else true) then 1 else 0) kind in omega (arith, h, e, table.few_feeds);
 }
 
-pub table-feed : (most : ℕ) (ss : List Seat) (new : Seat) (at : ℕ) → is_client new.role ≡ false
+pub table-feed : (max_clients : ℕ) (ss : List Seat) (new : Seat) (at : ℕ) → is_client new.role ≡ false
     → IsGapFor ss new.port at →
-    feeds_in ss < 16 → IsTable most ss → IsTable most (insert ss at new)
-table-feed most ss new at kind gap few table = record {
+    feeds_in ss < 16 → IsTable max_clients ss → IsTable max_clients (insert ss at new)
+table-feed max_clients ss new at kind gap few table = record {
   rising = rising-from (insert ss at new) (rise-insert ss new at gap (rise-from ss table.rising));
   few_clients = let h = count-insert (λ s. is_client s.role) ss new at in let e : ◌≡◌ {A = ℕ}
       (if is_client new.role then 1 else 0) 0 =
@@ -381,10 +383,10 @@ module _ (g : Seat → Seat) (same : (s : Seat) → IsSameSeat s (g s)) where
   pub feeds-map : (ss : List Seat) → feeds_in (map g ss) ≡ feeds_in ss
   feeds-map ss = count-map (λ b. if b then false else true) ss
 
-  pub table-map : (most : ℕ) (ss : List Seat) → IsTable most ss → IsTable most (map g ss)
-  table-map most ss table = record {
+  pub table-map : (max_clients : ℕ) (ss : List Seat) → IsTable max_clients ss → IsTable max_clients (map g ss)
+  table-map max_clients ss table = record {
     rising = rising-from (map g ss) (rise-map ss (rise-from ss table.rising));
-    few_clients = subst (λ n. n ≤ most) (sym (count-map (λ b. b) ss)) table.few_clients;
+    few_clients = subst (λ n. n ≤ max_clients) (sym (count-map (λ b. b) ss)) table.few_clients;
     few_feeds = subst (λ n. n ≤ 16) (sym (count-map (λ b. if b then false else true) ss)) table.few_feeds;
   }
 

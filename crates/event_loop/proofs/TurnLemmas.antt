@@ -26,14 +26,14 @@ turned_by in_turn refused = record { happenings = in_turn.happenings; quiet = in
 none-brought : (w w' : World) → w'.history ≡ w.history → BringsAtMost 0 w w'
 none-brought w w' same = omega (arith, ap (λ (h : List Arrival). length h) same)
 
-module _ (config : Config) (most limit : ℕ) (w : World) (a b : Option (List Call)) (mid : ServerValue)
+module _ (config : Config) (max_clients limit : ℕ) (w : World) (a b : Option (List Call)) (mid : ServerValue)
     (ss mid_ss : List Seat) where
   pub turn-made : (c : Option (List Call)) (last : ServerValue) (ss' : List Seat) (in_turn : HeardInTurn) (refused : ℕ)
-      → WholeHearing config most limit w a b mid (tally_heard_by in_turn) ss mid_ss (heard_end in_turn) →
+      → WholeHearing config max_clients limit w a b mid (tally_heard_by in_turn) ss mid_ss (heard_end in_turn) →
       ((v : World) → StandsAt mid config v →
       PassesAll limit config v b c last (feed_tally in_turn.happenings 0)
       (feed_tally in_turn.happenings refused) mid_ss ss') → feeds_in mid_ss ≤ 16 →
-      Turns config most limit w a c last ss ss' (turned_by in_turn refused)
+      Turns config max_clients limit w a c last ss ss' (turned_by in_turn refused)
   turn-made c last ss' in_turn refused hearing passes few =
       let v : World = world_beyond config w hearing.deeds in
       let x : PassesAll limit config v b c last (feed_tally in_turn.happenings 0)
@@ -62,8 +62,8 @@ module _ (config : Config) (most limit : ℕ) (w : World) (a b : Option (List Ca
         isolation = hands-as-alone config w deeds does.faithful;
       }
 
-  pub turn-failed : (t : Tally) → WholeHearing config most limit w a b mid t ss mid_ss Faulted →
-      Fails config most limit w a b mid ss mid_ss
+  pub turn-failed : (t : Tally) → WholeHearing config max_clients limit w a b mid t ss mid_ss Faulted →
+      Fails config max_clients limit w a b mid ss mid_ss
   turn-failed t hearing = record {
     deeds = hearing.deeds;
     counts = t;

@@ -78,28 +78,28 @@ abbrev pub heard : List Seat → End → Heard
 heard seats end = record { seats = seats; end = end }
 
 -- What is heard, of at most so many happenings, leads to a world and the seats after it.
-pub data Hearing (config : Config) (most : ℕ) : ℕ → World → List Seat → List Deed → World → Heard → Type 0 where
-  enough : {w : World} {ss : List Seat} → Hearing config most zero w ss [] w (heard ss Limit)
+pub data Hearing (config : Config) (max_clients : ℕ) : ℕ → World → List Seat → List Deed → World → Heard → Type 0 where
+  enough : {w : World} {ss : List Seat} → Hearing config max_clients zero w ss [] w (heard ss Limit)
   quiet : {n : ℕ} {w : World} {ss : List Seat}
-      → Hearing config most (suc n) w ss (Hears (Ok Quiet) ∷ []) w (heard ss Quieted)
+      → Hearing config max_clients (suc n) w ss (Hears (Ok Quiet) ∷ []) w (heard ss Quieted)
   fault : {n : ℕ} {w : World} {ss : List Seat} (f : PortFault)
-      → Hearing config most (suc n) w ss (Hears (Err f) ∷ []) w (heard ss Faulted)
+      → Hearing config max_clients (suc n) w ss (Hears (Err f) ∷ []) w (heard ss Faulted)
   marks : {n : ℕ} {w w' : World} {ss : List Seat} {ds : List Deed} {o : Heard} (happening : Happening)
       → is_old happening ss ≡ true →
-      Hearing config most n w (marked happening ss) ds w' o →
-      Hearing config most (suc n) w ss (Hears (Ok happening) ∷ ds) w' o
+      Hearing config max_clients n w (marked happening ss) ds w' o →
+      Hearing config max_clients (suc n) w ss (Hears (Ok happening) ∷ ds) w' o
   opens : {n : ℕ} {w w' : World} {ss : List Seat} {ds : List Deed} {o : Heard} (port : ℕ) (address : Ipv4Addr) →
-      is_seated port ss ≡ false → clients_in ss < most →
-      Hearing config most n (beyond config w (Opens port address))
+      is_seated port ss ≡ false → clients_in ss < max_clients →
+      Hearing config max_clients n (beyond config w (Opens port address))
       (open_client (joining port (ClientRole (length w.connections))) ss) ds w' o →
-      Hearing config most (suc n) w ss (Opens port address ∷ ds) w' o
+      Hearing config max_clients (suc n) w ss (Opens port address ∷ ds) w' o
   feeds : {n : ℕ} {w w' : World} {ss : List Seat} {ds : List Deed} {o : Heard} (port : ℕ) →
       is_seated port ss ≡ false → feeds_in ss < 16 →
-      Hearing config most n w (open_client (joining port (FeedRole [])) ss) ds w' o →
-      Hearing config most (suc n) w ss (Feeds port ∷ ds) w' o
+      Hearing config max_clients n w (open_client (joining port (FeedRole [])) ss) ds w' o →
+      Hearing config max_clients (suc n) w ss (Feeds port ∷ ds) w' o
   turns_away : {n : ℕ} {w w' : World} {ss : List Seat} {ds : List Deed} {o : Heard} (port : ℕ) (address : Ipv4Addr) →
-      is_seated port ss ≡ false → Hearing config most n w ss ds w' o →
-      Hearing config most (suc n) w ss (TurnsAway (Joined port address) port ∷ ds) w' o
+      is_seated port ss ≡ false → Hearing config max_clients n w ss ds w' o →
+      Hearing config max_clients (suc n) w ss (TurnsAway (Joined port address) port ∷ ds) w' o
   turns_away_feed : {n : ℕ} {w w' : World} {ss : List Seat} {ds : List Deed} {o : Heard} (port : ℕ) →
-      is_seated port ss ≡ false → Hearing config most n w ss ds w' o →
-      Hearing config most (suc n) w ss (TurnsAway (JoinedFeed port) port ∷ ds) w' o
+      is_seated port ss ≡ false → Hearing config max_clients n w ss ds w' o →
+      Hearing config max_clients (suc n) w ss (TurnsAway (JoinedFeed port) port ∷ ds) w' o

@@ -15,14 +15,14 @@ pub record LoopValue : Type 0 where
   pub calls : Option (List Call)
   pub failures : ℕ
   pub seats : List Seat
-  pub most : ℕ
+  pub max_clients : ℕ
   pub refused : ℕ
 
 -- A turn was made between the two, from this world on, and answered that.
 abbrev pub TurnMade : Config → ℕ → World → LoopValue → LoopValue → Turned → Type 0
 TurnMade config limit w v v' turned =
-    Turns config v.most limit w v.calls v'.calls v'.server v.seats v'.seats turned
+    Turns config v.max_clients limit w v.calls v'.calls v'.server v.seats v'.seats turned
 
 -- A turn failed between the two.
 abbrev pub TurnFailed : Config → ℕ → World → LoopValue → LoopValue → Type 0
-TurnFailed config limit w v v' = Fails config v.most limit w v.calls v'.calls v'.server v.seats v'.seats
+TurnFailed config limit w v v' = Fails config v.max_clients limit w v.calls v'.calls v'.server v.seats v'.seats

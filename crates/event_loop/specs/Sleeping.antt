@@ -64,8 +64,8 @@ pub record IsSeatOfClient (ss : List Seat) (k at : ℕ) : Type 0 where
 
 -- What a loop keeps true of its seats: they rise by port, those of sleeping ports are known, no client has two, and so
 -- many are feeds'.
-pub record IsLoop (most : ℕ) (server : ServerValue) (ss : List Seat) (awake : List ℕ) (feeds : ℕ) : Type 0 where
-  pub table : IsTable most ss
+pub record IsLoop (max_clients : ℕ) (server : ServerValue) (ss : List Seat) (awake : List ℕ) (feeds : ℕ) : Type 0 where
+  pub table : IsTable max_clients ss
   pub known : AreKnown server ss awake
   pub seated : AreSeated server ss
   pub count : feeds ≡ feeds_in ss

@@ -41,9 +41,9 @@ pub record IsGapFor (ss : List Seat) (port at : ℕ) : Type 0 where
   pub higher_after : (j : ℕ) → at ≤ j → j < length ss → port < port_at ss j
 
 -- The seats rise, and at most so many are clients' and 16 feeds'.
-pub record IsTable (most : ℕ) (ss : List Seat) : Type 0 where
+pub record IsTable (max_clients : ℕ) (ss : List Seat) : Type 0 where
   pub rising : AreRising ss
-  pub few_clients : clients_in ss ≤ most
+  pub few_clients : clients_in ss ≤ max_clients
   pub few_feeds : feeds_in ss ≤ 16
 
 -- A pass leaves whose a seat is.
@@ -55,13 +55,15 @@ pub record IsSameSeat (s s' : Seat) : Type 0 where
 
 -- what is heard
 abbrev pub HeardBy : Config → ℕ → ℕ → World → List Seat → List Deed → World → Heard → Type 0
-HeardBy config most n w ss ds w' o = Hearing config most n w ss ds w' o
+HeardBy config max_clients n w ss ds w' o = Hearing config max_clients n w ss ds w' o
 
 -- what the deeds of one happening do
 abbrev pub HeardStep : Config → ℕ → World → List Seat → List Seat → List Deed → HeardNext → Type 0
-HeardStep config most w ss ss' deeds Happened = GoesOn (HeardBy config most) config w ss ss' deeds
-HeardStep config most w ss ss' deeds Quiet = Ends (HeardBy config most) config w ss deeds (heard ss' Quieted)
-HeardStep config most w ss ss' deeds Fault = Ends (HeardBy config most) config w ss deeds (heard ss' Faulted)
+HeardStep config max_clients w ss ss' deeds Happened = GoesOn (HeardBy config max_clients) config w ss ss' deeds
+HeardStep config max_clients w ss ss' deeds Quiet =
+    Ends (HeardBy config max_clients) config w ss deeds (heard ss' Quieted)
+HeardStep config max_clients w ss ss' deeds Fault =
+    Ends (HeardBy config max_clients) config w ss deeds (heard ss' Faulted)
 
 -- the count with it
 abbrev pub tally_next : Tally → HeardNext → Tally
@@ -70,12 +72,12 @@ tally_next t Quiet = t
 tally_next t Fault = t
 
 -- One call of `next` was heard.
-pub record HearsOnce (config : Config) (most : ℕ) (w : World) (calls calls' : Option (List Call))
+pub record HearsOnce (config : Config) (max_clients : ℕ) (w : World) (calls calls' : Option (List Call))
     (server' : ServerValue)
     (t : Tally) (ss ss' : List Seat) (next : HeardNext) : Type 0 where
   pub deeds : List Deed
   pub does : Does config w calls calls' server' t (tally_next t next) deeds
-  pub how : HeardStep config most w ss ss' deeds next
+  pub how : HeardStep config max_clients w ss ss' deeds next
 
 -- The count of failures is one more at a fault, and else the same.
 abbrev pub CountsFault : ℕ → ℕ → HeardNext → Type 0
@@ -84,10 +86,10 @@ CountsFault old new Quiet = new ≡ old
 CountsFault old new Fault = IsMore old new 1
 
 -- All was heard.
-abbrev pub WholeHearing : Config → (most limit : ℕ) → World → (calls calls' : Option (List Call)) → ServerValue → Tally
-    → (ss ss' : List Seat) → End → Type 0
-WholeHearing config most limit w calls calls' server' t ss ss' end =
-    Whole (HeardBy config most) limit config w calls calls' server' no_tally t ss (heard ss' end)
+abbrev pub WholeHearing : Config → (max_clients limit : ℕ) → World → (calls calls' : Option (List Call)) → ServerValue
+    → Tally → (ss ss' : List Seat) → End → Type 0
+WholeHearing config max_clients limit w calls calls' server' t ss ss' end =
+    Whole (HeardBy config max_clients) limit config w calls calls' server' no_tally t ss (heard ss' end)
 
 -- the count of so many happenings
 abbrev pub heard_so_far : ℕ → Tally

@@ -46,14 +46,14 @@ pub data Passes (config : Config) (limit : ℕ) : World → List Seat → List D
 -- ---- turns
 
 -- A turn: what was heard, and then the passes.
-pub record IsTurn (config : Config) (most limit : ℕ) (w : World) (seats : List Seat) (deeds : List Deed) (w' : World)
-    (seats' : List Seat) (end : End) : Type 0 where
+pub record IsTurn (config : Config) (max_clients limit : ℕ) (w : World) (seats : List Seat) (deeds : List Deed)
+    (w' : World) (seats' : List Seat) (end : End) : Type 0 where
   pub heard_deeds : List Deed
   pub pass_deeds : List Deed
   pub between : World
   pub open_then : List Seat
   pub whole : deeds ≡ heard_deeds ++ pass_deeds
-  pub first : Hearing config most limit w seats heard_deeds between (heard open_then end)
+  pub first : Hearing config max_clients limit w seats heard_deeds between (heard open_then end)
   pub passes : Passes config limit between open_then pass_deeds w' seats'
 
 -- what is handed to a client alone, as one run of bytes
@@ -81,22 +81,22 @@ abbrev pub BringsAtMost : ℕ → World → World → Type 0
 BringsAtMost most w w' = length w'.history ≤ length w.history + most
 
 -- A turn was made. Each of up to 16 feeds brought at most so many records as reads are made of a port.
-pub record Turns (config : Config) (most limit : ℕ) (w : World) (calls calls' : Option (List Call))
+pub record Turns (config : Config) (max_clients limit : ℕ) (w : World) (calls calls' : Option (List Call))
     (server' : ServerValue)
     (seats seats' : List Seat) (turned : Turned) : Type 0 where
   pub deeds : List Deed
   pub does : Does config w calls calls' server' no_tally (tally_of turned) deeds
-  pub how : IsTurn config most limit w seats deeds (world_beyond config w deeds) seats' (end_of turned)
+  pub how : IsTurn config max_clients limit w seats deeds (world_beyond config w deeds) seats' (end_of turned)
   pub few_records : BringsAtMost (16 * limit) w (world_beyond config w deeds)
   pub isolation : HandsAsAlone config w deeds
 
 -- A turn that failed heard a fault, and went through no port.
-pub record Fails (config : Config) (most limit : ℕ) (w : World) (calls calls' : Option (List Call))
+pub record Fails (config : Config) (max_clients limit : ℕ) (w : World) (calls calls' : Option (List Call))
     (server' : ServerValue)
     (seats seats' : List Seat) : Type 0 where
   pub deeds : List Deed
   pub counts : Tally
   pub does : Does config w calls calls' server' no_tally counts deeds
-  pub how : Hearing config most limit w seats deeds (world_beyond config w deeds) (heard seats' Faulted)
+  pub how : Hearing config max_clients limit w seats deeds (world_beyond config w deeds) (heard seats' Faulted)
   pub no_record : BringsAtMost 0 w (world_beyond config w deeds)
   pub isolation : HandsAsAlone config w deeds

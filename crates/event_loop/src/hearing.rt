@@ -70,27 +70,28 @@ fn join_client<P: Ports>(
     awake: &mut Vec<u8>,
     feeds: usize,
     alloc: Global,
-    most: usize,
+    max_clients: usize,
     port: u64,
     address: Ipv4Addr,
 )
-    requires table { IsTable most seats.old.items }
+    requires table { IsTable max_clients seats.old.items }
     requires feeds { feeds ≡ feeds_in seats.old.items }
     requires known { AreKnown server.old seats.old.items awake.old.items }
     requires seated { AreSeated server.old seats.old.items }
-    ensures table { IsTable most seats.new.items }
+    ensures table { IsTable max_clients seats.new.items }
     ensures feeds { feeds ≡ feeds_in seats.new.items }
     ensures known { AreKnown server.new seats.new.items awake.new.items }
     ensures seated { AreSeated server.new seats.new.items }
     ensures failures { P.failures ports.new ≡ P.failures ports.old }
     ensures goes { (t : Tally) (calls : Option (List Call)) (config : Config) (w : World) →
         Tells calls (P.calls ports.old) (Next (Ok (Joined port address)) ∷ []) → StandsAt server.old config w →
-        HearsOnce config most w calls (P.calls ports.new) server.new t seats.old.items seats.new.items Heard.Happened }
+        HearsOnce config max_clients w calls (P.calls ports.new) server.new t seats.old.items seats.new.items
+        Heard.Happened }
 {
     let Err(at) = place_of(seats.as_slice(), port) else {
         return;
     };
-    if clients(seats.as_slice(), feeds) >= most || !has_room(seats, awake) {
+    if clients(seats.as_slice(), feeds) >= max_clients || !has_room(seats, awake) {
         ports.shut(port);
         return;
     }
@@ -111,21 +112,22 @@ fn join_feed<P: Ports>(
     awake: &mut Vec<u8>,
     feeds: &mut usize,
     alloc: Global,
-    most: usize,
+    max_clients: usize,
     port: u64,
 )
-    requires table { IsTable most seats.old.items }
+    requires table { IsTable max_clients seats.old.items }
     requires feeds { feeds.old ≡ feeds_in seats.old.items }
     requires known { AreKnown server.now seats.old.items awake.old.items }
     requires seated { AreSeated server.now seats.old.items }
-    ensures table { IsTable most seats.new.items }
+    ensures table { IsTable max_clients seats.new.items }
     ensures feeds { feeds.new ≡ feeds_in seats.new.items }
     ensures known { AreKnown server.now seats.new.items awake.new.items }
     ensures seated { AreSeated server.now seats.new.items }
     ensures failures { P.failures ports.new ≡ P.failures ports.old }
     ensures goes { (t : Tally) (calls : Option (List Call)) (config : Config) (w : World) →
         Tells calls (P.calls ports.old) (Next (Ok (JoinedFeed port)) ∷ []) → StandsAt server.now config w →
-        HearsOnce config most w calls (P.calls ports.new) server.now t seats.old.items seats.new.items Heard.Happened }
+        HearsOnce config max_clients w calls (P.calls ports.new) server.now t seats.old.items seats.new.items
+        Heard.Happened }
 {
     let Err(at) = place_of(seats.as_slice(), port) else {
         return;
@@ -152,30 +154,38 @@ fn hear_once<P: Ports>(
     awake: &mut Vec<u8>,
     feeds: &mut usize,
     alloc: Global,
-    most: usize,
+    max_clients: usize,
 ) -> Heard
-    requires table { IsTable most seats.old.items }
+    requires table { IsTable max_clients seats.old.items }
     requires feeds { feeds.old ≡ feeds_in seats.old.items }
     requires known { AreKnown server.old seats.old.items awake.old.items }
     requires seated { AreSeated server.old seats.old.items }
-    ensures table { IsTable most seats.new.items }
+    ensures table { IsTable max_clients seats.new.items }
     ensures feeds { feeds.new ≡ feeds_in seats.new.items }
     ensures known { AreKnown server.new seats.new.items awake.new.items }
     ensures seated { AreSeated server.new seats.new.items }
     ensures failures { CountsFault (P.failures ports.old) (P.failures ports.new) result }
     ensures goes { (t : Tally) (config : Config) (w : World) → StandsAt server.old config w →
-        HearsOnce config most w (P.calls ports.old)
+        HearsOnce config max_clients w (P.calls ports.old)
         (P.calls ports.new) server.new t seats.old.items seats.new.items result }
 {
     match ports.next() {
         Ok(Happening::Joined(port, address)) => {
             join_client(
-                server, ports, seats, awake, *feeds, alloc, most, port, address,
+                server,
+                ports,
+                seats,
+                awake,
+                *feeds,
+                alloc,
+                max_clients,
+                port,
+                address,
             );
             Heard::Happened
         }
         Ok(Happening::JoinedFeed(port)) => {
-            join_feed(server, ports, seats, awake, feeds, alloc, most, port);
+            join_feed(server, ports, seats, awake, feeds, alloc, max_clients, port);
             Heard::Happened
         }
         Ok(Happening::Readable(port)) => {
@@ -199,28 +209,28 @@ pub fn hear<P: Ports>(
     awake: &mut Vec<u8>,
     feeds: &mut usize,
     alloc: Global,
-    most: usize,
+    max_clients: usize,
     limit: usize,
 ) -> Result<HeardInTurn, PortFault>
-    requires table { IsTable most seats.old.items }
+    requires table { IsTable max_clients seats.old.items }
     requires feeds { feeds.old ≡ feeds_in seats.old.items }
     requires known { AreKnown server.old seats.old.items awake.old.items }
     requires seated { AreSeated server.old seats.old.items }
-    ensures table { IsTable most seats.new.items }
+    ensures table { IsTable max_clients seats.new.items }
     ensures feeds { feeds.new ≡ feeds_in seats.new.items }
     ensures known { AreKnown server.new seats.new.items awake.new.items }
     ensures seated { AreSeated server.new seats.new.items }
     ensures ok { IfOk result (λ in_turn. (config : Config) (w : World) → StandsAt server.old config w →
-        WholeHearing config most limit w (P.calls ports.old) (P.calls ports.new) server.new
+        WholeHearing config max_clients limit w (P.calls ports.old) (P.calls ports.new) server.new
         (tally_heard_by in_turn) seats.old.items seats.new.items (heard_end in_turn)) }
     ensures failed { OnErr result ((config : Config) (w : World) → StandsAt server.old config w →
-        (t : Tally) × WholeHearing config most limit w (P.calls ports.old)
+        (t : Tally) × WholeHearing config max_clients limit w (P.calls ports.old)
         (P.calls ports.new) server.new t seats.old.items seats.new.items Faulted) }
     ensures failures { OnErr result (IsMore (P.failures ports.old) (P.failures ports.new) 1) }
 {
     let mut left = limit;
     'hearing: while left > 0 {
-        match hear_once(server, ports, seats, awake, feeds, alloc, most) {
+        match hear_once(server, ports, seats, awake, feeds, alloc, max_clients) {
             Heard::Happened => left -= 1,
             Heard::Quiet => {
                 return Ok(HeardInTurn {

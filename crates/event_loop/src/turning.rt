@@ -131,7 +131,7 @@ fn pass_at<P: Ports>(
         (feed_tally happenings refused.old) ss (take at seats.old.items) (drop at seats.old.items)
         → PassesSoFar limit config w calls (P.calls ports.new) server.new t
         (feed_tally happenings refused.new) ss (take result seats.new.items) (drop result seats.new.items) }
-    ensures table { (most : ℕ) → IsTable most seats.old.items → IsTable most seats.new.items }
+    ensures table { (max_clients : ℕ) → IsTable max_clients seats.old.items → IsTable max_clients seats.new.items }
 {
     let mut brought = false;
     let stays = pass(
@@ -173,7 +173,7 @@ fn pass_all<P: Ports>(
     ensures goes { (happenings : ℕ) (config : ProtocolConfig) (w : World) → StandsAt server.old config w →
         PassesAll limit config w (P.calls ports.old) (P.calls ports.new) server.new
         (feed_tally happenings refused.old) (feed_tally happenings refused.new) seats.old.items seats.new.items }
-    ensures table { (most : ℕ) → IsTable most seats.old.items → IsTable most seats.new.items }
+    ensures table { (max_clients : ℕ) → IsTable max_clients seats.old.items → IsTable max_clients seats.new.items }
 {
     let mut buffer = [0u8; CLIENT_READ];
     let mut at = skip(server, seats.as_slice(), awake.as_slice(), 0);
@@ -208,7 +208,7 @@ pub struct Loop<P: Ports> {
     /// How many of the open ports are feeds'.
     feeds: usize,
     alloc: Global,
-    most: usize,
+    max_clients: usize,
     refused: u64,
 }
 
@@ -223,11 +223,11 @@ impl<P: Ports> Model for Loop<P> {
       calls = P.calls l.ports;
       failures = P.failures l.ports;
       seats = l.seats.items;
-      most = l.most;
+      max_clients = l.max_clients;
       refused = l.refused;
     } };
 
-    ghost invariant = { λ l. IsLoop l.most l.server l.seats.items l.awake.items l.feeds };
+    ghost invariant = { λ l. IsLoop l.max_clients l.server l.seats.items l.awake.items l.feeds };
 }
 
 impl<P: Ports + Drop> Loop<P> {
@@ -237,10 +237,10 @@ impl<P: Ports + Drop> Loop<P> {
         ensures calls { IfOk result (λ made. made.calls ≡ P.calls ports) }
         ensures failures { IfOk result (λ made. made.failures ≡ P.failures ports) }
         ensures seats { IfOk result (λ made. made.seats ≡ []) }
-        ensures most { IfOk result (λ made. made.most ≡ config.max_connections) }
+        ensures max_clients { IfOk result (λ made. made.max_clients ≡ config.max_connections) }
         ensures refused { IfOk result (λ made. made.refused ≡ 0) }
     {
-        let most = config.max_connections();
+        let max_clients = config.max_connections();
         let server = Server::new(alloc, config)?;
         Ok(Loop {
             server,
@@ -250,7 +250,7 @@ impl<P: Ports + Drop> Loop<P> {
             marked: Vec::new(alloc),
             feeds: 0,
             alloc,
-            most,
+            max_clients,
             refused: 0,
         })
     }
@@ -269,9 +269,9 @@ impl<P: Ports> Loop<P> {
         ensures failed { OnErr result ((config : ProtocolConfig) (w : World) → StandsAt self.old.server config w →
             TurnFailed config limit w self.old self.new) }
         ensures failures { OnErr result (IsMore self.old.failures self.new.failures 1) }
-        ensures few_clients { clients_in self.new.seats ≤ self.new.most }
+        ensures few_clients { clients_in self.new.seats ≤ self.new.max_clients }
         ensures few_feeds { feeds_in self.new.seats ≤ 16 }
-        ensures most { self.new.most ≡ self.old.most }
+        ensures max_clients { self.new.max_clients ≡ self.old.max_clients }
         ensures refused { MatchResult result (λ turned. self.new.refused ≡ refused_more self.old.refused turned.refused)
             (λ _. self.new.refused ≡ self.old.refused) }
     {
@@ -282,7 +282,7 @@ impl<P: Ports> Loop<P> {
             &mut self.awake,
             &mut self.feeds,
             self.alloc,
-            self.most,
+            self.max_clients,
             limit,
         ) else {
             return Err(LoopFault);

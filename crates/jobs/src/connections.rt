@@ -1,5 +1,5 @@
 //! Connections to servers that are asked one after the other.
-use crate::network::{Server, connection, unconnected};
+use crate::network::{ServerAddress, connection, unconnected};
 use crate::reading::{Places, Reading, unlisted};
 use crate::reasons::{AnswerCounter, CommandWriter};
 use incidents::{Failure, Incident};
@@ -38,7 +38,7 @@ impl<'r, 'a, 'w, R: Eprint + Clock + Net> Connections<'r, 'a, 'w, R> {
     }
 
     /// The server whose turn it is.
-    pub fn server(&self) -> Result<Server<'a>, Incident<'a>> {
+    pub fn server(&self) -> Result<ServerAddress<'a>, Incident<'a>> {
         match self.reading.servers.get(self.places.place()) {
             Some(server) => Ok(*server),
             None => Err(Incident::from(Failure::Connect)),
@@ -81,7 +81,7 @@ fn sides<S: OpenStream + AsRawFd + Drop>(
 /// A connection to a server.
 fn connected<'a, R: Net>(
     rt: &R,
-    server: Server<'a>,
+    server: ServerAddress<'a>,
     present: &RefCell<Option<R::Stream>>,
 ) -> Result<Connected<R::Stream>, Incident<'a>> {
     match sides(connection(rt, server)?, present) {

@@ -24,17 +24,17 @@ use std::net::{Net, SocketAddr, TcpStream};
 use std::os::fd::AsRawFd;
 use std::rt::{Clock, Files};
 
-/// A server that a word names.
+/// The address of a server, and the word that names it.
 #[derive(Clone, Copy)]
-pub struct Server<'a> {
+pub struct ServerAddress<'a> {
     pub word: &'a str,
     pub endpoint: Endpoint,
 }
 
-/// The server that a word names.
-pub fn server_of<'a>(word: &'a str) -> Result<Server<'a>, Incident<'a>> {
+/// The address that a word names.
+pub fn server_of<'a>(word: &'a str) -> Result<ServerAddress<'a>, Incident<'a>> {
     match Endpoint::parse(word.as_bytes()) {
-        Some(endpoint) => Ok(Server { word, endpoint }),
+        Some(endpoint) => Ok(ServerAddress { word, endpoint }),
         None => Err(Failure::Address.in_word(word)),
     }
 }
@@ -45,7 +45,10 @@ pub fn connect<R: Net>(rt: &R, server: Endpoint) -> io::Result<R::Stream> {
 }
 
 /// A connection to a server that a word names.
-pub fn connection<'a, R: Net>(rt: &R, server: Server<'a>) -> Result<R::Stream, Incident<'a>> {
+pub fn connection<'a, R: Net>(
+    rt: &R,
+    server: ServerAddress<'a>,
+) -> Result<R::Stream, Incident<'a>> {
     match connect(rt, server.endpoint) {
         Ok(stream) => Ok(stream),
         Err(reason) => Err(unconnected(server, reason)),
@@ -53,7 +56,7 @@ pub fn connection<'a, R: Net>(rt: &R, server: Server<'a>) -> Result<R::Stream, I
 }
 
 /// Why no connection could be made.
-pub fn unconnected<'a>(server: Server<'a>, reason: io::Error) -> Incident<'a> {
+pub fn unconnected<'a>(server: ServerAddress<'a>, reason: io::Error) -> Incident<'a> {
     Incident {
         failure: Failure::Connect,
         site: Site::Socket(server.word, reason),
@@ -63,8 +66,8 @@ pub fn unconnected<'a>(server: Server<'a>, reason: io::Error) -> Incident<'a> {
 /// Listens at two addresses, for clients and for feeds, of which those are taken that are admitted.
 fn listen_at<'a, R: Net + AllocGlobal>(
     rt: &R,
-    clients: Server<'a>,
-    feeds: Server<'a>,
+    clients: ServerAddress<'a>,
+    feeds: ServerAddress<'a>,
     admission: Admission,
 ) -> Result<MioPorts, Incident<'a>> {
     let for_clients = clients.endpoint.socket_address();

@@ -6,7 +6,7 @@ ghost use Rattle.jobs.specs.Places.{is_last_place, place_after};
 use crate::archiving::{Lasting, archive_at, at_archive, tell_unplaced};
 use crate::connections::Connections;
 use crate::files::unopened;
-use crate::network::{Server, server_of};
+use crate::network::{ServerAddress, server_of};
 use crate::reasons::ReasonKeeper;
 use crate::standard_error::StandardError as Eprinted;
 use crate::states::{StateFile, StateKeeper};
@@ -28,7 +28,7 @@ use std::time::Duration;
 use std::{io, thread};
 
 /// The servers that a word names, with commas between them.
-fn servers_of<'a>(alloc: Global, word: &'a str) -> Result<Vec<Server<'a>>, Incident<'a>> {
+fn servers_of<'a>(alloc: Global, word: &'a str) -> Result<Vec<ServerAddress<'a>>, Incident<'a>> {
     let mut servers = Vec::new(alloc);
     for part in word.split(',') {
         let server = server_of(part)?;
@@ -42,7 +42,7 @@ fn servers_of<'a>(alloc: Global, word: &'a str) -> Result<Vec<Server<'a>>, Incid
 /// What is read, and of which servers.
 #[derive(Drop)]
 pub struct Reading<'a, 'w> {
-    pub servers: Vec<Server<'a>>,
+    pub servers: Vec<ServerAddress<'a>>,
     wants: Vec<Want<'w>>,
     /// After how long the next server is asked, or the first one again, if none is to be left out for good.
     pause: Option<Duration>,

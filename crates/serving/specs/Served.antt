@@ -18,7 +18,7 @@ pub record Begins (config : Config) (calls : Option (List Call)) (first : LoopVa
   pub stands : StandsAt first.server config empty_world
   pub calls_then : first.calls ≡ calls
   pub no_port : first.seats ≡ []
-  pub most : first.most ≡ config.max_connections
+  pub max_clients : first.max_clients ≡ config.max_connections
   pub none_refused : first.refused ≡ 0
 
 -- If numbers are to be kept, those of the first world were kept once, and nothing else was asked.

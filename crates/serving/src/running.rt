@@ -26,8 +26,8 @@ fn one_turn<P: Ports>(server: &mut Loop<P>, failures: u8) -> u8
     requires { failures < 16 }
     ensures turn { (config : ProtocolConfig) (w : World) → StandsAt server.old.server config w →
         OneTurn failures result config w server.old server.new }
-    ensures most { server.new.most ≡ server.old.most }
-    ensures few_clients { clients_in server.new.seats ≤ server.new.most }
+    ensures max_clients { server.new.max_clients ≡ server.old.max_clients }
+    ensures few_clients { clients_in server.new.seats ≤ server.new.max_clients }
     ensures few_feeds { feeds_in server.new.seats ≤ 16 }
     ensures count { result ≤ failures + 1 }
 {
@@ -43,7 +43,7 @@ fn reread<P: Ports, B: Between>(server: &mut Loop<P>, between: &mut B, due: bool
         SomeReread due config w server.old (B.asked between.old) server.new
         (B.asked between.new) }
     ensures seats { server.new.seats ≡ server.old.seats }
-    ensures most { server.new.most ≡ server.old.most }
+    ensures max_clients { server.new.max_clients ≡ server.old.max_clients }
 {
     if !due {
         return;
@@ -124,7 +124,7 @@ fn stop<P: Ports, B: Between>(
         SomeStop timetable.now done config w server.old kept (B.asked between.old) server.new result
         (B.asked between.new) }
     ensures seats { server.new.seats ≡ server.old.seats }
-    ensures most { server.new.most ≡ server.old.most }
+    ensures max_clients { server.new.max_clients ≡ server.old.max_clients }
 {
     let due = due_after(between, timetable, done);
     let kept = keep(server, between, timetable, kept);
@@ -162,10 +162,10 @@ pub fn run<P: Ports, B: Between>(
         GaveUp timetable config w server.old (B.asked between.old) server.new
         (B.asked between.new)) }
     ensures sixteen { OnErr result (16 ≤ turns_of timetable) }
-    ensures few_clients { clients_in server.old.seats ≤ server.old.most →
-        clients_in server.new.seats ≤ server.new.most }
+    ensures few_clients { clients_in server.old.seats ≤ server.old.max_clients →
+        clients_in server.new.seats ≤ server.new.max_clients }
     ensures few_feeds { feeds_in server.old.seats ≤ 16 → feeds_in server.new.seats ≤ 16 }
-    ensures most { server.new.most ≡ server.old.most }
+    ensures max_clients { server.new.max_clients ≡ server.old.max_clients }
 {
     let turns = timetable.total();
     let mut done = 0u64;
@@ -191,10 +191,10 @@ pub fn serve_block<P: Ports>(server: &mut Loop<P>, turns: u64) -> Result<(), Loo
     ensures gave_up { OnErr result ((config : ProtocolConfig) (w : World) → StandsAt server.old.server config w →
         GaveUpBlock turns config w server.old server.new) }
     ensures sixteen { OnErr result (16 ≤ turns) }
-    ensures few_clients { clients_in server.old.seats ≤ server.old.most →
-        clients_in server.new.seats ≤ server.new.most }
+    ensures few_clients { clients_in server.old.seats ≤ server.old.max_clients →
+        clients_in server.new.seats ≤ server.new.max_clients }
     ensures few_feeds { feeds_in server.old.seats ≤ 16 → feeds_in server.new.seats ≤ 16 }
-    ensures most { server.new.most ≡ server.old.most }
+    ensures max_clients { server.new.max_clients ≡ server.old.max_clients }
 {
     run(server, &mut NothingBetween, Timetable::of_turns(turns))
 }

@@ -1,4 +1,4 @@
-pub mod Wishes
+pub mod KeptActions
 pub mod NamedValues
 pub mod Choices
 pub mod Entries

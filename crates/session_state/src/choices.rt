@@ -3,7 +3,7 @@ ghost use Rattle.std.specs.Prelude.{◌≡◌, ◌<◌, ◌++◌, ◌∷◌, [],
 ghost use Rattle.std.specs.Vec.{vec_capacity, vec_len};
 ghost use Rattle.session_state.specs.NamedValues.{ahead_of, begun};
 
-use crate::wishes::Wish;
+use crate::kept_action::KeptAction;
 use sl_lines::Action;
 use sl_packet::Seq;
 use sl_time::Tick;
@@ -41,7 +41,7 @@ pub struct Entry {
     /// Its place in the configuration.
     pub place: usize,
     /// What is asked of it.
-    pub action: Wish,
+    pub action: KeptAction,
     /// From which arrival at the server on a transfer wants its records, as a count of the arrivals before.
     pub first: u64,
     /// How far the transfer has come in the station's ring.
@@ -55,7 +55,7 @@ impl Entry {
     {
         Entry {
             place,
-            action: Wish::of(action),
+            action: KeptAction::of(action),
             first: 0,
             cursor: Cursor {
                 place: 0,
@@ -91,7 +91,7 @@ pub(crate) fn act_at(entries: &mut [Entry], i: usize, action: Action)
     ensures { (e : Entry) → slice_get entries.old i ≡ Some e
         → entries.new ≡ slice_set entries.old i (record e { action = Some action }) }
 {
-    entries[i].action = Wish::of(Some(action));
+    entries[i].action = KeptAction::of(Some(action));
 }
 
 pub(crate) fn keep_at(entries: &mut [Entry], i: usize, first: u64)

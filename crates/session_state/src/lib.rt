@@ -7,6 +7,7 @@
 
 pub mod choices;
 pub mod entries;
+mod kept_action;
 mod modes;
 mod named;
 mod refusals;
@@ -14,11 +15,10 @@ mod replies;
 mod request;
 pub mod session;
 mod waiting;
-mod wishes;
 
 pub use choices::{Cursor, Entry};
 pub use entries::Ahead;
+pub use kept_action::KeptAction;
 pub use refusals::NoRoom;
 pub use session::{Session, Settled, State};
 pub use sl_lines::Action;
-pub use wishes::Wish;

@@ -1,7 +1,7 @@
 //! Commands out of lines.
 ghost use Rattle.std.specs.Prelude.{◌≡◌, List, ℕ, ℤ, Option, Some};
-ghost use Rattle.protocol.specs.Command.{Command as ProtocolCommand, command_of, command_of_words, named, numbered, timed};
-ghost use Rattle.protocol.specs.Command.{uppercased, words};
+ghost use Rattle.protocol.specs.Command.{Command as ProtocolCommand, command_of, command_of_words, named, numbered};
+ghost use Rattle.protocol.specs.Command.{timed, uppercased, words};
 ghost use Rattle.protocol.specs.Command.Command.{Data, Fetch};
 ghost use Rattle.protocol.specs.Time.{time_of};
 ghost use Rattle.sl_lines.specs.LineValues.{line_value};

@@ -23,15 +23,15 @@ hearing-preserved g c =
       count = c.hear_once.ensures.feeds;
       failures = c.in-Happened.ensures.failures ∙ c.hearing.invariant.failures;
       goes = λ config w stands.
-          subst (λ n. SoFar (HeardBy config c.args.most) c.args.limit (c.hearing.left - 1) config w
+          subst (λ n. SoFar (HeardBy config c.args.max_clients) c.args.limit (c.hearing.left - 1) config w
           (calls c.args.ports.now) (calls c.hear_once.new.ports) c.hear_once.new.server no_tally
           (heard_so_far n) c.args.seats.now.items c.hear_once.new.seats.items) one
-          (goes-on-from (HeardBy config c.args.most) c.args.limit c.hearing.left
+          (goes-on-from (HeardBy config c.args.max_clients) c.args.limit c.hearing.left
           (omega (arith, c.hearing-test.true)) config w (calls c.args.ports.now) (calls c.hearing.ports)
           (calls c.hear_once.new.ports) c.hearing.server c.hear_once.new.server no_tally t
           (one_more t) c.args.seats.now.items c.hearing.seats.items c.hear_once.new.seats.items
           (c.hearing.invariant.goes config w stands)
-          (λ v there. heard-happened config c.args.most v (calls c.hearing.ports)
+          (λ v there. heard-happened config c.args.max_clients v (calls c.hearing.ports)
           (calls c.hear_once.new.ports) c.hear_once.new.server t c.hearing.seats.items c.hear_once.new.seats.items _
           (c.hear_once.ensures.goes t config v there) c.in-Happened.is));
     }
@@ -40,11 +40,11 @@ pub returns-in-Quiet-clause-ok : goal.returns-in-Quiet-clause-ok
 returns-in-Quiet-clause-ok g c = λ config w stands.
     let calls = g.P.Ports.calls in
     let t = heard_so_far (c.args.limit - c.hearing.left) in
-    ends-from (HeardBy config c.args.most) c.args.limit c.hearing.left (omega (arith, c.hearing-test.true)) config w
-    (calls c.args.ports.now) (calls c.hearing.ports)
+    ends-from (HeardBy config c.args.max_clients) c.args.limit c.hearing.left (omega (arith, c.hearing-test.true))
+    config w (calls c.args.ports.now) (calls c.hearing.ports)
     (calls c.hear_once.new.ports) c.hearing.server c.hear_once.new.server no_tally t t c.args.seats.now.items
     c.hearing.seats.items (heard c.hear_once.new.seats.items Quieted) (c.hearing.invariant.goes config w stands)
-    (λ v there. heard-quiet config c.args.most v (calls c.hearing.ports)
+    (λ v there. heard-quiet config c.args.max_clients v (calls c.hearing.ports)
     (calls c.hear_once.new.ports) c.hear_once.new.server t c.hearing.seats.items c.hear_once.new.seats.items _
     (c.hear_once.ensures.goes t config v there) c.in-Quiet.is)
 
@@ -53,11 +53,11 @@ returns-in-Fault-clause-failed g c = λ config w stands.
     let calls = g.P.Ports.calls in
     let t = heard_so_far (c.args.limit - c.hearing.left) in (
       t,
-      ends-from (HeardBy config c.args.most) c.args.limit c.hearing.left (omega (arith, c.hearing-test.true)) config w
-          (calls c.args.ports.now) (calls c.hearing.ports)
+      ends-from (HeardBy config c.args.max_clients) c.args.limit c.hearing.left (omega (arith, c.hearing-test.true))
+          config w (calls c.args.ports.now) (calls c.hearing.ports)
           (calls c.hear_once.new.ports) c.hearing.server c.hear_once.new.server no_tally t t c.args.seats.now.items
           c.hearing.seats.items (heard c.hear_once.new.seats.items Faulted) (c.hearing.invariant.goes config w stands)
-          (λ v there. heard-fault config c.args.most v (calls c.hearing.ports)
+          (λ v there. heard-fault config c.args.max_clients v (calls c.hearing.ports)
           (calls c.hear_once.new.ports) c.hear_once.new.server t c.hearing.seats.items c.hear_once.new.seats.items _
           (c.hear_once.ensures.goes t config v there) c.in-Fault.is),
     )
@@ -67,10 +67,10 @@ returns-clause-ok g c = λ config w stands.
     let calls = g.P.Ports.calls in
     let none : c.hearing.left ≡ 0 = omega (arith, c.hearing-test.false) in
     let all : c.args.limit - c.hearing.left ≡ c.args.limit = omega (arith, none) in
-    subst (λ n. WholeHearing config c.args.most c.args.limit w (calls c.args.ports.now)
+    subst (λ n. WholeHearing config c.args.max_clients c.args.limit w (calls c.args.ports.now)
     (calls c.hearing.ports) c.hearing.server (heard_so_far n) c.args.seats.now.items c.hearing.seats.items Limit)
     all
-    (runs-out-at (HeardBy config c.args.most) c.args.limit c.hearing.left none config w (calls c.args.ports.now)
+    (runs-out-at (HeardBy config c.args.max_clients) c.args.limit c.hearing.left none config w (calls c.args.ports.now)
     (calls c.hearing.ports) c.hearing.server no_tally
     (heard_so_far (c.args.limit - c.hearing.left)) c.args.seats.now.items c.hearing.seats.items
     (heard c.hearing.seats.items Limit) (λ v. enough) (c.hearing.invariant.goes config w stands))

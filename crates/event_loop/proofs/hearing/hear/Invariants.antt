@@ -14,14 +14,14 @@ invariant-hearing g l =
     let calls = g.P.Ports.calls in
     record {
       fits : l.left ≤ l.limit;
-      table : IsTable l.most l.seats.items;
+      table : IsTable l.max_clients l.seats.items;
       known : AreKnown l.server l.seats.items l.awake.items;
       seated : AreSeated l.server l.seats.items;
       count : l.feeds ≡ feeds_in l.seats.items;
       failures : g.P.Ports.failures l.ports ≡ g.P.Ports.failures l.fn.ports;
       goes : (config : Config) (w : World) → StandsAt l.fn.server config w
-          → SoFar (HeardBy config l.most) l.limit l.left config w (calls l.fn.ports) (calls l.ports) l.server no_tally
-          (heard_so_far (l.limit - l.left)) l.fn.seats.items l.seats.items;
+          → SoFar (HeardBy config l.max_clients) l.limit l.left config w (calls l.fn.ports) (calls l.ports) l.server
+          no_tally (heard_so_far (l.limit - l.left)) l.fn.seats.items l.seats.items;
     }
 
 abbrev pub decreases-hearing : goal.decreases-hearing

@@ -13,13 +13,13 @@ use Rattle.event_loop.proofs.hearing.hear_once.Goals as goal
 
 pub returns-in-Ok-Readable-clause-table : goal.returns-in-Ok-Readable-clause-table
 returns-in-Ok-Readable-clause-table g c =
-    subst (IsTable c.args.most) (sym c.mark_readable.ensures.marks)
+    subst (IsTable c.args.max_clients) (sym c.mark_readable.ensures.marks)
     (table-map (readable_at c.in-Ok-Readable.port)
-    (readable-same c.in-Ok-Readable.port) c.args.most c.args.seats.now.items c.requires.table)
+    (readable-same c.in-Ok-Readable.port) c.args.max_clients c.args.seats.now.items c.requires.table)
 
 pub returns-in-Ok-Readable-clause-goes : goal.returns-in-Ok-Readable-clause-goes
 returns-in-Ok-Readable-clause-goes g c = λ t config w stands.
-    hears-old config c.args.most w (g.P.Ports.calls c.args.ports.now)
+    hears-old config c.args.max_clients w (g.P.Ports.calls c.args.ports.now)
     (g.P.Ports.calls c.next.new.self) c.args.server.now t c.args.seats.now.items
     c.mark_readable.new.seats.items (Readable c.in-Ok-Readable.port) refl refl c.mark_readable.ensures.marks
     (subst (λ r. Tells (g.P.Ports.calls c.args.ports.now) (g.P.Ports.calls c.next.new.self) (Next r ∷ []))
@@ -27,13 +27,13 @@ returns-in-Ok-Readable-clause-goes g c = λ t config w stands.
 
 pub returns-in-Ok-Writable-clause-table : goal.returns-in-Ok-Writable-clause-table
 returns-in-Ok-Writable-clause-table g c =
-    subst (IsTable c.args.most) (sym c.mark_writable.ensures.marks)
+    subst (IsTable c.args.max_clients) (sym c.mark_writable.ensures.marks)
     (table-map (writable_at c.in-Ok-Writable.port)
-    (writable-same c.in-Ok-Writable.port) c.args.most c.args.seats.now.items c.requires.table)
+    (writable-same c.in-Ok-Writable.port) c.args.max_clients c.args.seats.now.items c.requires.table)
 
 pub returns-in-Ok-Writable-clause-goes : goal.returns-in-Ok-Writable-clause-goes
 returns-in-Ok-Writable-clause-goes g c = λ t config w stands.
-    hears-old config c.args.most w (g.P.Ports.calls c.args.ports.now)
+    hears-old config c.args.max_clients w (g.P.Ports.calls c.args.ports.now)
     (g.P.Ports.calls c.next.new.self) c.args.server.now t c.args.seats.now.items
     c.mark_writable.new.seats.items (Writable c.in-Ok-Writable.port) refl refl c.mark_writable.ensures.marks
     (subst (λ r. Tells (g.P.Ports.calls c.args.ports.now) (g.P.Ports.calls c.next.new.self) (Next r ∷ []))
@@ -41,14 +41,14 @@ returns-in-Ok-Writable-clause-goes g c = λ t config w stands.
 
 pub returns-in-Ok-Quiet-clause-goes : goal.returns-in-Ok-Quiet-clause-goes
 returns-in-Ok-Quiet-clause-goes g c = λ t config w stands.
-    hears-quiet config c.args.most w (g.P.Ports.calls c.args.ports.now)
+    hears-quiet config c.args.max_clients w (g.P.Ports.calls c.args.ports.now)
     (g.P.Ports.calls c.next.new.self) c.args.server.now t c.args.seats.now.items
     (subst (λ r. Tells (g.P.Ports.calls c.args.ports.now) (g.P.Ports.calls c.next.new.self) (Next r ∷ []))
     (c.in-Ok-Quiet.is ∙ ap Ok c.in-Ok-Quiet.field-0-is) c.next.ensures.call) stands
 
 pub returns-in-Err-clause-goes : goal.returns-in-Err-clause-goes
 returns-in-Err-clause-goes g c = λ t config w stands.
-    hears-fault config c.args.most w (g.P.Ports.calls c.args.ports.now)
+    hears-fault config c.args.max_clients w (g.P.Ports.calls c.args.ports.now)
     (g.P.Ports.calls c.next.new.self) c.args.server.now t c.args.seats.now.items _
     (subst (λ r. Tells (g.P.Ports.calls c.args.ports.now) (g.P.Ports.calls c.next.new.self) (Next r ∷ [])) c.in-Err.is
     c.next.ensures.call) stands

@@ -15,29 +15,29 @@ use Rattle.std.proofs.Common.{List, ℕ}
 use Rattle.event_loop.specs.Sleeping.{AreKnown, AreSeated}
 use Rattle.event_loop.proofs.AwakeLemmas.{known-more, seated-more, some-number}
 use Rattle.event_loop.proofs.hearing.join_client.Goals as goal
-use Rattle.event_loop.proofs.hearing.join_client.Goals.{then-clients-most-via-then-clients-most}
-use Rattle.event_loop.proofs.hearing.join_client.Goals.{then-clients-most-via-else-clients-most+then-not-has_room}
+use Rattle.event_loop.proofs.hearing.join_client.Goals.{then-clients-max_clients-via-then-clients-max_clients}
+use Rattle.event_loop.proofs.hearing.join_client.Goals.{then-clients-max_clients-via-else-clients-max_clients+then-not-has_room}
 
 pub returns-in_default-clause-goes : goal.returns-in_default-clause-goes
 returns-in_default-clause-goes g c = λ t calls config w tells stands.
     let ss = c.args.seats.now.items in
     let found : IsSeatOf ss c.args.port c.in_default.field-0 = search rules in
-    hears-old config c.args.most w calls (g.P.Ports.calls c.args.ports.now) c.args.server.now t ss ss
+    hears-old config c.args.max_clients w calls (g.P.Ports.calls c.args.ports.now) c.args.server.now t ss ss
     (Joined c.args.port c.args.address)
     refl (is-seated ss c.args.port c.in_default.field-0 found) refl tells stands
 
-pub returns-then-clients-most-clause-goes : goal.returns-then-clients-most-clause-goes
-returns-then-clients-most-clause-goes g c = λ t calls config w tells stands.
+pub returns-then-clients-max_clients-clause-goes : goal.returns-then-clients-max_clients-clause-goes
+returns-then-clients-max_clients-clause-goes g c = λ t calls config w tells stands.
     let ss = c.args.seats.now.items in
     let gap : IsGapFor ss c.args.port c.in-Err.at = search rules in
-    let same : c.then-clients-most.seats.items ≡ ss = elim c.then-clients-most.branch [
-      | then-clients-most-via-then-clients-most x ↦ ap (λ v. v.items) x.seats-is
-      | then-clients-most-via-else-clients-most+then-not-has_room x ↦ ap (λ v. v.items) x.seats-is
+    let same : c.then-clients-max_clients.seats.items ≡ ss = elim c.then-clients-max_clients.branch [
+      | then-clients-max_clients-via-then-clients-max_clients x ↦ ap (λ v. v.items) x.seats-is
+      | then-clients-max_clients-via-else-clients-max_clients+then-not-has_room x ↦ ap (λ v. v.items) x.seats-is
           ∙ x.has_room.ensures.seats
     ] in
-    subst (λ xs. HearsOnce config c.args.most w calls
+    subst (λ xs. HearsOnce config c.args.max_clients w calls
     (g.P.Ports.calls c.shut.new.self) c.args.server.now t ss xs Happened) (sym same)
-    (hears-away config c.args.most w calls (g.P.Ports.calls c.args.ports.now) c.args.server.now t ss
+    (hears-away config c.args.max_clients w calls (g.P.Ports.calls c.args.ports.now) c.args.server.now t ss
     (g.P.Ports.calls c.shut.new.self)
     c.args.port c.args.address (is-unseated ss c.args.port c.in-Err.at gap) tells c.shut.ensures.call stands)
 
@@ -49,8 +49,9 @@ returns-in-Ok-clause-table g c =
     let room : vec_len c.has_room.new.seats < vec_capacity c.has_room.new.seats = search rules in
     let ok : IsOk c.insert-kept.result = c.insert-kept.ensures.succeeds room in
     let kept : c.insert-kept.new.self.items ≡ insert ss c.in-Err.at new = grind (arith, common_steps) in
-    let few : clients_in ss < c.args.most = grind (arith, common_steps) in
-    subst (IsTable c.args.most) (sym kept) (table-client c.args.most ss new c.in-Err.at refl gap few c.requires.table)
+    let few : clients_in ss < c.args.max_clients = grind (arith, common_steps) in
+    subst (IsTable c.args.max_clients) (sym kept)
+    (table-client c.args.max_clients ss new c.in-Err.at refl gap few c.requires.table)
 
 pub returns-in-Ok-clause-goes : goal.returns-in-Ok-clause-goes
 returns-in-Ok-clause-goes g c = λ t calls config w tells stands.
@@ -60,9 +61,9 @@ returns-in-Ok-clause-goes g c = λ t calls config w tells stands.
     let room : vec_len c.has_room.new.seats < vec_capacity c.has_room.new.seats = search rules in
     let ok : IsOk c.insert-kept.result = c.insert-kept.ensures.succeeds room in
     let kept : c.insert-kept.new.self.items ≡ insert ss c.in-Err.at new = grind (arith, common_steps) in
-    let few : clients_in ss < c.args.most = grind (arith, common_steps) in
+    let few : clients_in ss < c.args.max_clients = grind (arith, common_steps) in
     let number : c.in-Ok.client ≡ length w.connections = c.in-Ok.ensures.number ∙ stands.count in
-    hears-open config c.args.most w calls
+    hears-open config c.args.max_clients w calls
     (g.P.Ports.calls c.args.ports.now) c.args.server.now t ss c.open.new.self c.insert-kept.new.self.items
     c.args.port c.args.address c.in-Ok.client (is-unseated ss c.args.port c.in-Err.at gap) few number
     (kept ∙ inserted ss new c.in-Err.at gap)
@@ -72,9 +73,9 @@ pub returns-in-Err-open-clause-goes : goal.returns-in-Err-open-clause-goes
 returns-in-Err-open-clause-goes g c = λ t calls config w tells stands.
     let ss = c.args.seats.now.items in
     let gap : IsGapFor ss c.args.port c.in-Err.at = search rules in
-    subst (λ xs. HearsOnce config c.args.most w calls
+    subst (λ xs. HearsOnce config c.args.max_clients w calls
     (g.P.Ports.calls c.shut-in-Err-open.new.self) c.open.new.self t ss xs Happened) (sym c.has_room.ensures.seats)
-    (hears-away config c.args.most w calls (g.P.Ports.calls c.args.ports.now) c.open.new.self t ss
+    (hears-away config c.args.max_clients w calls (g.P.Ports.calls c.args.ports.now) c.open.new.self t ss
     (g.P.Ports.calls c.shut-in-Err-open.new.self)
     c.args.port c.args.address (is-unseated ss c.args.port c.in-Err.at gap) tells c.shut-in-Err-open.ensures.call
     (rw c.in-Err-open.ensures.err stands))

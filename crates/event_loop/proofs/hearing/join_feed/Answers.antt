@@ -21,7 +21,7 @@ pub returns-in_default-clause-goes : goal.returns-in_default-clause-goes
 returns-in_default-clause-goes g c = λ t calls config w tells stands.
     let ss = c.args.seats.now.items in
     let found : IsSeatOf ss c.args.port c.in_default.field-0 = search rules in
-    hears-old config c.args.most w calls (g.P.Ports.calls c.args.ports.now) c.args.server.now t ss ss
+    hears-old config c.args.max_clients w calls (g.P.Ports.calls c.args.ports.now) c.args.server.now t ss ss
     (JoinedFeed c.args.port)
     refl (is-seated ss c.args.port c.in_default.field-0 found) refl tells stands
 
@@ -34,9 +34,9 @@ returns-then-feeds-ge-FEEDS-clause-goes g c = λ t calls config w tells stands.
       | then-feeds-ge-FEEDS-via-else-feeds-ge-FEEDS+then-not-has_room x ↦ ap (λ v. v.items) x.seats-is
           ∙ x.has_room.ensures.seats
     ] in
-    subst (λ xs. HearsOnce config c.args.most w calls
+    subst (λ xs. HearsOnce config c.args.max_clients w calls
     (g.P.Ports.calls c.shut.new.self) c.args.server.now t ss xs Happened) (sym same)
-    (hears-away-feed config c.args.most w calls (g.P.Ports.calls c.args.ports.now) c.args.server.now t ss
+    (hears-away-feed config c.args.max_clients w calls (g.P.Ports.calls c.args.ports.now) c.args.server.now t ss
     (g.P.Ports.calls c.shut.new.self)
     c.args.port (is-unseated ss c.args.port c.in-Err.at gap) tells c.shut.ensures.call stands)
 
@@ -49,7 +49,8 @@ returns-in-Ok-clause-table g c =
     let ok : IsOk c.insert-kept.result = c.insert-kept.ensures.succeeds room in
     let kept : c.insert-kept.new.self.items ≡ insert ss c.in-Err.at new = grind (arith, common_steps) in
     let few : feeds_in ss < 16 = grind (arith, common_steps) in
-    subst (IsTable c.args.most) (sym kept) (table-feed c.args.most ss new c.in-Err.at refl gap few c.requires.table)
+    subst (IsTable c.args.max_clients) (sym kept)
+    (table-feed c.args.max_clients ss new c.in-Err.at refl gap few c.requires.table)
 
 pub returns-in-Ok-clause-goes : goal.returns-in-Ok-clause-goes
 returns-in-Ok-clause-goes g c = λ t calls config w tells stands.
@@ -60,7 +61,7 @@ returns-in-Ok-clause-goes g c = λ t calls config w tells stands.
     let ok : IsOk c.insert-kept.result = c.insert-kept.ensures.succeeds room in
     let kept : c.insert-kept.new.self.items ≡ insert ss c.in-Err.at new = grind (arith, common_steps) in
     let few : feeds_in ss < 16 = grind (arith, common_steps) in
-    hears-feed config c.args.most w calls
+    hears-feed config c.args.max_clients w calls
     (g.P.Ports.calls c.args.ports.now) c.args.server.now t ss c.insert-kept.new.self.items
     c.args.port (is-unseated ss c.args.port c.in-Err.at gap) few (kept ∙ inserted ss new c.in-Err.at gap) tells stands
 
@@ -68,10 +69,10 @@ pub returns-in-Err-new-clause-goes : goal.returns-in-Err-new-clause-goes
 returns-in-Err-new-clause-goes g c = λ t calls config w tells stands.
     let ss = c.args.seats.now.items in
     let gap : IsGapFor ss c.args.port c.in-Err.at = search rules in
-    subst (λ xs. HearsOnce config c.args.most w calls
+    subst (λ xs. HearsOnce config c.args.max_clients w calls
     (g.P.Ports.calls c.shut-in-Err-new.new.self) c.args.server.now t ss xs
     Happened) (sym c.has_room.ensures.seats)
-    (hears-away-feed config c.args.most w calls (g.P.Ports.calls c.args.ports.now) c.args.server.now t ss
+    (hears-away-feed config c.args.max_clients w calls (g.P.Ports.calls c.args.ports.now) c.args.server.now t ss
     (g.P.Ports.calls c.shut-in-Err-new.new.self) c.args.port (is-unseated ss c.args.port c.in-Err.at gap) tells
     c.shut-in-Err-new.ensures.call stands)
 

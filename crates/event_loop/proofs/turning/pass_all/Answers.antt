@@ -41,6 +41,7 @@ passes-preserved g c =
           (c.pass_at-next.ensures.goes happenings config w (all c.args.ports.now)
           (feed_tally happenings c.args.refused.now) c.args.seats.now.items
           (c.passes.invariant.goes happenings config w stands))));
-      table = λ most table. c.pass_at-next.ensures.table most (c.passes.invariant.table most table);
+      table = λ max_clients table. c.pass_at-next.ensures.table max_clients
+          (c.passes.invariant.table max_clients table);
       fits = subst (λ (xs : List Seat). c.skip-at-in-passes.result ≤ length xs) seen c.skip-at-in-passes.ensures.within;
     }

@@ -19,7 +19,7 @@ invariant-passes g l =
           PassesSoFar l.limit config w (calls l.fn.ports) (calls l.ports) l.server
           (feed_tally happenings l.fn.refused) (feed_tally happenings l.refused)
           l.fn.seats.items (take l.at l.seats.items) (drop l.at l.seats.items);
-      table : (most : ℕ) → IsTable most l.fn.seats.items → IsTable most l.seats.items;
+      table : (max_clients : ℕ) → IsTable max_clients l.fn.seats.items → IsTable max_clients l.seats.items;
       fits : l.at ≤ length l.seats.items;
     }
 

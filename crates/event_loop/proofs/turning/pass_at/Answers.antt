@@ -75,11 +75,11 @@ returns-then-stays-clause-goes g c = λ happenings config w calls t opened so_fa
     c.if-stays.true (c.pass-stays.ensures.goes happenings config v there))
 
 pub returns-then-stays-clause-table : goal.returns-then-stays-clause-table
-returns-then-stays-clause-table g c = λ most table.
+returns-then-stays-clause-table g c = λ max_clients table.
     let ss = c.args.seats.now.items in
     let here : c.index_mut.result.now ≡ get_or ss c.args.at no_seat = c.index_mut.ensures.value
     ∙ get_or_default ss c.args.at c.index_mut.result.now no_seat c.requires.inside in
-    table-set most ss c.args.at c.pass-stays.new.seat
+    table-set max_clients ss c.args.at c.pass-stays.new.seat
     (subst (λ s. IsSameSeat s c.pass-stays.new.seat) here c.pass-stays.ensures.same) table
 
 pub returns-else-stays-clause-known : goal.returns-else-stays-clause-known
@@ -134,13 +134,13 @@ returns-else-stays-clause-goes g c = λ happenings config w calls t opened so_fa
     c.if-stays.false (c.pass-stays.ensures.goes happenings config v there)))
 
 pub returns-else-stays-clause-table : goal.returns-else-stays-clause-table
-returns-else-stays-clause-table g c = λ most table.
+returns-else-stays-clause-table g c = λ max_clients table.
     let ss = c.args.seats.now.items in
     let here : c.index_mut.result.now ≡ get_or ss c.args.at no_seat = c.index_mut.ensures.value
     ∙ get_or_default ss c.args.at c.index_mut.result.now no_seat c.requires.inside in
-    subst (IsTable most) (sym c.go.ensures.seats)
-    (table-remove most (set ss c.args.at c.pass-stays.new.seat) c.args.at
-    (table-set most ss c.args.at c.pass-stays.new.seat
+    subst (IsTable max_clients) (sym c.go.ensures.seats)
+    (table-remove max_clients (set ss c.args.at c.pass-stays.new.seat) c.args.at
+    (table-set max_clients ss c.args.at c.pass-stays.new.seat
     (subst (λ s. IsSameSeat s c.pass-stays.new.seat) here c.pass-stays.ensures.same) table))
 
 pub go-requires-clause-feeds : goal.go-requires-clause-feeds

@@ -11,7 +11,7 @@ returns-in-Ok-run-clause-served g c = record {
     stands = c.in-Ok.ensures.server;
     calls_then = c.in-Ok.ensures.calls;
     no_port = c.in-Ok.ensures.seats;
-    most = c.in-Ok.ensures.most;
+    max_clients = c.in-Ok.ensures.max_clients;
     none_refused = c.in-Ok.ensures.refused;
   };
   keeps = c.in-Ok-keep_first.ensures.kept c.args.config c.in-Ok.ensures.server;
@@ -28,7 +28,7 @@ returns-in-Err-run-clause-ended g c = λ is. record {
     stands = c.in-Ok.ensures.server;
     calls_then = c.in-Ok.ensures.calls;
     no_port = c.in-Ok.ensures.seats;
-    most = c.in-Ok.ensures.most;
+    max_clients = c.in-Ok.ensures.max_clients;
     none_refused = c.in-Ok.ensures.refused;
   };
   keeps = c.in-Ok-keep_first.ensures.kept c.args.config c.in-Ok.ensures.server;

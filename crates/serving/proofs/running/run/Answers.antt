@@ -14,7 +14,7 @@ going-init g c =
       within = omega arith;
       few_clients = λ few. few;
       few_feeds = λ few. few;
-      most = refl;
+      max_clients = refl;
     }
 
 pub going-preserved : goal.going-preserved
@@ -37,10 +37,11 @@ going-preserved g c =
         c.going.invariant.counted,
       );
       within = omega (arith, c.going-test.true);
-      few_clients = λ few. rw (c.stop-stopped.ensures.seats, c.stop-stopped.ensures.most)
+      few_clients = λ few. rw (c.stop-stopped.ensures.seats, c.stop-stopped.ensures.max_clients)
           c.one_turn-failed.ensures.few_clients;
       few_feeds = λ few. rw c.stop-stopped.ensures.seats c.one_turn-failed.ensures.few_feeds;
-      most = c.stop-stopped.ensures.most ∙ c.one_turn-failed.ensures.most ∙ c.going.invariant.most;
+      max_clients = c.stop-stopped.ensures.max_clients ∙ c.one_turn-failed.ensures.max_clients
+          ∙ c.going.invariant.max_clients;
     }
 
 pub returns-then-failed-ge-FAILURES-clause-gave_up : goal.returns-then-failed-ge-FAILURES-clause-gave_up

@@ -16,9 +16,10 @@ invariant-going g l =
       few_failures : l.failures < 16;
       counted : l.failures ≤ l.done;
       within : l.done ≤ l.turns;
-      few_clients : clients_in l.fn.server.seats ≤ l.fn.server.most → clients_in l.server.seats ≤ l.server.most;
+      few_clients : clients_in l.fn.server.seats ≤ l.fn.server.max_clients
+          → clients_in l.server.seats ≤ l.server.max_clients;
       few_feeds : feeds_in l.fn.server.seats ≤ 16 → feeds_in l.server.seats ≤ 16;
-      most : l.server.most ≡ l.fn.server.most;
+      max_clients : l.server.max_clients ≡ l.fn.server.max_clients;
     }
 
 abbrev pub decreases-going : goal.decreases-going

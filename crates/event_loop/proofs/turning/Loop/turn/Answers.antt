@@ -12,12 +12,12 @@ returns-in_default-clause-failed g c =
     let calls = g.P.Ports.calls in
     let old = c.self.inside in
     subst (λ (x : LoopValue). (config : Config) (w : World) → StandsAt x.server config w →
-    Fails config x.most c.args.limit w x.calls (calls c.hear.new.ports) c.hear.new.server x.seats
+    Fails config x.max_clients c.args.limit w x.calls (calls c.hear.new.ports) c.hear.new.server x.seats
     c.hear.new.seats.items)
     c.self.view_is
     (λ config w stands.
     let x = c.in_default.ensures.failed config w stands in
-    turn-failed config old.most c.args.limit w (calls old.ports) (calls c.hear.new.ports) c.hear.new.server
+    turn-failed config old.max_clients c.args.limit w (calls old.ports) (calls c.hear.new.ports) c.hear.new.server
     old.seats.items c.hear.new.seats.items x.0 x.1)
 
 pub invariant_of-self-2 : goal.invariant_of-self-2
@@ -33,11 +33,11 @@ returns-clause-ok g c =
     let calls = g.P.Ports.calls in
     let old = c.self.inside in
     subst (λ (x : LoopValue). (config : Config) (w : World) → StandsAt x.server config w →
-    Turns config x.most c.args.limit w x.calls (calls c.pass_all.new.ports) c.pass_all.new.server x.seats
+    Turns config x.max_clients c.args.limit w x.calls (calls c.pass_all.new.ports) c.pass_all.new.server x.seats
     c.pass_all.new.seats.items (turned_by c.in-Ok.heard c.pass_all.new.refused))
     c.self.view_is
     (λ config w stands.
-    turn-made config old.most c.args.limit w (calls old.ports) (calls c.hear.new.ports) c.hear.new.server
+    turn-made config old.max_clients c.args.limit w (calls old.ports) (calls c.hear.new.ports) c.hear.new.server
     old.seats.items c.hear.new.seats.items (calls c.pass_all.new.ports) c.pass_all.new.server
     c.pass_all.new.seats.items c.in-Ok.heard c.pass_all.new.refused
     (c.in-Ok.ensures.ok config w stands) (λ v there. c.pass_all.ensures.goes c.in-Ok.heard.happenings config v there)

@@ -3,8 +3,8 @@ use Rattle.std.specs.Prelude.{◌≡◌, refl, Option, Some, None}
 use Rattle.sl_lines.specs.declared.actions.Action.{Action}
 use Rattle.sl_lines.specs.declared.actions.Action.TheVariants.{Data as DataAction, Fetch as FetchAction}
 use Rattle.sl_lines.specs.declared.actions.Action.TheVariants.{Time as TimeAction}
-use Rattle.session_state.specs.declared.wishes.Case.{Case}
-use Rattle.session_state.specs.declared.wishes.Case.TheVariants.{Nothing, Data, Fetch, From, Between}
+use Rattle.session_state.specs.declared.kept_action.Case.{Case}
+use Rattle.session_state.specs.declared.kept_action.Case.TheVariants.{Nothing, Data, Fetch, From, Between}
 
 -- the action that a case stands for
 abbrev pub action_of : Case → Option Action

@@ -6,7 +6,7 @@ use sl_packet::Seq;
 use sl_time::Tick;
 use std::marker::Model;
 
-/// The cases of a wish.
+/// The cases of a kept action.
 #[derive(Clone, Copy, Debug, PartialEq, Eq)]
 enum Case {
     /// Nothing is asked.
@@ -35,40 +35,40 @@ enum Case {
 /// What is asked of a station, if anything. It stands for an `Option<Action>`, and takes 32 bytes in place of 48, since
 /// one tag tells all its cases apart.
 #[derive(Clone, Copy, Debug, PartialEq, Eq)]
-pub struct Wish {
+pub struct KeptAction {
     case: Case,
 }
 
-impl Model for Wish {
+impl Model for KeptAction {
     ghost use Rattle.std.specs.Prelude.{Option, refl};
     ghost use Rattle.sl_lines.specs.declared.actions.Action.{Action};
-    ghost use Rattle.session_state.specs.Wishes.{action_of, case_of, case-again};
+    ghost use Rattle.session_state.specs.KeptActions.{action_of, case_of, case-again};
 
     ghost Value = { Option Action };
 
-    ghost view = { λ w. action_of w.case };
+    ghost view = { λ k. action_of k.case };
 
     ghost inverse = { λ a. record { case = case_of a } };
 
-    ghost inverse_ok = { λ w h. rw (case-again w.case) refl };
+    ghost inverse_ok = { λ k h. rw (case-again k.case) refl };
 }
 
-impl Wish {
-    /// The wish that stands for an action, or for none.
-    pub fn of(action: Option<Action>) -> Wish
+impl KeptAction {
+    /// The kept action that stands for an action, or for none.
+    pub fn of(action: Option<Action>) -> KeptAction
         ensures { result ≡ action }
     {
         match action {
-            None => Wish {
+            None => KeptAction {
                 case: Case::Nothing,
             },
-            Some(Action::Data { number, begin }) => Wish {
+            Some(Action::Data { number, begin }) => KeptAction {
                 case: Case::Data { number, begin },
             },
-            Some(Action::Fetch { number, begin }) => Wish {
+            Some(Action::Fetch { number, begin }) => KeptAction {
                 case: Case::Fetch { number, begin },
             },
-            Some(Action::Time { begin, last: None }) => Wish {
+            Some(Action::Time { begin, last: None }) => KeptAction {
                 case: Case::From { begin },
             },
             Some(
@@ -76,7 +76,7 @@ impl Wish {
                     begin,
                     last: Some(last),
                 },
-            ) => Wish {
+            ) => KeptAction {
                 case: Case::Between { begin, last },
             },
         }
