@@ -1,13 +1,6 @@
-pub mod Admitting
-pub mod Configured
 pub mod Endings
-pub mod Endpoints
 pub mod Feeding
 pub mod Listings
-pub mod Meters
-pub mod Output
 pub mod Places
-pub mod Replaying
 pub mod Serving
-pub mod Windows
 pub mod Words

@@ -1,8 +1,8 @@
 //! Connections to servers that are asked one after the other.
 use crate::network::{ServerAddress, connection, unconnected};
 use crate::reading::{Places, Reading, unlisted};
-use crate::reasons::{AnswerCounter, CommandWriter};
 use incidents::{Failure, Incident};
+use job_parts::{AnswerCounter, CommandWriter};
 use packet_listing::{ListingFault, Servers};
 use sl_io::Outer;
 use socket_ports::notice_silence;

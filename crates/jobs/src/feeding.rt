@@ -10,10 +10,10 @@ ghost use Rattle.incidents.specs.Faults.{failure_report};
 ghost use Rattle.jobs.specs.Feeding.{StopsFeeding};
 ghost use Rattle.incidents.specs.declared.failure.Failure.TheVariants.{Untaken};
 
-use crate::endpoint::Endpoint;
 use crate::network::connect;
 use feeder::send;
 use incidents::Failure;
+use job_parts::Endpoint;
 use sl_io::{Outer, Sink, Source};
 use std::io::{ErrorKind, Read, Write};
 use std::net::{Net, OpenStream, Shutdown};

@@ -2,9 +2,8 @@
 use crate::feeding::{Feed, SentFeed};
 use crate::files::open;
 use crate::network::{connection, server_of};
-use crate::progress::{Watched, is_terminal, size_of};
-use crate::reasons::ReasonKeeper;
 use incidents::{Failure, Incident};
+use job_parts::{ReasonKeeper, Watched, is_terminal, size_of};
 use record_listing::FeedTally;
 use sl_io::Outer;
 use std::fs::File;

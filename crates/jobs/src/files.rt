@@ -3,15 +3,14 @@
 ghost use Rattle.std.specs.Prelude.{◌≡◌};
 ghost use Rattle.jobs.specs.Listings.{listing_by};
 
-use crate::configured::ConfiguredStations;
-use crate::progress::{Watched, is_output_terminal, is_terminal, size_of};
-use crate::reasons::ReasonKeeper;
-use crate::replaying::replay;
 use crate::times::times_of;
 use catalog::{Config, ConfigError};
 use command_line::CheckOptions;
 use config_findings::{Finding, finding_of};
 use incidents::{Failure, Incident, Site};
+use job_parts::{
+    ConfiguredStations, ReasonKeeper, Watched, is_output_terminal, is_terminal, replay, size_of,
+};
 use record_listing::{
     AllStations, Finding as FileFinding, ListingOptions, Stations, check_records,
 };

@@ -1,19 +1,16 @@
 //! Jobs over sockets.
-ghost use Rattle.std.specs.Prelude.{◌≡◌};
+ghost use Rattle.std.specs.Prelude.{◌≡◌, IfOk};
 ghost use Rattle.jobs.specs.Endings.{unlisted};
 
-use crate::admitting::admission_of;
-use crate::configured::ConfiguredRecords;
-use crate::endpoint::Endpoint;
 use crate::files::{config_at, unopened};
 use crate::misspelled::checked_config_at;
-use crate::numbers::NumberFile;
 use crate::operator::{ServeOptions, serve_by};
-use crate::reasons::ReasonKeeper;
-use crate::visits::{SharedLines, VisitLines};
 use catalog::Config;
 use error_lines::{Device, StandardError};
 use incidents::{Failure, Incident, Site};
+use job_parts::{
+    ConfiguredRecords, Endpoint, NumberFile, ReasonKeeper, SharedLines, VisitLines, admission_of,
+};
 use logged_ports::LoggedPorts;
 use serving::ServeFault;
 use sl_io::Outer;
@@ -121,7 +118,10 @@ fn ports_that_log<'l, D: Device + Drop>(
     config: &Config,
     ports: MioPorts,
     lines: &'l SharedLines<D>,
-) -> Result<LoggedPorts<MioPorts, VisitLines<'l, D>, ConfiguredRecords>, AllocError> {
+) -> Result<LoggedPorts<MioPorts, VisitLines<'l, D>, ConfiguredRecords>, AllocError>
+    ensures inner { IfOk result (λ logged. logged.inner ≡ ports) }
+    ensures judge { IfOk result (λ logged. logged.judge.config ≡ config.now) }
+{
     let judge = ConfiguredRecords::new(config.copy(alloc)?);
     let most = config.max_connections();
     LoggedPorts::new(alloc, ports, most, VisitLines::new(lines), judge)

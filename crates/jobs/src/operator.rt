@@ -9,12 +9,11 @@ ghost use Rattle.jobs.specs.Serving.{ServedByFile, EndedByFile};
 ghost use Rattle.incidents.specs.declared.incident.Incident.{Incident};
 
 use crate::files::config_at;
-use crate::numbers::NumberFile;
-use crate::visits::SharedLines;
 use catalog::Config;
 use config_findings::{Difference, first_difference};
 use error_lines::{Device, Line};
 use incidents::{Failure, Incident, Site};
+use job_parts::{NumberFile, SharedLines};
 use ports::Ports;
 use protocol::report::Report;
 use serving::{Activity, Ahead, Between, Due, Pace, Refusal, ServeFault, Timetable, serve_between};

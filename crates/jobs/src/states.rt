@@ -3,8 +3,8 @@ ghost use Rattle.std.specs.Prelude.{◌≡◌, None};
 ghost use Rattle.sl_io.specs.Counts.{CountsFailure};
 
 use crate::archiving::Lasting;
-use crate::numbers::replace;
 use incidents::{Failure, Incident, Site, StateFault};
+use job_parts::replace;
 use packet_listing::{KeepFault, Keeper};
 use reader_state::{read_state, write_state};
 use sl_io::{Outer, ReadFault, Sink, read_all};

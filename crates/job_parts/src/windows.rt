@@ -1,7 +1,7 @@
 //! The moments between which records are wanted.
 ghost use Rattle.std.specs.Prelude.{◌≡◌, option_map, IfErr, IfOk};
 ghost use Rattle.slreader.specs.WantTexts.{window_value};
-ghost use Rattle.jobs.specs.Windows.{IsNoMoment, IsMoment, window_by};
+ghost use Rattle.job_parts.specs.Windows.{IsNoMoment, IsMoment, window_by};
 
 use command_line::ReadOptions;
 use incidents::{Failure, Incident};

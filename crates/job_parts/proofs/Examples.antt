@@ -4,7 +4,7 @@ use Rattle.std.specs.Fmt.{digits}
 use Rattle.hex.proofs.OnLiterals.{hex_on_literals}
 use Rattle.protocol.specs.Catalog.{Config}
 use Rattle.protocol.specs.World.Event.{Open, Bytes, Take}
-use Rattle.jobs.specs.Output.{output_after, replayed}
+use Rattle.job_parts.specs.Output.{output_after, replayed}
 use Rattle.event_script.specs.Script.{events_of}
 
 -- a title and no station

@@ -1,7 +1,7 @@
 //! Addresses with a port, as `127.0.0.1:18000`.
 ghost use Rattle.std.specs.Prelude.{◌≡◌, option_map};
 ghost use Rattle.access_list.specs.Addresses.{address_of};
-ghost use Rattle.jobs.specs.Endpoints.{both_of, endpoint_of, endpoint_value, port_of};
+ghost use Rattle.job_parts.specs.Endpoints.{both_of, endpoint_of, endpoint_value, port_of};
 
 use access_list::address;
 use std::net::{Ipv4Addr, SocketAddrV4};

@@ -2,8 +2,8 @@ use Rattle.std.proofs.Common.{◌∙◌, ap, map, List}
 use Rattle.server_core.specs.Runs.{handed_value}
 use Rattle.server_core.specs.declared.events.Handed.{Handed}
 use Rattle.event_script.specs.Output.{output_of}
-use Rattle.jobs.specs.Output.{output_after}
-use Rattle.jobs.proofs.replaying.output_after.Goals as goal
+use Rattle.job_parts.specs.Output.{output_after}
+use Rattle.job_parts.proofs.replaying.output_after.Goals as goal
 
 pub returns : goal.returns
 unfolding output_after

@@ -35,7 +35,7 @@ struct Meter {
 }
 
 impl Model for Meter {
-    ghost use Rattle.jobs.specs.Meters.{MeterValue};
+    ghost use Rattle.job_parts.specs.Meters.{MeterValue};
 
     ghost Value = { MeterValue };
 
@@ -46,7 +46,7 @@ impl Model for Meter {
 
 impl Meter {
     ghost use Rattle.std.specs.Prelude.{◌≡◌, ◌+◌, ◌-◌, ◌^◌, Some, min, if◌then◌else◌};
-    ghost use Rattle.jobs.specs.Meters.{is_time};
+    ghost use Rattle.job_parts.specs.Meters.{is_time};
 
     /// So many bytes more are read.
     fn pass(&mut self, count: usize)

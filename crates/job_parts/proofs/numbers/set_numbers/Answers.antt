@@ -5,8 +5,8 @@ use Rattle.number_file.specs.Tables.{with_next, with_nexts}
 use Rattle.number_file.proofs.TableLemmas.{with_nexts-more, with_nexts-none}
 use Rattle.serving.specs.Ahead.{ahead_of}
 use Rattle.serving.proofs.AheadLemmas.{some-there}
-use Rattle.jobs.proofs.numbers.set_numbers.Goals as goal
-use Rattle.jobs.proofs.numbers.set_numbers.Goals.{in-Some, in-None}
+use Rattle.job_parts.proofs.numbers.set_numbers.Goals as goal
+use Rattle.job_parts.proofs.numbers.set_numbers.Goals.{in-Some, in-None}
 
 -- the number that is there
 there : (xs : List ℕ) (i n : ℕ) → Some n ≡ slice_get xs i → (i < length xs) × (n ≡ get_or xs i 0)

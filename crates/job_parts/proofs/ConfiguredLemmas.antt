@@ -8,7 +8,7 @@ use Rattle.protocol.specs.Catalog.{Config, has_codes}
 use Rattle.protocol.specs.Record.{Facts, header_of}
 use Rattle.protocol.specs.World.{is_configured}
 use Rattle.protocol.proofs.FoundLemmas.{both}
-use Rattle.jobs.specs.Configured.{has_station, is_accepted}
+use Rattle.job_parts.specs.Configured.{has_station, is_accepted}
 
 -- Some element passes where the first that does has a place.
 any-position : {X : Type 0} (p : X → Bool) (xs : List X) → list_any p xs ≡ nat_lt (position_or_len p xs) (length xs)

@@ -1,7 +1,7 @@
 use Rattle.std.proofs.Common.{ℕ, ◌∙◌, Option, ap, ap₂, is_some, position, sym}
 use Rattle.protocol.specs.Catalog.{has_codes}
-use Rattle.jobs.proofs.ConfiguredLemmas.{accepted-read}
-use Rattle.jobs.proofs.configured.ConfiguredRecordsRecordJudge.takes.Goals as goal
+use Rattle.job_parts.proofs.ConfiguredLemmas.{accepted-read}
+use Rattle.job_parts.proofs.configured.ConfiguredRecordsRecordJudge.takes.Goals as goal
 
 pub returns-in-Ok : goal.returns-in-Ok
 returns-in-Ok c =

@@ -1,7 +1,7 @@
 -- The search finds this by itself. It is written down since the prover takes a minute to offer an answer where there is
 -- none, which a wrong body would wait for.
 use Rattle.std.proofs.Common.{rules}
-use Rattle.jobs.proofs.replaying.replay.Goals as goal
+use Rattle.job_parts.proofs.replaying.replay.Goals as goal
 
 pub returns-clause-write : goal.returns-clause-write
 returns-clause-write c = search rules

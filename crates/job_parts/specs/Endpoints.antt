@@ -5,7 +5,7 @@ use Rattle.std.specs.Prelude.{option_and_then}
 use Rattle.std.specs.Net.Addr.{ipv4_bits}
 use Rattle.protocol.specs.Time.{digits_between}
 use Rattle.access_list.specs.Addresses.{address_of}
-use Rattle.jobs.specs.declared.endpoint.Endpoint.{Endpoint}
+use Rattle.job_parts.specs.declared.endpoint.Endpoint.{Endpoint}
 
 abbrev pub small_enough : ℕ → Option ℕ
 small_enough n = if nat_lt 65535 n then None else Some n

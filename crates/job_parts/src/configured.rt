@@ -1,4 +1,6 @@
 //! The stations of a configuration, and the records of them.
+ghost use Rattle.std.specs.Prelude.{◌≡◌};
+
 use catalog::Config;
 use logged_ports::RecordJudge;
 use mseed_header::read;
@@ -18,7 +20,7 @@ impl<'c> ConfiguredStations<'c> {
 }
 
 impl Stations for ConfiguredStations<'_> {
-    ghost use Rattle.jobs.specs.Configured.{has_station};
+    ghost use Rattle.job_parts.specs.Configured.{has_station};
 
     ghost has_station = { λ s. has_station s.config.now };
 
@@ -30,18 +32,20 @@ impl Stations for ConfiguredStations<'_> {
 /// The records that a server with a configuration takes.
 #[derive(Drop)]
 pub struct ConfiguredRecords {
-    config: Config,
+    pub config: Config,
 }
 
 impl ConfiguredRecords {
     /// Those of that configuration.
-    pub fn new(config: Config) -> ConfiguredRecords {
+    pub fn new(config: Config) -> ConfiguredRecords
+        ensures { result.config ≡ config }
+    {
         ConfiguredRecords { config }
     }
 }
 
 impl RecordJudge for ConfiguredRecords {
-    ghost use Rattle.jobs.specs.Configured.{is_accepted};
+    ghost use Rattle.job_parts.specs.Configured.{is_accepted};
 
     ghost takes = { λ s bytes. is_accepted s.config bytes };
 

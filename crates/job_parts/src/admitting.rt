@@ -1,6 +1,6 @@
 //! Who may connect to a server, by the words of its command line.
 ghost use Rattle.std.specs.Prelude.{◌≡◌, ◌≢◌, IfErr, IfOk};
-ghost use Rattle.jobs.specs.Admitting.{FeedsFrom, RefusesList};
+ghost use Rattle.job_parts.specs.Admitting.{FeedsFrom, RefusesList};
 ghost use Rattle.incidents.specs.declared.failure.Failure.TheVariants.{OutOfMemory};
 
 use access_list::AccessList;
