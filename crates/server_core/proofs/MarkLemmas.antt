@@ -41,7 +41,7 @@ use Rattle.server_core.proofs.OfferLemmas.{fill-negotiating}
 
 asked-start : (place : ℕ) (cs : List Choice) → asked place (map at_start cs) ≡ asked place cs
 asked-start place [] = refl
-asked-start place (c ∷ cs) = ap (λ (b : Bool). (is_some c.action && c.place == place) || b) (asked-start place cs)
+asked-start place (c ∷ cs) = ap (λ (b : Bool). (is_some c.action && c.station == place) || b) (asked-start place cs)
 
 mode-start : (place : ℕ) (mode : ModeValue) → asked place (chosen_of (all_at_start mode)) ≡ asked place (chosen_of mode)
 mode-start place (Uni patterns) = refl
@@ -341,19 +341,19 @@ not-both a b e t = both a (λ s. absurd (let q : true ≡ false = sym (ap₂ (λ
 
 -- Where nothing is asked of a station, no request is for it.
 none-for : (place i : ℕ) (c : Choice) (cs : List Choice) → asked place cs ≡ false → slice_get cs i ≡ Some c
-    → is_some c.action ≡ true → c.place ≢ place
+    → is_some c.action ≡ true → c.station ≢ place
 none-for place i c [] none there acts e = absurd cc
 none-for place zero c (x ∷ cs) none there acts e =
     let same : x ≡ c = some-same x c there in
-    let first : (is_some x.action && x.place == place) ≡ false = or-left _ _ none in
+    let first : (is_some x.action && x.station == place) ≡ false = or-left _ _ none in
     let acts' : is_some x.action ≡ true = ap (λ (y : Choice). is_some y.action) same ∙ acts in
-    let apart : (x.place == place) ≡ false = sym (ap (λ (b : Bool). b && x.place == place) acts') ∙ first in
-    eqb-false x.place place apart (ap (λ (y : Choice). y.place) same ∙ e)
+    let apart : (x.station == place) ≡ false = sym (ap (λ (b : Bool). b && x.station == place) acts') ∙ first in
+    eqb-false x.station place apart (ap (λ (y : Choice). y.station) same ∙ e)
   where
     some-same : (a b : Choice) → Some a ≡ Some b → a ≡ b
     some-same a b e = cc
 none-for place (suc i) c (x ∷ cs) none there acts e =
-    none-for place i c cs (or-right (is_some x.action && x.place == place) _ none) there acts e
+    none-for place i c cs (or-right (is_some x.action && x.station == place) _ none) there acts e
 
 idle-later : (config : Config) (before after : RingsValue) (place : ℕ) (s : SessionValue)
     → ((other : ℕ) → other ≢ place → slice_get after.rings other ≡ slice_get before.rings other)
@@ -367,7 +367,7 @@ idle-later config before after place s others none is = record { by_state = by s
     by Starting e idle = idle
     by (Transfer next) e idle =
         sleeps-on before after s
-        (λ i c there acts. others c.place
+        (λ i c there acts. others c.station
         (none-for place i c (chosen_of s.mode) (none (ap is_transfer e)) there acts)) idle
     by Ending e idle = idle
 

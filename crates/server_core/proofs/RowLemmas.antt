@@ -83,7 +83,7 @@ bit-there now place other slot new apart = ap (λ (o : Option Row). bit_by o slo
 
 -- a request and those after it
 asked-on : (cs : List Entry) (i place : ℕ) (c d : Entry) → i < length cs → c ≡ slice_index_or cs i d
-    → asked_of place (drop i cs) ≡ ((is_some c.action && c.place == place) || asked_of place (drop (i + 1) cs))
+    → asked_of place (drop i cs) ≡ ((is_some c.action && c.station == place) || asked_of place (drop (i + 1) cs))
 asked-on cs i place c d lt is = ap (asked_of place) (drop_more cs i d lt)
     ∙ ap (λ (x : Entry). asked_of place (x ∷ drop (i + 1) cs)) (sym is)
 
@@ -93,20 +93,20 @@ true-or false b e = e
 
 -- A bit that is set is one that was asked_of for.
 pub set-asked : (cs : List Entry) (i place : ℕ) (c d : Entry) (before now : Bool) → i < length cs
-    → c ≡ slice_index_or cs i d → is_some c.action ≡ true → (place ≡ c.place → now ≡ true)
-    → (place ≢ c.place → now ≡ before) →
+    → c ≡ slice_index_or cs i d → is_some c.action ≡ true → (place ≡ c.station → now ≡ true)
+    → (place ≢ c.station → now ≡ before) →
     (now || asked_of place (drop (i + 1) cs)) ≡ (before || asked_of place (drop i cs))
 set-asked cs i place c d before now lt is acts here there =
-    both (c.place == place)
-    (λ yes. ap (λ (b : Bool). b || asked_of place (drop (i + 1) cs)) (here (sym (eqb-true c.place place yes)))
+    both (c.station == place)
+    (λ yes. ap (λ (b : Bool). b || asked_of place (drop (i + 1) cs)) (here (sym (eqb-true c.station place yes)))
     ∙ sym (true-or before (asked_of place (drop i cs))
     (asked-on cs i place c d lt is ∙ ap₂ (λ (a b : Bool). (a && b) || asked_of place (drop (i + 1) cs)) acts yes)))
-    (λ no. ap₂ (λ (a b : Bool). a || b) (there (λ e. eqb-false c.place place no (sym e)))
+    (λ no. ap₂ (λ (a b : Bool). a || b) (there (λ e. eqb-false c.station place no (sym e)))
     (sym (asked-on cs i place c d lt is ∙ ap₂ (λ (a b : Bool). (a && b) || asked_of place (drop (i + 1) cs)) acts no)))
 
 -- A bit of which nothing is asked_of is kept.
 pub kept-asked : (cs : List Entry) (i place : ℕ) (c d : Entry) (before : Bool) → i < length cs
-    → c ≡ slice_index_or cs i d → (is_some c.action && c.place == place) ≡ false →
+    → c ≡ slice_index_or cs i d → (is_some c.action && c.station == place) ≡ false →
     (before || asked_of place (drop (i + 1) cs)) ≡ (before || asked_of place (drop i cs))
 kept-asked cs i place c d before lt is none =
     ap (λ (b : Bool). before || b)
@@ -122,21 +122,21 @@ pub record Adds (slot : ℕ) (cs : List Entry) (i : ℕ) (before now : List Row)
 
 module _ (slot : ℕ) (cs : List Entry) (i : ℕ) (before now : List Row) (c d : Entry) (lt : i < length cs)
     (is : c ≡ slice_index_or cs i d) (adds : Adds slot cs i before now) where
-  pub adds-set : (old new : Row) → is_some c.action ≡ true → c.place < length now → slice_get now c.place ≡ Some old
+  pub adds-set : (old new : Row) → is_some c.action ≡ true → c.station < length now → slice_get now c.station ≡ Some old
       → bit_of new slot ≡ true → Writes (Elsewhere slot) old new
-      → Adds slot cs (i + 1) before (slice_set now c.place new)
+      → Adds slot cs (i + 1) before (slice_set now c.station new)
   adds-set old new acts inside there here writes = record {
-    kept = keeps-on (Elsewhere slot) before now c.place old new there inside writes adds.kept;
+    kept = keeps-on (Elsewhere slot) before now c.station old new there inside writes adds.kept;
     added = λ place within.
         set-asked cs i place c d (bit_by (slice_get now place) slot)
-        (bit_by (slice_get (slice_set now c.place new) place) slot) lt is acts
-        (λ e. ap (λ p. bit_by (slice_get (slice_set now c.place new) p) slot) e ∙ bit-here now c.place slot new inside
-        ∙ here)
-        (λ apart. bit-there now c.place place slot new apart)
-        ∙ adds.added place (omega (arith, within, set-count now c.place new));
+        (bit_by (slice_get (slice_set now c.station new) place) slot) lt is acts
+        (λ e. ap (λ p. bit_by (slice_get (slice_set now c.station new) p) slot) e
+        ∙ bit-here now c.station slot new inside ∙ here)
+        (λ apart. bit-there now c.station place slot new apart)
+        ∙ adds.added place (omega (arith, within, set-count now c.station new));
   }
 
-  pub adds-skip : ((place : ℕ) → place < length now → (is_some c.action && c.place == place) ≡ false)
+  pub adds-skip : ((place : ℕ) → place < length now → (is_some c.action && c.station == place) ≡ false)
       → Adds slot cs (i + 1) before now
   adds-skip none = record {
     kept = adds.kept;
@@ -174,4 +174,4 @@ adds-all slot cs i before now le adds place within =
 -- what is asked for by the entries that a session lends
 pub asked_entries : (place : ℕ) (cs : List Choice) → asked_of place (map entry_of cs) ≡ asked place cs
 asked_entries place [] = refl
-asked_entries place (c ∷ cs) = ap (λ (b : Bool). (is_some c.action && c.place == place) || b) (asked_entries place cs)
+asked_entries place (c ∷ cs) = ap (λ (b : Bool). (is_some c.action && c.station == place) || b) (asked_entries place cs)

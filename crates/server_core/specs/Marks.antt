@@ -31,11 +31,11 @@ use Rattle.server_core.specs.ServerValues.{ServerValue, mark_at}
 
 -- Something is asked of the station at a place.
 abbrev pub asked : ℕ → List Choice → Bool
-asked place choices = list_any (λ c. is_some c.action && c.place == place) choices
+asked place choices = list_any (λ c. is_some c.action && c.station == place) choices
 
 -- the same of entries
 abbrev pub asked_of : ℕ → List Entry → Bool
-asked_of place entries = list_any (λ e. is_some e.action && e.place == place) entries
+asked_of place entries = list_any (λ e. is_some e.action && e.station == place) entries
 
 -- The session is in a transfer with a request for the station at a place.
 abbrev pub asks : ℕ → SessionValue → Bool

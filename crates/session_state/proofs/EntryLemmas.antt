@@ -48,11 +48,11 @@ no-ahead (Some k) e = absurd cc
 -- ---- an entry that is changed
 
 pub indexed-set : (es : List Entry) (indexes : List ℕ) (i : ℕ) (e f : Entry) → IsIndexed es indexes
-    → slice_get es i ≡ Some e → f.place ≡ e.place → IsIndexed (slice_set es i f) indexes
+    → slice_get es i ≡ Some e → f.station ≡ e.station → IsIndexed (slice_set es i f) indexes
 indexed-set es indexes i e f indexed there same = λ j k x at kept.
     elim (set-at es i f j x at) [
       | inl here ↦
-          let place : x.place ≡ e.place = ap (λ (y : Entry). y.place) here.1 ∙ same in
+          let place : x.station ≡ e.station = ap (λ (y : Entry). y.station) here.1 ∙ same in
           indexed i k e there (ap (slice_get indexes) (sym place) ∙ kept) ∙ sym here.0
       | inr other ↦ indexed j k x other.1 kept
     ]
@@ -104,18 +104,18 @@ tells-pass Several es i f has tells is = tt
 -- ---- one more, or another in place of the only one
 
 pub indexed-push : (es : List Entry) (indexes : List ℕ) (f : Entry) (n : ℕ) → IsIndexed es indexes
-    → ((i : ℕ) (e : Entry) → slice_get es i ≡ Some e → e.place ≢ f.place) → n ≡ length es
-    → IsIndexed (es ++ f ∷ []) (slice_set indexes f.place n)
+    → ((i : ℕ) (e : Entry) → slice_get es i ≡ Some e → e.station ≢ f.station) → n ≡ length es
+    → IsIndexed (es ++ f ∷ []) (slice_set indexes f.station n)
 indexed-push es indexes f n indexed anew is = λ j k x at kept.
     elim (push-at es f j x at) [
       | inl here ↦
-          let place : x.place ≡ f.place = ap (λ (y : Entry). y.place) here.1 in
-          elim (set-at indexes f.place n x.place k kept) [
+          let place : x.station ≡ f.station = ap (λ (y : Entry). y.station) here.1 in
+          elim (set-at indexes f.station n x.station k kept) [
             | inl set ↦ set.1 ∙ is ∙ sym here.0
             | inr other ↦ absurd (other.0 place)
           ]
       | inr old ↦
-          elim (set-at indexes f.place n x.place k kept) [
+          elim (set-at indexes f.station n x.station k kept) [
             | inl set ↦ absurd (anew j x old set.0)
             | inr other ↦ indexed j k x old other.1
           ]
@@ -144,12 +144,12 @@ only (y ∷ []) f (suc j) x one at = absurd cc
 only (y ∷ z ∷ es) f j x one at = absurd (omega (arith, one))
 
 pub indexed-only : (es : List Entry) (indexes : List ℕ) (f : Entry) → length es ≡ 1
-    → IsIndexed (slice_set es 0 f) (slice_set indexes f.place 0)
+    → IsIndexed (slice_set es 0 f) (slice_set indexes f.station 0)
 indexed-only es indexes f one = λ j k x at kept.
     let here = only es f j x one at in
-    elim (set-at indexes f.place 0 x.place k kept) [
+    elim (set-at indexes f.station 0 x.station k kept) [
       | inl set ↦ set.1 ∙ sym here.0
-      | inr other ↦ absurd (other.0 (ap (λ (y : Entry). y.place) here.1))
+      | inr other ↦ absurd (other.0 (ap (λ (y : Entry). y.station) here.1))
     ]
 
 pub tells-only : (es : List Entry) (f : Entry) → length es ≡ 1 → ahead_of f.cursor ≡ None
@@ -166,39 +166,40 @@ other-test : (a b : ℕ) → a ≢ b → (a == b) ≡ false
 other-test a b apart = grind (arith, nat_tests)
 
 -- the only one at a place is the first there
-pub only-there : (es : List Entry) (place i : ℕ) (e : Entry) → slice_get es i ≡ Some e → e.place ≡ place
-    → ((j : ℕ) (x : Entry) → slice_get es j ≡ Some x → x.place ≡ place → j ≡ i)
-    → Some i ≡ position (λ x. x.place == place) es
+pub only-there : (es : List Entry) (place i : ℕ) (e : Entry) → slice_get es i ≡ Some e → e.station ≡ place
+    → ((j : ℕ) (x : Entry) → slice_get es j ≡ Some x → x.station ≡ place → j ≡ i)
+    → Some i ≡ position (λ x. x.station == place) es
 only-there es place i e at here only =
-    let p : Entry → Bool = λ x. x.place == place in
+    let p : Entry → Bool = λ x. x.station == place in
     let within : i < length es = slice_get_within es i e at in
     let is : position_or_len p es ≡ i =
     position_or_len_is p es i e (omega arith)
-    (λ k lt. other-test (get_or es k e).place place
+    (λ k lt. other-test (get_or es k e).station place
     (λ same. absurd (let s : k ≡ i = only k (get_or es k e) (slice_get-get_or es k e (omega arith)) same in
     omega arith)))
-    (λ _. same-test (get_or es i e).place place
-    (ap (λ (x : Entry). x.place) (get_or_from_slice_get es i e e at) ∙ here)) in
+    (λ _. same-test (get_or es i e).station place
+    (ap (λ (x : Entry). x.station) (get_or_from_slice_get es i e e at) ∙ here)) in
     let test : nat_lt i (length es) ≡ true = grind (arith, nat_tests) in
     rw (is, test) refl
 
 -- none is there
-pub none-at : (es : List Entry) (place : ℕ) → ((j : ℕ) (x : Entry) → slice_get es j ≡ Some x → x.place ≢ place)
-    → None ≡ position (λ x. x.place == place) es
+pub none-at : (es : List Entry) (place : ℕ) → ((j : ℕ) (x : Entry) → slice_get es j ≡ Some x → x.station ≢ place)
+    → None ≡ position (λ x. x.station == place) es
 none-at [] place none = refl
 none-at (y ∷ es) place none =
-    let p : Entry → Bool = λ x. x.place == place in
+    let p : Entry → Bool = λ x. x.station == place in
     let all : List Entry = y ∷ es in
     let is : position_or_len p all ≡ length all =
     position_or_len_is p all (length all) y (omega arith)
-    (λ k lt. other-test (get_or all k y).place place (none k (get_or all k y) (slice_get-get_or all k y lt)))
+    (λ k lt. other-test (get_or all k y).station place (none k (get_or all k y) (slice_get-get_or all k y lt)))
     (λ lt. absurd (omega arith)) in
     let test : nat_lt (length all) (length all) ≡ false = grind (arith, nat_tests) in
     rw (is, test) refl
 
 -- no other is there, and not that one
-pub none-there : (es : List Entry) (place i : ℕ) → ((j : ℕ) (x : Entry) → slice_get es j ≡ Some x → x.place ≡ place
-    → j ≡ i) → ((x : Entry) → slice_get es i ≡ Some x → x.place ≢ place) → None ≡ position (λ x. x.place == place) es
+pub none-there : (es : List Entry) (place i : ℕ) → ((j : ℕ) (x : Entry) → slice_get es j ≡ Some x → x.station ≡ place
+    → j ≡ i) → ((x : Entry) → slice_get es i ≡ Some x → x.station ≢ place)
+    → None ≡ position (λ x. x.station == place) es
 none-there es place i only apart =
     none-at es place (λ j x at same. apart x (ap (slice_get es) (sym (only j x at same)) ∙ at) same)
 

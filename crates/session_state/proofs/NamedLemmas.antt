@@ -437,7 +437,7 @@ naming-entries es current lists n view =
 -- a station that was not found is at no named station's place
 pub not-named : (config : Config) (place : ℕ) (cs : List Choice)
     → position (is_of_station config (station_at config.entries place)) cs ≡ None
-    → (i : ℕ) (c : Choice) → slice_get cs i ≡ Some c → c.place ≢ place
+    → (i : ℕ) (c : Choice) → slice_get cs i ≡ Some c → c.station ≢ place
 not-named config place cs none i c at same =
     let s : Station = station_at config.entries place in
     let p : Choice → Bool = is_of_station config s in

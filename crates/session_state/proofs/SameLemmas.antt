@@ -43,13 +43,13 @@ alike p q same (e ∷ es) = rw (same e, alike p q same es) refl
 
 -- the first entry of that station is the first at its place
 pub same-position : (config : Config) (place : ℕ) (es : List NamedEntry) → HasDistinctCodes config.entries
-    → place < length config.entries → position (λ e. nat_eq e.place place) es
+    → place < length config.entries → position (λ e. nat_eq e.station place) es
     ≡ position (is_entry_of_station config (station_at config.entries place)) es
 same-position config place es distinct within =
-    let p : NamedEntry → Bool = λ e. nat_eq e.place place in
+    let p : NamedEntry → Bool = λ e. nat_eq e.station place in
     let q : NamedEntry → Bool = is_entry_of_station config (station_at config.entries place) in
     let same : position_or_len p es ≡ position_or_len q es =
-    alike p q (λ e. same-place config.entries place e.place distinct within) es in
+    alike p q (λ e. same-place config.entries place e.station distinct within) es in
     rw same refl
 
 pub ruleset same_lemmas = (same-place, same-position)

@@ -23,7 +23,7 @@ action_value (Time begin last) = TimeAction begin last
 -- a named station by its settings
 abbrev pub choice_in : Config → Choice → ProtocolChoice
 choice_in config c = record {
-  station = station_at config.entries c.place;
+  station = station_at config.entries c.station;
   patterns = c.selectors;
   action = option_map action_value c.action;
 }
@@ -48,7 +48,7 @@ request_with config c None = None
 request_with config c (Some action) =
     Some
     (record {
-      station = station_at config.entries c.place;
+      station = station_at config.entries c.station;
       patterns = c.selectors;
       action = action_value action;
       from = c.first;
@@ -60,11 +60,11 @@ request_in config c = request_with config c c.action
 
 -- The choice is of that station.
 abbrev pub is_of_station : Config → Station → Choice → Bool
-is_of_station config s c = has_codes s.network s.code (station_at config.entries c.place)
+is_of_station config s c = has_codes s.network s.code (station_at config.entries c.station)
 
 -- the same of an entry
 abbrev pub is_entry_of_station : Config → Station → Entry → Bool
-is_entry_of_station config s e = has_codes s.network s.code (station_at config.entries e.place)
+is_entry_of_station config s e = has_codes s.network s.code (station_at config.entries e.station)
 
 -- Something is asked of the station.
 abbrev pub has_action : Choice → Bool

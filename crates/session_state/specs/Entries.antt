@@ -13,14 +13,14 @@ pub record EntriesValue : Type 0 where
 
 -- At the place of each that has an index at its place, that is its own.
 abbrev pub IsIndexed : List Entry → List ℕ → Type 0
-IsIndexed es indexes = (i k : ℕ) (e : Entry) → slice_get es i ≡ Some e → slice_get indexes e.place ≡ Some k → k ≡ i
+IsIndexed es indexes = (i k : ℕ) (e : Entry) → slice_get es i ≡ Some e → slice_get indexes e.station ≡ Some k → k ≡ i
 
 -- Of those at a place it is the only one.
 pub record IsOnlyAt (es : List Entry) (place i : ℕ) : Type 0 where
   pub entry : Entry
   pub at : slice_get es i ≡ Some entry
-  pub there : entry.place ≡ place
-  pub only : (j : ℕ) (e : Entry) → slice_get es j ≡ Some e → e.place ≡ place → j ≡ i
+  pub there : entry.station ≡ place
+  pub only : (j : ℕ) (e : Entry) → slice_get es j ≡ Some e → e.station ≡ place → j ≡ i
 
 -- No request has a record ahead, or none but one, or some may have.
 abbrev pub TellsAhead : Ahead → List Entry → Type 0

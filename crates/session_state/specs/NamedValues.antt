@@ -11,7 +11,7 @@ use Rattle.session_state.specs.declared.choices.Entry.{Entry}
 -- a named station: its place in the configuration, which of its records are wanted, what is asked of it, from which
 -- arrival on, and how far the transfer has come
 pub record Choice : Type 0 where
-  pub place : ℕ
+  pub station : ℕ
   pub selectors : List Pattern
   pub action : Option Action
   pub first : ℕ
@@ -19,24 +19,24 @@ pub record Choice : Type 0 where
 
 -- the cursor of a transfer that has not begun
 abbrev pub start : Cursor
-start = record { place = 0; ended = 0; seen = 0; stamp = 0 }
+start = record { ring_place = 0; ended = 0; seen = 0; stamp = 0 }
 
 -- the stamp of the record at a cursor, where one was there when the ring was last looked at: while the cursor is before
 -- the end that was seen
 abbrev pub ahead_of : Cursor → Option ℕ
-ahead_of k = if nat_lt k.place k.seen then Some k.stamp else None
+ahead_of k = if nat_lt k.ring_place k.seen then Some k.stamp else None
 
 -- a station of which this is asked, while no transfer has begun
 abbrev pub begun : ℕ → Option Action → Entry
-begun place action = record { place = place; action = action; first = 0; cursor = start }
+begun station action = record { station = station; action = action; first = 0; cursor = start }
 
 -- an entry with its selectors
 abbrev pub choice_of : Entry → List Pattern → Choice
-choice_of e ps = record { place = e.place; selectors = ps; action = e.action; first = e.first; cursor = e.cursor }
+choice_of e ps = record { station = e.station; selectors = ps; action = e.action; first = e.first; cursor = e.cursor }
 
 -- a named station without them
 abbrev pub entry_of : Choice → Entry
-entry_of c = record { place = c.place; action = c.action; first = c.first; cursor = c.cursor }
+entry_of c = record { station = c.station; action = c.action; first = c.first; cursor = c.cursor }
 
 -- a station without a place, selectors and an action
 abbrev pub blank : Choice

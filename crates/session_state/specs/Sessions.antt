@@ -130,7 +130,7 @@ Comes Start config h s c = (s.state ≡ Starting)
 -- A request of that station wants records from the position on at which a transfer after the history begins.
 abbrev pub HasFirst : Config → List Arrival → Choice → Type 0
 HasFirst config h c = (action : Action) → c.action ≡ Some action
-    → c.first ≡ first_wanted (station_at config.entries c.place) h (action_value action)
+    → c.first ≡ first_wanted (station_at config.entries c.station) h (action_value action)
 
 -- the same of all requests
 abbrev pub HasFirsts : Config → List Arrival → SessionValue → Type 0

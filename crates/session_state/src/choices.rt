@@ -11,8 +11,8 @@ use sl_time::Tick;
 /// How far a request of a transfer has come in its station's ring.
 #[derive(Clone, Copy, Debug, PartialEq, Eq, Default)]
 pub struct Cursor {
-    /// The place before which the request wants nothing more.
-    pub place: u64,
+    /// The place in the ring before which the request wants nothing more.
+    pub ring_place: u64,
     /// For TIME with an end: the place after the last record before the cursor that starts after that end, or 0 if no
     /// such record was passed.
     pub ended: u64,
@@ -27,7 +27,7 @@ impl Cursor {
     pub fn ahead(&self) -> Option<u64>
         ensures { result ≡ ahead_of self.now }
     {
-        if self.place < self.seen {
+        if self.ring_place < self.seen {
             Some(self.stamp)
         } else {
             None
@@ -38,8 +38,8 @@ impl Cursor {
 /// A station that a client named, but for its selectors. It is a request of a transfer where it has an action.
 #[derive(Clone, Copy, Debug, PartialEq, Eq)]
 pub struct Entry {
-    /// Its place in the configuration.
-    pub place: usize,
+    /// The station's place in the configuration.
+    pub station: usize,
     /// What is asked of it.
     pub action: KeptAction,
     /// From which arrival at the server on a transfer wants its records, as a count of the arrivals before.
@@ -50,15 +50,15 @@ pub struct Entry {
 
 impl Entry {
     /// A station of which this is asked, while no transfer has begun.
-    pub fn new(place: usize, action: Option<Action>) -> Entry
-        ensures { result ≡ begun place action }
+    pub fn new(station: usize, action: Option<Action>) -> Entry
+        ensures { result ≡ begun station action }
     {
         Entry {
-            place,
+            station,
             action: KeptAction::of(action),
             first: 0,
             cursor: Cursor {
-                place: 0,
+                ring_place: 0,
                 ended: 0,
                 seen: 0,
                 stamp: 0,

@@ -59,22 +59,26 @@ fn set_index(indexes: &mut Vec<u8>, place: usize, index: u8)
 
 /// Where there can be one station alone at a place, with this index: whether there is.
 fn only_at(entries: &[Entry], place: usize, i: usize) -> Option<usize>
-    requires { (j : ℕ) (e : Entry) → slice_get entries.now j ≡ Some e → e.place ≡ place → j ≡ i }
-    ensures value { result ≡ position (λ e. e.place == place) entries.now }
+    requires { (j : ℕ) (e : Entry) → slice_get entries.now j ≡ Some e → e.station ≡ place → j ≡ i }
+    ensures value { result ≡ position (λ e. e.station == place) entries.now }
     ensures only { IfSome result (λ k. IsOnlyAt entries.now place k) }
 {
     if i >= entries.len() {
         return None;
     }
     let entry = &entries[i];
-    if entry.place == place { Some(i) } else { None }
+    if entry.station == place {
+        Some(i)
+    } else {
+        None
+    }
 }
 
 /// The index of the first station at a place.
 fn position_among(entries: &[Entry], place: usize) -> Option<usize>
-    ensures { result ≡ position (λ e. e.place == place) entries.now }
+    ensures { result ≡ position (λ e. e.station == place) entries.now }
 {
-    entries.iter().position(|entry| entry.place == place)
+    entries.iter().position(|entry| entry.station == place)
 }
 
 /// Named stations, in the order in which they were named. Memory for 255 of them is taken when they are made, and not
@@ -134,7 +138,7 @@ impl Entries {
     pub fn put(&mut self, place: usize, action: Option<Action>)
         requires room { length self.old.items < self.old.room }
         requires few { length self.old.items < 255 }
-        requires anew { (i : ℕ) (e : Entry) → slice_get self.old.items i ≡ Some e → e.place ≢ place }
+        requires anew { (i : ℕ) (e : Entry) → slice_get self.old.items i ≡ Some e → e.station ≢ place }
         ensures { self.new ≡ record self.old { items = self.old.items ++ begun place action ∷ [] } }
     {
         let i = self.entries.len();
@@ -201,7 +205,7 @@ impl Entries {
 
     /// The index of the first station at a place.
     pub fn position_at(&self, place: usize) -> Option<usize>
-        ensures { result ≡ position (λ e. e.place == place) self.now.items }
+        ensures { result ≡ position (λ e. e.station == place) self.now.items }
     {
         match self.indexes.get(place) {
             Some(i) => only_at(self.entries.as_slice(), place, usize::from(*i)),

@@ -62,7 +62,7 @@ fn position_among(entries: &Entries, config: &Config, place: usize) -> Option<us
     entries
         .as_slice()
         .iter()
-        .position(|entry| is_same_station(config, entry.place, place))
+        .position(|entry| is_same_station(config, entry.station, place))
 }
 
 /// Whether some station has an action.
@@ -185,7 +185,7 @@ impl Named {
 
     /// A station that was not named before becomes the current one, where there is room.
     fn add(&mut self, place: usize) -> Change
-        requires { (i : ℕ) (c : Choice) → slice_get self.old.choices i ≡ Some c → c.place ≢ place }
+        requires { (i : ℕ) (c : Choice) → slice_get self.old.choices i ≡ Some c → c.station ≢ place }
         ensures { (config : ProtocolConfig)
             → outcome_after result (NegotiatedMulti (choices_in config self.new.choices) self.new.current)
             ≡ choose_known (station_at config.entries place) (choices_in config self.old.choices) None }

@@ -36,14 +36,14 @@ mapped (x ∷ cs) (suc j) c at = mapped cs j c at
 pub others-looked : (rings : RingsValue) (next n i place : ℕ) (s : SessionValue) (x : Choice) (a : Action)
     (q : RingValue) → HasPassedAll rings next s → s.looked ≡ Some n
     → IsOnlyAt (map entry_of (chosen_of s.mode)) place i → slice_get (chosen_of s.mode) i ≡ Some x → x.action ≡ Some a
-    → slice_get rings.rings x.place ≡ Some q → q.pushes + n ≡ rings.arrivals + x.cursor.seen → (j : ℕ) (c : Choice)
+    → slice_get rings.rings x.station ≡ Some q → q.pushes + n ≡ rings.arrivals + x.cursor.seen → (j : ℕ) (c : Choice)
     → j ≢ i → slice_get (chosen_of s.mode) j ≡ Some c → HasLooked rings c
 others-looked rings next n i place s x a q passed kept only at asked there grown j c apart at_j =
     let since = passed.looked.since n kept in
     let own : Some only.entry ≡ Some (entry_of x) = sym only.at ∙ mapped (chosen_of s.mode) i x at in
-    let here : x.place ≡ place =
-    ap (λ (o : Option Entry). (unwrap_or o (entry_of x)).place) (sym own) ∙ only.there in
-    let other : x.place ≢ c.place = λ same.
+    let here : x.station ≡ place =
+    ap (λ (o : Option Entry). (unwrap_or o (entry_of x)).station) (sym own) ∙ only.there in
+    let other : x.station ≢ c.station = λ same.
     apart (only.only j (entry_of c) (mapped (chosen_of s.mode) j c at_j) (sym same ∙ here)) in
     record {
       seen = λ r b there_j asked_j.

@@ -102,12 +102,12 @@ leads-on config h a n q answer state none is_next is ends same =
 -- Of one named station and others.
 pub over-cons : (config : Config) (h : List Arrival) (c : Choice) (cs : List Choice)
     → list_all (is_over h) (filter_map (request_in config) (c ∷ cs))
-    ≡ (is_over_of h (station_at config.entries c.place) c.action
+    ≡ (is_over_of h (station_at config.entries c.station) c.action
     && list_all (is_over h) (filter_map (request_in config) cs))
 over-cons config h c cs = by c.action
   where
     by : (o : Option Action) → list_all (is_over h) (filter_map (request_in config) (record c { action = o } ∷ cs))
-        ≡ (is_over_of h (station_at config.entries c.place) o
+        ≡ (is_over_of h (station_at config.entries c.station) o
         && list_all (is_over h) (filter_map (request_in config) cs))
     by None = refl
     by (Some (Data number begin)) = refl
@@ -122,7 +122,7 @@ left-at cs i c low is = drop-cons cs i c low ∙ ap (λ y. y ∷ drop (suc i) cs
     ∙ ap (λ n. c ∷ drop n cs) (sym (add-one i))
 
 pub over-from : (config : Config) (h : List Arrival) (cs : List Choice) (i : ℕ) (c : Choice) (over : Bool)
-    → i < length cs → c ≡ get_or cs i c → over ≡ is_over_of h (station_at config.entries c.place) c.action
+    → i < length cs → c ≡ get_or cs i c → over ≡ is_over_of h (station_at config.entries c.station) c.action
     → list_all (is_over h) (filter_map (request_in config) (drop i cs))
     ≡ (over && list_all (is_over h) (filter_map (request_in config) (drop (i + 1) cs)))
 over-from config h cs i c over low is e =

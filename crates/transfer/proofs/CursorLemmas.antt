@@ -77,11 +77,11 @@ Finds r place c next found = (x : Held) → held_at r place ≡ Some x → found
 
 -- What lies before the oldest record is passed.
 pub passed-raised : (r : RingValue) (next : ℕ) (c : Choice) (start oldest : ℕ) → IsRing r → Some oldest ≡ oldest_place r
-    → start ≡ max c.cursor.place oldest → HasPassed r next c c.cursor
+    → start ≡ max c.cursor.ring_place oldest → HasPassed r next c c.cursor
     → HasPassed r next c (at_place start c.cursor.ended)
 passed-raised r next c start oldest holds is raised so_far =
     let first : oldest ≡ first_place r = oldest-first r oldest is in
-    let old : (place : ℕ) (x : Held) → place < start → held_at r place ≡ Some x → place < c.cursor.place =
+    let old : (place : ℕ) (x : Held) → place < start → held_at r place ≡ Some x → place < c.cursor.ring_place =
     λ place x low there. omega (arith, (held_at-low r place x there).0, raised, first) in
     record {
       within = omega (arith, so_far.within, raised, first);
@@ -145,14 +145,14 @@ none-next r place holds past = by (held_at r place) refl
 
 -- a cursor at a place of its ring, that was just looked at, by the stamp of the record there
 abbrev pub at_record : RingValue → (place ended stamp : ℕ) → Cursor
-at_record r place ended stamp = record { place = place; ended = ended; seen = r.pushes; stamp = stamp }
+at_record r place ended stamp = record { ring_place = place; ended = ended; seen = r.pushes; stamp = stamp }
 
 -- one that has passed all
 abbrev pub at_end : RingValue → ℕ → Cursor
-at_end r ended = record { place = r.pushes; ended = ended; seen = r.pushes; stamp = 0 }
+at_end r ended = record { ring_place = r.pushes; ended = ended; seen = r.pushes; stamp = 0 }
 
 -- What a request has passed is told by a cursor's place, and by the place before which lies what starts after the end.
-passed-looked : (r : RingValue) (next : ℕ) (c : Choice) (place ended : ℕ) (k : Cursor) → k.place ≡ place
+passed-looked : (r : RingValue) (next : ℕ) (c : Choice) (place ended : ℕ) (k : Cursor) → k.ring_place ≡ place
     → k.ended ≡ ended → HasPassed r next c (at_place place ended) → HasPassed r next c k
 passed-looked r next c place ended k there is so_far = record {
   within = omega (arith, so_far.within, there);
@@ -202,7 +202,7 @@ pub rests-empty : (r : RingValue) (next : ℕ) (c : Choice) → IsRing r → Non
 rests-empty r next c holds none so_far =
     let nothing = holds-nothing r none in
     let pushes : r.pushes ≡ 0 = omega (arith, holds.count, holds.some_capacity) in
-    let passed : HasPassed r next c (at_place c.cursor.place c.cursor.ended) =
+    let passed : HasPassed r next c (at_place c.cursor.ring_place c.cursor.ended) =
     record {
       within = so_far.within;
       unwanted = so_far.unwanted;
@@ -210,7 +210,7 @@ rests-empty r next c holds none so_far =
       before = so_far.before;
       after = so_far.after;
     } in
-    rests-end r next c c.cursor.place c.cursor.ended holds (omega arith) passed
+    rests-end r next c c.cursor.ring_place c.cursor.ended holds (omega arith) passed
 
 -- ---- the record at a cursor
 
@@ -224,10 +224,10 @@ skips f (y ∷ xs) (suc n) none =
 
 -- So far nothing was found before the cursor.
 rests-scan : (r : RingValue) (next : ℕ) (c : Choice) (k : Cursor) → RestsAt r next c k
-    → Scans (wants_held c next) r k.place
+    → Scans (wants_held c next) r k.ring_place
 rests-scan r next c k rests = record {
   low = rests.low;
-  rest = skips (wants_held c next) r.held (k.place - first_place r) (λ i x low e.
+  rest = skips (wants_held c next) r.held (k.ring_place - first_place r) (λ i x low e.
       let at : held_at r (first_place r + i) ≡ Some x =
       let test : nat_le (first_place r) (first_place r + i) ≡ true = grind (arith, nat_tests) in
       let index : first_place r + i - first_place r ≡ i = omega arith in
@@ -236,30 +236,30 @@ rests-scan r next c k rests = record {
 }
 
 pub cursor-some : (r : RingValue) (next : ℕ) (c : Choice) (k : Cursor) (x : Held) → RestsAt r next c k
-    → Some x ≡ held_at r k.place → Some x.stamp ≡ option_map (λ y. y.stamp) (find (wants_held c next) r.held)
+    → Some x ≡ held_at r k.ring_place → Some x.stamp ≡ option_map (λ y. y.stamp) (find (wants_held c next) r.held)
 cursor-some r next c k x rests there =
     sym
     (ap (option_map (λ (y : Held). y.stamp))
-    (scans-found (wants_held c next) r k.place x (sym there) (rests.wanted x (sym there))
+    (scans-found (wants_held c next) r k.ring_place x (sym there) (rests.wanted x (sym there))
     (rests-scan r next c k rests)))
 
 pub cursor-end : (r : RingValue) (next : ℕ) (c : Choice) (k : Cursor) → IsRing r → RestsAt r next c k
-    → None ≡ held_at r k.place → k.place ≡ r.pushes
+    → None ≡ held_at r k.ring_place → k.ring_place ≡ r.pushes
 cursor-end r next c k holds rests none =
-    both (nat_le r.pushes k.place)
-    (λ y. let over : r.pushes ≤ k.place = grind (arith, nat_tests) in omega (arith, rests.passed.within))
+    both (nat_le r.pushes k.ring_place)
+    (λ y. let over : r.pushes ≤ k.ring_place = grind (arith, nat_tests) in omega (arith, rests.passed.within))
     (λ n. absurd (
-    let under : k.place < r.pushes = grind (arith, nat_tests) in
-    let x = there-at r k.place rests.low under in
+    let under : k.ring_place < r.pushes = grind (arith, nat_tests) in
+    let x = there-at r k.ring_place rests.low under in
     let some : None ≡ Some (x.0) = none ∙ x.1 in cc))
 
 pub cursor-none : (r : RingValue) (next : ℕ) (c : Choice) (k : Cursor) → IsRing r → RestsAt r next c k
-    → None ≡ held_at r k.place → None ≡ option_map (λ y. y.stamp) (find (wants_held c next) r.held)
+    → None ≡ held_at r k.ring_place → None ≡ option_map (λ y. y.stamp) (find (wants_held c next) r.held)
 cursor-none r next c k holds rests none =
-    let end : k.place ≡ r.pushes = cursor-end r next c k holds rests none in
+    let end : k.ring_place ≡ r.pushes = cursor-end r next c k holds rests none in
     sym
     (ap (option_map (λ (y : Held). y.stamp))
-    (scans-none (wants_held c next) r k.place holds (omega arith) (rests-scan r next c k rests)))
+    (scans-none (wants_held c next) r k.ring_place holds (omega arith) (rests-scan r next c k rests)))
 
 late-of : (q s : ℕ) (rest : Bool) → (nat_le q s && rest) ≡ true → q ≤ s
 late-of q s rest e = both (nat_le q s) (λ y. grind (arith, nat_tests))
@@ -267,7 +267,7 @@ late-of q s rest e = both (nat_le q s) (λ y. grind (arith, nat_tests))
 
 -- A record that is wanted came no earlier than may still be sent.
 pub cursor-late : (r : RingValue) (next : ℕ) (c : Choice) (k : Cursor) (x : Held) → RestsAt r next c k
-    → Some x ≡ held_at r k.place → next ≤ x.stamp
+    → Some x ≡ held_at r k.ring_place → next ≤ x.stamp
 cursor-late r next c k x rests there = late-of next x.stamp _ (rests.wanted x (sym there))
 
 -- ---- the end of TIME
@@ -285,7 +285,7 @@ held-index r i x e =
 
 -- No record that is held starts after the end, where all those that do were passed before the oldest.
 pub end-none : (r : RingValue) (next : ℕ) (c : Choice) → IsRing r → c.cursor.ended ≤ first_place r
-    → HasPassed r next c c.cursor → c.cursor.place ≡ r.pushes → false ≡ list_any (is_after_end c.action) r.held
+    → HasPassed r next c c.cursor → c.cursor.ring_place ≡ r.pushes → false ≡ list_any (is_after_end c.action) r.held
 end-none r next c holds low passed all = sym (none-says (is_after_end c.action) r.held (λ i x e.
     both (is_after_end c.action x)
     (λ y.
@@ -307,7 +307,7 @@ end-held r next c holds high passed =
 
 -- Whether it is held.
 pub end-past : (r : RingValue) (next : ℕ) (c : Choice) (oldest : ℕ) → IsRing r → Some oldest ≡ oldest_place r
-    → HasPassed r next c c.cursor → c.cursor.place ≡ r.pushes
+    → HasPassed r next c c.cursor → c.cursor.ring_place ≡ r.pushes
     → nat_lt oldest c.cursor.ended ≡ list_any (is_after_end c.action) r.held
 end-past r next c oldest holds is passed all =
     let first : oldest ≡ first_place r = oldest-first r oldest is in

@@ -51,10 +51,10 @@ item-is (x ∷ cs) (suc i) c e = item-is cs i c e
 
 -- What a fresh entry tells of its station.
 pub fresh-entry : (rings : RingsValue) (next : ℕ) (c : Choice) (r : RingValue) (e : Entry) → entry_of c ≡ e
-    → slice_get rings.rings e.place ≡ Some r → e.cursor.seen ≡ r.pushes → is_unsent next (ahead_of e.cursor) ≡ true
+    → slice_get rings.rings e.station ≡ Some r → e.cursor.seen ≡ r.pushes → is_unsent next (ahead_of e.cursor) ≡ true
     → PassedIn rings next c → RestsIn rings next c
 fresh-entry rings next c r e same =
-    subst (λ (y : Entry). slice_get rings.rings y.place ≡ Some r → y.cursor.seen ≡ r.pushes
+    subst (λ (y : Entry). slice_get rings.rings y.station ≡ Some r → y.cursor.seen ≡ r.pushes
     → is_unsent next (ahead_of y.cursor) ≡ true → PassedIn rings next c → RestsIn rings next c) same
     (fresh-rests rings next c r)
 
@@ -63,7 +63,7 @@ pub looked-rests : (rings : RingsValue) (next : ℕ) (c : Choice) (e : Entry) �
     → is_unsent next (ahead_of e.cursor) ≡ true → HasLooked rings c → PassedIn rings next c → RestsIn rings next c
 looked-rests rings next c e same unsent looked passed = by_action c.action refl
   where
-    by_ring : (a : Action) (o : Option RingValue) → c.action ≡ Some a → slice_get rings.rings c.place ≡ o
+    by_ring : (a : Action) (o : Option RingValue) → c.action ≡ Some a → slice_get rings.rings c.station ≡ o
         → RestsIn rings next c
     by_ring a None asked there = rests-nowhere rings next c there (looked.nowhere there)
     by_ring a (Some r) asked there = fresh-rests rings next c r there (looked.seen r a there asked)
@@ -71,7 +71,7 @@ looked-rests rings next c e same unsent looked passed = by_action c.action refl
 
     by_action : (o : Option Action) → c.action ≡ o → RestsIn rings next c
     by_action None none = rests-nothing rings next c none (passed.quiet none)
-    by_action (Some a) asked = by_ring a (slice_get rings.rings c.place) asked refl
+    by_action (Some a) asked = by_ring a (slice_get rings.rings c.station) asked refl
 
 -- the named station at an index is one alone
 pub same-choice : (cs : List Choice) (i : ℕ) (c d : Choice) → slice_get cs i ≡ Some c → slice_get cs i ≡ Some d → c ≡ d

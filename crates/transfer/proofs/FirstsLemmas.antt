@@ -31,18 +31,18 @@ use Rattle.transfer.proofs.SleepLemmas.{nothing-of-none, nothing-of-nowhere, not
 -- The record that a cursor tells of, where its request rests.
 pub record AheadIn (rings : RingsValue) (q : ℕ) (c : Choice) (stamp : ℕ) : Type 0 where
   pub ring : RingValue
-  pub there : slice_get rings.rings c.place ≡ Some ring
+  pub there : slice_get rings.rings c.station ≡ Some ring
   pub rests : RestsAt ring q c c.cursor
   pub item : Held
-  pub held : held_at ring c.cursor.place ≡ Some item
+  pub held : held_at ring c.cursor.ring_place ≡ Some item
   pub is : item.stamp ≡ stamp
 
 pub where-ahead : (rings : RingsValue) (q : ℕ) (c : Choice) (stamp : ℕ) → RestsIn rings q c
     → ahead_of c.cursor ≡ Some stamp → AheadIn rings q c stamp
 where-ahead rings q c stamp rests told = by_action c.action refl
   where
-    by_item : (r : RingValue) (at : slice_get rings.rings c.place ≡ Some r) (rest : RestsAt r q c c.cursor)
-        (o : Option Held) → held_at r c.cursor.place ≡ o → AheadIn rings q c stamp
+    by_item : (r : RingValue) (at : slice_get rings.rings c.station ≡ Some r) (rest : RestsAt r q c c.cursor)
+        (o : Option Held) → held_at r c.cursor.ring_place ≡ o → AheadIn rings q c stamp
     by_item r at rest None none = absurd (let t : None ≡ Some stamp = ap (option_map (λ (x : Held). x.stamp)) (sym none)
         ∙ (sym rest.ahead ∙ told) in cc)
     by_item r at rest (Some x) held =
@@ -50,22 +50,22 @@ where-ahead rings q c stamp rests told = by_action c.action refl
         ∙ (sym rest.ahead ∙ told) in
         record { ring = r; there = at; rests = rest; item = x; held = held; is = cc }
 
-    by_ring : (a : Action) → c.action ≡ Some a → (o : Option RingValue) → slice_get rings.rings c.place ≡ o
+    by_ring : (a : Action) → c.action ≡ Some a → (o : Option RingValue) → slice_get rings.rings c.station ≡ o
         → AheadIn rings q c stamp
     by_ring a asked None none = absurd (let t : None ≡ Some stamp = sym (rests.nowhere none) ∙ told in cc)
     by_ring a asked (Some r) at = let rest =
-        rests.rests r a at asked in by_item r at rest (held_at r c.cursor.place) refl
+        rests.rests r a at asked in by_item r at rest (held_at r c.cursor.ring_place) refl
 
     by_action : (o : Option Action) → c.action ≡ o → AheadIn rings q c stamp
     by_action None none = absurd (let t : None ≡ Some stamp = sym (rests.quiet none) ∙ told in cc)
-    by_action (Some a) asked = by_ring a asked (slice_get rings.rings c.place) refl
+    by_action (Some a) asked = by_ring a asked (slice_get rings.rings c.station) refl
 
 -- The record at the cursor is the first that the request wants.
 ahead-is : (r : RingValue) (q : ℕ) (c : Choice) → RestsAt r q c c.cursor
     → ahead_of c.cursor ≡ option_map (λ x. x.stamp) (find (wants_held c q) r.held)
-ahead-is r q c rest = rest.ahead ∙ by (held_at r c.cursor.place) refl
+ahead-is r q c rest = rest.ahead ∙ by (held_at r c.cursor.ring_place) refl
   where
-    by : (o : Option Held) → held_at r c.cursor.place ≡ o
+    by : (o : Option Held) → held_at r c.cursor.ring_place ≡ o
         → option_map (λ x. x.stamp) o ≡ option_map (λ x. x.stamp) (find (wants_held c q) r.held)
     by None none = cursor-none r q c c.cursor rest.holding rest (sym none)
     by (Some x) held = cursor-some r q c c.cursor x rest (sym held)
@@ -75,7 +75,7 @@ comes : (rings : RingsValue) (c : Choice) (q : ℕ) → RestsIn rings q c → (c
 comes rings c q rests config h holds = by (is_some c.action) refl
   where
     there : is_some c.action ≡ true → (a : Action) → c.action ≡ Some a → (o : Option RingValue)
-        → slice_get rings.rings c.place ≡ o → ahead_of c.cursor ≡ next h (filter_map (request_in config) (c ∷ [])) q
+        → slice_get rings.rings c.station ≡ o → ahead_of c.cursor ≡ next h (filter_map (request_in config) (c ∷ [])) q
     there some a asked None none = rests.nowhere none ∙ nowhere-comes walk_all config c h rings q some holds none
     there some a asked (Some r) at = ahead-is r q c (rests.rests r a at asked)
         ∙ first-comes walk_all config c h rings r q some holds at
@@ -83,7 +83,7 @@ comes rings c q rests config h holds = by (is_some c.action) refl
     by : (b : Bool) → is_some c.action ≡ b → ahead_of c.cursor ≡ next h (filter_map (request_in config) (c ∷ [])) q
     by false none = rests.quiet (asked-none c.action none) ∙ nothing-asked config c h q none
     by true some = let asked = asked-some c.action some in there some asked.0 asked.1
-        (slice_get rings.rings c.place) refl
+        (slice_get rings.rings c.station) refl
 
 late : (rings : RingsValue) (c : Choice) (q stamp : ℕ) → RestsIn rings q c → ahead_of c.cursor ≡ Some stamp → q ≤ stamp
 late rings c q stamp rests told =
@@ -94,8 +94,8 @@ nothing : (rings : RingsValue) (c : Choice) (q : ℕ) → RestsIn rings q c → 
     → HasNothing rings q c
 nothing rings c q rests none = by_action c.action refl
   where
-    by_item : (r : RingValue) → slice_get rings.rings c.place ≡ Some r → RestsAt r q c c.cursor → (o : Option Held)
-        → held_at r c.cursor.place ≡ o → HasNothing rings q c
+    by_item : (r : RingValue) → slice_get rings.rings c.station ≡ Some r → RestsAt r q c c.cursor → (o : Option Held)
+        → held_at r c.cursor.ring_place ≡ o → HasNothing rings q c
     by_item r at rest None empty =
         nothing-of-ring rings q c r at (cursor-end r q c c.cursor rest.holding rest (sym empty))
         (cursor-none r q c c.cursor rest.holding rest (sym empty))
@@ -103,14 +103,14 @@ nothing rings c q rests none = by_action c.action refl
         absurd (let t : Some x.stamp ≡ None = ap (option_map (λ (x : Held). x.stamp)) (sym held)
         ∙ (sym rest.ahead ∙ none) in cc)
 
-    by_ring : (a : Action) → c.action ≡ Some a → (o : Option RingValue) → slice_get rings.rings c.place ≡ o
+    by_ring : (a : Action) → c.action ≡ Some a → (o : Option RingValue) → slice_get rings.rings c.station ≡ o
         → HasNothing rings q c
     by_ring a asked None nowhere = nothing-of-nowhere rings q c nowhere
-    by_ring a asked (Some r) at = by_item r at (rests.rests r a at asked) (held_at r c.cursor.place) refl
+    by_ring a asked (Some r) at = by_item r at (rests.rests r a at asked) (held_at r c.cursor.ring_place) refl
 
     by_action : (o : Option Action) → c.action ≡ o → HasNothing rings q c
     by_action None unasked = nothing-of-none rings q c unasked
-    by_action (Some a) asked = by_ring a asked (slice_get rings.rings c.place) refl
+    by_action (Some a) asked = by_ring a asked (slice_get rings.rings c.station) refl
 
 -- ---- so many requests
 
@@ -202,10 +202,11 @@ told-ahead rings choices i stamp q c rests ahead is =
 
 -- What is found in the ring is the record that the cursor tells of.
 pub ahead-ring : (rings : RingsValue) (q : ℕ) (c : Choice) (stamp : ℕ) (r : RingValue) → AheadIn rings q c stamp
-    → Some r ≡ slice_get rings.rings c.place → (x : Held) × (held_at r c.cursor.place ≡ Some x) × (x.stamp ≡ stamp)
+    → Some r ≡ slice_get rings.rings c.station
+    → (x : Held) × (held_at r c.cursor.ring_place ≡ Some x) × (x.stamp ≡ stamp)
 ahead-ring rings q c stamp r ahead there =
     let same : ahead.ring ≡ r = (let t : Some ahead.ring ≡ Some r = sym ahead.there ∙ sym there in cc) in
-    (ahead.item, ap (λ (y : RingValue). held_at y c.cursor.place) (sym same) ∙ ahead.held, ahead.is)
+    (ahead.item, ap (λ (y : RingValue). held_at y c.cursor.ring_place) (sym same) ∙ ahead.held, ahead.is)
 
 -- ---- a request that has nothing new in its ring
 
@@ -217,12 +218,13 @@ unsent-late next (Some a) stamp e told =
     let le : next ≤ a = grind (arith, nat_tests) in
     omega arith
 
-pub fresh-rests : (rings : RingsValue) (next : ℕ) (c : Choice) (r : RingValue) → slice_get rings.rings c.place ≡ Some r
-    → c.cursor.seen ≡ r.pushes → is_unsent next (ahead_of c.cursor) ≡ true → PassedIn rings next c
+pub fresh-rests : (rings : RingsValue) (next : ℕ) (c : Choice) (r : RingValue)
+    → slice_get rings.rings c.station ≡ Some r → c.cursor.seen ≡ r.pushes
+    → is_unsent next (ahead_of c.cursor) ≡ true → PassedIn rings next c
     → RestsIn rings next c
 fresh-rests rings next c r there same unsent passed = record {
   rests = λ x action at asked.
-      let ring : r ≡ x = same-ring r x (slice_get rings.rings c.place) there at in
+      let ring : r ≡ x = same-ring r x (slice_get rings.rings c.station) there at in
       let has = passed.passed x action at asked in
       let seen : c.cursor.seen ≡ x.pushes = same ∙ ap (λ (y : RingValue). y.pushes) ring in
       let fresh = has.fresh seen in

@@ -74,30 +74,32 @@ none-held h on_held = ap (find on_held) (all-dropped (arrivals_of nowhere 0 h))
     all-dropped xs = drop_all (length xs - 0) xs (omega arith)
 
 pub nowhere-comes : HeldInTheRing → (config : Config) (c : Choice) (h : List Arrival) (rings : RingsValue) (q : ℕ)
-    → is_some c.action ≡ true → rings ≡ holdings_of config h → slice_get rings.rings c.place ≡ None
+    → is_some c.action ≡ true → rings ≡ holdings_of config h → slice_get rings.rings c.station ≡ None
     → None ≡ next h (filter_map (request_in config) (c ∷ [])) q
 nowhere-comes law config c h rings q some holds none =
     let some_action = asked-some c.action some in
     let action : Action = some_action.0 in
     let asked : c.action ≡ Some action = some_action.1 in
-    let e : station_at config.entries c.place ≡ nowhere = station_is_nowhere config h c.place rings holds (sym none) in
+    let e : station_at config.entries c.station ≡ nowhere =
+    station_is_nowhere config h c.station rings holds (sym none) in
     sym (ap (λ rs. next h rs q) (asked-one config c action asked)
-    ∙ next-one config c action h q asked (law (station_at config.entries c.place) h)
+    ∙ next-one config c action h q asked (law (station_at config.entries c.station) h)
     ∙ ap (λ s. option_map (λ x. x.stamp) (find (wants_held c q) (ring_of s h).held)) e
     ∙ ap (option_map (λ x. x.stamp)) (none-held h (wants_held c q)))
 
 pub first-comes : HeldInTheRing
     → (config : Config) (c : Choice) (h : List Arrival) (rings : RingsValue) (r : RingValue) (q : ℕ)
-    → is_some c.action ≡ true → rings ≡ holdings_of config h → slice_get rings.rings c.place ≡ Some r
+    → is_some c.action ≡ true → rings ≡ holdings_of config h → slice_get rings.rings c.station ≡ Some r
     → option_map (λ x. x.stamp) (find (wants_held c q) r.held) ≡ next h (filter_map (request_in config) (c ∷ [])) q
 first-comes law config c h rings r q some holds there =
     let some_action = asked-some c.action some in
     let action : Action = some_action.0 in
     let asked : c.action ≡ Some action = some_action.1 in
-    let e : r ≡ ring_of (station_at config.entries c.place) h = ring_is config h c.place rings r holds (sym there) in
+    let e : r ≡ ring_of (station_at config.entries c.station) h =
+    ring_is config h c.station rings r holds (sym there) in
     ap (λ (x : RingValue). option_map (λ y. y.stamp) (find (wants_held c q) x.held)) e
     ∙ sym (ap (λ rs. next h rs q) (asked-one config c action asked)
-    ∙ next-one config c action h q asked (law (station_at config.entries c.place) h))
+    ∙ next-one config c action h q asked (law (station_at config.entries c.station) h))
 
 -- ---- of more stations
 

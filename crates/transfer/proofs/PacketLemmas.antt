@@ -68,9 +68,9 @@ packet-by config h k p a distinct within of_it (c ∷ cs) e =
         ≡ packet (number_at (station_at config.entries k) h p) a.bytes
     by None rest q = rest q
     by (Some action) rest q =
-        both (is_of (station_at config.entries c.place) a)
+        both (is_of (station_at config.entries c.station) a)
         (λ y. rw y
-        (ap (λ s. packet (number_at s h p) a.bytes) (one-place config.entries distinct c.place k a within y of_it)))
+        (ap (λ s. packet (number_at s h p) a.bytes) (one-place config.entries distinct c.station k a within y of_it)))
         (λ n. rw n (rest (rw n at q)))
 
 -- The packet of what comes next.

@@ -169,7 +169,7 @@ grown-one : (before after : RingsValue) (next : ℕ) (c : Choice) → AllGrow be
     → PassedIn before next c → PassedIn after next c
 grown-one before after next c grow passed = record {
   passed = λ r action there asked.
-      let was = grow c.place r there in
+      let was = grow c.station r there in
       let seen = passed.passed was.ring action was.is_there asked in
       let old = seen.passed in
       record {
@@ -198,12 +198,13 @@ grown-since : (before after : RingsValue) (n : ℕ) (cs : List Choice) → AllGr
     → HaveLookedAt after n cs
 grown-since before after n cs grow by_one more since = record {
   two = λ i j c d q r a b at_i at_j apart there_i there_j asked_i asked_j.
-      let one = grow c.place q there_i in
-      let other = grow d.place r there_j in
+      let one = grow c.station q there_i in
+      let other = grow d.station r there_j in
       let old = since.two i j c d one.ring other.ring a b at_i at_j apart one.is_there other.is_there asked_i asked_j in
-      let now = by_one.two c.place d.place one.ring q other.ring r apart one.is_there there_i other.is_there there_j in
+      let now = by_one.two c.station d.station one.ring q other.ring r apart one.is_there there_i other.is_there
+      there_j in
       omega arith;
-  nowhere = λ i c at none. since.nowhere i c at (by_one.nowhere c.place none);
+  nowhere = λ i c at none. since.nowhere i c at (by_one.nowhere c.station none);
 }
 
 -- What was passed stays so while records arrive: they come behind each cursor. What was kept of the last look tells of
@@ -251,9 +252,9 @@ one-more P i cursor a n c passes at true_there all j x there = both (j == i)
 record Was (rings : RingsValue) (a : SessionValue) (j : ℕ) (x : Choice) : Type 0 where
   choice : Choice
   at : slice_get (chosen_of a.mode) j ≡ Some choice
-  place : choice.place ≡ x.place
+  station : choice.station ≡ x.station
   action : choice.action ≡ x.action
-  seen : (r : RingValue) (action : Action) → slice_get rings.rings x.place ≡ Some r → x.action ≡ Some action
+  seen : (r : RingValue) (action : Action) → slice_get rings.rings x.station ≡ Some r → x.action ≡ Some action
       → choice.cursor.seen ≤ x.cursor.seen
 
 was : (rings : RingsValue) (next i : ℕ) (cursor : Cursor) (a n : SessionValue) (c : Choice) → Passes i cursor a n
@@ -268,7 +269,7 @@ was rings next i cursor a n c passes at old rest j x there = both (j == i)
     subst (Was rings a j) same (record {
       choice = c;
       at = ap (slice_get (chosen_of a.mode)) here ∙ at;
-      place = refl;
+      station = refl;
       action = refl;
       seen = λ r action ring asked.
           let before = (old.passed r action ring asked).seen in
@@ -279,7 +280,7 @@ was rings next i cursor a n c passes at old rest j x there = both (j == i)
     record {
       choice = x;
       at = sym (passes.others j apart) ∙ there;
-      place = refl;
+      station = refl;
       action = refl;
       seen = λ r action ring asked. omega arith;
     })
@@ -294,12 +295,12 @@ one-since rings next i cursor a n c k passes at old rest since = record {
       let one = was rings next i cursor a n c passes at old rest l x at_l in
       let other = was rings next i cursor a n c passes at old rest m y at_m in
       let before = since.two l m one.choice other.choice q r e f one.at other.at
-      (λ same. apart (sym one.place ∙ same ∙ other.place)) (ap (slice_get rings.rings) one.place ∙ there_l)
-      (ap (slice_get rings.rings) other.place ∙ there_m) (one.action ∙ asked_l) (other.action ∙ asked_m) in
+      (λ same. apart (sym one.station ∙ same ∙ other.station)) (ap (slice_get rings.rings) one.station ∙ there_l)
+      (ap (slice_get rings.rings) other.station ∙ there_m) (one.action ∙ asked_l) (other.action ∙ asked_m) in
       let less = one.seen q e there_l asked_l in
       let fewer = other.seen r f there_m asked_m in
       omega arith;
-  nowhere = one-more (λ x. slice_get rings.rings x.place ≡ None → ahead_of x.cursor ≡ None) i cursor a n c passes at
+  nowhere = one-more (λ x. slice_get rings.rings x.station ≡ None → ahead_of x.cursor ≡ None) i cursor a n c passes at
       rest.nowhere since.nowhere;
 }
 

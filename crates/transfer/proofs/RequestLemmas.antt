@@ -9,7 +9,7 @@ use Rattle.transfer.specs.Cursors.{entry_cursors, request_cursors}
 -- the cursors of named stations by their entries
 pub cursors-entries : (cs : List Choice) → request_cursors cs ≡ entry_cursors (map entry_of cs)
 cursors-entries [] = refl
-cursors-entries (c ∷ cs) = ap (λ xs. if is_some c.action then c.cursor.place ∷ xs else xs) (cursors-entries cs)
+cursors-entries (c ∷ cs) = ap (λ xs. if is_some c.action then c.cursor.ring_place ∷ xs else xs) (cursors-entries cs)
 
 -- an entry of the list, and those after it
 left-at : (es : List Entry) (i : ℕ) (e : Entry) → i < length es → e ≡ get_or es i e → drop i es ≡ e ∷ drop (i + 1) es
@@ -19,21 +19,22 @@ left-at es i e low is = drop-cons es i e low ∙ ap (λ y. y ∷ drop (suc i) es
 -- the rest, by the next named station
 pub cursors-from : (es : List Entry) (i : ℕ) (e : Entry) → i < length es → e ≡ get_or es i e
     → entry_cursors (drop i es)
-    ≡ (if is_some e.action then e.cursor.place ∷ entry_cursors (drop (i + 1) es) else entry_cursors (drop (i + 1) es))
+    ≡ (if is_some e.action then e.cursor.ring_place ∷ entry_cursors (drop (i + 1) es)
+    else entry_cursors (drop (i + 1) es))
 cursors-from es i e low is = ap entry_cursors (left-at es i e low is)
 
 -- It is a request.
 pub cursors-request : (es : List Entry) (i : ℕ) (e : Entry) → i < length es → e ≡ get_or es i e
-    → true ≡ is_some e.action → entry_cursors (drop i es) ≡ e.cursor.place ∷ entry_cursors (drop (i + 1) es)
+    → true ≡ is_some e.action → entry_cursors (drop i es) ≡ e.cursor.ring_place ∷ entry_cursors (drop (i + 1) es)
 cursors-request es i e low is asked = cursors-from es i e low is
-    ∙ ap (λ b. if b then e.cursor.place ∷ entry_cursors (drop (i + 1) es) else entry_cursors (drop (i + 1) es))
+    ∙ ap (λ b. if b then e.cursor.ring_place ∷ entry_cursors (drop (i + 1) es) else entry_cursors (drop (i + 1) es))
     (sym asked)
 
 -- It is none.
 pub cursors-other : (es : List Entry) (i : ℕ) (e : Entry) → i < length es → e ≡ get_or es i e → false ≡ is_some e.action
     → entry_cursors (drop i es) ≡ entry_cursors (drop (i + 1) es)
 cursors-other es i e low is asked = cursors-from es i e low is
-    ∙ ap (λ b. if b then e.cursor.place ∷ entry_cursors (drop (i + 1) es) else entry_cursors (drop (i + 1) es))
+    ∙ ap (λ b. if b then e.cursor.ring_place ∷ entry_cursors (drop (i + 1) es) else entry_cursors (drop (i + 1) es))
     (sym asked)
 
 -- The item that is looked for, past a first one.

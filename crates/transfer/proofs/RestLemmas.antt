@@ -20,10 +20,10 @@ pub same-ring : (a b : RingValue) (o : Option RingValue) → o ≡ Some a → o 
 same-ring a b o e f = let t : Some a ≡ Some b = sym e ∙ f in cc
 
 pub rests-ring : (rings : RingsValue) (next : ℕ) (c : Choice) (r : RingValue) (a : Action) → c.action ≡ Some a
-    → slice_get rings.rings c.place ≡ Some r → RestsAt r next c c.cursor → RestsIn rings next c
+    → slice_get rings.rings c.station ≡ Some r → RestsAt r next c c.cursor → RestsIn rings next c
 rests-ring rings next c r a asks there rests = record {
   rests = λ x action at asked. subst (λ (y : RingValue). RestsAt y next c c.cursor)
-      (same-ring r x (slice_get rings.rings c.place) there at) rests;
+      (same-ring r x (slice_get rings.rings c.station) there at) rests;
   quiet = λ none. absurd (let t : None ≡ Some a = sym none ∙ asks in cc);
   nowhere = λ none. absurd (let t : None ≡ Some r = sym none ∙ there in cc);
 }
@@ -54,7 +54,7 @@ rests-nothing rings next c none quiet = record {
   nowhere = λ e. quiet;
 }
 
-pub rests-nowhere : (rings : RingsValue) (next : ℕ) (c : Choice) → slice_get rings.rings c.place ≡ None
+pub rests-nowhere : (rings : RingsValue) (next : ℕ) (c : Choice) → slice_get rings.rings c.station ≡ None
     → ahead_of c.cursor ≡ None → RestsIn rings next c
 rests-nowhere rings next c none quiet = record {
   rests = λ x action at asked. absurd (let t : None ≡ Some x = sym none ∙ at in cc);
@@ -66,16 +66,16 @@ pub reached-nothing : (rings : RingsValue) (c : Choice) → c.action ≡ None �
 reached-nothing rings c none =
     record { reached = λ x action at asked. absurd (let t : None ≡ Some action = sym none ∙ asked in cc) }
 
-pub reached-nowhere : (rings : RingsValue) (c : Choice) → slice_get rings.rings c.place ≡ None → IsReached rings c
+pub reached-nowhere : (rings : RingsValue) (c : Choice) → slice_get rings.rings c.station ≡ None → IsReached rings c
 reached-nowhere rings c none =
     record { reached = λ x action at asked. absurd (let t : None ≡ Some x = sym none ∙ at in cc) }
 
-pub reached-ring : (rings : RingsValue) (c : Choice) (r : RingValue) → slice_get rings.rings c.place ≡ Some r
-    → c.cursor.place ≡ r.pushes → IsReached rings c
+pub reached-ring : (rings : RingsValue) (c : Choice) (r : RingValue) → slice_get rings.rings c.station ≡ Some r
+    → c.cursor.ring_place ≡ r.pushes → IsReached rings c
 reached-ring rings c r there end =
     record {
-      reached = λ x action at asked. subst (λ (y : RingValue). c.cursor.place ≡ y.pushes)
-          (same-ring r x (slice_get rings.rings c.place) there at) end;
+      reached = λ x action at asked. subst (λ (y : RingValue). c.cursor.ring_place ≡ y.pushes)
+          (same-ring r x (slice_get rings.rings c.station) there at) end;
     }
 
 -- ---- all requests, one after the other

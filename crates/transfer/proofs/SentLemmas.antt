@@ -48,31 +48,32 @@ same-held r place x y one other = let t : Some y ≡ Some x = sym other ∙ one 
 
 -- What a request has passed once its record ahead was sent: that one too.
 sent-passed : (r : RingValue) (q next : ℕ) (c : Choice) (x : Held) → q ≤ x.stamp → x.stamp < next
-    → held_at r c.cursor.place ≡ Some x → RestsAt r q c c.cursor
-    → HasPassed r next c (at_place (c.cursor.place + 1) c.cursor.ended)
+    → held_at r c.cursor.ring_place ≡ Some x → RestsAt r q c c.cursor
+    → HasPassed r next c (at_place (c.cursor.ring_place + 1) c.cursor.ended)
 sent-passed r q next c x late sent there rest = record {
-  within = let high : c.cursor.place < r.pushes = held_at-high r c.cursor.place x rest.holding there in omega arith;
-  unwanted = λ p y low held. both (p == c.cursor.place)
-      (λ e. let here : p ≡ c.cursor.place = grind (arith, nat_tests) in
-      let same : y ≡ x = same-held r c.cursor.place x y there (ap (held_at r) (sym here) ∙ held) in
+  within = let high : c.cursor.ring_place < r.pushes = held_at-high r c.cursor.ring_place x rest.holding there in
+      omega arith;
+  unwanted = λ p y low held. both (p == c.cursor.ring_place)
+      (λ e. let here : p ≡ c.cursor.ring_place = grind (arith, nat_tests) in
+      let same : y ≡ x = same-held r c.cursor.ring_place x y there (ap (held_at r) (sym here) ∙ held) in
       let stamp : y.stamp ≡ x.stamp = ap (λ (z : Held). z.stamp) same in
       let before : nat_le next y.stamp ≡ false = grind (arith, nat_tests) in rw before refl)
-      (λ n. let low' : p < c.cursor.place = grind (arith, nat_tests) in
+      (λ n. let low' : p < c.cursor.ring_place = grind (arith, nat_tests) in
       unwanted-later c q next y (omega arith) (rest.passed.unwanted p y low' held));
-  told = λ p y low held after. both (p == c.cursor.place)
-      (λ e. let here : p ≡ c.cursor.place = grind (arith, nat_tests) in
-      let same : y ≡ x = same-held r c.cursor.place x y there (ap (held_at r) (sym here) ∙ held) in
+  told = λ p y low held after. both (p == c.cursor.ring_place)
+      (λ e. let here : p ≡ c.cursor.ring_place = grind (arith, nat_tests) in
+      let same : y ≡ x = same-held r c.cursor.ring_place x y there (ap (held_at r) (sym here) ∙ held) in
       let none : is_after_end c.action y ≡ false = ap (is_after_end c.action) same
       ∙ wanted-within c q x (rest.wanted x there) in
       absurd (let t : true ≡ false = sym after ∙ none in cc))
-      (λ n. let low' : p < c.cursor.place = grind (arith, nat_tests) in rest.passed.told p y low' held after);
+      (λ n. let low' : p < c.cursor.ring_place = grind (arith, nat_tests) in rest.passed.told p y low' held after);
   before = let b = rest.passed.before in omega arith;
   after = rest.passed.after;
 }
 
 -- It rests where a search from the next place on comes to.
 pub sent-rests : (rings : RingsValue) (q next stamp : ℕ) (c : Choice) (r : RingValue) (place : ℕ) (x : Held)
-    (k : Cursor) → q ≤ x.stamp → x.stamp < next → slice_get rings.rings c.place ≡ Some r → c.cursor.place ≡ place
+    (k : Cursor) → q ≤ x.stamp → x.stamp < next → slice_get rings.rings c.station ≡ Some r → c.cursor.ring_place ≡ place
     → held_at r place ≡ Some x → ahead_of c.cursor ≡ Some stamp → RestsIn rings q c
     → (HasPassed r next c (at_place (place + 1) c.cursor.ended) → RestsAt r next c k)
     → RestsIn rings next (record c { cursor = k })
@@ -81,7 +82,7 @@ sent-rests rings q next stamp c r place x k late sent ring is there ahead rests 
     by : (o : Option Action) → c.action ≡ o → RestsIn rings next (record c { cursor = k })
     by None none = absurd (let t : None ≡ Some stamp = sym (rests.quiet none) ∙ ahead in cc)
     by (Some a) asked =
-        let at : held_at r c.cursor.place ≡ Some x = ap (held_at r) is ∙ there in
+        let at : held_at r c.cursor.ring_place ≡ Some x = ap (held_at r) is ∙ there in
         let passed = sent-passed r q next c x late sent at (rests.rests r a ring asked) in
         rests-ring rings next (record c { cursor = k }) r a asked ring
         (rests-moved r next c k

@@ -42,7 +42,7 @@ nothing-of-none rings q c none = record {
   unwanted = λ r there asked. absurd (let t : false ≡ true = sym (ap is_some none) ∙ asked in cc);
 }
 
-pub nothing-of-nowhere : (rings : RingsValue) (q : ℕ) (c : Choice) → slice_get rings.rings c.place ≡ None
+pub nothing-of-nowhere : (rings : RingsValue) (q : ℕ) (c : Choice) → slice_get rings.rings c.station ≡ None
     → HasNothing rings q c
 nothing-of-nowhere rings q c none = record {
   reached = reached-nowhere rings c none;
@@ -53,12 +53,13 @@ none-found : (o : Option Held) → None ≡ option_map (λ x. x.stamp) o → o �
 none-found None e = refl
 none-found (Some x) e = absurd cc
 
-pub nothing-of-ring : (rings : RingsValue) (q : ℕ) (c : Choice) (r : RingValue) → slice_get rings.rings c.place ≡ Some r
-    → c.cursor.place ≡ r.pushes → None ≡ option_map (λ x. x.stamp) (find (wants_held c q) r.held) → HasNothing rings q c
+pub nothing-of-ring : (rings : RingsValue) (q : ℕ) (c : Choice) (r : RingValue)
+    → slice_get rings.rings c.station ≡ Some r → c.cursor.ring_place ≡ r.pushes
+    → None ≡ option_map (λ x. x.stamp) (find (wants_held c q) r.held) → HasNothing rings q c
 nothing-of-ring rings q c r there end none = record {
   reached = reached-ring rings c r there end;
   unwanted = λ x at asked. subst (λ (y : RingValue). find (wants_held c q) y.held ≡ None)
-      (same-ring r x (slice_get rings.rings c.place) there at) (none-found _ none);
+      (same-ring r x (slice_get rings.rings c.station) there at) (none-found _ none);
 }
 
 pub all-reached : (rings : RingsValue) (q : ℕ) (cs : List Choice) → OfAll (HasNothing rings q) cs
@@ -80,11 +81,11 @@ sleeps-so rings s q state nothing none more = record {
 -- ---- what the definitions say of one that waits
 
 one-none : (config : Config) (h : List Arrival) (rings : RingsValue) (c : Choice) (q : ℕ) → rings ≡ holdings_of config h
-    → ((r : RingValue) → slice_get rings.rings c.place ≡ Some r → is_some c.action ≡ true
+    → ((r : RingValue) → slice_get rings.rings c.station ≡ Some r → is_some c.action ≡ true
     → find (wants_held c q) r.held ≡ None) → None ≡ next h (filter_map (request_in config) (c ∷ [])) q
 one-none config h rings c q holds unwanted = by (is_some c.action) refl
   where
-    there : (o : Option RingValue) → slice_get rings.rings c.place ≡ o → is_some c.action ≡ true
+    there : (o : Option RingValue) → slice_get rings.rings c.station ≡ o → is_some c.action ≡ true
         → None ≡ next h (filter_map (request_in config) (c ∷ [])) q
     there None none asked = nowhere-comes walk_all config c h rings q asked holds none
     there (Some r) some asked =
@@ -93,11 +94,11 @@ one-none config h rings c q holds unwanted = by (is_some c.action) refl
 
     by : (b : Bool) → is_some c.action ≡ b → None ≡ next h (filter_map (request_in config) (c ∷ [])) q
     by false none = nothing-asked config c h q none
-    by true asked = there (slice_get rings.rings c.place) refl asked
+    by true asked = there (slice_get rings.rings c.station) refl asked
 
 none-next : (config : Config) (h : List Arrival) (rings : RingsValue) (cs : List Choice) (q : ℕ)
     → rings ≡ holdings_of config h
-    → ((i : ℕ) (c : Choice) (r : RingValue) → slice_get cs i ≡ Some c → slice_get rings.rings c.place ≡ Some r
+    → ((i : ℕ) (c : Choice) (r : RingValue) → slice_get cs i ≡ Some c → slice_get rings.rings c.station ≡ Some r
     → is_some c.action ≡ true → find (wants_held c q) r.held ≡ None)
     → None ≡ next h (filter_map (request_in config) cs) q
 none-next config h rings [] q holds unwanted = sym (next-none h q)
@@ -109,40 +110,40 @@ none-next config h rings (c ∷ cs) q holds unwanted =
 
 -- One that may still send more is not over.
 may-not-over : (config : Config) (h : List Arrival) (rings : RingsValue) (c : Choice) → rings ≡ holdings_of config h
-    → MayCome rings c → is_over_of h (station_at config.entries c.place) c.action ≡ false
+    → MayCome rings c → is_over_of h (station_at config.entries c.station) c.action ≡ false
 may-not-over config h rings c holds may = by c.action may.more
   where
-    past : (last : ℤ) (begin : Option ℤ) (o : Option RingValue) → slice_get rings.rings c.place ≡ o
-        → starts_after o begin last ≡ false → holds_after (station_at config.entries c.place) last h ≡ false
+    past : (last : ℤ) (begin : Option ℤ) (o : Option RingValue) → slice_get rings.rings c.station ≡ o
+        → starts_after o begin last ≡ false → holds_after (station_at config.entries c.station) last h ≡ false
     past last begin None none more =
-        ap (λ s. holds_after s last h) (station_is_nowhere config h c.place rings holds (sym none))
+        ap (λ s. holds_after s last h) (station_is_nowhere config h c.station rings holds (sym none))
         ∙ sym (holds_after-nowhere h last)
     past last begin (Some r) some more =
-        holds_after-ring (station_at config.entries c.place) last h
+        holds_after-ring (station_at config.entries c.station) last h
         ∙ sym
         (ap (λ (x : RingValue). list_any (is_after_end (Some (Time begin (Some last)))) x.held)
-        (ring_is config h c.place rings r holds (sym some)))
+        (ring_is config h c.station rings r holds (sym some)))
         ∙ more
 
-    by : (a : Option Action) → over_in (slice_get rings.rings c.place) a ≡ false
-        → is_over_of h (station_at config.entries c.place) a ≡ false
+    by : (a : Option Action) → over_in (slice_get rings.rings c.station) a ≡ false
+        → is_over_of h (station_at config.entries c.station) a ≡ false
     by None more = more
     by (Some (Data number begin)) more = refl
     by (Some (Fetch number begin)) more = more
     by (Some (Time begin None)) more = refl
-    by (Some (Time begin (Some last))) more = past last begin (slice_get rings.rings c.place) refl more
+    by (Some (Time begin (Some last))) more = past last begin (slice_get rings.rings c.station) refl more
 
 some-not-over : (config : Config) (h : List Arrival) (cs : List Choice) (i : ℕ) (c : Choice) → slice_get cs i ≡ Some c
-    → is_over_of h (station_at config.entries c.place) c.action ≡ false
+    → is_over_of h (station_at config.entries c.station) c.action ≡ false
     → list_all (is_over h) (filter_map (request_in config) cs) ≡ false
 some-not-over config h [] i c at not = absurd cc
 some-not-over config h (x ∷ cs) zero c at not =
     let same : x ≡ c = (let t : Some x ≡ Some c = at in cc) in
     over-cons config h x cs ∙ ap (λ b. b && list_all (is_over h) (filter_map (request_in config) cs))
-    (ap (λ y. is_over_of h (station_at config.entries y.place) y.action) same ∙ not)
+    (ap (λ y. is_over_of h (station_at config.entries y.station) y.action) same ∙ not)
 some-not-over config h (x ∷ cs) (suc i) c at not =
-    over-cons config h x cs ∙ ap (λ b. is_over_of h (station_at config.entries x.place) x.action && b)
-    (some-not-over config h cs i c at not) ∙ and-false (is_over_of h (station_at config.entries x.place) x.action)
+    over-cons config h x cs ∙ ap (λ b. is_over_of h (station_at config.entries x.station) x.action && b)
+    (some-not-over config h cs i c at not) ∙ and-false (is_over_of h (station_at config.entries x.station) x.action)
   where
     and-false : (b : Bool) → (b && false) ≡ false
     and-false true = refl
@@ -160,7 +161,7 @@ sleeps-idle config h rings s q sleeps state holds =
 -- It goes on waiting while the rings of the stations that it asks for stay as they are.
 pub sleeps-on : (before after : RingsValue) (s : SessionValue)
     → ((i : ℕ) (c : Choice) → slice_get (chosen_of s.mode) i ≡ Some c → is_some c.action ≡ true
-    → slice_get after.rings c.place ≡ slice_get before.rings c.place) → Sleeps before s → Sleeps after s
+    → slice_get after.rings c.station ≡ slice_get before.rings c.station) → Sleeps before s → Sleeps after s
 sleeps-on before after s same sleeps = record {
   nothing_waits = sleeps.nothing_waits;
   unwanted = λ next i c r state at there asked. sleeps.unwanted next i c r state at

@@ -47,19 +47,19 @@ starts-nothing rings c none quiet = record {
   quiet = λ e. quiet;
 }
 
-pub starts-nowhere : (rings : RingsValue) (c : Choice) → slice_get rings.rings c.place ≡ None → ahead_of c.cursor ≡ None
-    → StartsIn rings c
+pub starts-nowhere : (rings : RingsValue) (c : Choice) → slice_get rings.rings c.station ≡ None
+    → ahead_of c.cursor ≡ None → StartsIn rings c
 starts-nowhere rings c none quiet = record {
   starts = λ x action at asked. absurd (let t : None ≡ Some x = sym none ∙ at in cc);
   quiet = λ e. quiet;
 }
 
 pub starts-ring : (rings : RingsValue) (c : Choice) (r : RingValue) (a : Action)
-    → slice_get rings.rings c.place ≡ Some r → c.action ≡ Some a → IsAtBegin r a c.cursor → StartsIn rings c
+    → slice_get rings.rings c.station ≡ Some r → c.action ≡ Some a → IsAtBegin r a c.cursor → StartsIn rings c
 starts-ring rings c r a there asks begins = record {
   starts = λ x action at asked.
       let action_is : a ≡ action = (let t : Some a ≡ Some action = sym asks ∙ asked in cc) in
-      subst (λ (y : RingValue). IsAtBegin y action c.cursor) (same-ring r x (slice_get rings.rings c.place) there at)
+      subst (λ (y : RingValue). IsAtBegin y action c.cursor) (same-ring r x (slice_get rings.rings c.station) there at)
       (subst (λ z. IsAtBegin r z c.cursor) action_is begins);
   quiet = λ none. absurd (let t : None ≡ Some a = sym none ∙ asks in cc);
 }
@@ -98,8 +98,8 @@ begin-seen r a next c asked before begins = record {
   passed = begin-passed r a next c asked before begins;
   seen = omega (arith, begins.unseen);
   fresh = λ e.
-      let past : r.pushes ≤ c.cursor.place = omega (arith, begins.unseen, e) in
-      let none : held_at r c.cursor.place ≡ None = none-next r c.cursor.place begins.holding past in
+      let past : r.pushes ≤ c.cursor.ring_place = omega (arith, begins.unseen, e) in
+      let none : held_at r c.cursor.ring_place ≡ None = none-next r c.cursor.ring_place begins.holding past in
       record {
         low = omega (arith, begins.unseen, e);
         wanted = λ x there late. absurd (let t : None ≡ Some x = sym none ∙ there in cc);

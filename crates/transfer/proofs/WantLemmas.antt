@@ -45,7 +45,7 @@ any-order false false few from passing window = refl
 -- the request of a named station of which something is asked
 abbrev pub request_for : Config → Choice → Action → Request
 request_for config c action = record {
-  station = station_at config.entries c.place;
+  station = station_at config.entries c.station;
   patterns = c.selectors;
   action = action_value action;
   from = c.first;
@@ -58,12 +58,12 @@ or-false false = refl
 -- What comes next for one request is, of what is held of its station, the first that it wants.
 pub next-one : (config : Config) (c : Choice) (action : Action) (h : List Arrival) (q : ℕ) → c.action ≡ Some action
     → ((test : ℕ → Arrival → Bool) (on_held : Held → Bool) → ((p : ℕ) (a : Arrival) → test p a ≡ on_held (held_of p a))
-    → first_position (λ p later a. is_held (station_at config.entries c.place) later a && test p a) 0 h
-    ≡ option_map (λ x. x.stamp) (find on_held (ring_of (station_at config.entries c.place) h).held))
+    → first_position (λ p later a. is_held (station_at config.entries c.station) later a && test p a) 0 h
+    ≡ option_map (λ x. x.stamp) (find on_held (ring_of (station_at config.entries c.station) h).held))
     → next h (request_for config c action ∷ []) q
-    ≡ option_map (λ x. x.stamp) (find (wants_held c q) (ring_of (station_at config.entries c.place) h).held)
+    ≡ option_map (λ x. x.stamp) (find (wants_held c q) (ring_of (station_at config.entries c.station) h).held)
 next-one config c action h q asked in_ring =
-    let s : Station = station_at config.entries c.place in
+    let s : Station = station_at config.entries c.station in
     let r : Request = request_for config c action in
     same_first (λ p later a. list_any (holds_and_wants p later a) (r ∷ [])) (λ p later a. holds_and_wants p later a r)
     (λ p later a. or-false (holds_and_wants p later a r)) q (drop q h)

@@ -50,8 +50,8 @@ pub record IsAtCursor (rings : RingsValue) (choices : List Choice) (index : ℕ)
     (place : ℕ) : Type 0 where
   pub choice : Choice
   pub at : slice_get choices index ≡ Some choice
-  pub ring_there : slice_get rings.rings choice.place ≡ Some ring
-  pub place_is : choice.cursor.place ≡ place
+  pub ring_there : slice_get rings.rings choice.station ≡ Some ring
+  pub place_is : choice.cursor.ring_place ≡ place
   pub stamp : ℕ
   pub ahead : ahead_of choice.cursor ≡ Some stamp
 

@@ -38,20 +38,20 @@ begin_place r (Time begin last) = first_place r
 -- What a station's ring holds before the place at which its request begins arrived before the first that the request
 -- wants.
 pub record BeginsIn (rings : RingsValue) (c : Choice) : Type 0 where
-  pub before : (r : RingValue) (action : Action) → slice_get rings.rings c.place ≡ Some r → c.action ≡ Some action
+  pub before : (r : RingValue) (action : Action) → slice_get rings.rings c.station ≡ Some r → c.action ≡ Some action
       → IsBefore r (begin_place r action) c.first
 
 -- The cursor of a request is at the place at which it begins.
 pub record IsAtBegin (r : RingValue) (action : Action) (cursor : Cursor) : Type 0 where
-  pub place : cursor.place ≡ begin_place r action
+  pub place : cursor.ring_place ≡ begin_place r action
   pub unended : cursor.ended ≡ 0
-  pub within : cursor.place ≤ r.pushes
+  pub within : cursor.ring_place ≤ r.pushes
   pub unseen : cursor.seen ≡ 0
   pub none : ahead_of cursor ≡ None
   pub holding : IsRing r
 
 pub record StartsIn (rings : RingsValue) (c : Choice) : Type 0 where
-  pub starts : (r : RingValue) (action : Action) → slice_get rings.rings c.place ≡ Some r → c.action ≡ Some action
+  pub starts : (r : RingValue) (action : Action) → slice_get rings.rings c.station ≡ Some r → c.action ≡ Some action
       → IsAtBegin r action c.cursor
   pub quiet : c.action ≡ None → ahead_of c.cursor ≡ None
 
@@ -60,11 +60,12 @@ pub record StartsIn (rings : RingsValue) (c : Choice) : Type 0 where
 -- No record that the ring holds before the cursor is wanted, of those from position `next` on. And all those before it
 -- that start after the end of TIME lie before the place that the cursor tells, the last of them just before it.
 pub record HasPassed (r : RingValue) (next : ℕ) (c : Choice) (cursor : Cursor) : Type 0 where
-  pub within : cursor.place ≤ r.pushes
-  pub unwanted : (place : ℕ) (x : Held) → place < cursor.place → held_at r place ≡ Some x → wants_held c next x ≡ false
-  pub told : (place : ℕ) (x : Held) → place < cursor.place → held_at r place ≡ Some x → is_after_end c.action x ≡ true
-      → place < cursor.ended
-  pub before : cursor.ended ≤ cursor.place
+  pub within : cursor.ring_place ≤ r.pushes
+  pub unwanted : (place : ℕ) (x : Held) → place < cursor.ring_place → held_at r place ≡ Some x
+      → wants_held c next x ≡ false
+  pub told : (place : ℕ) (x : Held) → place < cursor.ring_place → held_at r place ≡ Some x
+      → is_after_end c.action x ≡ true → place < cursor.ended
+  pub before : cursor.ended ≤ cursor.ring_place
   pub after : (place : ℕ) (x : Held) → cursor.ended ≡ place + 1 → held_at r place ≡ Some x
       → is_after_end c.action x ≡ true
 
@@ -72,18 +73,18 @@ pub record HasPassed (r : RingValue) (next : ℕ) (c : Choice) (cursor : Cursor)
 -- there. The cursor tells its stamp, and how many records the ring had been given.
 pub record RestsAt (r : RingValue) (next : ℕ) (c : Choice) (cursor : Cursor) : Type 0 where
   pub passed : HasPassed r next c cursor
-  pub low : first_place r ≤ cursor.place
-  pub wanted : (x : Held) → held_at r cursor.place ≡ Some x → wants_held c next x ≡ true
+  pub low : first_place r ≤ cursor.ring_place
+  pub wanted : (x : Held) → held_at r cursor.ring_place ≡ Some x → wants_held c next x ≡ true
   pub seen : cursor.seen ≡ r.pushes
-  pub ahead : ahead_of cursor ≡ option_map (λ x. x.stamp) (held_at r cursor.place)
+  pub ahead : ahead_of cursor ≡ option_map (λ x. x.stamp) (held_at r cursor.ring_place)
   pub holding : IsRing r
 
 -- So it was when the ring was last looked at, but for records that were sent since: from position `next` on more may be
 -- sent.
 pub record RestedAt (r : RingValue) (next : ℕ) (c : Choice) (cursor : Cursor) : Type 0 where
-  pub low : first_place r ≤ cursor.place
-  pub wanted : (x : Held) → held_at r cursor.place ≡ Some x → next ≤ x.stamp → wants_held c next x ≡ true
-  pub ahead : ahead_of cursor ≡ option_map (λ x. x.stamp) (held_at r cursor.place)
+  pub low : first_place r ≤ cursor.ring_place
+  pub wanted : (x : Held) → held_at r cursor.ring_place ≡ Some x → next ≤ x.stamp → wants_held c next x ≡ true
+  pub ahead : ahead_of cursor ≡ option_map (λ x. x.stamp) (held_at r cursor.ring_place)
   pub holding : IsRing r
 
 -- What a request has passed in its ring, and what is known of the record at its cursor while nothing was pushed since.
@@ -94,20 +95,20 @@ pub record HasSeen (r : RingValue) (next : ℕ) (c : Choice) (cursor : Cursor) :
 
 -- the same of a named station that is asked for something, in its ring
 pub record PassedIn (rings : RingsValue) (next : ℕ) (c : Choice) : Type 0 where
-  pub passed : (r : RingValue) (action : Action) → slice_get rings.rings c.place ≡ Some r → c.action ≡ Some action
+  pub passed : (r : RingValue) (action : Action) → slice_get rings.rings c.station ≡ Some r → c.action ≡ Some action
       → HasSeen r next c c.cursor
   pub quiet : c.action ≡ None → ahead_of c.cursor ≡ None
 
 pub record RestsIn (rings : RingsValue) (next : ℕ) (c : Choice) : Type 0 where
-  pub rests : (r : RingValue) (action : Action) → slice_get rings.rings c.place ≡ Some r → c.action ≡ Some action
+  pub rests : (r : RingValue) (action : Action) → slice_get rings.rings c.station ≡ Some r → c.action ≡ Some action
       → RestsAt r next c c.cursor
   pub quiet : c.action ≡ None → ahead_of c.cursor ≡ None
-  pub nowhere : slice_get rings.rings c.place ≡ None → ahead_of c.cursor ≡ None
+  pub nowhere : slice_get rings.rings c.station ≡ None → ahead_of c.cursor ≡ None
 
 -- All records of the station were passed.
 pub record IsReached (rings : RingsValue) (c : Choice) : Type 0 where
-  pub reached : (r : RingValue) (action : Action) → slice_get rings.rings c.place ≡ Some r → c.action ≡ Some action
-      → c.cursor.place ≡ r.pushes
+  pub reached : (r : RingValue) (action : Action) → slice_get rings.rings c.station ≡ Some r → c.action ≡ Some action
+      → c.cursor.ring_place ≡ r.pushes
 
 -- ---- of all requests
 
@@ -117,18 +118,18 @@ OfAll P cs = (i : ℕ) (c : Choice) → slice_get cs i ≡ Some c → P c
 
 -- Nothing was pushed to the station's ring since the request looked at it.
 pub record HasLooked (rings : RingsValue) (c : Choice) : Type 0 where
-  pub seen : (r : RingValue) (action : Action) → slice_get rings.rings c.place ≡ Some r → c.action ≡ Some action
+  pub seen : (r : RingValue) (action : Action) → slice_get rings.rings c.station ≡ Some r → c.action ≡ Some action
       → c.cursor.seen ≡ r.pushes
-  pub nowhere : slice_get rings.rings c.place ≡ None → ahead_of c.cursor ≡ None
+  pub nowhere : slice_get rings.rings c.station ≡ None → ahead_of c.cursor ≡ None
 
 -- Requests looked at their rings when so many records had arrived: since then no more was pushed to the rings of two
 -- stations together than arrived, and no ring is new.
 pub record HaveLookedAt (rings : RingsValue) (n : ℕ) (cs : List Choice) : Type 0 where
   pub two : (i j : ℕ) (c d : Choice) (q r : RingValue) (a b : Action) → slice_get cs i ≡ Some c
-      → slice_get cs j ≡ Some d → c.place ≢ d.place → slice_get rings.rings c.place ≡ Some q
-      → slice_get rings.rings d.place ≡ Some r → c.action ≡ Some a → d.action ≡ Some b
+      → slice_get cs j ≡ Some d → c.station ≢ d.station → slice_get rings.rings c.station ≡ Some q
+      → slice_get rings.rings d.station ≡ Some r → c.action ≡ Some a → d.action ≡ Some b
       → q.pushes + r.pushes + n ≤ rings.arrivals + c.cursor.seen + d.cursor.seen
-  pub nowhere : OfAll (λ c. slice_get rings.rings c.place ≡ None → ahead_of c.cursor ≡ None) cs
+  pub nowhere : OfAll (λ c. slice_get rings.rings c.station ≡ None → ahead_of c.cursor ≡ None) cs
 
 -- What a session keeps of its last look is true: no more records had arrived then than now, and if as many had,
 -- nothing was pushed to a ring since.
@@ -153,12 +154,12 @@ ArePassed rings s = PassesUnwanted rings s
 -- the cursors of the requests, those of the named stations that are asked for something
 abbrev pub request_cursors : List Choice → List ℕ
 request_cursors [] = []
-request_cursors (c ∷ cs) = if is_some c.action then c.cursor.place ∷ request_cursors cs else request_cursors cs
+request_cursors (c ∷ cs) = if is_some c.action then c.cursor.ring_place ∷ request_cursors cs else request_cursors cs
 
 -- the same of their entries
 abbrev pub entry_cursors : List Entry → List ℕ
 entry_cursors [] = []
-entry_cursors (e ∷ es) = if is_some e.action then e.cursor.place ∷ entry_cursors es else entry_cursors es
+entry_cursors (e ∷ es) = if is_some e.action then e.cursor.ring_place ∷ entry_cursors es else entry_cursors es
 
 -- those of a session's mode
 abbrev pub cursors_of : ModeValue → List ℕ

@@ -9,7 +9,7 @@ use Rattle.transfer.specs.Cursors.{HasPassed, RestsAt}
 
 -- a cursor of which only so much is known
 abbrev pub at_place : (place ended : ℕ) → Cursor
-at_place place ended = record { place = place; ended = ended; seen = 0; stamp = 0 }
+at_place place ended = record { ring_place = place; ended = ended; seen = 0; stamp = 0 }
 
 -- The request rests at the record that was found, or has passed all before the place at which the search ended.
 abbrev pub IsPassed : RingValue → (next : ℕ) → Choice → (end : ℕ) → Passed → Type 0

@@ -16,7 +16,7 @@ use Rattle.transfer.specs.Cursors.{IsReached, is_after_end}
 -- Nothing that the station's ring holds is wanted, and all of it was passed.
 pub record HasNothing (rings : RingsValue) (next : ℕ) (c : Choice) : Type 0 where
   pub reached : IsReached rings c
-  pub unwanted : (r : RingValue) → slice_get rings.rings c.place ≡ Some r → is_some c.action ≡ true
+  pub unwanted : (r : RingValue) → slice_get rings.rings c.station ≡ Some r → is_some c.action ≡ true
       → find (wants_held c next) r.held ≡ None
 
 -- whether a station's ring, where there is one, holds a record that starts after a moment
@@ -35,7 +35,7 @@ over_in o (Some (Time begin (Some last))) = starts_after o begin last
 -- Something is asked of a station of which more may still come.
 pub record MayCome (rings : RingsValue) (c : Choice) : Type 0 where
   pub asked : is_some c.action ≡ true
-  pub more : over_in (slice_get rings.rings c.place) c.action ≡ false
+  pub more : over_in (slice_get rings.rings c.station) c.action ≡ false
 
 -- There is one among these.
 pub record MoreMayCome (rings : RingsValue) (choices : List Choice) : Type 0 where
@@ -49,5 +49,5 @@ pub record Sleeps (rings : RingsValue) (s : SessionValue) : Type 0 where
   pub nothing_waits : s.waiting ≡ []
   pub unwanted : (next i : ℕ) (c : Choice) (r : RingValue) → s.state ≡ Transfer next
       → slice_get (chosen_of s.mode) i ≡ Some c →
-      slice_get rings.rings c.place ≡ Some r → is_some c.action ≡ true → find (wants_held c next) r.held ≡ None
+      slice_get rings.rings c.station ≡ Some r → is_some c.action ≡ true → find (wants_held c next) r.held ≡ None
   pub more : MoreMayCome rings (chosen_of s.mode)

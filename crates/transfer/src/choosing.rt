@@ -56,7 +56,7 @@ fn is_fresh(entry: &Entry, rings: &Rings, next: u64) -> bool
     ensures { result ≡ true → (c : Choice) → entry_of c ≡ entry.now → PassedIn rings.now next c
         → RestsIn rings.now next c }
 {
-    match rings.ring(entry.place) {
+    match rings.ring(entry.station) {
         Some(ring) if entry.cursor.seen == ring.pushes() => is_unsent(entry.cursor.ahead(), next),
         Some(_ring) => entry.action.is_none(),
         None => false,
@@ -73,7 +73,7 @@ fn cursor_of(session: &Session, i: usize, rings: &Rings, next: u64) -> Cursor
     if entry.action.is_none() {
         return unasked();
     }
-    match rings.ring(entry.place) {
+    match rings.ring(entry.station) {
         Some(ring) => cursor_in(ring, session, i, next),
         None => unasked(),
     }
@@ -213,7 +213,7 @@ fn alone(session: &Session, rings: &Rings) -> Option<usize>
     let looked = session.looked()?;
     let index = session.find(rings.latest())?;
     let entry = session.choice(index);
-    let ring = rings.ring(entry.place)?;
+    let ring = rings.ring(entry.station)?;
     let pushed = ring.pushes().checked_sub(entry.cursor.seen)?;
     let arrived = rings.arrivals().checked_sub(looked)?;
     if pushed == arrived && entry.action.is_some() {
@@ -319,12 +319,12 @@ fn candidate<'a>(session: &Session, first: First, rings: &'a Rings) -> Option<Ca
         → option_map (λ c. c.held.now.stamp) result ≡ Some first.stamp }
 {
     let entry = session.choice(first.index);
-    let ring = rings.ring(entry.place)?;
-    let held = ring.get(entry.cursor.place)?;
+    let ring = rings.ring(entry.station)?;
+    let held = ring.get(entry.cursor.ring_place)?;
     Some(Candidate {
         index: first.index,
         ring,
-        place: entry.cursor.place,
+        place: entry.cursor.ring_place,
         held,
     })
 }
@@ -363,7 +363,7 @@ fn is_over(entry: &Entry, rings: &Rings) -> bool
     ensures over { (c : Choice) → entry_of c ≡ entry.now → (next : ℕ) → RestsIn rings.now next c
         → IsReached rings.now c
         → (config : ProtocolConfig) (h : List Arrival) → rings.now ≡ holdings_of config h →
-        result ≡ is_over_of h (station_at config.entries c.place) c.action }
+        result ≡ is_over_of h (station_at config.entries c.station) c.action }
 {
     match entry.action.to_option() {
         None => true,
@@ -398,13 +398,13 @@ fn is_over(entry: &Entry, rings: &Rings) -> bool
 fn is_past_its_end(entry: &Entry, rings: &Rings) -> bool
     ensures ring { (c : Choice) → entry_of c ≡ entry.now → (next : ℕ) (begin : Option ℤ) (last : ℤ)
         → c.action ≡ Some (Time begin (Some last)) → RestsIn rings.now next c → IsReached rings.now c →
-        result ≡ starts_after (slice_get rings.now.rings c.place) begin last }
+        result ≡ starts_after (slice_get rings.now.rings c.station) begin last }
     ensures history { (c : Choice) → entry_of c ≡ entry.now → (next : ℕ) (begin : Option ℤ) (last : ℤ)
         → c.action ≡ Some (Time begin (Some last)) → RestsIn rings.now next c → IsReached rings.now c
         → (config : ProtocolConfig) (h : List Arrival) → rings.now ≡ holdings_of config h →
-        result ≡ holds_after (station_at config.entries c.place) last h }
+        result ≡ holds_after (station_at config.entries c.station) last h }
 {
-    match rings.ring(entry.place) {
+    match rings.ring(entry.station) {
         Some(ring) => has_passed_its_end(ring, entry),
         None => false,
     }

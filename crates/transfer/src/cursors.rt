@@ -17,7 +17,7 @@ pub fn cursor(session: &Session, i: usize) -> u64
     for entry in session.choices() {
         if is_request(entry) {
             if left == 0 {
-                return entry.cursor.place;
+                return entry.cursor.ring_place;
             }
             left -= 1;
         }

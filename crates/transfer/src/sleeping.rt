@@ -21,6 +21,6 @@ pub fn sleeping_is_idle()
 pub fn sleeping_goes_on()
     ensures { (before after : RingsValue) (s : SessionValue) →
         ((i : ℕ) (c : ChoiceValue) → slice_get (chosen_of s.mode) i ≡ Some c → is_some c.action ≡ true
-        → slice_get after.rings c.place ≡ slice_get before.rings c.place) →
+        → slice_get after.rings c.station ≡ slice_get before.rings c.station) →
         Sleeps before s → Sleeps after s }
 {}

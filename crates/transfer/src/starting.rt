@@ -112,7 +112,7 @@ fn begin_in(ring: &Ring, action: Action) -> Cursor
 {
     ring.holds_its_last();
     Cursor {
-        place: begin_place(ring, action),
+        ring_place: begin_place(ring, action),
         ended: 0,
         seen: 0,
         stamp: 0,
@@ -126,7 +126,7 @@ fn cursor_of(entry: &Entry, rings: &Rings) -> Cursor
     let Some(action) = entry.action.to_option() else {
         return unasked();
     };
-    match rings.ring(entry.place) {
+    match rings.ring(entry.station) {
         Some(ring) => begin_in(ring, action),
         None => unasked(),
     }
@@ -155,7 +155,7 @@ fn first_of(entry: &Entry, rings: &Rings) -> u64
         HasFirst config h (record c { first = result }) }
 {
     match entry.action.to_option() {
-        Some(action) => first_wanted(rings, entry.place, action),
+        Some(action) => first_wanted(rings, entry.station, action),
         None => entry.first,
     }
 }

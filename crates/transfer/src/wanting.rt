@@ -164,7 +164,7 @@ pub fn cursor_in(ring: &Ring, session: &Session, i: usize, next: u64) -> Cursor
     let Some(oldest) = ring.oldest() else {
         return at_end(ring, entry.cursor.ended);
     };
-    let start = entry.cursor.place.max(oldest);
+    let start = entry.cursor.ring_place.max(oldest);
     let ended = entry.cursor.ended;
     if start >= ring.pushes() {
         return at_end(ring, ended);
@@ -199,7 +199,7 @@ pub fn unasked() -> Cursor
     ensures { ahead_of result ≡ None }
 {
     Cursor {
-        place: 0,
+        ring_place: 0,
         ended: 0,
         seen: 0,
         stamp: 0,
@@ -208,10 +208,10 @@ pub fn unasked() -> Cursor
 
 /// The cursor of a request that has passed all.
 pub(crate) fn at_end(ring: &Ring, ended: u64) -> Cursor
-    ensures { result ≡ record { place = ring.now.pushes; ended = ended; seen = ring.now.pushes; stamp = 0 } }
+    ensures { result ≡ record { ring_place = ring.now.pushes; ended = ended; seen = ring.now.pushes; stamp = 0 } }
 {
     Cursor {
-        place: ring.pushes(),
+        ring_place: ring.pushes(),
         ended,
         seen: ring.pushes(),
         stamp: 0,
@@ -220,10 +220,10 @@ pub(crate) fn at_end(ring: &Ring, ended: u64) -> Cursor
 
 /// The cursor of a request at a place of its ring, by the stamp of the record there.
 pub(crate) fn at_record(ring: &Ring, place: u64, ended: u64, stamp: u64) -> Cursor
-    ensures { result ≡ record { place = place; ended = ended; seen = ring.now.pushes; stamp = stamp } }
+    ensures { result ≡ record { ring_place = place; ended = ended; seen = ring.now.pushes; stamp = stamp } }
 {
     Cursor {
-        place,
+        ring_place: place,
         ended,
         seen: ring.pushes(),
         stamp,
@@ -233,7 +233,7 @@ pub(crate) fn at_record(ring: &Ring, place: u64, ended: u64, stamp: u64) -> Curs
 /// Whether a record is held that starts after the end of TIME, of a request that has passed all.
 pub fn has_passed_its_end(ring: &Ring, entry: &Entry) -> bool
     ensures { (c : Choice) → entry_of c ≡ entry.now → (next : ℕ) → HasPassed ring.now next c c.cursor
-        → c.cursor.place ≡ ring.now.pushes →
+        → c.cursor.ring_place ≡ ring.now.pushes →
         result ≡ list_any (is_after_end c.action) ring.now.held }
 {
     ring.holds_its_last();

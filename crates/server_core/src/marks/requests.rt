@@ -47,8 +47,8 @@ fn add(rows: &mut [Row], slot: usize, choices: &[Entry])
     ensures kept { KeepsRows (Elsewhere slot) rows.old rows.new }
 {
     for choice in choices {
-        if choice.action.is_some() && choice.place < rows.len() {
-            rows[choice.place].set(slot);
+        if choice.action.is_some() && choice.station < rows.len() {
+            rows[choice.station].set(slot);
         }
     }
 }

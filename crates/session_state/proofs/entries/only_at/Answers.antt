@@ -31,7 +31,7 @@ returns-else-entry-place c = record {
   value = none-there c.args.entries.now c.args.place c.args.i c.requires
       (λ x at same. c.if-entry-place.false
       (sym
-      (ap (λ (y : Entry). y.place)
+      (ap (λ (y : Entry). y.station)
       (read-same c.args.entries.now c.args.i c.index-entries-i.result x c.if-i-entries.false c.index-entries-i.is at))
       ∙ same));
   only = tt;

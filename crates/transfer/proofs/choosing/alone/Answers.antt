@@ -26,8 +26,8 @@ returns-then-is_some-clause-others c = λ next passed j x apart at.
     ap (λ (e : Entry). is_some e.action) (sym entry) ∙ sym c.is_some.ensures ∙ c.if-is_some.true in
     let asked = asked-some (own.0).action some in
     let q : RingValue = c.in_ok-ring.ring.now in
-    let there : slice_get rings.rings (own.0).place ≡ Some q =
-    ap (λ (e : Entry). slice_get rings.rings e.place) (sym entry) ∙ sym c.in_ok-ring.ensures.ring in
+    let there : slice_get rings.rings (own.0).station ≡ Some q =
+    ap (λ (e : Entry). slice_get rings.rings e.station) (sym entry) ∙ sym c.in_ok-ring.ensures.ring in
     let kept : s.looked ≡ Some c.in_ok-looked.looked = sym c.looked.ensures ∙ c.in_ok-looked.was in
     let seen : c.choice-entry.result.now.cursor.seen ≡ (own.0).cursor.seen =
     ap (λ (e : Entry). e.cursor.seen) entry in

@@ -16,7 +16,7 @@ returns-in_err-ring-clause-position c = λ next rests.
     let ahead = told-ahead c.args.rings.now cs c.args.first.index c.args.first.stamp next x rests c.requires
     (item-is cs _ x c.requires.at) in
     absurd (let t : None ≡ Some ahead.ring = c.in_err-ring.ensures.ring
-    ∙ ap (λ (e : Entry). slice_get (c.args.rings.now).rings e.place) same ∙ ahead.there in cc)
+    ∙ ap (λ (e : Entry). slice_get (c.args.rings.now).rings e.station) same ∙ ahead.there in cc)
 
 pub returns-in_err-held-clause-position : goal.returns-in_err-held-clause-position
 returns-in_err-held-clause-position c = λ next rests.
@@ -26,9 +26,9 @@ returns-in_err-held-clause-position c = λ next rests.
     let ahead = told-ahead c.args.rings.now cs c.args.first.index c.args.first.stamp next x rests c.requires
     (item-is cs _ x c.requires.at) in
     let there = ahead-ring c.args.rings.now next x c.args.first.stamp c.in_ok-ring.ring.now ahead
-    (c.in_ok-ring.ensures.ring ∙ ap (λ (e : Entry). slice_get (c.args.rings.now).rings e.place) same) in
+    (c.in_ok-ring.ensures.ring ∙ ap (λ (e : Entry). slice_get (c.args.rings.now).rings e.station) same) in
     absurd (let t : None ≡ Some (there.0) = c.in_err-held.ensures
-    ∙ ap (λ (e : Entry). held_at c.in_ok-ring.ring.now e.cursor.place) same ∙ there.1 in cc)
+    ∙ ap (λ (e : Entry). held_at c.in_ok-ring.ring.now e.cursor.ring_place) same ∙ there.1 in cc)
 
 pub returns-clause-index : goal.returns-clause-index
 returns-clause-index c = ahead-within _ c.args.first.index c.args.first.stamp c.requires
@@ -51,8 +51,8 @@ returns-clause-position c = λ next rests.
     let ahead = told-ahead c.args.rings.now cs c.args.first.index c.args.first.stamp next x rests c.requires
     (item-is cs _ x c.requires.at) in
     let there = ahead-ring c.args.rings.now next x c.args.first.stamp c.in_ok-ring.ring.now ahead
-    (c.in_ok-ring.ensures.ring ∙ ap (λ (e : Entry). slice_get (c.args.rings.now).rings e.place) entry) in
+    (c.in_ok-ring.ensures.ring ∙ ap (λ (e : Entry). slice_get (c.args.rings.now).rings e.station) entry) in
     let same : c.in_ok-held.held.now
     ≡ there.0 = (let t : Some c.in_ok-held.held.now ≡ Some (there.0) = c.in_ok-held.ensures
-    ∙ ap (λ (e : Entry). held_at c.in_ok-ring.ring.now e.cursor.place) entry ∙ there.1 in cc) in
+    ∙ ap (λ (e : Entry). held_at c.in_ok-ring.ring.now e.cursor.ring_place) entry ∙ there.1 in cc) in
     ap (λ (y : Held). Some y.stamp) same ∙ ap (λ n. Some n) there.2

@@ -15,7 +15,7 @@ returns-in-Some c = λ x at passed.
     let same = c.choice-entry.ensures x at in
     let asked = asked-some _ c.if-is_none.ensures in
     let action = ap (λ (e : Entry). e.action) (sym same) ∙ asked.1 in
-    let there = ap (λ (e : Entry). slice_get (c.args.rings.now).rings e.place) (sym same)
+    let there = ap (λ (e : Entry). slice_get (c.args.rings.now).rings e.station) (sym same)
     ∙ sym c.in-Some.ensures.ring in
     rests-ring c.args.rings.now c.args.next
     (record x { cursor = c.cursor_in.result }) c.in-Some.ring.now asked.0 action there
@@ -26,5 +26,5 @@ pub returns-in-None : goal.returns-in-None
 returns-in-None c = λ x at passed.
     let same = c.choice-entry.ensures x at in
     rests-nowhere c.args.rings.now c.args.next (record x { cursor = c.unasked-in-None.result })
-    (ap (λ (e : Entry). slice_get (c.args.rings.now).rings e.place) (sym same)
+    (ap (λ (e : Entry). slice_get (c.args.rings.now).rings e.station) (sym same)
     ∙ sym c.in-None.ensures.ring) c.unasked-in-None.ensures

@@ -18,7 +18,7 @@ returns-then-left-eq0 c =
     let items = c.choices-entry-items.result.now in
     let here = cursors-request items c.loop-entry.entry-index c.entry-item.result c.loop-entry-test.true c.entry-item.is
     (sym c.if-is_request.true ∙ c.is_request.ensures) in
-    get-first c.entry-item.result.cursor.place _ c.loop-entry.left c.if-left-eq0.true
+    get-first c.entry-item.result.cursor.ring_place _ c.loop-entry.left c.if-left-eq0.true
     ∙ ap (λ xs. slice_get xs c.loop-entry.left) (sym here)
     ∙ c.loop-entry.invariant.0
     ∙ ap (λ xs. slice_get xs c.args.i) (ap entry_cursors c.choices-entry-items.ensures
@@ -31,7 +31,7 @@ loop-entry-preserved c =
       | then-is_request+else-left-eq0 w ↦
           let here = cursors-request items c.loop-entry.entry-index c.entry-item.result c.loop-entry-test.true
           c.entry-item.is (sym w.if-is_request.true ∙ c.is_request.ensures) in
-          let past = get-past c.entry-item.result.cursor.place _ c.loop-entry.left
+          let past = get-past c.entry-item.result.cursor.ring_place _ c.loop-entry.left
           (subst (λ xs. c.loop-entry.left < length xs) here c.loop-entry.invariant.1) (omega arith) in
           let left : c.if-is_request.left ≡ c.loop-entry.left - 1 = w.left-is in (
             ap (slice_get (entry_cursors (drop (c.loop-entry.entry-index + 1) items))) left ∙ past.0

@@ -14,8 +14,9 @@ loop-choice-init c = record { kept = keeps-none (Elsewhere c.args.slot) c.args.r
 pub set-requires : goal.set-requires
 set-requires c =
     subst (λ (o : Option Row). RoomBy o c.args.slot)
-    (item-there c.loop-choice.rows c.choice-item.result.place c.index-rows-choice.result c.if-choice-rows.true)
-    (c.loop-choice.invariant.kept.rooms c.args.slot c.choice-item.result.place (c.requires c.choice-item.result.place))
+    (item-there c.loop-choice.rows c.choice-item.result.station c.index-rows-choice.result c.if-choice-rows.true)
+    (c.loop-choice.invariant.kept.rooms c.args.slot c.choice-item.result.station
+    (c.requires c.choice-item.result.station))
 
 pub loop-choice-preserved : goal.loop-choice-preserved
 loop-choice-preserved c =
@@ -24,9 +25,9 @@ loop-choice-preserved c =
           subst (Adds c.args.slot c.args.choices.now (c.loop-choice.choice-index + 1) c.args.rows.now) (sym w.rows-is)
           (adds-set c.args.slot c.args.choices.now c.loop-choice.choice-index c.args.rows.now c.loop-choice.rows
           c.choice-item.result _ c.loop-choice-test.true c.choice-item.is c.loop-choice.invariant
-          (slice_index_or c.loop-choice.rows c.choice-item.result.place w.index-rows-choice.result) w.set.new.self
+          (slice_index_or c.loop-choice.rows c.choice-item.result.station w.index-rows-choice.result) w.set.new.self
           (sym c.is_some.ensures ∙ w.if-is_some.true) w.if-choice-rows.true
-          (item-there c.loop-choice.rows c.choice-item.result.place w.index-rows-choice.result w.if-choice-rows.true)
+          (item-there c.loop-choice.rows c.choice-item.result.station w.index-rows-choice.result w.if-choice-rows.true)
           w.set.ensures.here
           (record { bits = w.set.ensures.others; longer = omega (arith, w.set.ensures.room) }))
       | else-is_some w ↦
@@ -35,7 +36,7 @@ loop-choice-preserved c =
           c.choice-item.result _ c.loop-choice-test.true c.choice-item.is c.loop-choice.invariant
           (elim w.else-is_some.branch [
             | else-is_some-via-then-is_some+else-choice-rows v ↦
-                λ place within. not-inside _ c.choice-item.result.place place
+                λ place within. not-inside _ c.choice-item.result.station place
                 (length c.loop-choice.rows) v.if-choice-rows.false within
             | else-is_some-via-else-is_some v ↦
                 λ place within. no-action _ _ (sym c.is_some.ensures ∙ v.if-is_some.false)

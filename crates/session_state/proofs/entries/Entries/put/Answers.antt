@@ -9,7 +9,7 @@ pub invariant_of-self : goal.invariant_of-self
 invariant_of-self c =
     let es = c.self.inside.entries.items in
     let f : Entry = begun c.args.place c.args.action in
-    let anew : (i : ℕ) (e : Entry) → slice_get es i ≡ Some e → e.place ≢ c.args.place = λ i e there.
+    let anew : (i : ℕ) (e : Entry) → slice_get es i ≡ Some e → e.station ≢ c.args.place = λ i e there.
     c.requires.anew i e (ap (λ (v : EntriesValue). slice_get v.items i) (sym c.self.view_is) ∙ there) in
     let count : c.len-i.result ≡ length es = c.len-i.ensures ∙ c.self.inside.entries.ok.0 in
     let indexed : IsIndexed (es ++ f ∷ []) c.set_index.new.indexes.items =
