@@ -3,7 +3,8 @@ ghost use Rattle.std.specs.Prelude.{None};
 
 use crate::trial::{Fault, Trial};
 use catalog::Config;
-use jobs::{ReplayFault, replay};
+use incidents::ReplayFault;
+use job_parts::replay;
 use sl_io::{DeviceFault, MemorySink, MemorySource, Sink, StreamFault};
 use std::alloc::Global;
 use test_centre::CENTRE;
