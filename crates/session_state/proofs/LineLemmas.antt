@@ -6,7 +6,7 @@ use Rattle.protocol.specs.Lines.{Line, is_line_end, open_after, cut_from}
 use Rattle.protocol.specs.Lines.Line.{Text, TooLong}
 use Rattle.protocol.specs.Command.{Command, command_of}
 use Rattle.protocol.specs.Command.Command.{Blank, Hello, Cat, Bye, End, Station, Select, Data, Fetch, Time, Bad}
-use Rattle.protocol.specs.History.{Arrival, Request as ProtocolRequest}
+use Rattle.protocol.specs.History.{Arrival, Request}
 use Rattle.protocol.specs.Session.{Negotiated, Outcome, outcome_of}
 use Rattle.protocol.specs.Session.Outcome.{Stays, Lists, Ends}
 use Rattle.protocol.specs.Client.{Client, follow, leave, read_byte, is_nothing}
@@ -16,8 +16,8 @@ use Rattle.protocol.proofs.FoundLemmas.{both}
 use Rattle.session_state.specs.NamedValues.{ModeValue}
 use Rattle.session_state.specs.declared.modes.Change.{Change}
 use Rattle.session_state.specs.declared.modes.Change.TheVariants.{Done, Refused, Starts}
-use Rattle.session_state.specs.declared.request.Request.{Request}
-use Rattle.session_state.specs.declared.request.Request.TheVariants.{Nothing}
+use Rattle.session_state.specs.declared.instruction.Instruction.{Instruction}
+use Rattle.session_state.specs.declared.instruction.Instruction.TheVariants.{Nothing}
 use Rattle.session_state.specs.declared.session.State.TheVariants.{Negotiating, Listing, Transfer, Ending}
 use Rattle.session_state.specs.Choices.{negotiated_in, chosen_of, request_in}
 use Rattle.session_state.specs.Changes.{outcome_after}
@@ -112,20 +112,20 @@ read_byte-lines v h (Text []) n u b = both (is_line_end b) (λ y. rw y) (λ x. r
 read_byte-lines v h (Text (c ∷ bs)) n u b = both (is_line_end b) (λ y. rw y) (λ x. rw x)
 read_byte-lines v h TooLong n u b = both (is_line_end b) (λ y. rw y) (λ x. rw x)
 
-pub reads_byte : (config : Config) (h : List Arrival) (a n r : SessionValue) (request : Request) (b : ℕ)
+pub reads_byte : (config : Config) (h : List Arrival) (a n r : SessionValue) (instruction : Instruction) (b : ℕ)
     → a.state ≡ Negotiating → a.waiting ≡ [] → n ≡ record a { open_line = open_after a.open_line (b ∷ []) }
     → client_in config h r ≡ follow (session_view config n) h (client_in config h n) (negotiated_in config n.mode)
-    (outcome_by config (session_view config n) (negotiated_in config n.mode) request)
+    (outcome_by config (session_view config n) (negotiated_in config n.mode) instruction)
     → ((m : Negotiated) → outcome_of_lines (session_view config a) m (cut_from a.open_line (b ∷ []))
-    ≡ outcome_by config (session_view config a) m request)
+    ≡ outcome_by config (session_view config a) m instruction)
     → client_in config h r ≡ read_byte (session_view config a) h b (client_in config h a)
-reads_byte config h a n r request b state none line answers same =
+reads_byte config h a n r instruction b state none line answers same =
     let a_is = is_reading a state none in
     let n_is : n ≡ reading a.places a.mode (open_after a.open_line (b ∷ [])) a.unread a.looked = line
     ∙ ap (λ (x : SessionValue). record x { open_line = open_after a.open_line (b ∷ []) }) a_is in
     answers
     ∙ ap (λ (x : SessionValue). follow (session_view config x) h (client_in config h x) (negotiated_in config x.mode)
-    (outcome_by config (session_view config x) (negotiated_in config x.mode) request)) n_is
+    (outcome_by config (session_view config x) (negotiated_in config x.mode) instruction)) n_is
     ∙ ap
     (follow (session_view config a) h
     (client_in config h (reading a.places a.mode (open_after a.open_line (b ∷ [])) a.unread a.looked))
@@ -151,7 +151,7 @@ leave-bye c (Fetch number begin) = refl
 leave-bye c (Time begin last) = refl
 leave-bye c Bad = refl
 
-read_byte-past : (v : View) (h : List Arrival) (line : Line) (rs : List ProtocolRequest) (q : ℕ) (u w : List ℕ) (b : ℕ)
+read_byte-past : (v : View) (h : List Arrival) (line : Line) (rs : List Request) (q : ℕ) (u w : List ℕ) (b : ℕ)
     → read_byte v h b (record { state = ClientTransfer rs q; open_line = line; unread = u; waiting = w })
     ≡ left_if (says_bye (cut_from line (b ∷ [])))
     (record { state = ClientTransfer rs q; open_line = open_after line (b ∷ []); unread = u; waiting = w })
@@ -177,23 +177,23 @@ past-line config h a next b state =
     (λ t. left_if (says_bye (cut_from a.open_line (b ∷ [])))
     (client_in config h (record a { state = t; open_line = open_after a.open_line (b ∷ []) }))) (sym state)
 
-pub past-bye : (config : Config) (h : List Arrival) (a n r : SessionValue) (next b : ℕ) (request : Request)
+pub past-bye : (config : Config) (h : List Arrival) (a n r : SessionValue) (next b : ℕ) (instruction : Instruction)
     → a.state ≡ Transfer next → n ≡ record a { open_line = open_after a.open_line (b ∷ []) }
-    → says_bye (cut_from a.open_line (b ∷ [])) ≡ is_leaving request → is_leaving request ≡ true
+    → says_bye (cut_from a.open_line (b ∷ [])) ≡ is_leaving instruction → is_leaving instruction ≡ true
     → r ≡ record n { state = Ending }
     → client_in config h r ≡ read_byte (session_view config a) h b (client_in config h a)
-past-bye config h a n r next b request state line says bye e =
+past-bye config h a n r next b instruction state line says bye e =
     ap (client_in config h) e
     ∙ ap (λ (x : SessionValue). client_in config h (record x { state = Ending })) line
     ∙ ap (λ t. left_if t (client_in config h (record a { open_line = open_after a.open_line (b ∷ []) })))
     (sym (says ∙ bye))
     ∙ sym (past-line config h a next b state)
 
-pub past-other : (config : Config) (h : List Arrival) (a n : SessionValue) (next b : ℕ) (request : Request)
+pub past-other : (config : Config) (h : List Arrival) (a n : SessionValue) (next b : ℕ) (instruction : Instruction)
     → a.state ≡ Transfer next → n ≡ record a { open_line = open_after a.open_line (b ∷ []) }
-    → says_bye (cut_from a.open_line (b ∷ [])) ≡ is_leaving request → is_leaving request ≡ false
+    → says_bye (cut_from a.open_line (b ∷ [])) ≡ is_leaving instruction → is_leaving instruction ≡ false
     → client_in config h n ≡ read_byte (session_view config a) h b (client_in config h a)
-past-other config h a n next b request state line says bye =
+past-other config h a n next b instruction state line says bye =
     ap (client_in config h) line
     ∙ ap (λ t. left_if t (client_in config h (record a { open_line = open_after a.open_line (b ∷ []) })))
     (sym (says ∙ bye))
@@ -206,17 +206,17 @@ pub asked_none : (config : Config) (v : View) (n : Negotiated) (lines : List Lin
     → outcome_of_lines v n lines ≡ outcome_by config v n Nothing
 asked_none config v n lines e = ap (outcome_of_lines v n) (sym e)
 
-pub asked_line : (config : Config) (v : View) (n : Negotiated) (lines : List Line) (line : Line) (request : Request)
-    → line ∷ [] ≡ lines → outcome_of v n (command_of line) ≡ outcome_by config v n request
-    → outcome_of_lines v n lines ≡ outcome_by config v n request
-asked_line config v n lines line request e same = ap (outcome_of_lines v n) (sym e) ∙ same
+pub asked_line : (config : Config) (v : View) (n : Negotiated) (lines : List Line) (line : Line) (instruction : Instruction)
+    → line ∷ [] ≡ lines → outcome_of v n (command_of line) ≡ outcome_by config v n instruction
+    → outcome_of_lines v n lines ≡ outcome_by config v n instruction
+asked_line config v n lines line instruction e same = ap (outcome_of_lines v n) (sym e) ∙ same
 
 pub says_none : (lines : List Line) → [] ≡ lines → says_bye lines ≡ is_leaving Nothing
 says_none lines e = ap says_bye (sym e)
 
-pub says_line : (lines : List Line) (line : Line) (request : Request) → line ∷ [] ≡ lines
-    → is_bye (command_of line) ≡ is_leaving request → says_bye lines ≡ is_leaving request
-says_line lines line request e same = ap says_bye (sym e) ∙ same
+pub says_line : (lines : List Line) (line : Line) (instruction : Instruction) → line ∷ [] ≡ lines
+    → is_bye (command_of line) ≡ is_leaving instruction → says_bye lines ≡ is_leaving instruction
+says_line lines line instruction e same = ap says_bye (sym e) ∙ same
 
 pub ruleset ask_lemmas = (asked_none, asked_line, says_none, says_line)
 

@@ -9,14 +9,14 @@ use Rattle.protocol.specs.Session.{Negotiated, Outcome, outcome_of, error_line, 
 use Rattle.protocol.specs.Session.{choose_station, end_multi, select}
 use Rattle.protocol.specs.Session.Outcome.{Stays, Lists, Ends}
 use Rattle.catalog.specs.Places.{station_at}
-use Rattle.session_state.specs.declared.request.Request.{Request}
-use Rattle.session_state.specs.declared.request.Request.TheVariants.{Nothing, Greeting, Listing, Leaving, Name, Clear}
-use Rattle.session_state.specs.declared.request.Request.TheVariants.{Add, Act, Finish, Refused}
+use Rattle.session_state.specs.declared.instruction.Instruction.{Instruction}
+use Rattle.session_state.specs.declared.instruction.Instruction.TheVariants.{Nothing, Greeting, Listing, Leaving, Name, Clear}
+use Rattle.session_state.specs.declared.instruction.Instruction.TheVariants.{Add, Act, Finish, Refused}
 use Rattle.session_state.specs.Choices.{action_value}
 use Rattle.session_state.specs.Changes.{selecting}
 
 -- what comes of what is asked, by what was negotiated
-abbrev pub outcome_by : Config → View → Negotiated → Request → Outcome
+abbrev pub outcome_by : Config → View → Negotiated → Instruction → Outcome
 outcome_by config v n Nothing = Stays [] n
 outcome_by config v n Greeting = Stays (greeting v) n
 outcome_by config v n Listing = Lists
@@ -44,6 +44,6 @@ says_bye [] = false
 says_bye (line ∷ lines) = is_bye (command_of line)
 
 -- the same of what is asked
-abbrev pub is_leaving : Request → Bool
+abbrev pub is_leaving : Instruction → Bool
 is_leaving Leaving = true
 is_leaving _ = false

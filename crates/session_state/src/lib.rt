@@ -7,12 +7,12 @@
 
 pub mod choices;
 pub mod entries;
+mod instruction;
 mod kept_action;
 mod modes;
 mod named;
 mod refusals;
 mod replies;
-mod request;
 pub mod session;
 mod waiting;
 

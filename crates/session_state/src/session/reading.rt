@@ -7,7 +7,7 @@ ghost use Rattle.protocol.specs.Session.{Negotiated};
 ghost use Rattle.protocol.specs.Client.{read_byte, reads, follow};
 
 use super::{Session, State};
-use crate::request::{Request, request_of_line};
+use crate::instruction::{Instruction, instruction_of};
 use catalog::Config;
 
 impl Session {
@@ -19,7 +19,7 @@ impl Session {
 
     /// What the line asks that a byte ends, where it ends one.
     #[tactic(auto, using(crate::proofs::LineLemmas::ask_lemmas))]
-    fn ask(&mut self, config: &Config, byte: u8) -> Request
+    fn ask(&mut self, config: &Config, byte: u8) -> Instruction
         requires { HasPlaces config.now self.old }
         ensures line { self.new ≡ record self.old { open_line = open_after self.old.open_line (byte ∷ []) } }
         ensures outcome { (n : Negotiated)
@@ -29,51 +29,51 @@ impl Session {
     {
         let _ = &self.state;
         match self.cutter.push(byte) {
-            Some(line) => request_of_line(&self.view, config, line),
-            None => Request::Nothing,
+            Some(line) => instruction_of(&self.view, config, line),
+            None => Instruction::Nothing,
         }
     }
 
     /// The command is obeyed, while nothing waits in negotiation.
     #[tactic(auto, using(crate::proofs::LineLemmas::answer_lemmas))]
-    fn answer(&mut self, config: &Config, request: Request)
+    fn answer(&mut self, config: &Config, instruction: Instruction)
         requires negotiating { self.old.state ≡ Negotiating }
         requires nothing_waits { self.old.waiting ≡ [] }
         ensures client { (h : List Arrival) → client_in config.now h self.new
             ≡ follow (session_view config.now self.old) h (client_in config.now h self.old)
             (negotiated_in config.now self.old.mode)
             (outcome_by config.now (session_view config.now self.old)
-            (negotiated_in config.now self.old.mode) request) }
+            (negotiated_in config.now self.old.mode) instruction) }
         ensures places { self.new.places ≡ self.old.places }
         ensures unread { self.new.unread ≡ self.old.unread }
         ensures elsewhere { (next : ℕ) → self.new.state ≢ Transfer next }
     {
-        match request {
-            Request::Nothing => {}
-            Request::Greeting => self.greet(config),
-            Request::Listing => self.turn_to(State::Listing(0)),
-            Request::Leaving => self.turn_to(State::Ending),
-            Request::Name(found) => {
+        match instruction {
+            Instruction::Nothing => {}
+            Instruction::Greeting => self.greet(config),
+            Instruction::Listing => self.turn_to(State::Listing(0)),
+            Instruction::Leaving => self.turn_to(State::Ending),
+            Instruction::Name(found) => {
                 let change = self.mode.name(config, found);
                 self.take_change(change);
             }
-            Request::Clear => {
+            Instruction::Clear => {
                 let change = self.mode.clear();
                 self.take_change(change);
             }
-            Request::Add(selector) => {
+            Instruction::Add(selector) => {
                 let change = self.mode.add(selector);
                 self.take_change(change);
             }
-            Request::Act(action) => {
+            Instruction::Act(action) => {
                 let change = self.mode.act(&self.view, action);
                 self.take_change(change);
             }
-            Request::Finish => {
+            Instruction::Finish => {
                 let change = self.mode.finish();
                 self.take_change(change);
             }
-            Request::Refused => self.say_error(),
+            Instruction::Refused => self.say_error(),
         }
     }
 
@@ -90,8 +90,8 @@ impl Session {
         ensures elsewhere { (next : ℕ) → self.new.state ≢ Transfer next }
     {
         let _ = &self.view;
-        let request = self.ask(config, byte);
-        self.answer(config, request);
+        let instruction = self.ask(config, byte);
+        self.answer(config, instruction);
     }
 
     /// One more byte is read in a transfer, where BYE alone acts.
@@ -107,8 +107,8 @@ impl Session {
         ensures kept { KeepsTransfer self.old self.new }
     {
         let _ = &self.view;
-        let request = self.ask(config, byte);
-        if request.is_leaving() {
+        let instruction = self.ask(config, byte);
+        if instruction.is_leaving() {
             self.turn_to(State::Ending);
         }
     }

@@ -11,9 +11,9 @@ use catalog::{Config, View};
 use selector::Selector;
 use sl_lines::{Action, Command, Line, command};
 
-/// What a client asks a session to do.
+/// What a session is to do.
 #[derive(Clone, Copy)]
-pub enum Request {
+pub enum Instruction {
     /// Spaces alone, or no line yet.
     Nothing,
     /// HELLO.
@@ -36,20 +36,20 @@ pub enum Request {
     Refused,
 }
 
-impl Request {
+impl Instruction {
     ghost use Rattle.session_state.specs.Asking.{is_leaving};
 
     /// Whether it is BYE.
     pub fn is_leaving(self) -> bool
         ensures { result ≡ is_leaving self }
     {
-        matches!(&self, Request::Leaving)
+        matches!(&self, Instruction::Leaving)
     }
 }
 
 /// What a line asks.
 #[tactic(auto, using(crate::proofs::AskLemmas::asking_lemmas))]
-pub fn request_of_line(view: &View, config: &Config, line: Line<'_>) -> Request
+pub fn instruction_of(view: &View, config: &Config, line: Line<'_>) -> Instruction
     requires { All (IsPlace config.now) view.now }
     ensures outcome { (n : Negotiated)
         → outcome_of (view_in config.now view.now) n (command_of (line_value line.entry))
@@ -57,29 +57,31 @@ pub fn request_of_line(view: &View, config: &Config, line: Line<'_>) -> Request
     ensures leaving { is_bye (command_of (line_value line.entry)) ≡ is_leaving result }
 {
     match command(line) {
-        Command::Blank => Request::Nothing,
-        Command::Hello => Request::Greeting,
-        Command::Cat => Request::Listing,
-        Command::Bye => Request::Leaving,
-        Command::Station { station, network } => Request::Name(view.find(config, station, network)),
-        Command::Select { pattern: None } => Request::Clear,
+        Command::Blank => Instruction::Nothing,
+        Command::Hello => Instruction::Greeting,
+        Command::Cat => Instruction::Listing,
+        Command::Bye => Instruction::Leaving,
+        Command::Station { station, network } => Instruction::Name(view.find(
+            config, station, network,
+        )),
+        Command::Select { pattern: None } => Instruction::Clear,
         Command::Select {
             pattern: Some(text),
         } => selecting(text),
-        Command::End => Request::Finish,
-        Command::Act(action) => Request::Act(action),
-        Command::Bad => Request::Refused,
+        Command::End => Instruction::Finish,
+        Command::Act(action) => Instruction::Act(action),
+        Command::Bad => Instruction::Refused,
     }
 }
 
 #[tactic(auto, using(crate::proofs::AskLemmas::selecting_lemmas))]
-fn selecting(text: &[u8]) -> Request
+fn selecting(text: &[u8]) -> Instruction
     ensures outcome { (config : ProtocolConfig) (v : ProtocolView) (n : Negotiated)
         → select n (Some text.now) ≡ outcome_by config v n result }
     ensures stays { is_leaving result ≡ false }
 {
     match Selector::parse(text) {
-        Some(selector) => Request::Add(selector),
-        None => Request::Refused,
+        Some(selector) => Instruction::Add(selector),
+        None => Instruction::Refused,
     }
 }
