@@ -44,9 +44,9 @@ pub struct Readiness {
     pub is_writable: bool,
 }
 
-/// Which calls of a connection are worth making again.
+/// What is to be told of a port: which of its calls are worth making again.
 #[derive(Clone, Copy, Drop)]
-pub struct Marks {
+pub struct Told {
     pub readable: bool,
     pub writable: bool,
 }
@@ -141,7 +141,7 @@ impl Connection {
     }
 
     /// An event came, after so many polls. What waits is sent as far as the system takes it.
-    pub fn mark(&mut self, event: Readiness, polls: u64, pool: &mut Pool) -> Marks
+    pub fn mark(&mut self, event: Readiness, polls: u64, pool: &mut Pool) -> Told
         ensures { self.new.number ≡ self.old.number }
     {
         let comes = event.is_readable || event.is_over;
@@ -152,13 +152,13 @@ impl Connection {
         if event.is_writable && self.resume(pool) > 0 {
             self.end.note_move(polls);
         }
-        let told = event.is_writable && self.owes_writable && !self.is_full;
-        if told {
+        let writable = event.is_writable && self.owes_writable && !self.is_full;
+        if writable {
             self.owes_writable = false;
         }
-        Marks {
+        Told {
             readable: comes || self.has_failed || self.end.is_found(),
-            writable: told,
+            writable,
         }
     }
 

@@ -10,7 +10,7 @@ ghost use Rattle.socket_ports.specs.Peers.{Admits, IfJoined, IfNotJoined, IsJoin
 
 use crate::admission::Admission;
 use crate::ahead::AheadPool;
-use crate::connection::{Connection, Marks, Readiness};
+use crate::connection::{Connection, Readiness, Told};
 use crate::departures::Departures;
 use crate::fault::ListenError;
 use crate::joins::Joins;
@@ -283,15 +283,15 @@ impl Sockets {
                 return Some(Happening::Writable(number));
             }
         }
-        if let Some((number, marks)) = self.next_marks() {
-            return self.tell(number, marks);
+        if let Some((number, told)) = self.next_told() {
+            return self.tell(number, told);
         }
         let number = self.next_due()?;
         Some(Happening::Readable(number))
     }
 
     /// Tells what an event says of a port.
-    fn tell(&mut self, number: u64, marks: Marks) -> Option<Happening>
+    fn tell(&mut self, number: u64, told: Told) -> Option<Happening>
         ensures some { IfSome result (λ h. TellsOpenPorts self.old.peers.joined self.new.peers.joined
             (numbers self.new.connections.items) (Ok h)) }
         ensures admits { IfSome result (λ h. Admits self.old.peers self.new.peers (Ok h)) }
@@ -303,8 +303,8 @@ impl Sockets {
         if !self.is_open(number) {
             return None;
         }
-        if marks.readable {
-            if marks.writable {
+        if told.readable {
+            if told.writable {
                 self.writable = Some(number);
             }
             return Some(Happening::Readable(number));
@@ -313,7 +313,7 @@ impl Sockets {
     }
 
     /// The next port of which an event tells something.
-    fn next_marks(&mut self) -> Option<(u64, Marks)>
+    fn next_told(&mut self) -> Option<(u64, Told)>
         ensures peers { self.new.peers ≡ self.old.peers }
         ensures polls { self.new.polls ≡ self.old.polls }
         ensures joins { self.new.joins ≡ self.old.joins }
@@ -323,8 +323,8 @@ impl Sockets {
             match origin_of(event.token()) {
                 Origin::Listener(kind) => self.listeners.mark(kind),
                 Origin::Port(number) => {
-                    if let Some(marks) = self.mark(number, event) {
-                        return Some((number, marks));
+                    if let Some(told) = self.mark(number, event) {
+                        return Some((number, told));
                     }
                 }
             }
@@ -333,7 +333,7 @@ impl Sockets {
     }
 
     /// An event of a port came.
-    fn mark(&mut self, number: u64, event: Event) -> Option<Marks>
+    fn mark(&mut self, number: u64, event: Event) -> Option<Told>
         ensures peers { self.new.peers ≡ self.old.peers }
         ensures polls { self.new.polls ≡ self.old.polls }
         ensures joins { self.new.joins ≡ self.old.joins }
@@ -349,9 +349,9 @@ impl Sockets {
             is_over: event.is_read_closed() || event.is_error(),
             is_writable: event.is_writable(),
         };
-        let marks = connection.mark(readiness, self.polls, &mut self.pool);
-        if marks.readable || marks.writable {
-            Some(marks)
+        let told = connection.mark(readiness, self.polls, &mut self.pool);
+        if told.readable || told.writable {
+            Some(told)
         } else {
             None
         }
@@ -629,7 +629,7 @@ impl Sockets {
     {
         self.listing.clear();
         'events: for _ in 0..EVENTS {
-            if self.next_marks().is_none() {
+            if self.next_told().is_none() {
                 return;
             }
         }
