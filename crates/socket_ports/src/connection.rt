@@ -22,7 +22,7 @@ const TRIES: u8 = 8;
 #[derive(Clone, Copy, Drop)]
 pub enum Receipt {
     Bytes(usize),
-    Later,
+    WouldBlock,
     Closed,
     Failed,
 }
@@ -31,7 +31,7 @@ pub enum Receipt {
 #[derive(Clone, Copy, Drop)]
 enum Sent {
     Took(usize),
-    Later,
+    WouldBlock,
     Failed,
 }
 
@@ -88,13 +88,13 @@ pub fn receive(stream: &TcpStream, buffer: &mut [u8]) -> Receipt
             Ok(0) => return Receipt::Closed,
             Ok(count) => return Receipt::Bytes(count),
             Err(error) => match error.kind() {
-                ErrorKind::WouldBlock => return Receipt::Later,
+                ErrorKind::WouldBlock => return Receipt::WouldBlock,
                 ErrorKind::Interrupted => {}
                 _ => return Receipt::Failed,
             },
         }
     }
-    Receipt::Later
+    Receipt::WouldBlock
 }
 
 /// Writes once.
@@ -106,13 +106,13 @@ fn send(stream: &TcpStream, bytes: &[u8]) -> Sent
         match to.write(bytes) {
             Ok(count) => return Sent::Took(count),
             Err(error) => match error.kind() {
-                ErrorKind::WouldBlock => return Sent::Later,
+                ErrorKind::WouldBlock => return Sent::WouldBlock,
                 ErrorKind::Interrupted => {}
                 _ => return Sent::Failed,
             },
         }
     }
-    Sent::Later
+    Sent::WouldBlock
 }
 
 impl Connection {
@@ -201,7 +201,7 @@ impl Connection {
                 self.ration.give(polls, count);
                 Ok(Got::Bytes(count))
             }
-            Receipt::Later => Ok(Got::Later),
+            Receipt::WouldBlock => Ok(Got::Later),
             Receipt::Closed => Ok(self.find_end(polls)),
             Receipt::Failed => Err(PortFault),
         }
@@ -250,7 +250,7 @@ impl Connection {
         }
         match self.receive_ahead(buffer) {
             Receipt::Bytes(count) => Ok(Got::Bytes(count)),
-            Receipt::Later => Ok(Got::Later),
+            Receipt::WouldBlock => Ok(Got::Later),
             Receipt::Closed => Ok(Got::Closed),
             Receipt::Failed => Err(PortFault),
         }
@@ -284,7 +284,7 @@ impl Connection {
                 }
                 Receipt::Bytes(given)
             }
-            Receipt::Later => Receipt::Later,
+            Receipt::WouldBlock => Receipt::WouldBlock,
             Receipt::Closed => Receipt::Closed,
             Receipt::Failed => Receipt::Failed,
         }
@@ -357,7 +357,7 @@ impl Connection {
                 self.is_full = count < bytes.len();
                 count
             }
-            Sent::Later => {
+            Sent::WouldBlock => {
                 self.is_full = true;
                 0
             }
@@ -455,7 +455,7 @@ impl Connection {
 fn is_short(receipt: Receipt, asked: usize) -> bool {
     match receipt {
         Receipt::Bytes(count) => count < asked,
-        Receipt::Later => true,
+        Receipt::WouldBlock => true,
         Receipt::Closed => false,
         Receipt::Failed => false,
     }
