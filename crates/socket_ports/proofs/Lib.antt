@@ -1,2 +1,3 @@
 pub mod HostLemmas
 pub mod PeerLemmas
+pub mod WaitingLemmas

@@ -9,3 +9,4 @@ pub mod Peers
 pub mod Rations
 pub mod Reads
 pub mod Receipts
+pub mod Waiting

@@ -1,15 +1,16 @@
 //! A connection with the bytes that it took and has not sent, and those of a feed that were read ahead.
-ghost use Rattle.std.specs.Prelude.{◌≡◌, ◌<◌, ◌≤◌, ◌↔◌, IsTrue, Ok, length};
+ghost use Rattle.std.specs.Prelude.{◌≡◌, ◌<◌, ◌≤◌, ◌↔◌, ◌||◌, IsTrue, None, Ok, drop, length, true};
 ghost use Rattle.ports.specs.Calls.{IsGiven, IsTaken};
 ghost use Rattle.socket_ports.specs.Ends.{IsNoted};
 ghost use Rattle.socket_ports.specs.Reads.{IsOver, ReadsBy};
 ghost use Rattle.socket_ports.specs.Receipts.{IsReceived, IsSent};
+ghost use Rattle.socket_ports.specs.Waiting.{HaveGone, IsSettled, TakesInOrder, waiting_in};
 ghost use Rattle.socket_ports.specs.declared.listeners.Kind.TheVariants.{Client};
 
 use crate::ahead::{Ahead, AheadPool};
 use crate::listeners::Kind;
 use crate::peer_end::PeerEnd;
-use crate::pool::{Pool, ROOM};
+use crate::pool::{Pool, ROOM, remove_front};
 use crate::ration::Ration;
 use mio::net::TcpStream;
 use ports::{Got, PortFault, Put};
@@ -22,7 +23,7 @@ const TRIES: u8 = 8;
 #[derive(Clone, Copy, Drop)]
 pub enum Receipt {
     Bytes(usize),
-    Later,
+    WouldBlock,
     Closed,
     Failed,
 }
@@ -31,7 +32,7 @@ pub enum Receipt {
 #[derive(Clone, Copy, Drop)]
 enum Sent {
     Took(usize),
-    Later,
+    WouldBlock,
     Failed,
 }
 
@@ -44,9 +45,9 @@ pub struct Readiness {
     pub is_writable: bool,
 }
 
-/// Which calls of a connection are worth making again.
+/// What is to be told of a port: which of its calls are worth making again.
 #[derive(Clone, Copy, Drop)]
-pub struct Marks {
+pub struct Told {
     pub readable: bool,
     pub writable: bool,
 }
@@ -65,14 +66,14 @@ pub struct Connection {
     /// The end of what a client sends.
     pub end: PeerEnd,
     /// The system takes no more for now.
-    is_full: bool,
+    pub is_full: bool,
     /// A write was answered Later, and Writable was not told since.
     pub owes_writable: bool,
     /// All that the system had was read.
     is_drained: bool,
     /// The peer sends no more.
     is_over: bool,
-    has_failed: bool,
+    pub has_failed: bool,
     /// It is told after the next poll.
     is_listed: bool,
 }
@@ -88,13 +89,13 @@ pub fn receive(stream: &TcpStream, buffer: &mut [u8]) -> Receipt
             Ok(0) => return Receipt::Closed,
             Ok(count) => return Receipt::Bytes(count),
             Err(error) => match error.kind() {
-                ErrorKind::WouldBlock => return Receipt::Later,
+                ErrorKind::WouldBlock => return Receipt::WouldBlock,
                 ErrorKind::Interrupted => {}
                 _ => return Receipt::Failed,
             },
         }
     }
-    Receipt::Later
+    Receipt::WouldBlock
 }
 
 /// Writes once.
@@ -106,13 +107,13 @@ fn send(stream: &TcpStream, bytes: &[u8]) -> Sent
         match to.write(bytes) {
             Ok(count) => return Sent::Took(count),
             Err(error) => match error.kind() {
-                ErrorKind::WouldBlock => return Sent::Later,
+                ErrorKind::WouldBlock => return Sent::WouldBlock,
                 ErrorKind::Interrupted => {}
                 _ => return Sent::Failed,
             },
         }
     }
-    Sent::Later
+    Sent::WouldBlock
 }
 
 impl Connection {
@@ -141,7 +142,7 @@ impl Connection {
     }
 
     /// An event came, after so many polls. What waits is sent as far as the system takes it.
-    pub fn mark(&mut self, event: Readiness, polls: u64, pool: &mut Pool) -> Marks
+    pub fn mark(&mut self, event: Readiness, polls: u64, pool: &mut Pool) -> Told
         ensures { self.new.number ≡ self.old.number }
     {
         let comes = event.is_readable || event.is_over;
@@ -152,13 +153,13 @@ impl Connection {
         if event.is_writable && self.resume(pool) > 0 {
             self.end.note_move(polls);
         }
-        let told = event.is_writable && self.owes_writable && !self.is_full;
-        if told {
+        let writable = event.is_writable && self.owes_writable && !self.is_full;
+        if writable {
             self.owes_writable = false;
         }
-        Marks {
+        Told {
             readable: comes || self.has_failed || self.end.is_found(),
-            writable: told,
+            writable,
         }
     }
 
@@ -201,7 +202,7 @@ impl Connection {
                 self.ration.give(polls, count);
                 Ok(Got::Bytes(count))
             }
-            Receipt::Later => Ok(Got::Later),
+            Receipt::WouldBlock => Ok(Got::Later),
             Receipt::Closed => Ok(self.find_end(polls)),
             Receipt::Failed => Err(PortFault),
         }
@@ -250,7 +251,7 @@ impl Connection {
         }
         match self.receive_ahead(buffer) {
             Receipt::Bytes(count) => Ok(Got::Bytes(count)),
-            Receipt::Later => Ok(Got::Later),
+            Receipt::WouldBlock => Ok(Got::Later),
             Receipt::Closed => Ok(Got::Closed),
             Receipt::Failed => Err(PortFault),
         }
@@ -284,7 +285,7 @@ impl Connection {
                 }
                 Receipt::Bytes(given)
             }
-            Receipt::Later => Receipt::Later,
+            Receipt::WouldBlock => Receipt::WouldBlock,
             Receipt::Closed => Receipt::Closed,
             Receipt::Failed => Receipt::Failed,
         }
@@ -294,6 +295,7 @@ impl Connection {
     pub fn write(&mut self, bytes: &[u8], polls: u64, pool: &mut Pool) -> Result<Put, PortFault>
         ensures taken { IsTaken result (length bytes.now) }
         ensures moved { IsNoted result self.new.end polls }
+        ensures order { TakesInOrder (waiting_in self.old.unsent) bytes.now result (waiting_in self.new.unsent) }
         ensures number { self.new.number ≡ self.old.number }
     {
         let put = self.take(bytes, pool);
@@ -307,17 +309,32 @@ impl Connection {
 
     fn take(&mut self, bytes: &[u8], pool: &mut Pool) -> Result<Put, PortFault>
         ensures taken { IsTaken result (length bytes.now) }
+        ensures order { TakesInOrder (waiting_in self.old.unsent) bytes.now result (waiting_in self.new.unsent) }
         ensures number { self.new.number ≡ self.old.number }
     {
+        self.make_room(bytes.len(), pool);
         if self.has_failed {
             return Err(PortFault);
         }
-        if self.unsent_count().saturating_add(bytes.len()) > ROOM {
+        self.gather(bytes, pool)
+    }
+
+    /// Sends what waits, if so many bytes have no room beside it.
+    fn make_room(&mut self, count: usize, pool: &mut Pool)
+        ensures gone { HaveGone (waiting_in self.old.unsent) (waiting_in self.new.unsent) }
+        ensures number { self.new.number ≡ self.old.number }
+    {
+        if self.unsent_count().saturating_add(count) > ROOM {
             self.flush(pool);
-            if self.has_failed {
-                return Err(PortFault);
-            }
         }
+    }
+
+    /// Adds as many bytes as there is room for to those that wait.
+    fn gather(&mut self, bytes: &[u8], pool: &mut Pool) -> Result<Put, PortFault>
+        ensures taken { IsTaken result (length bytes.now) }
+        ensures order { TakesInOrder (waiting_in self.old.unsent) bytes.now result (waiting_in self.new.unsent) }
+        ensures number { self.new.number ≡ self.old.number }
+    {
         if self.unsent.is_none() {
             self.unsent = pool.lend();
         }
@@ -335,6 +352,7 @@ impl Connection {
     /// Sends bytes that there is no buffer for.
     fn write_now(&mut self, bytes: &[u8]) -> Result<Put, PortFault>
         ensures taken { IsTaken result (length bytes.now) }
+        ensures unsent { self.new.unsent ≡ self.old.unsent }
         ensures number { self.new.number ≡ self.old.number }
     {
         let count = if self.is_full { 0 } else { self.send(bytes) };
@@ -350,6 +368,8 @@ impl Connection {
     /// One write to the system, and how many bytes it took.
     fn send(&mut self, bytes: &[u8]) -> usize
         ensures count { result ≤ length bytes.now }
+        ensures stuck { result < length bytes.now → (self.new.is_full || self.new.has_failed) ≡ true }
+        ensures unsent { self.new.unsent ≡ self.old.unsent }
         ensures number { self.new.number ≡ self.old.number }
     {
         match send(&self.stream, bytes) {
@@ -357,7 +377,7 @@ impl Connection {
                 self.is_full = count < bytes.len();
                 count
             }
-            Sent::Later => {
+            Sent::WouldBlock => {
                 self.is_full = true;
                 0
             }
@@ -379,7 +399,10 @@ impl Connection {
     /// Sends what waits, as far as the system takes it, and answers how many bytes went. A failure is told by the next
     /// read or write.
     pub fn flush(&mut self, pool: &mut Pool) -> usize
-        ensures { self.new.number ≡ self.old.number }
+        ensures count { result ≤ length (waiting_in self.old.unsent) }
+        ensures others_wait { waiting_in self.new.unsent ≡ drop result (waiting_in self.old.unsent) }
+        ensures settled { IsSettled self.new }
+        ensures number { self.new.number ≡ self.old.number }
     {
         if self.is_full || self.has_failed {
             return 0;
@@ -392,9 +415,7 @@ impl Connection {
             pool.take_back(unsent);
             return count;
         }
-        let left = unsent.len() - count;
-        unsent.as_mut_slice().copy_within(count.., 0);
-        unsent.truncate(left);
+        remove_front(&mut unsent, count);
         self.unsent = Some(unsent);
         count
     }
@@ -455,7 +476,7 @@ impl Connection {
 fn is_short(receipt: Receipt, asked: usize) -> bool {
     match receipt {
         Receipt::Bytes(count) => count < asked,
-        Receipt::Later => true,
+        Receipt::WouldBlock => true,
         Receipt::Closed => false,
         Receipt::Failed => false,
     }

@@ -20,6 +20,7 @@ mod options;
 mod peer;
 mod peer_end;
 mod peers;
+mod polling;
 mod pool;
 mod ration;
 mod sockets;

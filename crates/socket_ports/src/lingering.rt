@@ -111,7 +111,7 @@ fn goes_on(connection: &Connection) -> bool {
     for _ in 0..BLOCKS {
         match receive(connection.stream(), &mut block) {
             Receipt::Bytes(_) => {}
-            Receipt::Later => return true,
+            Receipt::WouldBlock => return true,
             Receipt::Closed => return false,
             Receipt::Failed => return false,
         }

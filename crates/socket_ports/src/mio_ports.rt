@@ -58,6 +58,13 @@ impl MioPorts {
     {
         let away = Departures::new(alloc).map_err(|_| ListenError::OutOfMemory)?;
         let sockets = Sockets::listen(rt, alloc, clients, feeds, admission)?;
+        MioPorts::over(sockets, away)
+    }
+
+    /// Ports over sockets that are listened on.
+    fn over(sockets: Sockets, away: Departures) -> Result<MioPorts, ListenError>
+        ensures { IfOk result (λ ports. ports.sockets.peers ≡ sockets.peers) }
+    {
         let bound = sockets.bound()?;
         Ok(MioPorts {
             sockets,

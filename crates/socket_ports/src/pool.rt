@@ -1,6 +1,7 @@
 //! Buffers for bytes that wait to be sent. A port has one only while it holds something. What was gathered for one port
 //! is sent before another one's turn, so that a single buffer serves all ports whose sockets take everything.
-ghost use Rattle.std.specs.Prelude.{◌≡◌, ◌≤◌, [], IfOk, length};
+ghost use Rattle.std.specs.Prelude.{◌≡◌, ◌≤◌, [], IfSome, drop, length, vec_len};
+ghost use Rattle.std.specs.List.{All};
 
 use std::alloc::{AllocError, Global};
 
@@ -17,6 +18,7 @@ pub struct Pool {
     alloc: Global,
     free: Vec<Vec<u8>>,
     ghost few: { length free.items ≤ 16 },
+    ghost empty: { All (λ buffer. buffer.items ≡ []) free.items },
 }
 
 impl Pool {
@@ -28,7 +30,9 @@ impl Pool {
     }
 
     /// An empty buffer, or none if there is no memory for one.
-    pub fn lend(&mut self) -> Option<Vec<u8>> {
+    pub fn lend(&mut self) -> Option<Vec<u8>>
+        ensures { IfSome result (λ buffer. buffer.items ≡ []) }
+    {
         if let Some(buffer) = self.free.pop() {
             return Some(buffer);
         }
@@ -44,4 +48,14 @@ impl Pool {
         // There is room for it.
         let _ = self.free.push(buffer);
     }
+}
+
+/// Removes the first so many bytes of a buffer.
+pub fn remove_front(buffer: &mut Vec<u8>, count: usize)
+    requires { count ≤ vec_len buffer.old }
+    ensures { buffer.new.items ≡ drop count buffer.old.items }
+{
+    let len = buffer.len();
+    buffer.as_mut_slice().copy_within(count..len, 0);
+    buffer.truncate(len - count);
 }

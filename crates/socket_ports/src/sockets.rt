@@ -1,5 +1,5 @@
 //! Connections by numbers that are never used again, and what happens to them.
-ghost use Rattle.std.specs.Prelude.{◌≡◌, ◌<◌, ◌+◌, [], Err, IfErr, IfNone, IfOk, IfSome, Ok, OnOk, length, true};
+ghost use Rattle.std.specs.Prelude.{◌≡◌, ◌<◌, ◌+◌, ◌^◌, [], Err, IfErr, IfNone, IfOk, IfSome, Ok, OnOk, length, true};
 ghost use Rattle.std.specs.List.{Contains};
 ghost use Rattle.ports.specs.Calls.{IsGiven, IsTaken};
 ghost use Rattle.socket_ports.specs.Admissions.{IsAdmitted};
@@ -10,26 +10,22 @@ ghost use Rattle.socket_ports.specs.Peers.{Admits, IfJoined, IfNotJoined, IsJoin
 
 use crate::admission::Admission;
 use crate::ahead::AheadPool;
-use crate::connection::{Connection, Marks, Readiness};
+use crate::connection::{Connection, Readiness, Told};
 use crate::departures::Departures;
 use crate::fault::ListenError;
 use crate::joins::Joins;
 use crate::lingering::Lingering;
-use crate::listeners::{Accepted, Kind, LAST, Listeners, Origin, kind_of, origin_of, token_of};
+use crate::listeners::{Accepted, Kind, LAST, Listeners, Origin, origin_of, token_of};
 use crate::listing::Listing;
 use crate::peers::Peers;
+use crate::polling::{EVENTS, Polling};
 use crate::pool::Pool;
 use logged_ports::{Away, Reason};
 use mio::event::Event;
 use mio::net::TcpStream;
-use mio::{Events, Interest, Poll};
 use ports::{Got, Happening, PortFault, Put};
-use std::alloc::Global;
+use std::alloc::{AllocError, Global};
 use std::net::{Ipv4Addr, Net, SocketAddr, SocketAddrV4};
-use std::time::Duration;
-
-/// How many events one poll gives at most.
-const EVENTS: usize = 1_024;
 
 /// How many connections are taken at most between two polls.
 const CONNECTIONS: u8 = 16;
@@ -42,12 +38,9 @@ const LAST_POLLS: u8 = 50;
 
 #[derive(Drop)]
 pub struct Sockets {
-    poll: Poll,
-    events: Events,
+    polling: Polling,
     /// How many polls were made.
     pub polls: u64,
-    /// The events of the last poll that were not answered yet.
-    happened: Vec<Event>,
     /// The events of the last poll are being answered.
     is_polled: bool,
     /// A port joined, or bytes went, since the last poll.
@@ -104,6 +97,13 @@ fn away_of(kind: Kind, address: Ipv4Addr) -> Away
     Away { address, reason }
 }
 
+/// Buffers for bytes that wait to be sent, and for those that are read ahead.
+fn buffers(alloc: Global) -> Result<(Pool, AheadPool), AllocError> {
+    let pool = Pool::new(alloc)?;
+    let aheads = AheadPool::new(alloc)?;
+    Ok((pool, aheads))
+}
+
 fn address_of(peer: SocketAddr) -> Option<Ipv4Addr> {
     match peer {
         SocketAddr::V4(peer) => Some(*peer.ip()),
@@ -148,17 +148,14 @@ impl Sockets {
     ) -> Result<Sockets, ListenError>
         ensures { IfOk result (λ sockets. sockets.peers ≡ record { admission = admission; joined = 0; opened = [] }) }
     {
-        let events = Events::with_capacity(alloc, EVENTS).map_err(|_| ListenError::OutOfMemory)?;
-        let happened = Vec::with_capacity(alloc, EVENTS).map_err(|_| ListenError::OutOfMemory)?;
-        let pool = Pool::new(alloc).map_err(|_| ListenError::OutOfMemory)?;
-        let aheads = AheadPool::new(alloc).map_err(|_| ListenError::OutOfMemory)?;
-        let poll = Poll::new(rt).map_err(ListenError::Clients)?;
-        let listeners = Listeners::listen(rt, &poll, clients, feeds)?;
+        let Ok((pool, aheads)) = buffers(alloc) else {
+            return Err(ListenError::OutOfMemory);
+        };
+        let polling = Polling::new(rt, alloc)?;
+        let listeners = Listeners::listen(rt, polling.poll(), clients, feeds)?;
         Ok(Sockets {
-            poll,
-            events,
+            polling,
             polls: 0,
-            happened,
             is_polled: false,
             is_busy: false,
             listeners,
@@ -235,31 +232,7 @@ impl Sockets {
         self.joins = Joins::new();
         self.is_busy = false;
         self.listing.begin();
-        self.happened.clear();
-        if self
-            .poll
-            .poll(&mut self.events, Some(Duration::from_millis(wait)))
-            .is_err()
-        {
-            return Err(PortFault);
-        }
-        // The last are answered first.
-        self.keep_events(Kind::Client);
-        self.keep_events(Kind::Feed);
-        Ok(())
-    }
-
-    /// Keeps the events of clients, or those of feeds. There is room for all events of a poll.
-    fn keep_events(&mut self, kind: Kind)
-        ensures peers { self.new.peers ≡ self.old.peers }
-        ensures polls { self.new.polls ≡ self.old.polls }
-        ensures joins { self.new.joins ≡ self.old.joins }
-    {
-        for event in self.events.iter() {
-            if kind_of(event.token()) == kind {
-                let _ = self.happened.push(*event);
-            }
-        }
+        self.polling.ask(wait)
     }
 
     fn is_open(&self, number: u64) -> bool
@@ -283,15 +256,15 @@ impl Sockets {
                 return Some(Happening::Writable(number));
             }
         }
-        if let Some((number, marks)) = self.next_marks() {
-            return self.tell(number, marks);
+        if let Some((number, told)) = self.next_told() {
+            return self.tell(number, told);
         }
         let number = self.next_due()?;
         Some(Happening::Readable(number))
     }
 
     /// Tells what an event says of a port.
-    fn tell(&mut self, number: u64, marks: Marks) -> Option<Happening>
+    fn tell(&mut self, number: u64, told: Told) -> Option<Happening>
         ensures some { IfSome result (λ h. TellsOpenPorts self.old.peers.joined self.new.peers.joined
             (numbers self.new.connections.items) (Ok h)) }
         ensures admits { IfSome result (λ h. Admits self.old.peers self.new.peers (Ok h)) }
@@ -303,8 +276,8 @@ impl Sockets {
         if !self.is_open(number) {
             return None;
         }
-        if marks.readable {
-            if marks.writable {
+        if told.readable {
+            if told.writable {
                 self.writable = Some(number);
             }
             return Some(Happening::Readable(number));
@@ -313,18 +286,18 @@ impl Sockets {
     }
 
     /// The next port of which an event tells something.
-    fn next_marks(&mut self) -> Option<(u64, Marks)>
+    fn next_told(&mut self) -> Option<(u64, Told)>
         ensures peers { self.new.peers ≡ self.old.peers }
         ensures polls { self.new.polls ≡ self.old.polls }
         ensures joins { self.new.joins ≡ self.old.joins }
     {
         'events: for _ in 0..EVENTS {
-            let event = self.happened.pop()?;
+            let event = self.polling.next()?;
             match origin_of(event.token()) {
                 Origin::Listener(kind) => self.listeners.mark(kind),
                 Origin::Port(number) => {
-                    if let Some(marks) = self.mark(number, event) {
-                        return Some((number, marks));
+                    if let Some(told) = self.mark(number, event) {
+                        return Some((number, told));
                     }
                 }
             }
@@ -333,7 +306,7 @@ impl Sockets {
     }
 
     /// An event of a port came.
-    fn mark(&mut self, number: u64, event: Event) -> Option<Marks>
+    fn mark(&mut self, number: u64, event: Event) -> Option<Told>
         ensures peers { self.new.peers ≡ self.old.peers }
         ensures polls { self.new.polls ≡ self.old.polls }
         ensures joins { self.new.joins ≡ self.old.joins }
@@ -349,9 +322,9 @@ impl Sockets {
             is_over: event.is_read_closed() || event.is_error(),
             is_writable: event.is_writable(),
         };
-        let marks = connection.mark(readiness, self.polls, &mut self.pool);
-        if marks.readable || marks.writable {
-            Some(marks)
+        let told = connection.mark(readiness, self.polls, &mut self.pool);
+        if told.readable || told.writable {
+            Some(told)
         } else {
             None
         }
@@ -466,6 +439,24 @@ impl Sockets {
         }
     }
 
+    /// Makes ready for a new connection under a number: the system will report what happens at it, and there is room to
+    /// list it. Whether that is done.
+    fn prepare(&mut self, number: u64, kind: Kind, stream: &mut TcpStream) -> bool
+        ensures number { result ≡ true → number < 2 ^ 63 }
+        ensures peers { self.new.peers ≡ self.old.peers }
+        ensures polls { self.new.polls ≡ self.old.polls }
+        ensures joins { self.new.joins ≡ self.old.joins }
+    {
+        if number >= LAST || stream.set_nodelay(true).is_err() {
+            return false;
+        }
+        if !self.polling.watch(stream, token_of(number, kind)) {
+            return false;
+        }
+        let open = self.connections.len().saturating_add(1);
+        self.listing.reserve(open).is_ok()
+    }
+
     /// Holds a new connection under the next number.
     fn hold(&mut self, kind: Kind, address: Ipv4Addr, mut stream: TcpStream) -> Option<u64>
         requires room { self.old.joins.count + self.old.joins.away < 16 }
@@ -477,21 +468,7 @@ impl Sockets {
         ensures polls { self.new.polls ≡ self.old.polls }
     {
         let number = self.peers.joined();
-        if number >= LAST || stream.set_nodelay(true).is_err() {
-            return None;
-        }
-        let both = Interest::READABLE | Interest::WRITABLE;
-        let token = token_of(number, kind);
-        if self
-            .poll
-            .registry()
-            .register(&mut stream, token, both)
-            .is_err()
-        {
-            return None;
-        }
-        let open = self.connections.len().saturating_add(1);
-        if self.listing.reserve(open).is_err() {
+        if !self.prepare(number, kind, &mut stream) {
             return None;
         }
         let connection = Connection::new(number, kind, stream);
@@ -629,7 +606,7 @@ impl Sockets {
     {
         self.listing.clear();
         'events: for _ in 0..EVENTS {
-            if self.next_marks().is_none() {
+            if self.next_told().is_none() {
                 return;
             }
         }

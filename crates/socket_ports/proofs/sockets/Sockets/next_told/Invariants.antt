@@ -1,5 +1,5 @@
 use Rattle.std.proofs.Common.{◌≡◌}
-use Rattle.socket_ports.proofs.sockets.Sockets.next_marks.Given as goal
+use Rattle.socket_ports.proofs.sockets.Sockets.next_told.Given as goal
 
 abbrev pub invariant-events : goal.invariant-events
 invariant-events l =
