@@ -1,5 +1,6 @@
 -- The moments of the command line, and the window that they make.
 use Rattle.std.specs.Prelude.{◌≡◌, ◌⊎◌, Bool, true, false, ℕ, List, Option, Some, None, Err, is_some}
+use Rattle.std.specs.Borrow.{Bor}
 use Rattle.protocol.specs.Time.{time_of}
 use Rattle.sl_time.specs.Parsed.{parsed}
 use Rattle.sl_time.specs.declared.command.TimeFault.{TimeFault}
@@ -18,6 +19,17 @@ abbrev pub IsNoMoment : List ℕ → Failure → Type 0
 IsNoMoment word failure =
     (failure ≡ OutOfMemory)
     ⊎ ((fault : TimeFault) × (failure ≡ Moment fault) × (parsed (command_text word) ≡ Err fault))
+
+-- The text is that of the word, or there is neither.
+abbrev pub IsMomentOf : Option (Bor (List ℕ)) → Option (List ℕ) → Type 0
+IsMomentOf None text = text ≡ None
+IsMomentOf (Some word) None = ⊥
+IsMomentOf (Some word) (Some text) = IsMoment word.now text
+
+-- There is a word, which spells no time for that reason; or there was no memory for its text.
+abbrev pub RefusesMoment : Option (Bor (List ℕ)) → Failure → Type 0
+RefusesMoment None failure = ⊥
+RefusesMoment (Some word) failure = IsNoMoment word.now failure
 
 -- the window of a begin and an end, and of whether what is held is asked for. An end has a begin.
 abbrev pub window_by : (begin last : Option (List ℕ)) → (is_fetch : Bool) → WindowValue

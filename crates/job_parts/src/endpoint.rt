@@ -1,5 +1,6 @@
 //! Addresses with a port, as `127.0.0.1:18000`.
 ghost use Rattle.std.specs.Prelude.{◌≡◌, option_map};
+ghost use Rattle.std.specs.Net.Socket.{v4_ip, v4_port};
 ghost use Rattle.access_list.specs.Addresses.{address_of};
 ghost use Rattle.job_parts.specs.Endpoints.{both_of, endpoint_of, endpoint_value, port_of};
 
@@ -36,7 +37,10 @@ impl Endpoint {
     }
 
     /// It as std's sockets take it.
-    pub fn socket_address(self) -> SocketAddrV4 {
+    pub fn socket_address(self) -> SocketAddrV4
+        ensures ip { v4_ip result ≡ self.address }
+        ensures port { v4_port result ≡ self.port }
+    {
         SocketAddrV4::new(self.address, self.port)
     }
 }

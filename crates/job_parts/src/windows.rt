@@ -1,7 +1,7 @@
 //! The moments between which records are wanted.
-ghost use Rattle.std.specs.Prelude.{◌≡◌, option_map, IfErr, IfOk};
+ghost use Rattle.std.specs.Prelude.{◌≡◌, ◌⊎◌, option_map, IfErr, IfOk};
 ghost use Rattle.slreader.specs.WantTexts.{window_value};
-ghost use Rattle.job_parts.specs.Windows.{IsNoMoment, IsMoment, window_by};
+ghost use Rattle.job_parts.specs.Windows.{IsNoMoment, IsMoment, IsMomentOf, RefusesMoment, window_by};
 
 use command_line::ReadOptions;
 use incidents::{Failure, Incident};
@@ -26,7 +26,10 @@ fn text_of(alloc: Global, word: &str) -> Result<Vec<u8>, Failure>
 }
 
 /// The same for an option that may be left out.
-fn moment_of<'a>(alloc: Global, word: Option<&'a str>) -> Result<Option<Vec<u8>>, Incident<'a>> {
+fn moment_of<'a>(alloc: Global, word: Option<&'a str>) -> Result<Option<Vec<u8>>, Incident<'a>>
+    ensures moment { IfOk result (λ moment. IsMomentOf word.entry (option_map (λ text. text.items) moment)) }
+    ensures refused { IfErr result (λ incident. RefusesMoment word.entry incident.failure) }
+{
     let Some(word) = word else {
         return Ok(None);
     };
@@ -46,7 +49,17 @@ pub struct Moments {
 
 impl Moments {
     /// Those of the options.
-    pub fn read<'a>(alloc: Global, options: ReadOptions<'a>) -> Result<Moments, Incident<'a>> {
+    ///
+    /// It fails with Moment where a word spells no time, and with OutOfMemory only for want of memory.
+    pub fn read<'a>(alloc: Global, options: ReadOptions<'a>) -> Result<Moments, Incident<'a>>
+        ensures begin { IfOk result (λ moments.
+            IsMomentOf options.entry.begin (option_map (λ text. text.items) moments.begin)) }
+        ensures last { IfOk result (λ moments.
+            IsMomentOf options.entry.last (option_map (λ text. text.items) moments.last)) }
+        ensures fetch { IfOk result (λ moments. moments.is_fetch ≡ options.entry.fetch) }
+        ensures refused { IfErr result (λ incident. RefusesMoment options.entry.begin incident.failure
+            ⊎ RefusesMoment options.entry.last incident.failure) }
+    {
         let begin = moment_of(alloc, options.begin)?;
         let last = moment_of(alloc, options.last)?;
         Ok(Moments {

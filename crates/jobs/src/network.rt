@@ -1,5 +1,7 @@
 //! Jobs over sockets.
-ghost use Rattle.std.specs.Prelude.{◌≡◌, IfOk};
+ghost use Rattle.std.specs.Prelude.{◌≡◌, IfErr, IfOk, None, Some};
+ghost use Rattle.incidents.specs.declared.failure.Failure.TheVariants.{Address};
+ghost use Rattle.job_parts.specs.Endpoints.{endpoint_of, endpoint_value};
 ghost use Rattle.jobs.specs.Endings.{unlisted};
 
 use crate::files::{config_at, unopened};
@@ -29,7 +31,14 @@ pub struct ServerAddress<'a> {
 }
 
 /// The address that a word names.
-pub fn server_of<'a>(word: &'a str) -> Result<ServerAddress<'a>, Incident<'a>> {
+///
+/// It fails with Address where the word is no address with a port.
+pub fn server_of<'a>(word: &'a str) -> Result<ServerAddress<'a>, Incident<'a>>
+    ensures endpoint { IfOk result (λ server. endpoint_of word.now ≡ Some (endpoint_value server.endpoint)) }
+    ensures word { IfOk result (λ server. server.word ≡ word.entry) }
+    ensures refused { IfErr result (λ incident.
+        (endpoint_of word.now ≡ None) × (incident.failure ≡ Address)) }
+{
     match Endpoint::parse(word.as_bytes()) {
         Some(endpoint) => Ok(ServerAddress { word, endpoint }),
         None => Err(Failure::Address.in_word(word)),
