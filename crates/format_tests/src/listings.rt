@@ -50,19 +50,40 @@ fn first_bad(alloc: Global, bytes: &[u8]) -> Result<Option<(u128, u128)>, Fail> 
 }
 
 #[test]
-fn the_first_bad_record_is_named(rt: HostRuntime) -> Result<(), Fail> {
+fn records_that_are_right_have_no_first_bad_one(rt: HostRuntime) -> Result<(), Fail> {
     let mut bytes = Vec::new(rt.alloc());
     assert_eq!(rt; first_bad(rt.alloc(), &bytes)?, None);
     put(&mut bytes, &[])?;
     put(&mut bytes, &[])?;
     assert_eq!(rt; first_bad(rt.alloc(), &bytes)?, None);
+    Ok(())
+}
+
+#[test]
+fn a_rest_behind_two_records_is_named(rt: HostRuntime) -> Result<(), Fail> {
+    let mut bytes = Vec::new(rt.alloc());
+    put(&mut bytes, &[])?;
+    put(&mut bytes, &[])?;
     bytes.push(b'A')?;
     assert_eq!(rt; first_bad(rt.alloc(), &bytes)?, Some((3, 1_024)));
-    bytes.extend_from_slice(&[b'A'; 511])?;
+    Ok(())
+}
+
+#[test]
+fn the_first_bad_record_is_named(rt: HostRuntime) -> Result<(), Fail> {
+    let mut bytes = Vec::new(rt.alloc());
+    put(&mut bytes, &[])?;
+    put(&mut bytes, &[])?;
+    bytes.extend_from_slice(&[b'A'; 512])?;
     put(&mut bytes, &[])?;
     put(&mut bytes, &[(50, 0), (51, 0x30)])?;
     bytes.push(b'A')?;
     assert_eq!(rt; first_bad(rt.alloc(), &bytes)?, Some((3, 1_024)));
+    Ok(())
+}
+
+#[test]
+fn the_first_record_may_be_bad(rt: HostRuntime) -> Result<(), Fail> {
     assert_eq!(rt; first_bad(rt.alloc(), &[b'A'; 512])?, Some((1, 0)));
     assert_eq!(rt; first_bad(rt.alloc(), b"A")?, Some((1, 0)));
     Ok(())
