@@ -107,18 +107,33 @@ struct Left {
     kept: Vec<KeptNumber>,
     /// How often numbers were to be kept.
     keeps: usize,
+    /// How often it asked or told something between its turns.
+    calls: usize,
 }
 
 /// Runs a server that begins with the numbers that the one before it left.
 fn follow(alloc: Global, text: &[u8], before: &[KeptNumber], keep: usize) -> Result<Left, Fail> {
-    let run = served(alloc, text, before, keep, Vec::new(alloc))?;
+    follow_refused(alloc, text, before, keep, Vec::new(alloc))
+}
+
+/// The same, where some of its keeps are refused.
+fn follow_refused(
+    alloc: Global,
+    text: &[u8],
+    before: &[KeptNumber],
+    keep: usize,
+    unkept: Vec<bool>,
+) -> Result<Left, Fail> {
+    let run = served(alloc, text, before, keep, unkept)?;
     let kept = kept_by(alloc, text, before, &run)?;
     let digits = digits(alloc, run.taken.as_slice())?;
     let keeps = keeps(&run);
+    let calls = run.between.made().len();
     Ok(Left {
         digits,
         kept,
         keeps,
+        calls,
     })
 }
 
@@ -174,13 +189,12 @@ fn a_keep_that_fails_is_tried_after_more_records(rt: HostRuntime) -> Result<(), 
     let mut unkept = Vec::new(alloc);
     unkept.push(true)?;
     unkept.push(false)?;
-    let first = served(alloc, CENTRE, &[], 2, unkept)?;
-    assert_eq!(rt; keeps(&first), 2);
-    assert_eq!(rt; first.between.made().len(), 3);
-    let kept = kept_by(alloc, CENTRE, &[], &first)?;
-    let next = served(alloc, CENTRE, kept.as_slice(), 2, Vec::new(alloc))?;
+    let first = follow_refused(alloc, CENTRE, &[], 2, unkept)?;
+    assert_eq!(rt; first.keeps, 2);
+    assert_eq!(rt; first.calls, 3);
+    let next = follow(alloc, CENTRE, first.kept.as_slice(), 2)?;
     assert_eq!(rt;
-        digits(alloc, next.taken.as_slice())?.as_slice(),
+        next.digits.as_slice(),
         b"004000003FFE004001003FFF004002".as_slice()
     );
     Ok(())
@@ -197,20 +211,33 @@ capacity = 2
 first = "FFFFFE"
 "#;
 
+/// What is left by a server with GE WLF alone, and by one with both stations after it.
+fn both_after_one(alloc: Global) -> Result<Left, Fail> {
+    let one = follow(alloc, FOREST, &[], 1)?;
+    follow(alloc, CENTRE, one.kept.as_slice(), 1)
+}
+
+#[test]
+fn a_station_that_is_new_begins_as_it_is_configured(rt: HostRuntime) -> Result<(), Fail> {
+    let alloc = rt.alloc();
+    let one = follow(alloc, FOREST, &[], 1)?;
+    assert_eq!(rt; one.kept.len(), 1);
+    let both = both_after_one(alloc)?;
+    assert_eq!(rt;
+        both.digits.as_slice(),
+        b"000000004000000001004001000002".as_slice()
+    );
+    assert_eq!(rt; both.kept.len(), 3);
+    Ok(())
+}
+
 #[test]
 fn a_station_that_comes_back_goes_on(rt: HostRuntime) -> Result<(), Fail> {
     let alloc = rt.alloc();
-    let first = follow(alloc, FOREST, &[], 1)?;
-    assert_eq!(rt; first.kept.len(), 1);
-    let second = follow(alloc, CENTRE, first.kept.as_slice(), 1)?;
-    assert_eq!(rt;
-        second.digits.as_slice(),
-        b"000000004000000001004001000002".as_slice()
-    );
-    assert_eq!(rt; second.kept.len(), 3);
-    let third = follow(alloc, FOREST, second.kept.as_slice(), 1)?;
-    assert_eq!(rt; third.kept.len(), 3);
-    let last = follow(alloc, CENTRE, third.kept.as_slice(), 1)?;
+    let both = both_after_one(alloc)?;
+    let one = follow(alloc, FOREST, both.kept.as_slice(), 1)?;
+    assert_eq!(rt; one.kept.len(), 3);
+    let last = follow(alloc, CENTRE, one.kept.as_slice(), 1)?;
     assert_eq!(rt;
         last.digits.as_slice(),
         b"00400300C00400400400C005004005".as_slice()

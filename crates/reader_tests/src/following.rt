@@ -145,12 +145,17 @@ fn all_records(alloc: Global) -> Result<Vec<u8>, Fail> {
     Ok(all)
 }
 
+/// What comes of servers for a reader that goes on after these packets, of which it keeps nothing.
+fn read_after(alloc: Global, lasts: &[LastPacket], sent: &[Vec<u8>]) -> Result<Followed, Fail> {
+    let wants = wants(alloc, [b"GE_WLF", b"GE_APE@00000A"])?;
+    let mut tally = Tally::after(alloc, &wants, lasts)?;
+    Ok(read_on(alloc, &mut tally, &wants, sent, &mut NothingKept))
+}
+
 #[test]
 fn each_server_is_asked_for_what_comes_after_the_last_packet(rt: HostRuntime) -> Result<(), Fail> {
     let alloc = rt.alloc();
-    let wants = wants(alloc, [b"GE_WLF", b"GE_APE@00000A"])?;
-    let mut tally = Tally::before(alloc, &wants)?;
-    let read = read_on(alloc, &mut tally, &wants, &sent(alloc)?, &mut NothingKept);
+    let read = read_after(alloc, &[], &sent(alloc)?)?;
     assert!(rt; read.end.is_ok());
     assert!(rt; read.records.as_slice() == all_records(alloc)?.as_slice());
     assert_eq!(rt; read.asked.len(), 2);
@@ -243,20 +248,23 @@ fn nothing_is_kept_of_what_does_not_last(rt: HostRuntime) -> Result<(), Fail> {
     Ok(())
 }
 
-#[test]
-fn a_state_stands_for_what_was_read_before(rt: HostRuntime) -> Result<(), Fail> {
-    let alloc = rt.alloc();
-    let wants = wants(alloc, [b"GE_WLF", b"GE_APE@00000A"])?;
+/// Packets with the number 0 as the last ones of both stations.
+fn lasts(alloc: Global) -> Result<Vec<LastPacket>, Fail> {
     let mut lasts = Vec::new(alloc);
     for station in [b"WLF", b"APE"] {
         let number = Seq::of(0).ok_or("a number")?;
         let reached = Reached { number, end: None };
         lasts.push(LastPacket::new(alloc, b"GE", station, reached)?)?;
     }
-    let mut tally = Tally::after(alloc, &wants, &lasts)?;
+    Ok(lasts)
+}
+
+#[test]
+fn a_state_stands_for_what_was_read_before(rt: HostRuntime) -> Result<(), Fail> {
+    let alloc = rt.alloc();
     let sent = sent(alloc)?;
     assert_eq!(rt; sent.len(), 3);
-    let read = read_on(alloc, &mut tally, &wants, &sent[1..2], &mut NothingKept);
+    let read = read_after(alloc, &lasts(alloc)?, &sent[1..2])?;
     assert!(rt; matches!(read.end, Err(Break::Server(NoServer))));
     assert_eq!(rt; read.asked.len(), 1);
     assert!(rt; read.asked[0].as_slice() == ASKED[1]);
