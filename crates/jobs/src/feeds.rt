@@ -74,6 +74,24 @@ fn send_each<'a, R: Files<File = File> + Eprint + Clock, T: OpenStream + io::Wri
     Ok(())
 }
 
+/// Sends the records of files over a connection, of which the first file is open, and shuts its sending half.
+fn send_over<'a, R: Files<File = File> + Eprint + Clock, T: OpenStream + io::Write + Drop>(
+    rt: &R,
+    mut feed: Feed<T>,
+    tally: &mut FeedTally,
+    file: File,
+    first: &'a str,
+    others: &[&'a str],
+    server: &'a str,
+) -> Result<SentFeed<T>, Incident<'a>> {
+    send_input(rt, &mut feed, tally, file, first, server)?;
+    send_each(rt, &mut feed, tally, others, server)?;
+    match feed.shut() {
+        Ok(sent) => Ok(sent),
+        Err(failure) => Err(failure.in_feed(first, server)),
+    }
+}
+
 /// Sends the records of files to a server, one file after the other, and shuts the sending half of the connection. The
 /// first file is opened before the connection is made.
 pub fn send_files<'a, R: Files<File = File> + Eprint + Clock + Net>(
@@ -87,12 +105,10 @@ pub fn send_files<'a, R: Files<File = File> + Eprint + Clock + Net>(
         return Ok(None);
     };
     let file = input(rt, first)?;
-    let mut feed = Feed::new(connection(rt, endpoint)?);
-    send_input(rt, &mut feed, tally, file, first, server)?;
-    send_each(rt, &mut feed, tally, others, server)?;
-    match feed.shut() {
+    let feed = Feed::new(connection(rt, endpoint)?);
+    match send_over(rt, feed, tally, file, first, others, server) {
         Ok(sent) => Ok(Some(sent)),
-        Err(failure) => Err(failure.in_feed(first, server)),
+        Err(incident) => Err(incident),
     }
 }
 

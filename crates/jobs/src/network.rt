@@ -98,25 +98,65 @@ where
     let clients = server_of(listen)?;
     let feeds = server_of(feed)?;
     let admission = admission_of(rt.alloc(), options.feed_from, options.per_address)?;
-    let mut config = if options.is_verbose {
+    let config = if options.is_verbose {
         checked_config_at(rt, options.path)?
     } else {
         config_at(rt, options.path)?
     };
+    serve_with(rt, clients, feeds, admission, config, options)
+}
+
+/// Serves those who are admitted, with a configuration that was read.
+fn serve_with<'a, R: Files + Eprint + Clock + Net + AllocGlobal>(
+    rt: &R,
+    clients: ServerAddress<'a>,
+    feeds: ServerAddress<'a>,
+    admission: Admission,
+    mut config: Config,
+    options: ServeOptions<'a>,
+) -> Result<(), Incident<'a>>
+where
+    R::File: AsRawFd,
+{
     let numbers = numbers_for(rt, options.numbers, &mut config)?;
-    let ports = listen_at(rt, clients, feeds, admission)?;
+    match listen_at(rt, clients, feeds, admission) {
+        Ok(ports) => serve_to_the_end(rt, config, ports, options, numbers),
+        Err(incident) => Err(incident),
+    }
+}
+
+/// Serves over ports that are listened on, and then sends what was not sent yet.
+fn serve_to_the_end<'a, R: Files + Eprint + Clock + AllocGlobal>(
+    rt: &R,
+    config: Config,
+    ports: MioPorts,
+    options: ServeOptions<'a>,
+    numbers: Option<NumberFile<'a>>,
+) -> Result<(), Incident<'a>>
+where
+    R::File: AsRawFd,
+{
+    let mut ports = serve_over(rt, config, ports, options, numbers)?;
+    ports.finish();
+    Ok(())
+}
+
+/// Serves over ports that are listened on, with lines to the standard error, and gives the ports back.
+fn serve_over<'a, R: Files + Eprint + Clock + AllocGlobal>(
+    rt: &R,
+    config: Config,
+    ports: MioPorts,
+    options: ServeOptions<'a>,
+    numbers: Option<NumberFile<'a>>,
+) -> Result<MioPorts, Incident<'a>>
+where
+    R::File: AsRawFd,
+{
     let lines = SharedLines::new(StandardError::open(rt));
-    let served = if options.log {
+    if options.log {
         serve_logged(rt, config, ports, options, numbers, &lines)
     } else {
         serve_by(rt, config, ports, options, numbers, &lines)
-    };
-    match served {
-        Ok(mut ports) => {
-            ports.finish();
-            Ok(())
-        }
-        Err(incident) => Err(incident),
     }
 }
 

@@ -179,9 +179,25 @@ fn list_on<'a, R, O: Sink, P: Sink + Lasting>(
 where
     R: Files + Eprint + Clock + Net + AllocGlobal,
 {
-    let Ok(mut tally) = tally_after(rt.alloc(), &reading.wants, &state) else {
-        return Err(Incident::from(Failure::OutOfMemory));
-    };
+    match tally_after(rt.alloc(), &reading.wants, &state) {
+        Ok(mut tally) => list_after(rt, reading, &mut tally, state, output, out, records),
+        Err(AllocError) => Err(Incident::from(Failure::OutOfMemory)),
+    }
+}
+
+/// The same, after the packets that were counted.
+fn list_after<'a, R, O: Sink, P: Sink + Lasting>(
+    rt: &R,
+    reading: &Reading<'a, '_>,
+    tally: &mut Tally,
+    state: Option<StateFile<'a>>,
+    output: Option<File>,
+    out: &mut O,
+    records: &mut P,
+) -> Result<(), Incident<'a>>
+where
+    R: Files + Eprint + Clock + Net + AllocGlobal,
+{
     let present = RefCell::new(None);
     let mut servers = Connections::new(rt, reading, &present);
     let mut keeper = StateKeeper::new(rt, state, &reading.wants, output, &present);
@@ -189,7 +205,7 @@ where
         rt.alloc(),
         reading.times,
         &reading.wants,
-        &mut tally,
+        tally,
         &mut servers,
         out,
         records,
@@ -197,12 +213,25 @@ where
     );
     match read {
         Ok(()) => Ok(()),
-        Err(Break::Server(incident)) => Err(incident),
-        Err(Break::Listing(fault)) => {
-            let server = servers.server()?;
-            let incident = Failure::Packets(fault).at_server(server.word);
-            Err(incident.at_state(keeper.site()))
-        }
+        Err(end) => Err(ended_by(end, servers.server(), keeper.site())),
+    }
+}
+
+/// Why a reading ended before its end: what no server mended, or what a listing met at a server, or where the state
+/// could not be kept.
+fn ended_by<'a>(
+    end: Break<Incident<'a>>,
+    server: Result<ServerAddress<'a>, Incident<'a>>,
+    site: Option<Site<'a>>,
+) -> Incident<'a> {
+    match end {
+        Break::Server(incident) => incident,
+        Break::Listing(fault) => match server {
+            Ok(server) => Failure::Packets(fault)
+                .at_server(server.word)
+                .at_state(site),
+            Err(incident) => incident,
+        },
     }
 }
 
@@ -328,11 +357,20 @@ pub fn read_servers<'a, R: Files<File = File> + Print + Eprint + Clock + Net + A
         is_verbose,
         times: times_of(options.is_iso),
     };
+    read_to(rt, &reading, options)
+}
+
+/// Reads, with the outputs and the state of the options.
+fn read_to<'a, R: Files<File = File> + Print + Eprint + Clock + Net + AllocGlobal>(
+    rt: &R,
+    reading: &Reading<'a, '_>,
+    options: ReadOptions<'a>,
+) -> Result<(), Incident<'a>> {
     let state = state_in(rt, options.state)?;
     match (options.archive, options.output) {
-        (Some(top), _) => list_and_archive(rt, &reading, state, top),
-        (None, None) => list_lines(rt, &reading, state),
-        (None, Some("-")) => list_records(rt, &reading, state),
-        (None, Some(path)) => list_and_add(rt, &reading, state, path),
+        (Some(top), _) => list_and_archive(rt, reading, state, top),
+        (None, None) => list_lines(rt, reading, state),
+        (None, Some("-")) => list_records(rt, reading, state),
+        (None, Some(path)) => list_and_add(rt, reading, state, path),
     }
 }
