@@ -2,7 +2,7 @@
 use crate::fault::ConfigFault;
 
 /// A step of the reading of one station.
-#[derive(Clone, Copy, Debug, PartialEq, Eq, Drop)]
+#[derive(Clone, Copy, Drop)]
 pub enum StationStep {
     /// It is a table.
     Table,
@@ -18,7 +18,7 @@ pub enum StationStep {
 }
 
 /// A step of the reading of a configuration.
-#[derive(Clone, Copy, Debug, PartialEq, Eq, Drop)]
+#[derive(Clone, Copy, Drop)]
 pub enum Step {
     /// The text is TOML in UTF-8.
     Text,
@@ -33,7 +33,7 @@ pub enum Step {
 }
 
 /// Why a text is no configuration, and at which step of its reading.
-#[derive(Debug, PartialEq, Eq, Drop)]
+#[derive(Drop)]
 pub struct ConfigError {
     pub fault: ConfigFault,
     pub step: Step,

@@ -1,8 +1,7 @@
 //! What the program can be asked to do.
-use thiserror::Error;
 
 /// How often something is done.
-#[derive(Clone, Copy, Debug, PartialEq, Eq, Drop)]
+#[derive(Clone, Copy, Drop)]
 pub enum Every {
     /// Every so many turns.
     Turns(usize),
@@ -11,7 +10,7 @@ pub enum Every {
 }
 
 /// What the program is asked to do, with the texts of the command line as they stand there.
-#[derive(Debug, PartialEq, Drop)]
+#[derive(Drop)]
 pub enum Job<'a> {
     /// `check FILE ..`: a line for each record of a file, as its options say.
     Check {
@@ -61,7 +60,7 @@ pub enum Job<'a> {
 }
 
 /// The options of `check`.
-#[derive(Clone, Copy, Debug, PartialEq)]
+#[derive(Clone, Copy)]
 pub struct CheckOptions<'a> {
     /// `--iso`: times as dates and times of the day.
     pub is_iso: bool,
@@ -74,7 +73,7 @@ pub struct CheckOptions<'a> {
 }
 
 /// The options of `read`. An end has a begin, and doesn't stand beside `fetch`, `retry` or `state`.
-#[derive(Clone, Copy, Debug, PartialEq)]
+#[derive(Clone, Copy)]
 pub struct ReadOptions<'a> {
     /// `--fetch`: ends once the records that the server holds are read.
     pub fetch: bool,
@@ -95,7 +94,7 @@ pub struct ReadOptions<'a> {
 }
 
 /// A job, and how much is said of what goes wrong with it.
-#[derive(Debug, PartialEq, Drop)]
+#[derive(Drop)]
 pub struct Request<'a> {
     pub job: Job<'a>,
     /// `-v` or `--verbose`, before or after the subcommand: faults are explained.
@@ -103,12 +102,10 @@ pub struct Request<'a> {
 }
 
 /// Why a command line asks for no job.
-#[derive(Debug, Drop, Error)]
+#[derive(Drop)]
 pub enum WordsFault {
     /// Out of memory while reading it.
-    #[error("out of memory")]
     OutOfMemory,
     /// It is invalid, or asks for help or the version. The text is for the user.
-    #[error("{text}")]
     Refused { text: String, is_help: bool },
 }

@@ -11,7 +11,7 @@ use std::alloc::{AllocError, Global};
 use std::fmt::{self, Display, Formatter, Write};
 
 /// The value of a key of a configuration.
-#[derive(Debug, PartialEq, Eq, Drop)]
+#[derive(Drop)]
 pub enum Setting {
     /// There is no such key.
     Nothing,
@@ -23,7 +23,7 @@ pub enum Setting {
 }
 
 /// The first key in which two configurations differ, with its values.
-#[derive(Debug, PartialEq, Eq, Drop)]
+#[derive(Drop)]
 pub struct Difference {
     /// The step at which the key is read.
     pub step: Step,

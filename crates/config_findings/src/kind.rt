@@ -7,7 +7,7 @@ use std::fmt::{self, Display, Formatter, Write};
 use toml::Value;
 
 /// What a value of TOML is, or that none is there.
-#[derive(Clone, Copy, Debug, PartialEq, Eq, Drop)]
+#[derive(Clone, Copy, Drop)]
 pub enum Kind {
     Nothing,
     Text,

@@ -7,7 +7,7 @@ use text_parts::separators::cut_at;
 
 /// A place in a text: its line and its column, both from 1 on, and the offset at which its line begins. LF ends a line,
 /// and a column is a character.
-#[derive(Clone, Copy, Debug, PartialEq, Eq)]
+#[derive(Clone, Copy)]
 pub struct Place {
     pub line: u128,
     pub column: u128,

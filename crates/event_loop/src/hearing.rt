@@ -29,7 +29,7 @@ use std::net::Ipv4Addr;
 const FEEDS: usize = 16;
 
 /// What was heard by one call.
-#[derive(Clone, Copy, Debug, PartialEq, Eq, Drop)]
+#[derive(Clone, Copy, Drop)]
 pub enum Heard {
     /// Something happened at a port.
     Happened,
@@ -40,7 +40,7 @@ pub enum Heard {
 }
 
 /// What was heard in a turn.
-#[derive(Clone, Copy, Debug, PartialEq, Eq, Drop)]
+#[derive(Clone, Copy, Drop)]
 pub struct HeardInTurn {
     /// How many happenings other than Quiet.
     pub happenings: usize,

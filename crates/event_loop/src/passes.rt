@@ -20,7 +20,7 @@ use ports::{Got, PortFault, Ports, Put};
 use server_core::{Client, Gone, Offer, Server};
 
 /// How a pass goes on after a step.
-#[derive(Clone, Copy, Debug, PartialEq, Eq, Drop)]
+#[derive(Clone, Copy, Drop)]
 pub enum Onward {
     /// With the next step.
     On,

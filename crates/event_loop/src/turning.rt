@@ -42,7 +42,7 @@ const CLIENT_READ: usize = 1024;
 const FEED_READ: usize = 512;
 
 /// What a turn did.
-#[derive(Clone, Copy, Debug, PartialEq, Eq, Drop)]
+#[derive(Clone, Copy, Drop)]
 pub struct Turned {
     /// How many happenings other than Quiet were taken.
     pub happenings: usize,
@@ -53,7 +53,7 @@ pub struct Turned {
 }
 
 /// The ports could not say what happened.
-#[derive(Clone, Copy, Debug, PartialEq, Eq, Drop, Error)]
+#[derive(Clone, Copy, Debug, Drop, Error)]
 #[error("the ports can't say what happened")]
 pub struct LoopFault;
 

@@ -32,8 +32,7 @@ impl ScriptFault {
 }
 
 /// Why a text is no script, and at which line, counted from 1.
-#[derive(Clone, Copy, Debug, PartialEq, Eq, Drop, Error)]
-#[error("{fault}")]
+#[derive(Clone, Copy, Drop)]
 pub struct ScriptError {
     pub fault: ScriptFault,
     pub line: usize,

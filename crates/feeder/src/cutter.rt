@@ -8,7 +8,7 @@ use unfinished::Unfinished;
 const RECORD: usize = 512;
 
 /// What a piece of a feed gives.
-#[derive(Clone, Copy, Debug, PartialEq, Eq)]
+#[derive(Clone, Copy)]
 pub struct Feeding<'a> {
     /// How many bytes of the piece were read: up to the last byte of the first record that becomes whole, and all of
     /// them where none does.

@@ -34,23 +34,56 @@ fn name_asked(line: Line<'_>) -> &'static str {
 }
 
 fn is_station(text: &str, station: &[u8], network: Option<&[u8]>) -> bool {
-    command(Line::Text(text.as_bytes())) == Command::Station { station, network }
+    match command(Line::Text(text.as_bytes())) {
+        Command::Station {
+            station: code,
+            network: other,
+        } => code == station && other == network,
+        _ => false,
+    }
 }
 
 fn is_select(text: &str, pattern: Option<&[u8]>) -> bool {
-    command(Line::Text(text.as_bytes())) == Command::Select { pattern }
+    match command(Line::Text(text.as_bytes())) {
+        Command::Select { pattern: told } => told == pattern,
+        _ => false,
+    }
 }
 
 fn is_data(text: &str, number: Option<Seq>, begin: Option<Tick>) -> bool {
-    command(Line::Text(text.as_bytes())) == Command::Act(Action::Data { number, begin })
+    match command(Line::Text(text.as_bytes())) {
+        Command::Act(
+            Action::Data {
+                number: told,
+                begin: from,
+            },
+        ) => told == number && from == begin,
+        _ => false,
+    }
 }
 
 fn is_fetch(text: &str, number: Option<Seq>, begin: Option<Tick>) -> bool {
-    command(Line::Text(text.as_bytes())) == Command::Act(Action::Fetch { number, begin })
+    match command(Line::Text(text.as_bytes())) {
+        Command::Act(
+            Action::Fetch {
+                number: told,
+                begin: from,
+            },
+        ) => told == number && from == begin,
+        _ => false,
+    }
 }
 
 fn is_time(text: &str, begin: Option<Tick>, last: Option<Tick>) -> bool {
-    command(Line::Text(text.as_bytes())) == Command::Act(Action::Time { begin, last })
+    match command(Line::Text(text.as_bytes())) {
+        Command::Act(
+            Action::Time {
+                begin: from,
+                last: to,
+            },
+        ) => from == begin && to == last,
+        _ => false,
+    }
 }
 
 /// Lines, and the names of the commands that they are.

@@ -32,6 +32,8 @@ mod pools;
 #[cfg(test)]
 mod random_records;
 #[cfg(test)]
+mod reports;
+#[cfg(test)]
 mod selectors;
 #[cfg(test)]
 mod sequence_numbers;

@@ -1,7 +1,7 @@
 //! Records as they are made.
+use crate::reports::is_report;
 use crate::worked::{HEAD, record_of};
 use mseed_header::{ByteOrder, FieldFault, Fields, Header, Kind, make, read};
-use protocol::report::Report;
 use sl_time::{Tick, of_btime};
 
 /// The fields of the worked record.
@@ -114,7 +114,7 @@ fn refuses_other_fields_out_of_range(rt: HostRuntime) {
 
 #[test]
 fn a_refusal_of_fields_has_a_number_and_a_name(rt: HostRuntime) {
-    assert!(rt; FieldFault::Field.report() == Report::new(8, "Field"));
+    assert!(rt; is_report(FieldFault::Field.report(), 8, "Field"));
 }
 
 /// Whether a record is made of that day of 2056 in an order of bytes.

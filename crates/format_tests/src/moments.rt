@@ -1,5 +1,5 @@
 //! Times of commands, and starts of records.
-use protocol::report::Report;
+use crate::reports::is_report;
 use sl_time::{Tick, TimeFault, of_btime, parse};
 
 fn ticks_of(text: &[u8]) -> Result<i64, u8> {
@@ -110,6 +110,6 @@ fn ticks_are_ordered_in_time(rt: HostRuntime) {
 
 #[test]
 fn the_faults_have_names(rt: HostRuntime) {
-    assert!(rt; TimeFault::Shape.report() == Report::new(60, "Shape"));
-    assert!(rt; TimeFault::Range.report() == Report::new(61, "Range"));
+    assert!(rt; is_report(TimeFault::Shape.report(), 60, "Shape"));
+    assert!(rt; is_report(TimeFault::Range.report(), 61, "Range"));
 }

@@ -1,6 +1,6 @@
 //! Patterns, and lists of them.
+use crate::reports::is_report;
 use protocol::record::Kind;
-use protocol::report::Report;
 use selector::{Full, Pool, Selector};
 use std::alloc::Global;
 
@@ -121,11 +121,15 @@ fn is_negation(text: &[u8]) -> Option<bool> {
 fn a_negation_is_told(rt: HostRuntime) {
     assert_eq!(rt; is_negation(b"!E"), Some(true));
     assert_eq!(rt; is_negation(b"E"), Some(false));
-    assert!(rt; Selector::parse(b"E") == Selector::parse(b".E"));
 }
 
 /// Lists, what they are held against, and whether they let it pass.
-static PASSES: [(&[&[u8]], &[u8; 3], Kind, bool); 9] = [
+static PASSES: [(&[&[u8]], &[u8; 3], Kind, bool); 13] = [
+    // A type alone means the same with its dot.
+    (&[b"E"], b"BHZ", Kind::E, true),
+    (&[b"E"], b"BHZ", Kind::D, false),
+    (&[b".E"], b"BHZ", Kind::E, true),
+    (&[b".E"], b"BHZ", Kind::D, false),
     // A negation alone lets everything else pass.
     (&[b"!E"], b"BHZ", Kind::D, true),
     (&[b"!E"], b"LOG", Kind::L, true),
@@ -151,5 +155,5 @@ fn lists_let_pass_what_they_choose_and_do_not_negate(rt: HostRuntime) {
 
 #[test]
 fn a_full_list_has_a_number_and_a_name(rt: HostRuntime) {
-    assert!(rt; Full.report() == Report::new(62, "Full"));
+    assert!(rt; is_report(Full.report(), 62, "Full"));
 }

@@ -15,73 +15,52 @@ use sl_io::StreamFault;
 use sl_time::TimeFault;
 use slreader::ReaderFault;
 use socket_ports::ListenFault;
-use thiserror::Error;
+use std::fmt::{self, Display, Formatter, Write};
 
 /// What keeps the program from doing its job, once its words are read.
-#[derive(Clone, Copy, Debug, PartialEq, Eq, Drop, Error)]
+#[derive(Clone, Copy, Drop)]
 pub enum Failure {
     /// There is no memory for the words, for the name of a file or for the configuration's text.
-    #[error("out of memory")]
     OutOfMemory,
     /// The text of help could not be written.
-    #[error("help could not be written")]
     Write,
     /// A file could not be opened, or the configuration could not be read.
-    #[error("a file could not be opened")]
     File,
     /// The text of the configuration is none.
-    #[error("{0}")]
     Config(ConfigFault),
     /// The script was not replayed.
-    #[error("{0}")]
     Replay(ReplayFault),
     /// The records of a file were not checked to their end.
-    #[error("{0}")]
     Check(StreamFault),
     /// A file of records has a record that is none, or ends inside one.
-    #[error("{0}")]
     Records(FileFault),
     /// A word is no address with a port.
-    #[error("a word is no address with a port")]
     Address,
     /// A word is no address.
-    #[error("a word is no address")]
     Client,
     /// An address could not be listened on.
-    #[error("{0}")]
     Listen(ListenFault),
     /// No connection to the server could be made.
-    #[error("no connection to the server could be made")]
     Connect,
     /// A configuration that was read again differs in more than its access lists.
-    #[error("{0}")]
     Reload(ReloadFault),
     /// The server ended before its turns were done.
-    #[error("{0}")]
     Serve(ServeFault),
     /// Not all of a feed was sent.
-    #[error("{0}")]
     Send(SendFault),
     /// The server ended a feed before it had read everything.
-    #[error("the server ended the connection before it had read everything; perhaps it takes no feed from here now")]
     Untaken,
     /// A word is no time.
-    #[error("a word is no time: {0}")]
     Moment(TimeFault),
     /// A word is no want, or the plan is outside the reader's limits.
-    #[error("{0}")]
     Want(ReaderFault),
     /// The server ended the connection before it had answered HELLO.
-    #[error("the connection ended before HELLO was answered; perhaps the server takes no client from here now")]
     Unanswered,
     /// Not all that was asked for was read.
-    #[error("{0}")]
     Packets(ListingFault),
     /// The numbers of an earlier run were not read.
-    #[error("{0}")]
     Numbers(NumbersFault),
     /// The state of an earlier reader was not read.
-    #[error("{0}")]
     State(StateFault),
 }
 
@@ -113,6 +92,53 @@ impl Failure {
             Failure::Packets(fault) => fault.report(),
             Failure::Numbers(fault) => fault.report(),
             Failure::State(fault) => fault.report(),
+        }
+    }
+}
+
+/// What is said of a failure that no other crate has a sentence for.
+fn own_cause(failure: Failure) -> &'static str {
+    match failure {
+        Failure::OutOfMemory => "out of memory",
+        Failure::Write => "help could not be written",
+        Failure::File => "a file could not be opened",
+        Failure::Address => "a word is no address with a port",
+        Failure::Client => "a word is no address",
+        Failure::Connect => "no connection to the server could be made",
+        Failure::Untaken => {
+            "the server ended the connection before it had read everything; perhaps it takes no feed from here now"
+        }
+        Failure::Unanswered => {
+            "the connection ended before HELLO was answered; perhaps the server takes no client from here now"
+        }
+        _ => "",
+    }
+}
+
+/// What is said of a word that is no time.
+fn put_moment<W: Write>(f: &mut Formatter<W>, fault: &TimeFault) -> fmt::Result {
+    f.write_str("a word is no time: ")?;
+    fault.fmt(f)
+}
+
+impl Display for Failure {
+    /// What happened, in a sentence: that of the fault that it holds, if it holds one.
+    fn fmt<W: Write>(&self, f: &mut Formatter<W>) -> fmt::Result {
+        match self {
+            Failure::Config(fault) => fault.fmt(f),
+            Failure::Replay(fault) => fault.fmt(f),
+            Failure::Check(fault) => fault.fmt(f),
+            Failure::Records(fault) => fault.fmt(f),
+            Failure::Listen(fault) => fault.fmt(f),
+            Failure::Reload(fault) => fault.fmt(f),
+            Failure::Serve(fault) => fault.fmt(f),
+            Failure::Send(fault) => fault.fmt(f),
+            Failure::Want(fault) => fault.fmt(f),
+            Failure::Packets(fault) => fault.fmt(f),
+            Failure::Numbers(fault) => fault.fmt(f),
+            Failure::State(fault) => fault.fmt(f),
+            Failure::Moment(fault) => put_moment(f, fault),
+            own => f.write_str(own_cause(*own)),
         }
     }
 }

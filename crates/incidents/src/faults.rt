@@ -33,7 +33,7 @@ impl ReplayFault {
 }
 
 /// Why the numbers of an earlier run were not read.
-#[derive(Clone, Copy, Debug, PartialEq, Eq, Drop, Error)]
+#[derive(Clone, Copy, Debug, Drop, Error)]
 pub enum NumbersFault {
     /// The file can't be opened, or not be read to its end.
     #[error("the file of numbers can't be read")]
@@ -54,7 +54,7 @@ impl NumbersFault {
 }
 
 /// Why the state of an earlier reader was not read.
-#[derive(Clone, Copy, Debug, PartialEq, Eq, Drop, Error)]
+#[derive(Clone, Copy, Debug, Drop, Error)]
 pub enum StateFault {
     /// The file can't be opened, or not be read to its end.
     #[error("the file with the state can't be read")]

@@ -10,7 +10,7 @@ use text_parts::decimal::number;
 use text_parts::separators::cut_at;
 
 /// An address with a port.
-#[derive(Clone, Copy, Debug, PartialEq, Eq)]
+#[derive(Clone, Copy)]
 pub struct Endpoint {
     pub address: Ipv4Addr,
     pub port: u16,

@@ -6,7 +6,7 @@ use crate::RecordJudge;
 use feeder::{FeedCutter, Feeding};
 
 /// How many whole records a feed gave, and how many of them were refused. Each stays at 2^64 - 1.
-#[derive(Clone, Copy, Debug, PartialEq, Eq, Drop)]
+#[derive(Clone, Copy, Drop)]
 pub struct RecordCount {
     pub records: u64,
     pub refused: u64,

@@ -3,7 +3,7 @@ use std::fmt::{self, Display, Formatter, Write};
 use std::net::Ipv4Addr;
 
 /// Why a connection was closed before a byte of it was read or written.
-#[derive(Clone, Copy, Debug, PartialEq, Eq, Drop)]
+#[derive(Clone, Copy, Drop)]
 pub enum Reason {
     /// As many clients are connected as the configuration allows.
     MaxConnections,
@@ -30,14 +30,14 @@ impl Display for Reason {
 }
 
 /// A connection that was turned away.
-#[derive(Clone, Copy, Debug, PartialEq, Eq, Drop)]
+#[derive(Clone, Copy, Drop)]
 pub struct Away {
     pub address: Ipv4Addr,
     pub reason: Reason,
 }
 
 /// What happened of a visit. A port is named by its number.
-#[derive(Clone, Copy, Debug, PartialEq, Eq, Drop)]
+#[derive(Clone, Copy, Drop)]
 pub enum Visit {
     /// A client was let in.
     Open {

@@ -5,7 +5,7 @@ ghost use Rattle.logged_ports.specs.Visitors.{fresh};
 use std::net::Ipv4Addr;
 
 /// The client at a port.
-#[derive(Clone, Copy, Debug, PartialEq, Eq, Drop)]
+#[derive(Clone, Copy, Drop)]
 pub struct Visitor {
     pub port: u64,
     pub address: Ipv4Addr,
@@ -27,7 +27,7 @@ impl Visitor {
 }
 
 /// Who joined last, until the next call says whether the port is let in.
-#[derive(Clone, Copy, Debug, PartialEq, Eq, Drop)]
+#[derive(Clone, Copy, Drop)]
 pub enum Newcomer {
     Client(Visitor),
     Feed { port: u64, address: Ipv4Addr },

@@ -51,19 +51,15 @@ fn words_of(made: &Made) -> &'static str {
         Made::Refused(Refusal::Unread(_)) => "another fault",
         Made::Refused(Refusal::Unkept(_)) => "unkept",
         Made::Keep(_, _) => "keep",
-        Made::Report(activity) => {
-            let nobody = Activity {
+        Made::Report(
+            Activity {
                 clients: 0,
                 feeds: 0,
                 records: 0,
                 refused: 0,
-            };
-            if *activity == nobody {
-                "report"
-            } else {
-                "another report"
-            }
-        }
+            },
+        ) => "report",
+        Made::Report(_) => "another report",
     }
 }
 

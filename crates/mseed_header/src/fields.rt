@@ -12,7 +12,7 @@ use crate::codes::is_quality;
 use protocol::record::ByteOrder;
 
 /// What a made record says. Codes are of the letters `A` to `Z` and the digits.
-#[derive(Clone, Copy, Debug)]
+#[derive(Clone, Copy)]
 pub struct Fields<'a> {
     /// The sequence number, 0 to 999999.
     pub sequence: u32,

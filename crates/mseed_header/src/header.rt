@@ -17,7 +17,7 @@ use sl_time::{Tick, of_btime};
 use std::marker::Model;
 
 /// What a record of 512 bytes says of itself. Its codes are the record's own bytes.
-#[derive(Debug, Drop)]
+#[derive(Drop)]
 pub struct Header<'a> {
     station: &'a [u8],
     location: &'a [u8; 2],

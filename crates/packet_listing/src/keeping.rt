@@ -9,7 +9,7 @@ use sl_io::Sink;
 use slreader::{ReaderCore, Tally};
 
 /// Records could not be made to last, or what was counted could not be kept.
-#[derive(Clone, Copy, Debug, PartialEq, Eq, Drop)]
+#[derive(Clone, Copy, PartialEq, Eq, Drop)]
 pub struct KeepFault;
 
 /// Where it is kept how far a reader is, for one that is begun later. It may tell what was done, in order. The count of
@@ -41,7 +41,7 @@ pub trait Keeper<P: Sink> {
 }
 
 /// Nothing is kept.
-#[derive(Clone, Copy, Debug, PartialEq, Eq, Drop)]
+#[derive(Clone, Copy, Drop)]
 pub struct NothingKept;
 
 impl<P: Sink> Keeper<P> for NothingKept {

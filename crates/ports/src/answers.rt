@@ -6,7 +6,7 @@ use std::net::Ipv4Addr;
 use thiserror::Error;
 
 /// What happened at some port.
-#[derive(Clone, Copy, Debug, PartialEq, Eq, Drop)]
+#[derive(Clone, Copy, Drop)]
 pub enum Happening {
     /// A client joined at a port, from an address.
     Joined(u64, Ipv4Addr),
@@ -21,7 +21,7 @@ pub enum Happening {
 }
 
 /// What a read gives.
-#[derive(Clone, Copy, Debug, PartialEq, Eq, Drop)]
+#[derive(Clone, Copy, Drop)]
 pub enum Got {
     /// So many bytes, 1 to the buffer's length, at the beginning of the buffer.
     Bytes(usize),
@@ -32,7 +32,7 @@ pub enum Got {
 }
 
 /// What a write takes.
-#[derive(Clone, Copy, Debug, PartialEq, Eq, Drop)]
+#[derive(Clone, Copy, Drop)]
 pub enum Put {
     /// The first so many bytes, 0 to all.
     Took(usize),
@@ -41,7 +41,7 @@ pub enum Put {
 }
 
 /// A call on the ports failed.
-#[derive(Clone, Copy, Debug, PartialEq, Eq, Drop, Error)]
+#[derive(Clone, Copy, Debug, Drop, Error)]
 #[error("the port failed")]
 pub struct PortFault;
 

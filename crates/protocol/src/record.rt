@@ -7,7 +7,7 @@ use crate::report::Report;
 use thiserror::Error;
 
 /// The type of a record, by the letter that a selector names it with (SeedLink 3, SELECT).
-#[derive(Clone, Copy, Debug, PartialEq, Eq, Drop)]
+#[derive(Clone, Copy, PartialEq, Eq, Drop)]
 pub enum Kind {
     /// Data.
     D,
@@ -24,7 +24,7 @@ pub enum Kind {
 }
 
 /// The order of the bytes of a record's numbers (SEED Reference Manual 2.4, chapter 8, blockette 1000).
-#[derive(Clone, Copy, Debug, PartialEq, Eq, Drop)]
+#[derive(Clone, Copy, Drop)]
 pub enum ByteOrder {
     /// The high byte first.
     Big,

@@ -3,7 +3,7 @@ ghost use Rattle.std.specs.Prelude.{◌≡◌};
 
 /// The number and the name by which the program reports a refusal: the same ones for the same cause, wherever it comes
 /// up.
-#[derive(Clone, Copy, Debug, PartialEq, Eq, Drop)]
+#[derive(Clone, Copy, Drop)]
 pub struct Report {
     /// 1 to 62.
     pub number: u8,

@@ -19,7 +19,7 @@ use text_parts::separators::cut_at;
 use thiserror::Error;
 
 /// Why a text is no state.
-#[derive(Clone, Copy, Debug, PartialEq, Eq, Drop, Error)]
+#[derive(Clone, Copy, Debug, Drop, Error)]
 pub enum StateFault {
     /// Memory lacks.
     #[error("out of memory")]

@@ -277,5 +277,5 @@ fn nothing_kept_is_never_due(rt: HostRuntime) {
     let mut keeper = NothingKept;
     assert!(rt; !Keeper::<MemorySink>::is_due(&mut keeper));
     let records = MemorySink::new(rt.alloc());
-    assert_eq!(rt; keeper.flush(&records), Ok::<(), KeepFault>(()));
+    assert!(rt; keeper.flush(&records) == Ok::<(), KeepFault>(()));
 }

@@ -5,7 +5,7 @@ ghost use Rattle.sl_io.specs.Counts.{CountsFailure};
 ghost use Rattle.record_archive.specs.Archives.{Put, PutsNothing, PutsOne};
 
 /// A folder can't be made, or a file can't be opened or takes no more.
-#[derive(Clone, Copy, Debug, PartialEq, Eq, Drop)]
+#[derive(Clone, Copy, Drop)]
 pub struct FolderFault;
 
 /// Folders with files, to which records are added. They may tell what was put into them. The count of failures is a

@@ -12,7 +12,7 @@ use std::alloc::AllocError;
 use thiserror::Error;
 
 /// What became of a record.
-#[derive(Clone, Copy, Debug, PartialEq, Eq, Drop)]
+#[derive(Clone, Copy, Drop)]
 pub enum Placed {
     /// It stands at the end of its file.
     InFile,
@@ -21,7 +21,7 @@ pub enum Placed {
 }
 
 /// Why a record could not be put into an archive.
-#[derive(Clone, Copy, Debug, PartialEq, Eq, Drop, Error)]
+#[derive(Clone, Copy, Debug, Drop, Error)]
 pub enum ArchiveFault {
     /// A folder can't be made, or a file can't be opened or takes no more.
     #[error("a file of the archive can't be opened, or takes no more")]

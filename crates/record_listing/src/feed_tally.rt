@@ -12,7 +12,7 @@ use std::marker::Model;
 const LENGTH: u8 = 9;
 
 /// A record that no server takes.
-#[derive(Clone, Copy, Debug, PartialEq, Eq, Drop)]
+#[derive(Clone, Copy, Drop)]
 pub struct RefusedRecord {
     /// Its number, from 1 on.
     pub number: u64,

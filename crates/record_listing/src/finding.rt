@@ -3,7 +3,7 @@ use crate::fault::FileFault;
 
 /// What is wrong with a file of records, and at which of them: the first that is refused, or the bytes that are left
 /// over after the last.
-#[derive(Clone, Copy, Debug, PartialEq, Eq, Drop)]
+#[derive(Clone, Copy, Drop)]
 pub struct Finding {
     pub fault: FileFault,
     /// The record's number, from 1 on.

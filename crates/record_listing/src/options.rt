@@ -2,7 +2,7 @@
 ghost use Rattle.std.specs.Prelude.{◌≡◌, true, false};
 
 /// How a listing writes times.
-#[derive(Clone, Copy, Debug, PartialEq, Eq, Drop)]
+#[derive(Clone, Copy, Drop)]
 pub enum Times {
     /// In ticks of 0.0001 s since 1970, in decimal.
     Ticks,
@@ -11,7 +11,7 @@ pub enum Times {
 }
 
 /// What a check lists.
-#[derive(Clone, Copy, Debug, PartialEq, Eq)]
+#[derive(Clone, Copy)]
 pub struct ListingOptions {
     /// How it writes times.
     pub times: Times,

@@ -11,7 +11,7 @@ pub trait Stations {
 }
 
 /// All stations.
-#[derive(Clone, Copy, Debug)]
+#[derive(Clone, Copy)]
 pub struct AllStations;
 
 impl Stations for AllStations {

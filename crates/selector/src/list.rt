@@ -8,7 +8,7 @@ use protocol::report::Report;
 use thiserror::Error;
 
 /// There is no room for a selector more.
-#[derive(Clone, Copy, Debug, PartialEq, Eq, Drop, Error)]
+#[derive(Clone, Copy, Debug, Drop, Error)]
 #[error("no selector more has room")]
 pub struct Full;
 

@@ -13,7 +13,7 @@ use protocol::record::Kind;
 use std::marker::Model;
 
 /// The location and the channel that a pattern gives.
-#[derive(Clone, Copy, Debug, PartialEq, Eq)]
+#[derive(Clone, Copy)]
 enum Codes {
     /// Neither.
     Nothing,
@@ -27,7 +27,7 @@ enum Codes {
 /// it leaves off matches anything; the default leaves off everything.
 ///
 /// In the location and the channel `?` matches any byte, `-` a space, and every other character itself.
-#[derive(Clone, Copy, Debug, PartialEq, Eq)]
+#[derive(Clone, Copy)]
 pub struct Selector {
     negated: bool,
     codes: Codes,

@@ -9,7 +9,7 @@ use thiserror::Error;
 
 /// A client of a server: how many opened before it. No server gives a number twice, and one that closed has it for
 /// good.
-#[derive(Clone, Copy, Debug, PartialEq, Eq)]
+#[derive(Clone, Copy)]
 pub struct Client {
     number: usize,
 }
@@ -40,7 +40,7 @@ impl Client {
 }
 
 /// What an offer finds.
-#[derive(Clone, Copy, Debug, PartialEq, Eq)]
+#[derive(Clone, Copy, PartialEq, Eq)]
 pub enum Offer {
     /// Bytes wait to be handed.
     Bytes,
@@ -89,7 +89,7 @@ impl Refusal {
 }
 
 /// A new configuration differs from the one in force in more than who may use which station. Then nothing changes.
-#[derive(Clone, Copy, Debug, PartialEq, Eq, Drop, Error)]
+#[derive(Clone, Copy, Debug, Drop, Error)]
 #[error("the configuration differs in more than its access lists")]
 pub struct ReloadFault;
 

@@ -19,7 +19,7 @@ use std::net::Ipv4Addr;
 mod finding;
 
 /// The number of an open client, the slot in which its session is, and the address from which it came.
-#[derive(Clone, Copy, Debug, PartialEq, Eq)]
+#[derive(Clone, Copy)]
 pub struct Opened {
     pub number: usize,
     pub slot: usize,

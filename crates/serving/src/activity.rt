@@ -11,7 +11,7 @@ use std::fmt::{self, Display, Formatter, Write};
 
 /// How many clients and feeds are connected, and how many records arrived and were refused since the server began. The
 /// refused ones stay at 2^64 - 1.
-#[derive(Clone, Copy, Debug, PartialEq, Eq, Drop)]
+#[derive(Clone, Copy, Drop)]
 pub struct Activity {
     pub clients: usize,
     pub feeds: usize,

@@ -21,7 +21,7 @@ pub enum Refusal<F> {
 }
 
 /// What is due by time.
-#[derive(Clone, Copy, Debug, PartialEq, Eq, Drop)]
+#[derive(Clone, Copy, Drop)]
 pub struct Due {
     /// The configuration is to be read again.
     pub reread: bool,
@@ -59,12 +59,12 @@ pub trait Between {
 }
 
 /// There is no other configuration.
-#[derive(Clone, Copy, Debug, PartialEq, Eq, Drop)]
+#[derive(Clone, Copy, Drop)]
 pub struct NoConfiguration;
 
 /// Nothing between turns: nothing is due by time, there is never another configuration, and reports and numbers go
 /// nowhere.
-#[derive(Clone, Copy, Debug, PartialEq, Eq, Drop)]
+#[derive(Clone, Copy, Drop)]
 pub struct NothingBetween;
 
 impl Between for NothingBetween {

@@ -9,7 +9,7 @@ use protocol::report::Report;
 use thiserror::Error;
 
 /// Why a server ended before its turns were done.
-#[derive(Clone, Copy, Debug, PartialEq, Eq, Drop, Error)]
+#[derive(Clone, Copy, Debug, Drop, Error)]
 pub enum ServeFault {
     /// Out of memory for the server.
     #[error("out of memory")]

@@ -3,7 +3,7 @@ ghost use Rattle.std.specs.Prelude.{◌≡◌};
 ghost use Rattle.serving.specs.Paces.{after, comes, new_pace};
 
 /// What is done every so many seconds, if it is, and when it was done last, in milliseconds of some clock.
-#[derive(Clone, Copy, Debug, PartialEq, Eq, Drop)]
+#[derive(Clone, Copy, Drop)]
 pub struct Pace {
     seconds: Option<usize>,
     last: u64,

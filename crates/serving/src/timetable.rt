@@ -11,7 +11,7 @@ use crate::between::Due;
 /// If it is `timed`, it is asked after each turn what is due by time, and that is done too.
 ///
 /// With `keep` it has the numbers of its stations kept, once more than so many records arrived since they were kept.
-#[derive(Clone, Copy, Debug, PartialEq, Eq, Drop)]
+#[derive(Clone, Copy, Drop)]
 pub struct Timetable {
     pub turns: Option<usize>,
     pub reread: Option<usize>,

@@ -9,7 +9,7 @@ use sl_packet::Seq;
 use sl_time::Tick;
 
 /// How far a request of a transfer has come in its station's ring.
-#[derive(Clone, Copy, Debug, PartialEq, Eq, Default)]
+#[derive(Clone, Copy, Default)]
 pub struct Cursor {
     /// The place in the ring before which the request wants nothing more.
     pub ring_place: u64,
@@ -36,7 +36,7 @@ impl Cursor {
 }
 
 /// A station that a client named, but for its selectors. It is a request of a transfer where it has an action.
-#[derive(Clone, Copy, Debug, PartialEq, Eq)]
+#[derive(Clone, Copy)]
 pub struct Entry {
     /// The station's place in the configuration.
     pub station: usize,

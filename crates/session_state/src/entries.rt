@@ -15,7 +15,7 @@ use std::marker::Model;
 pub(crate) const CAPACITY: usize = 255;
 
 /// Which requests of a transfer may have a record ahead.
-#[derive(Clone, Copy, Debug, PartialEq, Eq)]
+#[derive(Clone, Copy)]
 pub enum Ahead {
     /// None has.
     Nobody,

@@ -7,7 +7,7 @@ use sl_time::Tick;
 use std::marker::Model;
 
 /// The cases of a kept action.
-#[derive(Clone, Copy, Debug, PartialEq, Eq)]
+#[derive(Clone, Copy)]
 enum Case {
     /// Nothing is asked.
     Nothing,
@@ -34,7 +34,7 @@ enum Case {
 
 /// What is asked of a station, if anything. It stands for an `Option<Action>`, and takes 32 bytes in place of 48, since
 /// one tag tells all its cases apart.
-#[derive(Clone, Copy, Debug, PartialEq, Eq)]
+#[derive(Clone, Copy)]
 pub struct KeptAction {
     case: Case,
 }

@@ -5,7 +5,7 @@ use protocol::report::Report;
 use thiserror::Error;
 
 /// There are more bytes than there is room for: 1,024 less the unread ones.
-#[derive(Clone, Copy, Debug, PartialEq, Eq, Drop, Error)]
+#[derive(Clone, Copy, Debug, Drop, Error)]
 #[error("there is no room for so many bytes")]
 pub struct NoRoom;
 

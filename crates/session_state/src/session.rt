@@ -32,7 +32,7 @@ const INBOX: usize = 1024;
 const BUFFER: usize = 2048;
 
 /// What a session is in the middle of.
-#[derive(Clone, Copy, Debug, PartialEq, Eq)]
+#[derive(Clone, Copy)]
 pub enum State {
     /// Commands are read while nothing waits.
     Negotiating,
@@ -47,7 +47,7 @@ pub enum State {
 }
 
 /// Whether reading came to an end.
-#[derive(Clone, Copy, Debug, PartialEq, Eq)]
+#[derive(Clone, Copy)]
 pub enum Settled {
     /// All was read that may be read now.
     Rest,

@@ -1,7 +1,7 @@
 //! What is counted of a reader or writer.
 
 /// What a reader or writer counts of its calls, each count modulo 2^64.
-#[derive(Clone, Copy, Debug, PartialEq, Eq, Drop)]
+#[derive(Clone, Copy, Drop)]
 pub struct Counts {
     /// Calls that failed.
     pub failures: u64,

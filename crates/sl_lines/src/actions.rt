@@ -3,7 +3,7 @@ use sl_packet::Seq;
 use sl_time::Tick;
 
 /// What a client asks of a station (SeedLink 3, DATA, FETCH and TIME).
-#[derive(Clone, Copy, Debug, PartialEq, Eq)]
+#[derive(Clone, Copy)]
 pub enum Action {
     /// `DATA [number [begin]]`: records as they come, from that sequence number on, and none that ended before that
     /// moment.

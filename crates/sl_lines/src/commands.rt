@@ -3,7 +3,7 @@ use crate::actions::Action;
 
 /// What a line asks (SeedLink 3, commands). Codes and patterns are the line's own bytes, 1 to 256 of them and none a
 /// space: whether a station, a network or a pattern is meant by them is not judged here.
-#[derive(Clone, Copy, Debug, PartialEq, Eq)]
+#[derive(Clone, Copy)]
 pub enum Command<'a> {
     /// Spaces alone.
     Blank,

@@ -8,7 +8,7 @@ use memchr::memchr2;
 use std::marker::Model;
 
 /// A line of a client, without its end (SeedLink 3, commands).
-#[derive(Clone, Copy, Debug, PartialEq, Eq)]
+#[derive(Clone, Copy)]
 pub enum Line<'a> {
     /// The bytes of a line of at most 256 bytes.
     Text(&'a [u8]),

@@ -9,7 +9,7 @@ use thiserror::Error;
 use unfinished::Unfinished;
 
 /// A byte fits no stream of packets: it stands neither in a packet nor in the end, or behind the end.
-#[derive(Clone, Copy, Debug, PartialEq, Eq, Drop, Error)]
+#[derive(Clone, Copy, Debug, Drop, Error)]
 #[error("the bytes are no stream of packets")]
 pub struct NotAPacket;
 
@@ -24,7 +24,7 @@ impl NotAPacket {
 }
 
 /// What became whole in a piece.
-#[derive(Clone, Copy, Debug, PartialEq, Eq)]
+#[derive(Clone, Copy)]
 pub enum Cut<'a> {
     /// Neither a packet nor the end.
     Nothing,
@@ -35,7 +35,7 @@ pub enum Cut<'a> {
 }
 
 /// What a piece of a stream gives.
-#[derive(Clone, Copy, Debug, PartialEq, Eq)]
+#[derive(Clone, Copy)]
 pub struct Fed<'a> {
     /// How many bytes of the piece were read: up to the last byte of the packet or of the end that became whole, and
     /// all of them where none did.
@@ -45,7 +45,7 @@ pub struct Fed<'a> {
 }
 
 /// What a cutter is in the middle of.
-#[derive(Clone, Copy, PartialEq, Eq)]
+#[derive(Clone, Copy)]
 enum State {
     /// A packet or the end, of which there may be no byte yet.
     Within,
@@ -56,7 +56,7 @@ enum State {
 }
 
 /// What a piece is to an end of which some bytes are missing.
-#[derive(Clone, Copy, PartialEq, Eq)]
+#[derive(Clone, Copy)]
 enum EndPiece {
     /// Some of what is missing.
     Unfinished,

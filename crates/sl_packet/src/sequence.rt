@@ -11,7 +11,7 @@ const NUMBERS: u32 = 0x100_0000;
 const DIGITS: usize = 6;
 
 /// The sequence number of a packet, below 2^24. The number after the last is 0.
-#[derive(Clone, Copy, Debug, PartialEq, Eq)]
+#[derive(Clone, Copy, PartialEq, Eq)]
 pub struct Seq {
     number: u32,
 }

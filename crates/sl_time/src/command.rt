@@ -13,7 +13,7 @@ use std::marker::Model;
 use thiserror::Error;
 
 /// Why a text is no time.
-#[derive(Clone, Copy, Debug, PartialEq, Eq, Drop, Error)]
+#[derive(Clone, Copy, Debug, Drop, Error)]
 pub enum TimeFault {
     /// The text has not the shape of a time.
     #[error("the text has not the shape of a time")]

@@ -14,7 +14,7 @@ const DAYS_BEFORE_1970: i64 = 719_162;
 const DAYS_BEFORE_10000: u64 = 3_652_059;
 
 /// A day by its year, and its place in the year, from 1 to 366.
-#[derive(Clone, Copy, Debug, PartialEq, Eq)]
+#[derive(Clone, Copy)]
 pub struct DayOfYear {
     pub year: u16,
     pub day: u16,

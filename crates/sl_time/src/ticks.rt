@@ -18,7 +18,7 @@ const TICKS_OF_DAY: i64 = 864_000_000;
 const DAYS_BEFORE_1970: i64 = 719_162;
 
 /// A moment: the count of ticks of 0.0001 s from 1970-01-01T00:00:00 to it, negative before that.
-#[derive(Clone, Copy, Debug, PartialEq, Eq, PartialOrd, Ord)]
+#[derive(Clone, Copy, PartialEq, Eq, PartialOrd, Ord)]
 pub struct Tick {
     ticks: i64,
 }

@@ -6,7 +6,7 @@ ghost use Rattle.slreader.specs.Whats.{what_value};
 use crate::stage::Event;
 
 /// What a reader is given.
-#[derive(Clone, Copy, Debug, PartialEq, Eq)]
+#[derive(Clone, Copy)]
 pub enum What<'a> {
     /// Nothing became whole.
     Nothing,
@@ -21,7 +21,7 @@ pub enum What<'a> {
 }
 
 /// What a piece gives.
-#[derive(Clone, Copy, Debug, PartialEq, Eq)]
+#[derive(Clone, Copy)]
 pub struct Came<'a> {
     /// How many bytes of the piece were read: up to the last byte of the first thing that became whole, else all of
     /// them.

@@ -14,7 +14,7 @@ use crate::words::{front_and_rest, number_behind};
 use text_parts::separators::cut_at;
 
 /// A part of the word that spells a want.
-#[derive(Clone, Copy, Debug, PartialEq, Eq)]
+#[derive(Clone, Copy, PartialEq, Eq)]
 pub enum WantPart {
     /// The network's code, before `_`.
     Network,

@@ -8,7 +8,7 @@ ghost use Rattle.slreader.specs.Pieces.{reply_text as spec_reply_text};
 const LINE: usize = 256;
 
 /// What the bytes of a line are with one more.
-#[derive(Clone, Copy, PartialEq, Eq)]
+#[derive(Clone, Copy)]
 pub(crate) enum LinePiece {
     /// A whole line with its end.
     Whole,
@@ -19,7 +19,7 @@ pub(crate) enum LinePiece {
 }
 
 /// What the bytes of an answer are with one more.
-#[derive(Clone, Copy, PartialEq, Eq)]
+#[derive(Clone, Copy)]
 pub(crate) enum ReplyPiece {
     /// All of ERROR, or of OK.
     Whole { is_error: bool },

@@ -5,7 +5,7 @@ use std::marker::Model;
 
 /// Which records of a station are wanted (SeedLink 3: DATA, FETCH and TIME). Moments are texts that `sl_time::parse`
 /// accepts; they are sent as they stand.
-#[derive(Clone, Copy, Debug)]
+#[derive(Clone, Copy)]
 pub enum Action<'a> {
     /// Records as they come, from that number on, and none that ended before that moment.
     Data {

@@ -7,7 +7,7 @@ use crate::want::Action;
 use sl_packet::Seq;
 
 /// Which records are wanted (SeedLink 3: DATA, FETCH and TIME). Moments are texts that `sl_time::parse` accepts.
-#[derive(Clone, Copy, Debug)]
+#[derive(Clone, Copy)]
 pub enum Window<'a> {
     /// Records as they come, and with a begin those that end at that moment or later.
     Following { begin: Option<&'a [u8]> },

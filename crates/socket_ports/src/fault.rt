@@ -8,7 +8,7 @@ use std::io;
 use thiserror::Error;
 
 /// Why no sockets can be listened on.
-#[derive(Clone, Copy, Debug, PartialEq, Eq, Drop, Error)]
+#[derive(Clone, Copy, Debug, Drop, Error)]
 pub enum ListenFault {
     /// Out of memory.
     #[error("out of memory")]
@@ -32,16 +32,13 @@ impl ListenFault {
 }
 
 /// Why no sockets can be listened on, and what the system says of it.
-#[derive(Debug, Drop, Error)]
+#[derive(Debug, Drop)]
 pub enum ListenError {
     /// Out of memory.
-    #[error("out of memory")]
     OutOfMemory,
     /// The address for clients can't be listened on, or the system has nothing by which sockets are waited for.
-    #[error("the address for clients can't be listened on: {0}")]
     Clients(io::Error),
     /// The address for feeds can't be listened on.
-    #[error("the address for feeds can't be listened on: {0}")]
     Feeds(io::Error),
 }
 

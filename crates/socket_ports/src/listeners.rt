@@ -14,7 +14,7 @@ use std::net::{Net, SocketAddr, SocketAddrV4};
 const ABORTED: u8 = 64;
 
 /// Whose connection it is.
-#[derive(Clone, Copy, PartialEq, Eq, Drop)]
+#[derive(Clone, Copy, Drop)]
 pub enum Kind {
     Client,
     Feed,

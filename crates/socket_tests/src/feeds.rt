@@ -212,7 +212,9 @@ fn told_after_many<R: Net + AllocGlobal>(rt: &R, centre: &mut Centre) -> Result<
     let mut stream = Outer::new(connected(rt, centre)?);
     for _ in 0..PIECES {
         let bytes = many_records(rt.alloc(), IN_A_PIECE)?;
-        feed_records(&mut MemorySource::new(&bytes), &mut stream)?;
+        if let Err(failure) = feed_records(&mut MemorySource::new(&bytes), &mut stream) {
+            return Ok(failure.report().number);
+        }
         centre.turns(1);
     }
     let begun = send_feed(stream.into_inner(), &mut MemorySource::new(b""));

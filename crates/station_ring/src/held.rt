@@ -6,7 +6,7 @@ use protocol::record::Kind;
 use sl_time::Tick;
 
 /// What is asked of a held record without reading its bytes again.
-#[derive(Clone, Copy, Debug, PartialEq, Eq)]
+#[derive(Clone, Copy)]
 pub struct Summary {
     /// The moment of its first sample.
     pub start: Tick,
@@ -34,7 +34,7 @@ impl Summary {
 }
 
 /// Which stream of a station a record belongs to: its location, its channel and its type.
-#[derive(Clone, Copy, Debug, PartialEq, Eq)]
+#[derive(Clone, Copy)]
 pub struct Stream {
     pub location: [u8; 2],
     pub channel: [u8; 3],
@@ -42,7 +42,7 @@ pub struct Stream {
 }
 
 /// What a search looks at of a held record. The briefs of a ring lie side by side, apart from the records' bytes.
-#[derive(Clone, Copy, Debug, PartialEq, Eq, Drop)]
+#[derive(Clone, Copy, Drop)]
 pub struct Brief {
     /// The moment of the record's first sample.
     pub start: Tick,
@@ -65,7 +65,7 @@ pub struct Briefs<'a> {
 }
 
 /// A held record.
-#[derive(Debug, PartialEq, Eq, Drop)]
+#[derive(Drop)]
 pub struct Held {
     /// When it came, as a count that rises with each record that comes: the greater one came later, at whatever
     /// station.

@@ -18,3 +18,12 @@ pub fn summary(position: u64) -> Summary {
         channel: *b"BHZ",
     }
 }
+
+/// Whether two records are the same in all that is asked of them.
+pub fn is_same(one: &Summary, other: &Summary) -> bool {
+    one.start == other.start
+        && one.stop == other.stop
+        && one.kind == other.kind
+        && one.location == other.location
+        && one.channel == other.channel
+}

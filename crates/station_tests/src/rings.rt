@@ -2,7 +2,7 @@
 ghost use Rattle.std.specs.Prelude.{◌<◌, ◌≤◌, ◌^◌};
 ghost use Rattle.protocol.specs.Packet.{numbers};
 
-use crate::arrivals::{record, summary};
+use crate::arrivals::{is_same, record, summary};
 use sl_packet::Seq;
 use station_ring::Ring;
 use std::alloc::{AllocError, Global};
@@ -142,7 +142,7 @@ fn what_is_held_is_what_was_pushed(rt: HostRuntime) -> Result<(), Fail> {
             "{place}"
         );
         assert!(rt;
-            held.is_some_and(|held| held.summary == summary(place)),
+            held.is_some_and(|held| is_same(&held.summary, &summary(place))),
             "{place}"
         );
     }

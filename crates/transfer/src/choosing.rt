@@ -30,7 +30,7 @@ use session_state::{Action, Ahead, Cursor, Entry, Session, State};
 use station_ring::{Rings, arrivals_by_place};
 
 /// What an offer in a transfer leads to.
-#[derive(Clone, Copy, Debug, PartialEq, Eq)]
+#[derive(Clone, Copy, PartialEq, Eq)]
 pub enum Chosen {
     /// A packet waits.
     Packet,
@@ -80,7 +80,7 @@ fn cursor_of(session: &Session, i: usize, rings: &Rings, next: u64) -> Cursor
 }
 
 /// The request whose record ahead came first, by its index among the named stations, and that record's stamp.
-#[derive(Clone, Copy, Debug, PartialEq, Eq)]
+#[derive(Clone, Copy)]
 struct First {
     index: usize,
     stamp: u64,

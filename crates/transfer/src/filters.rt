@@ -15,7 +15,7 @@ use station_ring::{Brief, Stream, Summary};
 const NUMBERED: usize = 64;
 
 /// When a record has to lie to be wanted.
-#[derive(Clone, Copy, Debug, PartialEq, Eq)]
+#[derive(Clone, Copy)]
 pub(crate) struct Window {
     /// It must not end before this moment.
     begin: Option<Tick>,
@@ -50,7 +50,7 @@ fn window_of(entry: &Entry) -> Window
 }
 
 /// What is seen of a record by its brief.
-#[derive(Clone, Copy, Debug, PartialEq, Eq)]
+#[derive(Clone, Copy)]
 pub(crate) enum Sight {
     /// It is not wanted, and it starts after the end of TIME.
     AfterEnd,

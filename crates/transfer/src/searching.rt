@@ -71,7 +71,7 @@ fn found_by(
 }
 
 /// How far a search has come.
-#[derive(Clone, Copy, Debug, PartialEq, Eq)]
+#[derive(Clone, Copy)]
 pub(crate) struct Reached {
     /// The place before which nothing is wanted.
     pub place: u64,
@@ -80,7 +80,7 @@ pub(crate) struct Reached {
 }
 
 /// What a search through some records comes to.
-#[derive(Clone, Copy, Debug, PartialEq, Eq)]
+#[derive(Clone, Copy)]
 enum Passed {
     /// The cursor of the request at the first record that it wants.
     Found(Cursor),

@@ -115,7 +115,7 @@ fn is_after_end(entry: &Entry, summary: &Summary) -> bool
 }
 
 /// What a request finds at a place of its ring.
-#[derive(Clone, Copy, Debug, PartialEq, Eq)]
+#[derive(Clone, Copy)]
 pub(crate) enum Found {
     /// A record that it wants, with its stamp.
     Wanted(u64),

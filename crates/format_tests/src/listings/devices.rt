@@ -53,7 +53,10 @@ fn a_reader_that_fails(rt: HostRuntime) -> Result<(), Fail> {
             &mut source,
             &mut sink,
         );
-        assert!(rt; outcome == Err(StreamFault::Read), "after {left} bytes");
+        assert!(rt;
+            matches!(outcome, Err(StreamFault::Read)),
+            "after {left} bytes"
+        );
         assert_eq!(rt; source.counts().failures, 1);
     }
     Ok(())
@@ -72,7 +75,10 @@ fn a_writer_that_fails(rt: HostRuntime) -> Result<(), Fail> {
             &mut source,
             &mut sink,
         );
-        assert!(rt; outcome == Err(StreamFault::Write), "after {left} bytes");
+        assert!(rt;
+            matches!(outcome, Err(StreamFault::Write)),
+            "after {left} bytes"
+        );
         assert_eq!(rt; sink.counts().failures, 1);
         assert_eq!(rt; sink.into_inner().left, 0);
     }

@@ -1,11 +1,23 @@
 //! The words that ask to read from servers.
-use super::words::strings;
-use command_line::{Job, ReadOptions, read_words};
+use super::words::{request_of, strings};
+use command_line::{Job, ReadOptions};
 use std::test::Fail;
 
 /// Whether a word is among the wants.
 fn is_among(wants: &[&str], want: &str) -> bool {
     wants.iter().any(|word| *word == want)
+}
+
+/// Whether these are the options that are wanted.
+fn is_same(options: &ReadOptions<'_>, wanted: &ReadOptions<'_>) -> bool {
+    options.fetch == wanted.fetch
+        && options.begin == wanted.begin
+        && options.last == wanted.last
+        && options.retry == wanted.retry
+        && options.archive == wanted.archive
+        && options.output == wanted.output
+        && options.state == wanted.state
+        && options.is_iso == wanted.is_iso
 }
 
 /// Whether it is the reader's job with both wants and those options.
@@ -20,7 +32,7 @@ fn is_read(job: &Job<'_>, wanted: ReadOptions<'_>) -> bool {
                 && wants.len() == 2
                 && is_among(wants.as_slice(), "GE_WLF")
                 && is_among(wants.as_slice(), "XX_APE")
-                && *options == wanted
+                && is_same(options, &wanted)
         }
         _ => false,
     }
@@ -41,7 +53,7 @@ fn read_has_wants_and_options(rt: HostRuntime) -> Result<(), Fail> {
             "-",
         ],
     )?;
-    let job = read_words(rt.alloc(), words.as_slice())?.job;
+    let job = request_of(rt.alloc(), &words)?.job;
     let wanted = ReadOptions {
         fetch: true,
         begin: None,
@@ -71,7 +83,7 @@ fn read_has_a_begin_and_an_end(rt: HostRuntime) -> Result<(), Fail> {
             "--end=2024-03-01T00:00:00",
         ],
     )?;
-    let job = read_words(rt.alloc(), words.as_slice())?.job;
+    let job = request_of(rt.alloc(), &words)?.job;
     let wanted = ReadOptions {
         fetch: false,
         begin: Some("2024,2,29"),
@@ -102,7 +114,7 @@ fn read_has_seconds_and_a_state(rt: HostRuntime) -> Result<(), Fail> {
             "ape.state",
         ],
     )?;
-    let job = read_words(rt.alloc(), words.as_slice())?.job;
+    let job = request_of(rt.alloc(), &words)?.job;
     let wanted = ReadOptions {
         fetch: false,
         begin: None,

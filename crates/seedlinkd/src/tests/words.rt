@@ -1,5 +1,5 @@
 //! Words of the command line.
-use command_line::{CheckOptions, Every, Job, WordsFault, read_words};
+use command_line::{CheckOptions, Every, Job, Request, WordsFault, read_words};
 use std::alloc::{AllocError, Global};
 use std::test::Fail;
 
@@ -9,6 +9,17 @@ pub(super) fn strings(alloc: Global, words: &[&str]) -> Result<Vec<String>, Allo
         all.push(String::from_str(alloc, word)?)?;
     }
     Ok(all)
+}
+
+/// What words ask for.
+pub(super) fn request_of<'a>(
+    alloc: Global,
+    words: &'a Vec<String>,
+) -> Result<Request<'a>, &'static str> {
+    match read_words(alloc, words.as_slice()) {
+        Ok(request) => Ok(request),
+        Err(_) => Err("the words are no job"),
+    }
 }
 
 /// Whether words are refused, and whether that is help.
@@ -23,36 +34,77 @@ fn refused(alloc: Global, words: &[&str]) -> Result<Option<bool>, AllocError> {
     }
 }
 
+/// Whether it is the job of a replay with this configuration and script.
+fn is_replay(job: &Job<'_>, wanted: (&str, &str)) -> bool {
+    match job {
+        Job::Replay { config, script } => (*config, *script) == wanted,
+        _ => false,
+    }
+}
+
+/// Whether it is the job of checking this file with these options.
+fn is_check(job: &Job<'_>, wanted: &str, told: &CheckOptions<'_>) -> bool {
+    match job {
+        Job::Check { file, options } => {
+            *file == wanted
+                && options.is_iso == told.is_iso
+                && options.has_summary == told.has_summary
+                && options.is_quiet == told.is_quiet
+                && options.config == told.config
+        }
+        _ => false,
+    }
+}
+
+/// Whether it is the job of viewing this configuration as this address sees it.
+fn is_view(job: &Job<'_>, wanted: &str, seen_by: Option<&str>) -> bool {
+    match job {
+        Job::View { config, address } => *config == wanted && *address == seen_by,
+        _ => false,
+    }
+}
+
+/// Whether it is the job of serving C at a:1 with feeds at b:2, for so many turns, with these limits and no other option.
+fn is_serve(job: &Job<'_>, ends: Option<usize>, list: Option<&str>, most: Option<usize>) -> bool {
+    match job {
+        Job::Serve {
+            config: "c.toml",
+            listen: "a:1",
+            feed: "b:2",
+            turns,
+            reread: None,
+            report: None,
+            feed_from,
+            per_address,
+            numbers: None,
+            log: false,
+        } => *turns == ends && *feed_from == list && *per_address == most,
+        _ => false,
+    }
+}
+
 #[test]
 fn replay_has_two_texts(rt: HostRuntime) -> Result<(), Fail> {
     let words = strings(
         rt.alloc(),
         &["seedlinkd", "replay", "island.toml", "hello.script"],
     )?;
-    let job = read_words(rt.alloc(), words.as_slice())?.job;
-    let wanted = Job::Replay {
-        config: "island.toml",
-        script: "hello.script",
-    };
-    assert!(rt; job == wanted);
+    let job = request_of(rt.alloc(), &words)?.job;
+    assert!(rt; is_replay(&job, ("island.toml", "hello.script")));
     Ok(())
 }
 
 #[test]
 fn check_has_one_text(rt: HostRuntime) -> Result<(), Fail> {
     let words = strings(rt.alloc(), &["seedlinkd", "check", "records.mseed"])?;
-    let job = read_words(rt.alloc(), words.as_slice())?.job;
-    assert!(rt;
-        job == Job::Check {
-            file: "records.mseed",
-            options: CheckOptions {
-                is_iso: false,
-                has_summary: false,
-                is_quiet: false,
-                config: None,
-            },
-        }
-    );
+    let job = request_of(rt.alloc(), &words)?.job;
+    let plain = CheckOptions {
+        is_iso: false,
+        has_summary: false,
+        is_quiet: false,
+        config: None,
+    };
+    assert!(rt; is_check(&job, "records.mseed", &plain));
     Ok(())
 }
 
@@ -70,39 +122,25 @@ fn check_has_options(rt: HostRuntime) -> Result<(), Fail> {
             "c",
         ],
     )?;
-    let job = read_words(rt.alloc(), words.as_slice())?.job;
-    assert!(rt;
-        job == Job::Check {
-            file: "f",
-            options: CheckOptions {
-                is_iso: true,
-                has_summary: false,
-                is_quiet: true,
-                config: Some("c"),
-            },
-        }
-    );
+    let job = request_of(rt.alloc(), &words)?.job;
+    let wanted = CheckOptions {
+        is_iso: true,
+        has_summary: false,
+        is_quiet: true,
+        config: Some("c"),
+    };
+    assert!(rt; is_check(&job, "f", &wanted));
     Ok(())
 }
 
 #[test]
 fn view_may_have_an_address(rt: HostRuntime) -> Result<(), Fail> {
     let words = strings(rt.alloc(), &["seedlinkd", "view", "c.toml"])?;
-    let job = read_words(rt.alloc(), words.as_slice())?.job;
-    assert!(rt;
-        job == Job::View {
-            config: "c.toml",
-            address: None,
-        }
-    );
+    let job = request_of(rt.alloc(), &words)?.job;
+    assert!(rt; is_view(&job, "c.toml", None));
     let words = strings(rt.alloc(), &["seedlinkd", "view", "c.toml", "10.0.0.7"])?;
-    let job = read_words(rt.alloc(), words.as_slice())?.job;
-    assert!(rt;
-        job == Job::View {
-            config: "c.toml",
-            address: Some("10.0.0.7"),
-        }
-    );
+    let job = request_of(rt.alloc(), &words)?.job;
+    assert!(rt; is_view(&job, "c.toml", Some("10.0.0.7")));
     Ok(())
 }
 
@@ -121,20 +159,8 @@ fn serve_has_two_addresses_and_may_have_turns(rt: HostRuntime) -> Result<(), Fai
             "20",
         ],
     )?;
-    let job = read_words(rt.alloc(), words.as_slice())?.job;
-    let wanted = Job::Serve {
-        config: "c.toml",
-        listen: "a:1",
-        feed: "b:2",
-        turns: Some(20),
-        reread: None,
-        report: None,
-        feed_from: None,
-        per_address: None,
-        numbers: None,
-        log: false,
-    };
-    assert!(rt; job == wanted);
+    let job = request_of(rt.alloc(), &words)?.job;
+    assert!(rt; is_serve(&job, Some(20), None, None));
     Ok(())
 }
 
@@ -153,21 +179,20 @@ fn serve_has_who_may_connect(rt: HostRuntime) -> Result<(), Fail> {
             "--per-address=3",
         ],
     )?;
-    let job = read_words(rt.alloc(), words.as_slice())?.job;
-    let wanted = Job::Serve {
-        config: "c.toml",
-        listen: "a:1",
-        feed: "b:2",
-        turns: None,
-        reread: None,
-        report: None,
-        feed_from: Some("10.0.0.7, 10.1.0.0/16"),
-        per_address: Some(3),
-        numbers: None,
-        log: false,
-    };
-    assert!(rt; job == wanted);
+    let job = request_of(rt.alloc(), &words)?.job;
+    assert!(rt; is_serve(&job, None, Some("10.0.0.7, 10.1.0.0/16"), Some(3)));
     Ok(())
+}
+
+/// A number, and whether it counts seconds and not turns.
+type Period = (usize, bool);
+
+fn period_of(every: Option<Every>) -> Option<Period> {
+    match every {
+        Some(Every::Turns(number)) => Some((number, false)),
+        Some(Every::Seconds(number)) => Some((number, true)),
+        None => None,
+    }
 }
 
 /// What is read of `serve` with an option and a text for it: `turns`, `reread` and `report`. None where the words are
@@ -176,7 +201,7 @@ fn times(
     alloc: Global,
     option: &str,
     text: &str,
-) -> Result<Option<(Option<usize>, Option<Every>, Option<Every>)>, AllocError> {
+) -> Result<Option<(Option<usize>, Option<Period>, Option<Period>)>, AllocError> {
     let words = strings(
         alloc,
         &[
@@ -198,7 +223,7 @@ fn times(
             reread,
             report,
             ..
-        } => Ok(Some((turns, reread, report))),
+        } => Ok(Some((turns, period_of(reread), period_of(report)))),
         _ => Ok(None),
     }
 }
@@ -234,10 +259,10 @@ fn a_server_ends_after_1_to_1000000000_turns(rt: HostRuntime) -> Result<(), Fail
 #[test]
 fn a_reread_goes_by_turns_or_seconds(rt: HostRuntime) -> Result<(), Fail> {
     for (text, number) in &NUMBERS {
-        let wanted = Some((None, Some(Every::Turns(*number)), None));
+        let wanted = Some((None, Some((*number, false)), None));
         assert!(rt; times(rt.alloc(), "--reread", text)? == wanted, "{text}");
         let text = format!(in rt.alloc(); "{text}s")?;
-        let wanted = Some((None, Some(Every::Seconds(*number)), None));
+        let wanted = Some((None, Some((*number, true)), None));
         assert!(rt;
             times(rt.alloc(), "--reread", text.as_str())? == wanted,
             "{text}"
@@ -252,9 +277,9 @@ fn a_reread_goes_by_turns_or_seconds(rt: HostRuntime) -> Result<(), Fail> {
 #[test]
 fn a_report_goes_by_turns_or_seconds(rt: HostRuntime) -> Result<(), Fail> {
     let by_turns = times(rt.alloc(), "--report", "600")?;
-    assert!(rt; by_turns == Some((None, None, Some(Every::Turns(600)))));
+    assert!(rt; by_turns == Some((None, None, Some((600, false)))));
     let by_seconds = times(rt.alloc(), "--report", "60s")?;
-    assert!(rt; by_seconds == Some((None, None, Some(Every::Seconds(60)))));
+    assert!(rt; by_seconds == Some((None, None, Some((60, true)))));
     for text in [
         "s",
         "0s",
@@ -289,7 +314,7 @@ fn feed_has_a_server_and_files(rt: HostRuntime) -> Result<(), Fail> {
         rt.alloc(),
         &["seedlinkd", "feed", "a:1", "records.mseed", "-"],
     )?;
-    let job = read_words(rt.alloc(), words.as_slice())?.job;
+    let job = request_of(rt.alloc(), &words)?.job;
     assert!(rt; is_feed(&job));
     Ok(())
 }
@@ -297,12 +322,8 @@ fn feed_has_a_server_and_files(rt: HostRuntime) -> Result<(), Fail> {
 #[test]
 fn a_double_dash_ends_the_flags(rt: HostRuntime) -> Result<(), Fail> {
     let words = strings(rt.alloc(), &["seedlinkd", "replay", "--", "-a", "--help"])?;
-    let job = read_words(rt.alloc(), words.as_slice())?.job;
-    let wanted = Job::Replay {
-        config: "-a",
-        script: "--help",
-    };
-    assert!(rt; job == wanted);
+    let job = request_of(rt.alloc(), &words)?.job;
+    assert!(rt; is_replay(&job, ("-a", "--help")));
     Ok(())
 }
 
@@ -380,7 +401,7 @@ fn other_words_are_refused(rt: HostRuntime) -> Result<(), Fail> {
 /// Whether words ask that faults are explained.
 fn is_verbose(alloc: Global, words: &[&str]) -> Result<bool, Fail> {
     let words = strings(alloc, words)?;
-    Ok(read_words(alloc, words.as_slice())?.is_verbose)
+    Ok(request_of(alloc, &words)?.is_verbose)
 }
 
 #[test]
