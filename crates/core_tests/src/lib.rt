@@ -1,10 +1,9 @@
-//! Tests of the whole core: worked dialogues at the server, rows of bits, what is listed of random configurations, and
-//! random lists of events, records and clients, at the server and at small plain programs that share no code with it.
-//! Nothing but tests.
+//! Tests of the whole core: marks of a crowd, rows of bits, what is listed of random configurations, and random lists of
+//! events, records and clients, at the server and at small plain programs that share no code with it. Nothing but tests.
 #![tactic(auto)]
 
 #[cfg(test)]
-mod dialogues;
+mod marks;
 #[cfg(test)]
 mod random;
 #[cfg(test)]

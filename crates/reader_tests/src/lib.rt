@@ -1,11 +1,8 @@
-//! Tests of the reader: words of wants, dialogues, listings of packets, and the reader beside a server. Nothing but
-//! tests.
+//! Tests of the reader: words of wants, listings of packets, and the reader beside a server. Nothing but tests.
 #![tactic(auto)]
 
 #[cfg(test)]
 mod beside_a_server;
-#[cfg(test)]
-mod dialogues;
 #[cfg(test)]
 mod failures;
 #[cfg(test)]

@@ -98,38 +98,16 @@ fn say_all(config: &Config, session: &mut Session, lines: &[&[u8]])
     }
 }
 
-/// What a packet that waits holds: its first bytes, up to the first of the record, where it has 520 and the record's
-/// are all alike.
-fn told(waiting: &[u8]) -> &[u8] {
-    if waiting.len() < 9 {
-        return waiting;
-    }
-    let (head, rest) = waiting.split_at(9);
-    if rest.len() == 511 && rest.iter().all(|byte| *byte == head[8]) {
-        head
-    } else {
-        waiting
-    }
-}
-
-/// What twelve offers choose, each taken at once: of a packet its number and the letter of its record.
-fn chosen(
-    alloc: Global,
-    config: &Config,
-    rings: &Rings,
-    session: &mut Session,
-) -> Result<Vec<u8>, AllocError>
+/// Twelve offers, each taken at once.
+fn take_all(config: &Config, rings: &Rings, session: &mut Session)
     requires { HasPlaces config.now session.old }
 {
-    let mut all = Vec::new(alloc);
     for _ in 0..12 {
         if session.waiting().is_empty() {
             let _ = choose(session, config, rings);
         }
-        all.extend_from_slice(told(session.waiting()))?;
         take(config, session);
     }
-    Ok(all)
 }
 
 /// A transfer that is to start starts.
@@ -139,162 +117,6 @@ fn start_it(session: &mut Session, rings: &Rings)
     if let State::Starting = session.state() {
         start(session, rings);
     }
-}
-
-/// What a client is sent that sent these lines after the first arrivals, where the others come once its transfer has
-/// started.
-fn sent(
-    alloc: Global,
-    lines: &[&[u8]],
-    before: &[usize],
-    after: &[usize],
-) -> Result<Vec<u8>, Fail> {
-    let config = Config::read(alloc, CENTRE)?;
-    let mut rings = Rings::new(alloc, &config)?;
-    arrive(&mut rings, before);
-    let mut session = opened(alloc, &config)?;
-    say_all(&config, &mut session, lines);
-    start_it(&mut session, &rings);
-    arrive(&mut rings, after);
-    Ok(chosen(alloc, &config, &rings, &mut session)?)
-}
-
-/// The lines of a client, the stations of the first arrivals and of those that come once its transfer has started, and
-/// what it is sent.
-type Row = (
-    &'static [&'static [u8]],
-    &'static [usize],
-    &'static [usize],
-    &'static [u8],
-);
-
-/// The first row of which a client is sent something else.
-fn sent_otherwise(alloc: Global, rows: &[Row]) -> Result<Option<usize>, Fail> {
-    for (row, &(lines, before, after, wanted)) in rows.iter().enumerate() {
-        if sent(alloc, lines, before, after)?.as_slice() != wanted {
-            return Ok(Some(row));
-        }
-    }
-    Ok(None)
-}
-
-static UNI: [Row; 9] = [
-    (&[b"FETCH\r"], &[0, 0], &[], b"SLFFFFFFaSL000000bEND"),
-    (&[b"FETCH\r"], &[0, 1, 0, 0], &[], b"SL000000cSL000001dEND"),
-    (
-        &[b"FETCH 000001\r"],
-        &[0, 0],
-        &[0, 0],
-        b"SL000001cSL000002dEND",
-    ),
-    (&[b"FETCH 1\r"], &[0, 0, 0], &[], b"SL000001cEND"),
-    (&[b"FETCH\r"], &[1], &[], b"END"),
-    (&[b"DATA\r"], &[0, 0], &[1, 0], b"SL000001d"),
-    (&[b"DATA 0\r"], &[0, 0], &[0], b"SL000000bSL000001c"),
-    (
-        &[b"SELECT BHN\r", b"FETCH\r"],
-        &[0, 0],
-        &[],
-        b"SL000000bEND",
-    ),
-    (&[b"HELLO\r"], &[0, 0], &[], b""),
-];
-
-#[test]
-fn uni_station_transfers(rt: HostRuntime) -> Result<(), Fail> {
-    assert_eq!(rt; sent_otherwise(rt.alloc(), &UNI)?, None);
-    Ok(())
-}
-
-static WINDOWS: [Row; 6] = [
-    (
-        &[b"TIME 1970,1,1,0,0,20 1970,1,1,0,1,0\r"],
-        &[0, 0],
-        &[],
-        b"SLFFFFFFaSL000000b",
-    ),
-    (
-        &[b"TIME 1970,1,1,0,0,21 1970,1,1,0,1,0\r"],
-        &[0, 0],
-        &[],
-        b"SL000000b",
-    ),
-    (
-        &[b"TIME 1970,1,1,0,0,20 1970,1,1,0,0,59\r"],
-        &[0, 0],
-        &[],
-        b"SLFFFFFFaEND",
-    ),
-    (
-        &[b"TIME 1970,1,1,0,0,20 1970,1,1,0,0,59\r"],
-        &[0, 1],
-        &[],
-        b"SLFFFFFFa",
-    ),
-    (&[b"TIME 1970,1,1,0,1,0\r"], &[0, 0], &[], b"SL000000b"),
-    (
-        &[b"TIME 1970,1,1,0,9,0 1970,1,1,0,0,59\r"],
-        &[0, 0],
-        &[],
-        b"END",
-    ),
-];
-
-#[test]
-fn windows_are_passed(rt: HostRuntime) -> Result<(), Fail> {
-    assert_eq!(rt; sent_otherwise(rt.alloc(), &WINDOWS)?, None);
-    Ok(())
-}
-
-static MULTI: [Row; 4] = [
-    (
-        &[
-            b"STATION WLF GE\r",
-            b"FETCH\r",
-            b"STATION APE\r",
-            b"FETCH\r",
-            b"END\r",
-        ],
-        &[0, 1, 0, 1],
-        &[],
-        b"SLFFFFFFaSL00001AbSL000000cSL00001BdEND",
-    ),
-    (
-        &[
-            b"STATION APE\r",
-            b"FETCH\r",
-            b"STATION WLF\r",
-            b"DATA\r",
-            b"END\r",
-        ],
-        &[1, 0],
-        &[1],
-        b"SLFFFFFFbSL00001Bc",
-    ),
-    (
-        &[b"STATION APE\r", b"FETCH\r", b"STATION WLF\r", b"END\r"],
-        &[1, 0],
-        &[],
-        b"SLFFFFFFbEND",
-    ),
-    (
-        &[
-            b"STATION APE\r",
-            b"DATA\r",
-            b"STATION WLF\r",
-            b"FETCH\r",
-            b"END\r",
-        ],
-        &[1],
-        &[0, 0, 0],
-        b"SL00001AaSL000000cSL000001d",
-    ),
-];
-
-#[test]
-fn records_of_all_stations_go_in_the_order_of_arrival(rt: HostRuntime) -> Result<(), Fail> {
-    assert_eq!(rt; sent_otherwise(rt.alloc(), &MULTI)?, None);
-    Ok(())
 }
 
 /// What is chosen for a client that sends a line, where nothing waits for it, and how many bytes wait then.
@@ -370,7 +192,7 @@ fn cursors_of(
     }
     let reached = first_cursor(&session);
     take(config, &mut session);
-    let _ = chosen(alloc, config, rings, &mut session)?;
+    take_all(config, rings, &mut session);
     Ok(Cursors {
         started,
         chosen: reached,

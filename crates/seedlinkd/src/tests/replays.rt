@@ -48,14 +48,6 @@ fn push_digits(text: &mut String, bytes: &[u8]) -> Result<(), Fail> {
     Ok(())
 }
 
-/// A line `bytes` of client 0.
-fn push_bytes(script: &mut String, bytes: &[u8]) -> Result<(), Fail> {
-    script.push_str("bytes 0 ")?;
-    push_digits(script, bytes)?;
-    script.push('\n')?;
-    Ok(())
-}
-
 /// Whether a script writes that text, where `G` stands for the greeting's digits.
 fn writes(alloc: Global, script: &[u8], text: &str) -> Result<bool, Fail> {
     let output = greeted(alloc, text)?;
@@ -114,78 +106,6 @@ static WORKED: [(&[u8], &str); 12] = [
 fn worked_scripts(rt: HostRuntime) -> Result<(), Fail> {
     for (row, &(script, output)) in WORKED.iter().enumerate() {
         assert!(rt; writes(rt.alloc(), script, output)?, "in row {row}");
-    }
-    Ok(())
-}
-
-/// A script of a line that is HELLO and so many spaces.
-fn spaced(alloc: Global, spaces: usize) -> Result<String, Fail> {
-    let mut script = String::from_str(alloc, "open 10.0.0.7\nline 0 HELLO")?;
-    for _ in 0..spaces {
-        script.push(' ')?;
-    }
-    script.push_str("\ntake 0 520\ntake 0 520\n")?;
-    Ok(script)
-}
-
-#[test]
-fn lines_of_a_client_have_256_bytes(rt: HostRuntime) -> Result<(), Fail> {
-    for (spaces, output) in [(251, "0 G\n0 -\n"), (252, "0 4552524f520d0a\n0 -\n")] {
-        let script = spaced(rt.alloc(), spaces)?;
-        assert!(rt;
-            writes(rt.alloc(), script.as_bytes(), output)?,
-            "at {spaces} spaces"
-        );
-    }
-    Ok(())
-}
-
-/// A script in which 1,025 bytes come while an answer waits, and then 1,024, and then one.
-fn crowded(alloc: Global) -> Result<String, Fail> {
-    let letters = vec![in alloc; b'A'; 1024]?;
-    let mut script = String::from_str(alloc, "open 10.0.0.7\nline 0 HELLO\nbytes 0 ")?;
-    for _ in 0..1024 {
-        script.push_str("41")?;
-    }
-    script.push_str("0d\n")?;
-    push_bytes(&mut script, letters.as_slice())?;
-    script.push_str("bytes 0 0d\ntake 0 520\ntake 0 520\nbytes 0 0d\ntake 0 520\ntake 0 520\n")?;
-    Ok(script)
-}
-
-// What is answered waits, so nothing is read. A piece of 1,025 bytes is refused as a whole, one of 1,024 fits, and
-// then not one byte more.
-#[test]
-fn a_client_has_room_for_1024_bytes(rt: HostRuntime) -> Result<(), Fail> {
-    let script = crowded(rt.alloc())?;
-    let output = "0 G\n0 -\n0 4552524f520d0a\n0 -\n";
-    assert!(rt; writes(rt.alloc(), script.as_bytes(), output)?);
-    Ok(())
-}
-
-/// A script of commands in three pieces, of which some may be empty.
-fn cut_script(alloc: Global, first: &[u8], second: &[u8], third: &[u8]) -> Result<String, Fail> {
-    let mut script = String::from_str(alloc, "open 10.0.0.7\n")?;
-    for piece in [first, second, third] {
-        if !piece.is_empty() {
-            push_bytes(&mut script, piece)?;
-        }
-    }
-    script.push_str("take 0 520\ntake 0 520\n")?;
-    Ok(script)
-}
-
-#[test]
-fn pieces_of_commands_do_not_matter(rt: HostRuntime) -> Result<(), Fail> {
-    let commands = b"HELLO\r\nBYE\r";
-    for to in 0..12 {
-        let (front, third) = commands.split_at(to);
-        for from in 0..to {
-            let (first, second) = front.split_at(from);
-            let script = cut_script(rt.alloc(), first, second, third)?;
-            let is_same = writes(rt.alloc(), script.as_bytes(), "0 G\n0 - end\n")?;
-            assert!(rt; is_same, "at {from} and {to}");
-        }
     }
     Ok(())
 }
