@@ -1,7 +1,9 @@
 #!/usr/bin/env python3
-"""Proves and builds the libraries that a program stands on, several side by side, and then the program, and says how far it is.
+"""Proves and builds programs or libraries and all libraries below them, several side by side, and says how far it is.
 
-    tools/build_libraries.py seedlinkd
+    tools/build_libraries.py NAME..
+
+Each NAME is a crate, as `seedlinkd`. Programs are proved and built after all libraries.
 
 `rt lib` keeps a crate's folder and those of all libraries below it to itself, so two crates over one library wait for each other.
 Here each crate is built in a room of its own, in which it and the libraries below it are hard links. What was built then moves to
@@ -24,7 +26,7 @@ from concurrent.futures import FIRST_COMPLETED, ThreadPoolExecutor, wait
 TOP = os.path.dirname(os.path.dirname(os.path.realpath(__file__)))
 MEMORY_OF_A_BUILD = 5 << 30
 PROCESSORS = len(os.sched_getaffinity(0))
-USUAL = 20 * 60 * 4 / PROCESSORS  # seconds that all takes, as it is known before anything is done
+USUAL = 20 * 60 * 4 / PROCESSORS  # seconds that the whole program takes, as it is known before anything is done
 TRUSTED = 60  # seconds for which that counts as much as what was seen since
 
 started = {}  # the processes that run, by their ids, each the first of a session of its own
@@ -163,6 +165,7 @@ class Progress:
         with open(f"{TOP}/tools/proving_seconds.txt", encoding="utf-8") as table:
             known = dict(line.split() for line in table if not line.startswith("#"))
         self.seconds = {it: int(known.get(it, 60)) for it in names}
+        self.usual_speed = sum(map(int, known.values())) / USUAL
         self.began = time.monotonic()
         self.running, self.done = {}, set()
 
@@ -172,7 +175,7 @@ class Progress:
         part = sum(min(now - since, self.seconds[it] / 2) for it, since in self.running.items())
         done = sum(self.seconds[it] for it in self.done) + part
         work = sum(self.seconds.values())
-        speed = (done + TRUSTED * work / USUAL) / (now - self.began + TRUSTED)
+        speed = (done + TRUSTED * self.usual_speed) / (now - self.began + TRUSTED)
         return math.ceil((work - done) / speed / 60)
 
     def begins(self, name):
@@ -225,15 +228,17 @@ def build_program(name, progress):
 
 
 def main():
-    name = sys.argv[1]
+    names = sys.argv[1:]
     lines = crate_lines()
     below = below_each(lines)
-    needs = {it: below[it] for it in below[name]}
+    programs = [it for it in names if os.path.isfile(f"{TOP}/crates/{it}/src/main.rt")]
+    libraries = {*names}.difference(programs).union(*(below[it] for it in names))
+    needs = {it: below[it] for it in lines if it in libraries}
     remove_rooms_left()
     end_at_signals()
-    progress = Progress([*needs, name])
+    progress = Progress([*needs, *programs])
     try:
-        return 0 if build_all(needs, lines, progress) and build_program(name, progress) else 1
+        return 0 if build_all(needs, lines, progress) and all(build_program(it, progress) for it in programs) else 1
     except Ended as ended:
         end_started()
         return 128 + ended.number
