@@ -17,7 +17,7 @@ LISTENING = "0A"
 
 def build():
     """Proves and builds the program, if it isn't built yet."""
-    subprocess.run([f"{TOP}/seedlinkd", "--help"], stdout=subprocess.DEVNULL, check=True)
+    subprocess.run([f"{TOP}/seedlinkd", "--build"], check=True)
 
 
 def raise_descriptor_limit():

@@ -4,7 +4,7 @@
 # it is measured beside that one, in the same run. It needs valgrind and strace.
 set -eu
 top=$(cd "$(dirname "$0")/.." && pwd)
-"$top/seedlinkd" --help >/dev/null
+"$top/seedlinkd" --build
 ulimit -n "$(ulimit -H -n)"
 failed=0
 python3 "$top/bench/counts.py" || failed=1

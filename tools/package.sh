@@ -10,12 +10,13 @@ umask 022
 export LC_ALL=C TZ=UTC
 top=$(cd "$(dirname "$(readlink -f "$0")")/.." && pwd)
 cd "$top"
-./seedlinkd --version >/dev/null
+./seedlinkd --build
+program=crates/seedlinkd/out/seedlinkd
 
 # The version stands in the program's sources alone, with the logic that proved it, which has to be the toolchain's.
 version=$(sed -n 's/^const VERSION: &str = "\([^ ]*\) .*";$/\1/p' crates/command_line/src/commands.rt)
 logic=$(rt version | sed -n 's/.* logic \([0-9a-f]*\).*/\1/p')
-[ "$(./seedlinkd --version)" = "seedlinkd $version (each function proved, logic $logic)" ] ||
+[ "$("$program" --version)" = "seedlinkd $version (each function proved, logic $logic)" ] ||
     { echo "package: the program has another version than its sources, or another logic than the toolchain" >&2; exit 1; }
 commit=$(git rev-parse HEAD)
 changes=
@@ -38,7 +39,7 @@ put() { install -D -m "$1" "$2" "$tree/$3"; }
 put_text() { mkdir -p "$(dirname "$tree/$1")" && cat >"$tree/$1"; }
 put_compressed() { mkdir -p "$(dirname "$tree/$1")" && gzip -9 -n >"$tree/$1"; }
 
-put 755 crates/seedlinkd/out/seedlinkd usr/bin/seedlinkd
+put 755 "$program" usr/bin/seedlinkd
 strip --remove-section=.comment --remove-section=.note "$tree/usr/bin/seedlinkd"
 sed "s/^\.Os\$/.Os seedlinkd $version/; s|examples/loopback.toml|/etc/seedlinkd/seedlinkd.toml|; s|docs/\([A-Z]*\.md\)|/usr/share/doc/seedlinkd/\1|
     s|^\.It Pa examples/\(seedlinkd[-a-z@]*.service\)|.It Pa /usr/lib/systemd/system/\1|" docs/seedlinkd.1 |

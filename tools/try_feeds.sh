@@ -19,7 +19,9 @@ fail() {
     echo "try_feeds: $1" >&2
     exit 1
 }
-"$top/seedlinkd" --version || exit 3
+"$top/seedlinkd" --build || exit 3
+program=$top/crates/seedlinkd/out/seedlinkd
+"$program" --version || exit 3
 records=$top/examples/records/records.mseed
 head -c 512 "$records" >"$room/one"
 for _ in $(seq 100); do cat "$records"; done >"$room/many"
@@ -33,7 +35,7 @@ start() {
     done
 }
 begin() {
-    "$top/seedlinkd" serve "$top/examples/loopback.toml" --listen "127.0.0.1:$port" --feed "127.0.0.1:$((port + 1))" --report 1 2>"$room/said" &
+    "$program" serve "$top/examples/loopback.toml" --listen "127.0.0.1:$port" --feed "127.0.0.1:$((port + 1))" --report 1 2>"$room/said" &
     server=$!
     until grep -q clients "$room/said"; do
         kill -0 "$server" 2>/dev/null || return 1
@@ -44,7 +46,7 @@ begin() {
 count() {
     good=0
     for _ in $(seq "$times"); do
-        "$top/seedlinkd" -v feed "127.0.0.1:$((port + 1))" "$room/$1" 2>"$room/told"
+        "$program" -v feed "127.0.0.1:$((port + 1))" "$room/$1" 2>"$room/told"
         [ $? -eq "$2" ] && grep -q "$3" "$room/told" && good=$((good + 1))
     done
     echo "$4: $good of $times"
@@ -59,7 +61,7 @@ count many 0 "^sent $(($(stat -c %s "$room/many") / 512)) records\$" "many recor
 mkfifo "$room/silence"
 exec 9<>"$room/silence"
 for _ in $(seq 16); do
-    "$top/seedlinkd" feed "127.0.0.1:$((port + 1))" "$room/silence" 2>/dev/null &
+    "$program" feed "127.0.0.1:$((port + 1))" "$room/silence" 2>/dev/null &
     holders="$holders $!"
 done
 until tail -n 1 "$room/said" | grep -q "feeds 16"; do sleep 0.1; done
@@ -71,7 +73,7 @@ holders=
 # A server that is killed while a feed sends.
 good=0
 for _ in $(seq "$times"); do
-    { cat "$room/many"; sleep 0.3; cat "$room/one"; } | "$top/seedlinkd" feed "127.0.0.1:$((port + 1))" /dev/stdin 2>"$room/told" &
+    { cat "$room/many"; sleep 0.3; cat "$room/one"; } | "$program" feed "127.0.0.1:$((port + 1))" /dev/stdin 2>"$room/told" &
     feeder=$!
     sleep 0.1
     kill -KILL "$server"

@@ -6,7 +6,7 @@
 #
 #     tools/try_many_servers.sh
 #
-# It needs Debian's rabbitmq-server and python3-pika, and the built program. Everything is on loopback, at ports that the system
+# It needs Debian's rabbitmq-server and python3-pika, and builds the program if it is not built. Everything is on loopback, at ports that the system
 # chooses, in a folder that is removed at the end. It takes about a minute, and gives up after ten.
 set -u
 top=$(cd "$(dirname "$(readlink -f "$0")")/.." && pwd)
@@ -121,7 +121,8 @@ trap end EXIT
 trap 'exit 130' HUP INT TERM
 [ -x /usr/lib/rabbitmq/bin/rabbitmq-server ] && /usr/bin/python3 -c 'import pika' ||
     { echo "try_many_servers: apt-get install rabbitmq-server python3-pika" >&2; exit 3; }
-"$top/seedlinkd" --version || exit 3
+"$top/seedlinkd" --build || exit 3
+"$program" --version || exit 3
 read -r -a ports < <(/usr/bin/python3 -c '
 import socket
 sockets = [socket.create_server(("127.0.0.1", 0)) for _ in range(10)]

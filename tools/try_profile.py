@@ -8,7 +8,7 @@
 - Each example of the section "Faults that are explained" is run, with files and servers as the text beside it has them, and prints
   what stands there. Ports are others, which are free; `..` stands for any lines.
 
-Servers listen on loopback alone, and end with the script. It takes some seconds, and needs the built program (./seedlinkd).
+Servers listen on loopback alone, and end with the script. It takes some seconds, and needs the built program (./seedlinkd --build).
 """
 
 import os

@@ -19,7 +19,8 @@ fail() {
     echo "try_reader: $1" >&2
     exit 1
 }
-program=${PROGRAM:-$top/seedlinkd}
+program=${PROGRAM:-$top/crates/seedlinkd/out/seedlinkd}
+[ -n "${PROGRAM-}" ] || "$top/seedlinkd" --build || exit 3
 "$program" --version || exit 3
 
 # A server at a port for clients and the one after it for feeds, with the file of numbers of that name.

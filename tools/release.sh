@@ -1,0 +1,39 @@
+#!/bin/sh
+# Makes a release of the commit that is checked out: puts the archive of tools/package.sh into releases/, with its sum in SHA256SUMS
+# and, in release.txt, the version, the commit, the toolchain and a sum of the program's sources. It commits nothing.
+#
+#     tools/release.sh VERSION
+#
+# The working tree has to be clean, and VERSION that of the sources and the first one in CHANGELOG.md. The gate has to pass: it is run
+# here, which takes over what passed on this machine before. Then the program is built as ./seedlinkd --build does it, in place of
+# the one that the gate left.
+set -eu
+top=$(cd "$(dirname "$(readlink -f "$0")")/.." && pwd)
+cd "$top"
+fail() {
+    echo "release: $1" >&2
+    exit 1
+}
+is_clean() { [ -z "$(git status --porcelain)" ]; }
+
+[ $# -eq 1 ] || fail "tools/release.sh VERSION"
+version=$(sed -n 's/^const VERSION: &str = "\([^ ]*\) .*";$/\1/p' crates/command_line/src/commands.rt)
+[ "$1" = "$version" ] || fail "the version of the sources is $version (VERSION in crates/command_line/src/commands.rt)"
+[ "$1" = "$(sed -n 's/^## //p' CHANGELOG.md | head -n 1)" ] || fail "the first version in CHANGELOG.md is another one"
+is_clean || fail "the working tree is not clean: git status says what was changed"
+commit=$(git rev-parse HEAD)
+rt ci || fail "the gate did not pass"
+
+program=crates/seedlinkd/out/seedlinkd
+rm -f "$program"
+tools/package.sh
+is_clean && [ "$(git rev-parse HEAD)" = "$commit" ] || fail "files were changed while the release was made"
+
+archive=seedlinkd_${version}_amd64.tar.gz
+mkdir -p releases
+rm -rf releases/.unpacked releases/seedlinkd_*.tar.gz
+cp "out/$archive" releases
+(cd releases && sha256sum "$archive" >SHA256SUMS)
+printf 'version %s\ncommit %s\ntoolchain %s\nsources %s\n' "$version" "$commit" "$(rt version)" "$(cat "$program.sum")" >releases/release.txt
+cat releases/release.txt
+echo "release: tools/try_release.sh makes it again; to commit it: git add -A releases && git commit -m 'release: $version'"
