@@ -5,8 +5,7 @@
 #     tools/release.sh VERSION
 #
 # The working tree has to be clean, and VERSION that of the sources and the first one in CHANGELOG.md. The gate has to pass: it is run
-# here, which takes over what passed on this machine before. Then the program is built as ./seedlinkd --build does it, in place of
-# the one that the gate left.
+# here, which takes over what passed on this machine before, and leaves the program that is released.
 set -eu
 top=$(cd "$(dirname "$(readlink -f "$0")")/.." && pwd)
 cd "$top"
@@ -24,8 +23,8 @@ is_clean || fail "the working tree is not clean: git status says what was change
 commit=$(git rev-parse HEAD)
 rt ci || fail "the gate did not pass"
 
+# The gate leaves the program that it proved and ran: the same bytes as ./seedlinkd --build makes.
 program=crates/seedlinkd/out/seedlinkd
-rm -f "$program"
 tools/package.sh
 is_clean && [ "$(git rev-parse HEAD)" = "$commit" ] || fail "files were changed while the release was made"
 
