@@ -1,16 +1,21 @@
 -- Worked lines of scripts.
-use Rattle.std.specs.Prelude.{◌≡◌, ⊤, refl, [], ◌∷◌, ◌++◌, Some, None, codes}
+use Rattle.std.specs.Prelude.{◌≡◌, ⊤, refl, ℕ, Bool, true, false, List, [], ◌∷◌, ◌++◌, Some, None, codes}
+use Rattle.std.specs.Fmt.{digits}
 use Rattle.std.specs.Str.{chars, is_utf8}
 use Rattle.hex.proofs.OnLiterals.{hex_on_literals}
 use Rattle.toml.proofs.OnLiterals.{toml_on_literals}
 use Rattle.protocol.specs.Catalog.{Station}
-use Rattle.protocol.specs.World.Event.{Bytes, Take, Close, Arrive, Reload}
+use Rattle.protocol.specs.World.{Handed}
+use Rattle.protocol.specs.World.Event.{Open, Bytes, Take, Close, Arrive, Reload}
 use Rattle.protocol.proofs.Vectors.{sample}
 use Rattle.catalog.specs.Keys.{text_at, text_if_any, number_at, number_if_any, elements_at}
 use Rattle.catalog.specs.Reading.{config_of, stations_of, station_values, station_of, entry_of}
 use Rattle.catalog.specs.Settings.{title_of, access_of, connections_of, network_of, code_of, description_of}
 use Rattle.catalog.specs.Settings.{capacity_of, first_of}
+use Rattle.record_listing.specs.Listing.{reading_of}
+use Rattle.event_script.specs.Dialogue.{dialogue_of}
 use Rattle.event_script.specs.Script.{config_told, event_of}
+use Rattle.event_script.specs.Spelling.{spelled_byte}
 
 -- ---- lines
 
@@ -123,3 +128,40 @@ no_text = refl
 
 pub no_configuration : event_of (codes "reload ") ≡ None
 no_configuration = refl
+
+-- ---- dialogues
+
+-- what an example unfolds to compute a dialogue
+unfoldable dialogue_on_literals : ⊤
+unfolding digits reading_of spelled_byte
+dialogue_on_literals = tt
+
+-- what a take of the first client was handed
+abbrev took : List ℕ → Bool → Handed
+took bytes ended = record { client = 0; bytes = bytes; ended = ended }
+
+pub lines_of_a_client : dialogue_of (Open 0x0a000007 ∷ Open 0xac100009 ∷ Bytes 0 (codes "HELLO\r")
+    ∷ Bytes 1 (codes "HEL") ∷ Bytes 1 (0 ∷ 171 ∷ codes "\\\n\r") ∷ Close 1 ∷ []) []
+    ≡ codes "0 open 10.0.0.7\n1 open 172.16.0.9\n0 > HELLO\n1 >> HEL\n1 > \\x00\\xab\\\\\\n\n1 close\n"
+unfolding dialogue_on_literals
+lines_of_a_client = refl
+
+pub lines_of_takes : dialogue_of (Take 0 4 ∷ Take 0 3 ∷ Take 0 1 ∷ Take 0 1 ∷ [])
+    (took (codes "OK\r\n") false ∷ took (codes "END") false ∷ took [] false ∷ took [] true ∷ [])
+    ≡ codes "0 < OK\n0 << END\n0 nothing\n0 end\n"
+unfolding dialogue_on_literals
+lines_of_takes = refl
+
+pub line_of_an_arrival : dialogue_of (Arrive sample ∷ []) []
+    ≡ codes "arrive GE APE -- BHZ D 17091648000000 17091648010000 100\n"
+unfolding dialogue_on_literals
+line_of_an_arrival = refl
+
+pub line_of_a_packet : dialogue_of (Take 0 520 ∷ []) (took (codes "SLFFFFFE" ++ sample) false ∷ [])
+    ≡ codes "0 packet FFFFFE GE APE -- BHZ D 17091648000000 17091648010000 100\n"
+unfolding dialogue_on_literals
+line_of_a_packet = refl
+
+pub line_of_no_record : dialogue_of (Arrive (codes "000001X") ∷ []) [] ≡ codes "arrive refused 2 Quality\n"
+unfolding dialogue_on_literals
+line_of_no_record = refl

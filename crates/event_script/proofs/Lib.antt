@@ -1,4 +1,6 @@
+mod AddressLemmas
 mod ArriveRows
+mod DialogueLemmas
 mod Examples
 mod FittingLemmas
 mod HexRecords
@@ -7,5 +9,6 @@ mod OptionSteps
 mod ReloadRows
 mod Separators
 mod SpaceLemmas
+mod SpellingLemmas
 mod TableLemmas
 mod Takes

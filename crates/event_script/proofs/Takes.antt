@@ -5,10 +5,10 @@ use Rattle.server_core.specs.Runs.{handed_value}
 use Rattle.server_core.specs.declared.events.Handed.{Handed}
 use Rattle.event_script.specs.Output.{handed_line, output_of}
 
--- the take at hand
-at_hand : (takes : List Handed) (k : ℕ) (take : Handed) → k < length takes → take ≡ get_or takes k take
-    → drop k takes ≡ take ∷ drop (k + 1) takes
-at_hand takes k take h e = rw (drop-cons takes k take h, ← e, add-one k)
+-- the element at hand
+pub at_hand : {A : Type 0} (xs : List A) (k : ℕ) (x : A) → k < length xs → x ≡ get_or xs k x
+    → drop k xs ≡ x ∷ drop (k + 1) xs
+at_hand xs k x h e = rw (drop-cons xs k x h, ← e, add-one k)
 
 -- the line of the take at hand joins the lines before it
 pub output-more : (takes : List Handed) (k : ℕ) (take : Handed) (text text' : List ℕ) → k < length takes

@@ -1,3 +1,4 @@
+pub mod Dialogue
 pub mod Failing
 pub mod Faults
 pub mod Fitting
@@ -5,3 +6,4 @@ pub mod Output
 pub mod Rows
 pub mod Script
 pub mod ScriptValues
+pub mod Spelling
