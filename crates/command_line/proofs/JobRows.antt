@@ -11,13 +11,20 @@ use Rattle.command_line.specs.Jobs.Asked.{Check, Replay, Serve, Feed, Read}
 abbrev replay_words : List Text
 replay_words = codes "seedlinkd" ∷ codes "replay" ∷ codes "island.toml" ∷ codes "hello.script" ∷ []
 
-pub replay_asked : job_of replay_words ≡ Some (Replay (codes "island.toml") (codes "hello.script"))
+pub replay_asked : job_of replay_words ≡ Some (Replay (codes "island.toml") (codes "hello.script") false)
 unfolding clap_on_literals
 replay_asked = refl
 
 pub replay_taken : fault_of program_app replay_words ≡ []
 unfolding clap_on_literals
 replay_taken = refl
+
+abbrev text_words : List Text
+text_words = codes "seedlinkd" ∷ codes "replay" ∷ codes "--text" ∷ codes "c" ∷ codes "s" ∷ []
+
+pub text_asked : job_of text_words ≡ Some (Replay (codes "c") (codes "s") true)
+unfolding clap_on_literals
+text_asked = refl
 
 abbrev check_words : List Text
 check_words = codes "seedlinkd" ∷ codes "check" ∷ codes "records.mseed" ∷ []

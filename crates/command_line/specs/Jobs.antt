@@ -62,9 +62,13 @@ abbrev pub check_app : App
 check_app = with_verbose (with_rule listing_app (option false (codes "config")))
 
 -- `replay CONFIG SCRIPT`
+abbrev pub scripted_app : App
+scripted_app =
+    with_rule (with_rule (new_app (codes "replay")) (wanted (codes "CONFIG"))) (wanted (codes "SCRIPT"))
+
+-- `replay CONFIG SCRIPT [--text]`
 abbrev pub replay_app : App
-replay_app =
-    with_verbose (with_rule (with_rule (new_app (codes "replay")) (wanted (codes "CONFIG"))) (wanted (codes "SCRIPT")))
+replay_app = with_verbose (with_rule scripted_app (flag_rule (codes "text")))
 
 -- `ADDRESS`, which may be left out
 abbrev pub address_rule : Rule
@@ -222,7 +226,7 @@ options_asked o =
 -- A job as texts and numbers.
 pub data Asked : Type 0 where
   Check : (file : List ℕ) → (options : CheckAsked) → Asked
-  Replay : (config : List ℕ) → (script : List ℕ) → Asked
+  Replay : (config script : List ℕ) → (is_text : Bool) → Asked
   View : (config : List ℕ) → (address : Option (List ℕ)) → Asked
   Serve : (config listen feed : List ℕ) → (turns : Option ℕ) → (reread report : Option Every)
       → (feed_from : Option (List ℕ))
@@ -233,7 +237,7 @@ pub data Asked : Type 0 where
 -- the job that the code has
 abbrev pub asked : Job → Asked
 asked (job.Check file options) = Check file.now (check_options_asked options)
-asked (job.Replay config script) = Replay config.now script.now
+asked (job.Replay config script is_text) = Replay config.now script.now is_text
 asked (job.View config address) = View config.now (option_map (λ text. text.now) address)
 asked (job.Serve config listen feed turns reread report feed_from per_address numbers log) =
     Serve config.now listen.now feed.now turns reread report (option_map (λ list. list.now) feed_from) per_address
@@ -264,14 +268,15 @@ with_file options (Some file) = Some (Check file options)
 abbrev pub check_asked : List Row → Option Asked
 check_asked rows = with_file (check_options_in rows) (first_of (codes "FILE") rows)
 
--- a job of two texts, where both are there
-abbrev pub with_both : (List ℕ → List ℕ → Asked) → Option (List ℕ) → Option (List ℕ) → Option Asked
-with_both make (Some a) (Some b) = Some (make a b)
-with_both make _ _ = None
+-- the job of `replay`, where its configuration and its script are there
+abbrev pub with_script : Bool → Option (List ℕ) → Option (List ℕ) → Option Asked
+with_script is_text (Some config) (Some script) = Some (Replay config script is_text)
+with_script is_text _ _ = None
 
 -- the job of `replay`, by what was found of its arguments
 abbrev pub replay_asked : List Row → Option Asked
-replay_asked rows = with_both Replay (first_of (codes "CONFIG") rows) (first_of (codes "SCRIPT") rows)
+replay_asked rows =
+    with_script (flag_in (codes "text") rows) (first_of (codes "CONFIG") rows) (first_of (codes "SCRIPT") rows)
 
 -- the job of `view`, where its configuration is there
 abbrev pub with_config : Option (List ℕ) → Option (List ℕ) → Option Asked

@@ -7,7 +7,7 @@ ghost use Rattle.command_line.specs.Jobs.{address_rule, addressed_app, bare_app,
 ghost use Rattle.command_line.specs.Jobs.{limited_app, log_rule, number_rule, numbered_app};
 ghost use Rattle.command_line.specs.Jobs.{option};
 ghost use Rattle.command_line.specs.Jobs.{archiving_app, program_app, read_app, replay_app, retrying_app, spanned_app};
-ghost use Rattle.command_line.specs.Jobs.{stating_app};
+ghost use Rattle.command_line.specs.Jobs.{scripted_app, stating_app};
 ghost use Rattle.command_line.specs.Jobs.{serve_app, timed_app};
 ghost use Rattle.command_line.specs.Jobs.{verbose_rule, view_app};
 ghost use Rattle.command_line.specs.Jobs.{wanted, wants_app, wants_rule, with_verbose};
@@ -161,8 +161,8 @@ fn check_command<'a>(alloc: Global) -> Built<'a>
 }
 
 /// `replay CONFIG SCRIPT`.
-fn replay_command<'a>(alloc: Global) -> Built<'a>
-    ensures { Builds result replay_app }
+fn scripted_command<'a>(alloc: Global) -> Built<'a>
+    ensures { Builds result scripted_app }
 {
     let command = started(
         alloc,
@@ -170,8 +170,20 @@ fn replay_command<'a>(alloc: Global) -> Built<'a>
         "Replays a script against a server and prints what each client receives, in hex",
     );
     let with_config = with_wanted(alloc, command, "CONFIG", "The configuration, in TOML");
-    let with_script = with_wanted(alloc, with_config, "SCRIPT", "The script, an event a line");
-    with_verbose(alloc, with_script)
+    with_wanted(alloc, with_config, "SCRIPT", "The script, an event a line")
+}
+
+/// `replay CONFIG SCRIPT [--text]`.
+fn replay_command<'a>(alloc: Global) -> Built<'a>
+    ensures { Builds result replay_app }
+{
+    let with_text = with_flag(
+        alloc,
+        scripted_command(alloc),
+        "text",
+        "Prints the dialogue as text, a line for each event",
+    );
+    with_verbose(alloc, with_text)
 }
 
 /// The argument `ADDRESS`, which may be left out.

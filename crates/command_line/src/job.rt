@@ -17,10 +17,12 @@ pub enum Job<'a> {
         file: &'a str,
         options: CheckOptions<'a>,
     },
-    /// `replay CONFIG SCRIPT`: the events of a script at a server with that configuration.
+    /// `replay CONFIG SCRIPT [--text]`: the events of a script at a server with that configuration, with `--text` as a
+    /// dialogue.
     Replay {
         config: &'a str,
         script: &'a str,
+        is_text: bool,
     },
     /// `view CONFIG [ADDRESS]`: the stations that an address sees, or without one all stations with the lists of
     /// addresses that hold for them.

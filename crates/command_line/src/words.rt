@@ -67,7 +67,11 @@ fn replay_job<'a>(arguments: &ArgMatches<'a>) -> Option<Job<'a>>
 {
     let config = text_at(arguments, "CONFIG")?;
     let script = text_at(arguments, "SCRIPT")?;
-    Some(Job::Replay { config, script })
+    Some(Job::Replay {
+        config,
+        script,
+        is_text: has_flag(arguments, "text"),
+    })
 }
 
 fn view_job<'a>(arguments: &ArgMatches<'a>) -> Option<Job<'a>>
