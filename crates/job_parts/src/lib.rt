@@ -19,7 +19,7 @@ pub use endpoint::Endpoint;
 pub use numbers::{NumberFile, replace};
 pub use progress::{Watched, is_output_terminal, is_terminal, size_of};
 pub use reasons::{AnswerCounter, CommandWriter, ReasonKeeper};
-pub use replaying::replay;
+pub use replaying::{ReplayStyle, replay};
 pub use standard_error::StandardError;
 pub use visits::{SharedLines, VisitLines};
 pub use windows::Moments;

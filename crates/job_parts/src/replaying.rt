@@ -1,36 +1,71 @@
 //! A script's events at a server, from a reader to a writer.
 ghost use Rattle.std.specs.Prelude.{◌≡◌, ◌≢◌, Some, None, map, IfOk, OnOk, IfErr, IfSome, MatchResult};
 ghost use Rattle.std.specs.List.{slice_split};
-ghost use Rattle.server_core.specs.Runs.{event_value};
+ghost use Rattle.server_core.specs.Runs.{event_value, handed_value};
 ghost use Rattle.event_script.specs.Failing.{FailsAtLine};
 ghost use Rattle.event_script.specs.Script.{is_line_feed};
-ghost use Rattle.job_parts.specs.Output.{output_after, replayed};
+ghost use Rattle.job_parts.specs.Output.{output_after, replayed, written_of};
 ghost use Rattle.job_parts.specs.Replaying.{IfScript, LeavesReader, LeavesWriter, WritesAll, WritesBeginning};
 ghost use Rattle.event_script.specs.declared.fault.ScriptFault.TheVariants.{Script as ScriptIsNone};
 ghost use Rattle.incidents.specs.declared.faults.ReplayFault.TheVariants.{Stream};
 ghost use Rattle.sl_io.specs.declared.faults.StreamFault.TheVariants.{Write};
 
 use catalog::Config;
-use event_script::{ScriptError, ScriptFault, events_of, output_of};
+use event_script::{ScriptError, ScriptFault, dialogue_of, events_of, output_of};
 use incidents::ReplayFault;
-use server_core::{Event, run};
+use server_core::{Event, Handed, run};
 use sl_io::{Sink, Source, StreamFault, read_all, write_all};
 use std::alloc::{AllocError, Global};
 
+/// How a replay writes what happens.
+#[derive(Clone, Copy, Drop)]
+pub enum ReplayStyle {
+    /// A line for each take: what it was handed, in hexadecimal digits.
+    Hexadecimal,
+    /// A line for each event, as text.
+    Dialogue,
+}
+
+/// What is written of events and of what their takes were handed.
+fn written_of(
+    alloc: Global,
+    style: ReplayStyle,
+    events: &[Event],
+    takes: &[Handed],
+) -> Result<Vec<u8>, AllocError>
+    ensures { IfOk result
+        (λ text. text.items ≡ written_of style (map event_value events.now) (map handed_value takes.now)) }
+{
+    match style {
+        ReplayStyle::Hexadecimal => output_of(alloc, takes),
+        ReplayStyle::Dialogue => dialogue_of(alloc, events, takes),
+    }
+}
+
 /// What a server with that configuration writes of events.
-fn output_after(alloc: Global, config: Config, events: &[Event]) -> Result<Vec<u8>, AllocError>
-    ensures ok { IfOk result (λ output. output.items ≡ output_after config (map event_value events.now)) }
+fn output_after(
+    alloc: Global,
+    style: ReplayStyle,
+    config: Config,
+    events: &[Event],
+) -> Result<Vec<u8>, AllocError>
+    ensures ok { IfOk result (λ output. output.items ≡ output_after style config (map event_value events.now)) }
 {
     let takes = run(alloc, config, events)?;
-    let output = output_of(alloc, takes.as_slice())?;
+    let output = written_of(alloc, style, events, takes.as_slice())?;
     Ok(output)
 }
 
 /// What a server with that configuration writes of a script. A text that is none is refused at its first line that is
 /// no event.
-fn output_for(alloc: Global, config: Config, text: &[u8]) -> Result<Vec<u8>, ScriptError>
-    ensures ok { IfOk result (λ output. replayed config text.now ≡ Some output.items) }
-    ensures script { IfErr result (λ e. e.fault ≡ ScriptIsNone → replayed config text.now ≡ None) }
+fn output_for(
+    alloc: Global,
+    style: ReplayStyle,
+    config: Config,
+    text: &[u8],
+) -> Result<Vec<u8>, ScriptError>
+    ensures ok { IfOk result (λ output. replayed style config text.now ≡ Some output.items) }
+    ensures script { IfErr result (λ e. e.fault ≡ ScriptIsNone → replayed style config text.now ≡ None) }
     ensures line { IfErr result (λ e. e.fault ≡ ScriptIsNone
         → FailsAtLine (slice_split is_line_feed text.now) e.line) }
 {
@@ -38,7 +73,7 @@ fn output_for(alloc: Global, config: Config, text: &[u8]) -> Result<Vec<u8>, Scr
         Ok(events) => events,
         Err(error) => return Err(error),
     };
-    match output_after(alloc, config, events.as_slice()) {
+    match output_after(alloc, style, config, events.as_slice()) {
         Ok(output) => Ok(output),
         Err(_) => Err(ScriptError {
             fault: ScriptFault::OutOfMemory,
@@ -47,9 +82,9 @@ fn output_for(alloc: Global, config: Config, text: &[u8]) -> Result<Vec<u8>, Scr
     }
 }
 
-/// Reads a script to its end, does its events at a new server with that configuration, and writes a line for each
-/// take. The output is made whole before its first byte is written, and written in as few calls as the writer
-/// takes.
+/// Reads a script to its end, does its events at a new server with that configuration, and writes a line for each take,
+/// or for each event, as the style says. The output is made whole before its first byte is written, and written in as
+/// few calls as the writer takes.
 ///
 /// It fails with Read where a read failed or 2^64 - 1 reads were made, with Script where the text is no script, and the
 /// line that it names is the first that is no event, with Write where a write failed or took no byte, and with
@@ -57,18 +92,19 @@ fn output_for(alloc: Global, config: Config, text: &[u8]) -> Result<Vec<u8>, Scr
 /// beginning of the output.
 pub fn replay<R: Source, W: Sink>(
     alloc: Global,
+    style: ReplayStyle,
     config: Config,
     script: &mut R,
     out: &mut W,
 ) -> Result<(), ReplayFault>
     ensures ok { OnOk result
         (IfSome (R.left script.old)
-        (λ text. WritesAll (replayed config text) (W.written out.old) (W.written out.new))) }
+        (λ text. WritesAll (replayed style config text) (W.written out.old) (W.written out.new))) }
     ensures write { IfErr result (λ fault. fault ≡ Stream Write →
         IfSome (R.left script.old)
-        (λ text. WritesBeginning (replayed config text) (W.written out.old) (W.written out.new))) }
+        (λ text. WritesBeginning (replayed style config text) (W.written out.old) (W.written out.new))) }
     ensures script { IfErr result (λ fault. IfScript fault (λ line.
-        IfSome (R.left script.old) (λ text. replayed config text ≡ None))) }
+        IfSome (R.left script.old) (λ text. replayed style config text ≡ None))) }
     ensures line { IfErr result (λ fault. IfScript fault (λ line.
         IfSome (R.left script.old) (λ text. FailsAtLine (slice_split is_line_feed text) line))) }
     ensures unchanged { IfErr result (λ fault. fault ≢ Stream Write → out.new ≡ out.old) }
@@ -84,7 +120,7 @@ pub fn replay<R: Source, W: Sink>(
         Ok(text) => text,
         Err(fault) => return Err(ReplayFault::Stream(StreamFault::from(fault))),
     };
-    let output = match output_for(alloc, config, text.as_slice()) {
+    let output = match output_for(alloc, style, config, text.as_slice()) {
         Ok(output) => output,
         Err(
             ScriptError {
