@@ -9,7 +9,8 @@ use command_line::CheckOptions;
 use config_findings::{Finding, finding_of};
 use incidents::{Failure, Incident, Site};
 use job_parts::{
-    ConfiguredStations, ReasonKeeper, Watched, is_output_terminal, is_terminal, replay, size_of,
+    ConfiguredStations, ReasonKeeper, ReplayStyle, Watched, is_output_terminal, is_terminal,
+    replay, size_of,
 };
 use record_listing::{
     AllStations, Finding as FileFinding, ListingOptions, Stations, check_records,
@@ -87,13 +88,14 @@ fn list<R: Print + AllocGlobal, S: Stations, T: Read + Drop>(
 /// Writes the output of a script. The configuration is judged before the script is opened.
 pub fn replay_files<'a, R: Files + Print + AllocGlobal>(
     rt: &R,
+    style: ReplayStyle,
     config: &'a str,
     script: &'a str,
 ) -> Result<(), Incident<'a>> {
     let config = config_at(rt, config)?;
     let mut file = Outer::new(ReasonKeeper::new(open(rt, script)?));
     let mut out = Outer::new(io::writer(rt));
-    match replay(rt.alloc(), config, &mut file, &mut out) {
+    match replay(rt.alloc(), style, config, &mut file, &mut out) {
         Ok(()) => Ok(()),
         Err(fault) => {
             let incident = Failure::Replay(fault).in_file(script);

@@ -21,7 +21,7 @@ mod work;
 pub use feeding::{Feed, SentFeed, await_end, begin_feed, feed_records, send_feed};
 pub use feeds::send_files;
 pub use incidents::{Failure, Incident, NumbersFault, ReplayFault, Site, StateFault};
-pub use job_parts::{Endpoint, replay};
+pub use job_parts::{Endpoint, ReplayStyle, replay};
 pub use serving::{Activity, ServeFault, serve, serve_block};
 pub use statuses::{failed, obey, told};
 pub use viewing::{list_holders, list_seen};

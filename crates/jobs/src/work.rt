@@ -1,6 +1,6 @@
 //! What is done for each job.
 ghost use Rattle.std.specs.Prelude.{◌≡◌, ◌||◌, is_some, option_and_then};
-ghost use Rattle.jobs.specs.Words.{seconds_of, turns_of};
+ghost use Rattle.jobs.specs.Words.{seconds_of, style_by, turns_of};
 
 use crate::feeds::feed_files;
 use crate::files::{check_file, replay_files};
@@ -10,6 +10,7 @@ use crate::reading::read_servers;
 use crate::viewing::view_file;
 use command_line::{Every, Job};
 use incidents::Incident;
+use job_parts::ReplayStyle;
 use serving::{KEEP_EVERY, Timetable};
 use std::fs::File;
 use std::net::Net;
@@ -33,6 +34,17 @@ fn seconds_in(every: Option<Every>) -> Option<usize>
     match every {
         Some(Every::Seconds(seconds)) => Some(seconds),
         _ => None,
+    }
+}
+
+/// How a replay writes what happens, by whether `--text` was given.
+fn style_of(is_text: bool) -> ReplayStyle
+    ensures { result ≡ style_by is_text }
+{
+    if is_text {
+        ReplayStyle::Dialogue
+    } else {
+        ReplayStyle::Hexadecimal
     }
 }
 
@@ -71,7 +83,11 @@ where
 {
     match job {
         Job::Check { file, options } => check_file(rt, file, options),
-        Job::Replay { config, script } => replay_files(rt, config, script),
+        Job::Replay {
+            config,
+            script,
+            is_text,
+        } => replay_files(rt, style_of(is_text), config, script),
         Job::View { config, address } => view_file(rt, config, address),
         Job::Serve {
             config,
