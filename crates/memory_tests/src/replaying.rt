@@ -4,6 +4,7 @@ ghost use Rattle.std.specs.Prelude.{None};
 use crate::trial::{Fault, Trial};
 use catalog::Config;
 use incidents::ReplayFault;
+use job_parts::ReplayStyle::Hexadecimal;
 use job_parts::replay;
 use sl_io::{DeviceFault, MemorySink, MemorySource, Sink, StreamFault};
 use std::alloc::Global;
@@ -50,7 +51,13 @@ impl Sink for Comparison<'_> {
 fn output(alloc: Global) -> Result<Vec<u8>, Fault> {
     let mut script = MemorySource::new(SCRIPT);
     let mut out = MemorySink::new(alloc);
-    replay(alloc, Config::read(alloc, CENTRE)?, &mut script, &mut out)?;
+    replay(
+        alloc,
+        Hexadecimal,
+        Config::read(alloc, CENTRE)?,
+        &mut script,
+        &mut out,
+    )?;
     Ok(out.into_bytes())
 }
 
@@ -64,7 +71,7 @@ pub fn replay_of_script(alloc: Global) -> Result<Trial, Fault> {
         is_same: true,
         calls: 0,
     };
-    match replay(alloc, config, &mut script, &mut out) {
+    match replay(alloc, Hexadecimal, config, &mut script, &mut out) {
         Ok(()) => Ok(Trial::by(
             out.is_same && out.left.is_empty() && wanted.starts_with(b"0 - end\n"),
             "another output",

@@ -3,6 +3,7 @@ use super::replays::config;
 use catalog::Config;
 use command_line::{CheckOptions, Job, ReadOptions};
 use config_findings::{finding_of, first_difference};
+use jobs::ReplayStyle::Hexadecimal;
 use jobs::{Failure, Incident, replay, run_job};
 use record_listing::{AllStations, ListingOptions, check_records};
 use sl_io::{MemorySink, MemorySource};
@@ -212,7 +213,7 @@ fn a_key_of_the_server_that_is_refused(rt: HostRuntime) -> Result<(), Fail> {
 fn unplayed(alloc: Global, script: &[u8]) -> Result<String, Fail> {
     let mut source = MemorySource::new(script);
     let mut sink = MemorySink::new(alloc);
-    match replay(alloc, config(alloc)?, &mut source, &mut sink) {
+    match replay(alloc, Hexadecimal, config(alloc)?, &mut source, &mut sink) {
         Ok(()) => Ok(String::new(alloc)),
         Err(fault) => {
             let incident = Failure::Replay(fault).in_file("views.script");
@@ -330,6 +331,7 @@ fn a_file_that_is_not_there(rt: HostRuntime) -> Result<(), Fail> {
     let replay = Job::Replay {
         config: "none/at.all",
         script: "nor.this",
+        is_text: false,
     };
     assert!(rt; unfinished(&rt, replay)?.as_str() == wanted);
     Ok(())
@@ -349,6 +351,7 @@ fn a_folder_in_place_of_a_file(rt: HostRuntime) -> Result<(), Fail> {
     let replay = Job::Replay {
         config: "/",
         script: "nor.this",
+        is_text: false,
     };
     let told = unfinished(&rt, replay)?;
     assert!(rt; told.as_str().ends_with(lines), "{told}");

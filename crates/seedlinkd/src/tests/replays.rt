@@ -1,11 +1,13 @@
 //! Scripts and what they write, at a server that has three stations.
 use catalog::Config;
-use jobs::{ReplayFault, replay};
+use jobs::ReplayStyle::Hexadecimal;
+use jobs::{ReplayFault, ReplayStyle, replay};
 use sl_io::{MemorySink, MemorySource, StreamFault};
 use std::alloc::{AllocError, Global};
 use std::test::Fail;
 use test_centre::CENTRE;
 
+mod as_text;
 mod devices;
 mod refused;
 mod reloads;
@@ -19,10 +21,10 @@ pub(crate) fn config(alloc: Global) -> Result<Config, Fail> {
 }
 
 /// What a script writes.
-fn written(alloc: Global, script: &[u8]) -> Result<Vec<u8>, Fail> {
+fn written(alloc: Global, style: ReplayStyle, script: &[u8]) -> Result<Vec<u8>, Fail> {
     let mut source = MemorySource::new(script);
     let mut sink = MemorySink::new(alloc);
-    replay(alloc, config(alloc)?, &mut source, &mut sink)?;
+    replay(alloc, style, config(alloc)?, &mut source, &mut sink)?;
     Ok(sink.into_bytes())
 }
 
@@ -51,7 +53,7 @@ fn push_digits(text: &mut String, bytes: &[u8]) -> Result<(), Fail> {
 /// Whether a script writes that text, where `G` stands for the greeting's digits.
 fn writes(alloc: Global, script: &[u8], text: &str) -> Result<bool, Fail> {
     let output = greeted(alloc, text)?;
-    Ok(written(alloc, script)?.as_slice() == output.as_bytes())
+    Ok(written(alloc, Hexadecimal, script)?.as_slice() == output.as_bytes())
 }
 
 /// Scripts, and what they write.

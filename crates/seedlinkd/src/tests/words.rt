@@ -34,10 +34,14 @@ fn refused(alloc: Global, words: &[&str]) -> Result<Option<bool>, AllocError> {
     }
 }
 
-/// Whether it is the job of a replay with this configuration and script.
-fn is_replay(job: &Job<'_>, wanted: (&str, &str)) -> bool {
+/// Whether it is the job of a replay with this configuration and script, as text or not.
+fn is_replay(job: &Job<'_>, wanted: (&str, &str), text: bool) -> bool {
     match job {
-        Job::Replay { config, script } => (*config, *script) == wanted,
+        Job::Replay {
+            config,
+            script,
+            is_text,
+        } => (*config, *script) == wanted && *is_text == text,
         _ => false,
     }
 }
@@ -90,7 +94,15 @@ fn replay_has_two_texts(rt: HostRuntime) -> Result<(), Fail> {
         &["seedlinkd", "replay", "island.toml", "hello.script"],
     )?;
     let job = request_of(rt.alloc(), &words)?.job;
-    assert!(rt; is_replay(&job, ("island.toml", "hello.script")));
+    assert!(rt; is_replay(&job, ("island.toml", "hello.script"), false));
+    Ok(())
+}
+
+#[test]
+fn replay_may_write_text(rt: HostRuntime) -> Result<(), Fail> {
+    let words = strings(rt.alloc(), &["seedlinkd", "replay", "c", "s", "--text"])?;
+    let job = request_of(rt.alloc(), &words)?.job;
+    assert!(rt; is_replay(&job, ("c", "s"), true));
     Ok(())
 }
 
@@ -323,7 +335,7 @@ fn feed_has_a_server_and_files(rt: HostRuntime) -> Result<(), Fail> {
 fn a_double_dash_ends_the_flags(rt: HostRuntime) -> Result<(), Fail> {
     let words = strings(rt.alloc(), &["seedlinkd", "replay", "--", "-a", "--help"])?;
     let job = request_of(rt.alloc(), &words)?.job;
-    assert!(rt; is_replay(&job, ("-a", "--help")));
+    assert!(rt; is_replay(&job, ("-a", "--help"), false));
     Ok(())
 }
 

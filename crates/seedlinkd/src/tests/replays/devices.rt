@@ -1,5 +1,6 @@
 //! Readers and writers that give and take little, or fail.
 use super::{config, greeted};
+use jobs::ReplayStyle::Hexadecimal;
 use jobs::{ReplayFault, replay};
 use sl_io::{MemorySink, MemorySource, Outer, StreamFault};
 use std::io;
@@ -12,7 +13,13 @@ const SCRIPT: &[u8] = b"open 10.0.0.7\nline 0 HELLO\ntake 0 520\ntake 0 520";
 fn a_byte_at_a_time(rt: HostRuntime) -> Result<(), Fail> {
     let mut source = MemorySource::in_pieces(SCRIPT, 1);
     let mut sink = MemorySink::in_pieces(rt.alloc(), 1);
-    replay(rt.alloc(), config(rt.alloc())?, &mut source, &mut sink)?;
+    replay(
+        rt.alloc(),
+        Hexadecimal,
+        config(rt.alloc())?,
+        &mut source,
+        &mut sink,
+    )?;
     let output = greeted(rt.alloc(), "0 G\n0 -\n")?;
     assert!(rt; sink.bytes() == output.as_bytes());
     // One read a byte, and one that finds the end.
@@ -25,11 +32,23 @@ fn a_byte_at_a_time(rt: HostRuntime) -> Result<(), Fail> {
 fn one_write_and_none_for_nothing(rt: HostRuntime) -> Result<(), Fail> {
     let mut sink = MemorySink::new(rt.alloc());
     let mut source = MemorySource::new(SCRIPT);
-    replay(rt.alloc(), config(rt.alloc())?, &mut source, &mut sink)?;
+    replay(
+        rt.alloc(),
+        Hexadecimal,
+        config(rt.alloc())?,
+        &mut source,
+        &mut sink,
+    )?;
     assert_eq!(rt; sink.counts().calls, 1);
     let mut sink = MemorySink::new(rt.alloc());
     let mut source = MemorySource::new(b"");
-    replay(rt.alloc(), config(rt.alloc())?, &mut source, &mut sink)?;
+    replay(
+        rt.alloc(),
+        Hexadecimal,
+        config(rt.alloc())?,
+        &mut source,
+        &mut sink,
+    )?;
     assert_eq!(rt; sink.counts().calls, 0);
     Ok(())
 }
@@ -98,7 +117,13 @@ impl Write for Full {
 fn a_reader_that_fails(rt: HostRuntime) -> Result<(), Fail> {
     let mut source = Outer::new(Breaking::new());
     let mut sink = MemorySink::new(rt.alloc());
-    let outcome = replay(rt.alloc(), config(rt.alloc())?, &mut source, &mut sink);
+    let outcome = replay(
+        rt.alloc(),
+        Hexadecimal,
+        config(rt.alloc())?,
+        &mut source,
+        &mut sink,
+    );
     assert!(rt; outcome == Err(ReplayFault::Stream(StreamFault::Read)));
     assert_eq!(rt; source.counts().failures, 1);
     assert_eq!(rt; sink.counts().calls, 0);
@@ -109,13 +134,25 @@ fn a_reader_that_fails(rt: HostRuntime) -> Result<(), Fail> {
 fn a_writer_that_fails(rt: HostRuntime) -> Result<(), Fail> {
     let mut source = MemorySource::new(SCRIPT);
     let mut sink = Outer::new(Breaking::new());
-    let outcome = replay(rt.alloc(), config(rt.alloc())?, &mut source, &mut sink);
+    let outcome = replay(
+        rt.alloc(),
+        Hexadecimal,
+        config(rt.alloc())?,
+        &mut source,
+        &mut sink,
+    );
     assert!(rt; outcome == Err(ReplayFault::Stream(StreamFault::Write)));
     assert_eq!(rt; sink.counts().failures, 1);
     assert_eq!(rt; sink.into_inner().taken, 10);
     let mut source = MemorySource::new(SCRIPT);
     let mut sink = Outer::new(Full);
-    let outcome = replay(rt.alloc(), config(rt.alloc())?, &mut source, &mut sink);
+    let outcome = replay(
+        rt.alloc(),
+        Hexadecimal,
+        config(rt.alloc())?,
+        &mut source,
+        &mut sink,
+    );
     assert!(rt; outcome == Err(ReplayFault::Stream(StreamFault::Write)));
     assert_eq!(rt; sink.counts().empty_writes, 1);
     Ok(())

@@ -1,5 +1,6 @@
 //! Texts that are no script.
 use super::config;
+use jobs::ReplayStyle::Hexadecimal;
 use jobs::{ReplayFault, replay};
 use sl_io::{MemorySink, MemorySource};
 use std::alloc::Global;
@@ -9,7 +10,7 @@ use std::test::Fail;
 fn fault(alloc: Global, script: &[u8]) -> Result<Option<ReplayFault>, Fail> {
     let mut source = MemorySource::new(script);
     let mut sink = MemorySink::new(alloc);
-    match replay(alloc, config(alloc)?, &mut source, &mut sink) {
+    match replay(alloc, Hexadecimal, config(alloc)?, &mut source, &mut sink) {
         Ok(()) => Ok(None),
         Err(fault) => {
             if sink.counts().calls == 0 && sink.bytes().is_empty() {

@@ -1,6 +1,7 @@
 //! Scripts in which a configuration is read again.
 use super::{push_digits, written};
 use crate::tests::scripts::record_with;
+use jobs::ReplayStyle::Hexadecimal;
 use std::alloc::Global;
 use std::test::Fail;
 use test_centre::{FOREST_CLOSED, ISLAND_LARGER};
@@ -93,7 +94,7 @@ static ROWS: [Row; 3] = [
 fn is_written(alloc: Global, row: &Row) -> Result<bool, Fail> {
     let script = joined(alloc, row.script)?;
     let output = joined(alloc, row.output)?;
-    Ok(written(alloc, script.as_bytes())?.as_slice() == output.as_bytes())
+    Ok(written(alloc, Hexadecimal, script.as_bytes())?.as_slice() == output.as_bytes())
 }
 
 #[test]
