@@ -14,6 +14,7 @@ _seedlinkd() {
             "") options+=" --version" ;;
             serve) options+=" --listen --feed --turns --reread --report --feed-from --per-address --numbers --log" ;;
             check) options+=" --iso --summary --quiet --config" ;;
+            replay) options+=" --text" ;;
             read) options+=" --fetch --begin --end --retry --archive --state --iso --output" ;;
         esac
         mapfile -t COMPREPLY < <(compgen -W "$options" -- "$current")
