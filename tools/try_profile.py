@@ -1,10 +1,11 @@
 #!/usr/bin/env python3
-"""Checks what docs/PROFILE.md says of faults against the program, and fails where they differ.
+"""Checks what docs/PROFILE.md says of faults, and README of a replay, against the program, and fails where they differ.
 
     tools/try_profile.py
 
 - Each fault of its tables is reported somewhere in the sources by that number and name, and each of the sources stands in a table.
 - Each example of the table of configurations is refused with the fault of its row.
+- The dialogue that README shows is what `replay --text` prints, and without `--text` the digits of as many takes come.
 - Each example of the section "Faults that are explained" is run, with files and servers as the text beside it has them, and prints
   what stands there. Ports are others, which are free; `..` stands for any lines.
 
@@ -239,14 +240,32 @@ def try_examples(page):
     return count
 
 
+# ---- the dialogue of two clients
+
+
+def try_dialogue():
+    """Runs the replay that README shows, as text and as digits: no clause says that the program passes `--text` on."""
+    with open(f"{TOP}/README.md", encoding="utf-8") as file:
+        page = file.read()
+    shown = re.search(r"views\.script --text`.*?\n\n((?:    .*\n)+)", page)
+    wanted = [it[4:] for it in shown[1].splitlines()] if shown else []
+    words = [PROGRAM, "replay", f"{TOP}/examples/island.toml", f"{TOP}/examples/views.script"]
+    printed = [subprocess.run(words + more, capture_output=True, text=True).stdout.splitlines() for more in (["--text"], [])]
+    check(wanted and printed[0] == wanted, f"replay --text printed {printed[0]}")
+    takes = [it for it in wanted if re.match(r"\d+ (<|nothing|end|packet)", it)]
+    check(len(printed[1]) == len(takes), f"replay printed {len(printed[1])} lines for {len(takes)} takes")
+    check(all(re.fullmatch(r"\d+ ([0-9a-f]+|-)( end)?", it) for it in printed[1]), f"replay printed {printed[1]}")
+
+
 def main():
     with open(f"{TOP}/docs/PROFILE.md", encoding="utf-8") as file:
         page = file.read()
     try_tables(page)
     count = try_examples(page)
+    try_dialogue()
     if failures:
         raise SystemExit(f"try_profile: {len(failures)} differences")
-    print(f"the tables and {count} examples of PROFILE are as the program")
+    print(f"the tables and {count} examples of PROFILE and the dialogue of README are as the program")
 
 
 if __name__ == "__main__":
