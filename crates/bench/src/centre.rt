@@ -1,14 +1,21 @@
 //! Records, a server whose rings are full of them, and a client of it.
+use anyhow::anyhow;
 use catalog::Config;
 use mseed_header::{ByteOrder, Fields, make};
+use protocol::reason::Reason;
 use server_core::{Client, Server};
 use std::alloc::Global;
 use std::net::Ipv4Addr;
 
+/// A refusal, by its name.
+pub fn told(reason: Reason) -> anyhow::Error {
+    anyhow!(reason.name())
+}
+
 /// A record of the station at a place: GE 00000, GE 00001 and so on.
 pub fn record_of(alloc: Global, place: u32, channel: &[u8]) -> anyhow::Result<[u8; 512]> {
     let station = format!(in alloc; "{place:05}")?;
-    let record = make(&Fields {
+    make(&Fields {
         sequence: 1,
         quality: b'D',
         station: station.as_bytes(),
@@ -28,8 +35,8 @@ pub fn record_of(alloc: Global, place: u32, channel: &[u8]) -> anyhow::Result<[u
         order: ByteOrder::Big,
         extra: None,
         contents: b"",
-    })?;
-    Ok(record)
+    })
+    .map_err(|fault| told(fault.reason()))
 }
 
 /// Records of the stations at places.
@@ -51,7 +58,7 @@ pub fn config_of(alloc: Global, small: u32, large: u32, capacity: u32) -> anyhow
         )?;
         text.push_str(station.as_str())?;
     }
-    Ok(Config::read(alloc, text.as_bytes())?)
+    Config::read(alloc, text.as_bytes()).map_err(|fault| told(fault.reason()))
 }
 
 /// A configuration of 1,024 stations for addresses that begin with 10. The first ones have lists of their own, which
@@ -70,7 +77,7 @@ pub fn listed_config(alloc: Global, listed: u32, host: u32) -> anyhow::Result<Co
             text.push_str(access.as_str())?;
         }
     }
-    Ok(Config::read(alloc, text.as_bytes())?)
+    Config::read(alloc, text.as_bytes()).map_err(|fault| told(fault.reason()))
 }
 
 /// A configuration of 1,024 stations, of which every second one is for another address alone.
@@ -85,7 +92,7 @@ pub fn spotted_config(alloc: Global) -> anyhow::Result<Config> {
             text.push_str("access = \"192.168.0.1\"\n")?;
         }
     }
-    Ok(Config::read(alloc, text.as_bytes())?)
+    Config::read(alloc, text.as_bytes()).map_err(|fault| told(fault.reason()))
 }
 
 /// Each of some records arrives once, one after the other. Answers a sum of their numbers.

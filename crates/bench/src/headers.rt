@@ -15,7 +15,7 @@ fn told(read: Result<Header<'_>, RecordFault>) -> u64 {
                 ^ u64::from(header.samples())
                 ^ (codes as u64)
         }
-        Err(fault) => u64::from(fault.report().number),
+        Err(fault) => u64::from(fault.reason().number()),
     }
 }
 

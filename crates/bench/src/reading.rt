@@ -1,5 +1,5 @@
 //! A reader over memory: packets are read, cut out and listed.
-use crate::centre::record_of;
+use crate::centre::{record_of, told};
 use packet_listing::{Nowhere, Times, read_over};
 use sl_io::{MemorySink, MemorySource};
 use sl_packet::{Seq, frame};
@@ -30,7 +30,8 @@ pub fn list_packets(alloc: Global, packets: u32) -> anyhow::Result<u64> {
     let record = record_of(alloc, 0, b"BHZ")?;
     let sent = sent(alloc, &record, packets)?;
     let mut wants = Vec::new(alloc);
-    wants.push(Want::parse(alloc, b"GE_WLF", Window::Held { begin: None })?)?;
+    let want = Want::parse(alloc, b"GE_WLF", Window::Held { begin: None });
+    wants.push(want.map_err(|fault| told(fault.reason()))?)?;
     let mut reader = MemorySource::in_pieces(&sent, PIECE);
     let mut lines = MemorySink::new(alloc);
     read_over(
@@ -41,6 +42,7 @@ pub fn list_packets(alloc: Global, packets: u32) -> anyhow::Result<u64> {
         &mut Nowhere::new(),
         &mut lines,
         &mut Nowhere::new(),
-    )?;
+    )
+    .map_err(|fault| told(fault.reason()))?;
     Ok(lines.bytes().len() as u64)
 }

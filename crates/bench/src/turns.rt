@@ -1,5 +1,5 @@
 //! Turns of a loop over ports in memory.
-use crate::centre::{config_of, record_of};
+use crate::centre::{config_of, record_of, told};
 use event_loop::Loop;
 use ports::{Happening, MemoryPorts, PortScript, ReadAnswer, Script};
 use std::alloc::Global;
@@ -55,9 +55,9 @@ fn ports(alloc: Global, sleepers: u32, records: u32) -> anyhow::Result<MemoryPor
 /// Runs a loop for a turn in which its clients join, and then for a turn a round. Answers how many bytes the client
 /// that is awake was handed.
 fn bytes_handed(alloc: Global, all: &mut Loop<MemoryPorts>, rounds: u32) -> anyhow::Result<u64> {
-    all.turn(20_000)?;
+    all.turn(20_000).map_err(|fault| told(fault.reason()))?;
     for _ in 0..rounds {
-        all.turn(1)?;
+        all.turn(1).map_err(|fault| told(fault.reason()))?;
     }
     let record = all.ports().record(alloc, AWAKE)?;
     Ok(record.taken.len() as u64)

@@ -119,7 +119,7 @@ pub fn compare_words(alloc: Global, wanted: &str, is_so: bool) -> Answer {
 fn refusal(server: &mut Server, client: Client, bytes: &[u8]) -> usize {
     match server.receive(client, bytes) {
         Ok(()) => 0,
-        Err(refusal) => refusal.report().number as usize,
+        Err(refusal) => refusal.reason().number() as usize,
     }
 }
 

@@ -49,7 +49,7 @@ fn compare_fault(alloc: Global, bytes: &[u8], wanted: &str) -> Answer {
                 number,
                 offset,
             },
-        ) => { format!(in alloc; "{} {number} {offset}", fault.report().number)? }
+        ) => { format!(in alloc; "{} {number} {offset}", fault.reason().number())? }
         None => String::from_str(alloc, "none")?,
     };
     if got.as_str() == wanted {

@@ -26,7 +26,7 @@ fn compare_refusal(alloc: Global, text: &str) -> Answer {
     let (wanted, entries) = number_and_rest(text)?;
     let got = match AccessList::parse(alloc, entries.as_bytes()) {
         Ok(_) => 0,
-        Err(fault) => fault.report().number,
+        Err(fault) => fault.reason().number(),
     };
     compare_numbers(alloc, wanted as usize, got as usize)
 }
@@ -49,7 +49,7 @@ pub fn play_config<R: Files + AllocGlobal>(rt: &R, line: &Line) -> Answer {
     let text = fs::read(rt, path)?;
     let got = match Config::read(rt.alloc(), text.as_slice()) {
         Ok(_) => 0,
-        Err(fault) => fault.report().number,
+        Err(fault) => fault.reason().number(),
     };
     compare_numbers(rt.alloc(), wanted as usize, got as usize)
 }

@@ -46,7 +46,7 @@ fn read_in(alloc: Global, wants: &str, sent: &[u8], most: usize) -> Result<Readi
     );
     let fault = match read {
         Ok(()) => 0,
-        Err(fault) => fault.report().number,
+        Err(fault) => fault.reason().number(),
     };
     Ok(Reading {
         wants: String::from_str(alloc, wants)?,

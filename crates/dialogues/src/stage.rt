@@ -45,7 +45,7 @@ impl Stage {
         let config = config_in(rt, path)?;
         let got = match self.server.reload(config) {
             Ok(()) => 0,
-            Err(fault) => fault.report().number,
+            Err(fault) => fault.reason().number(),
         };
         compare_numbers(self.alloc, wanted as usize, got as usize)
     }
@@ -106,7 +106,7 @@ impl Stage {
                 })?;
                 Ok(None)
             }
-            Err(fault) => Ok(Some(fault.report().number.to_string(self.alloc)?)),
+            Err(fault) => Ok(Some(fault.reason().number().to_string(self.alloc)?)),
         }
     }
 
@@ -116,7 +116,7 @@ impl Stage {
         let bytes = told_record(self.alloc, line)?;
         let got = match self.server.arrive(&bytes) {
             Ok(_) => 0,
-            Err(fault) => fault.report().number,
+            Err(fault) => fault.reason().number(),
         };
         compare_numbers(self.alloc, wanted as usize, got as usize)
     }

@@ -27,12 +27,11 @@ use crate::sleeping::{go, settle, skip, wake_after, wake_if};
 use crate::table::clients;
 use catalog::Config;
 use ports::Ports;
-use protocol::report::Report;
+use protocol::reason::Reason;
 use server_core::{Client, ReloadFault, Server};
 use station_ring::Rings;
 use std::alloc::{AllocError, Global};
 use std::marker::Model;
-use thiserror::Error;
 
 /// How many bytes a client's read asks for at most: as many as a client ever has room for.
 const CLIENT_READ: usize = 1024;
@@ -53,17 +52,15 @@ pub struct Turned {
 }
 
 /// The ports could not say what happened.
-#[derive(Clone, Copy, Debug, Drop, Error)]
-#[error("the ports can't say what happened")]
+#[derive(Clone, Copy, Debug, Drop)]
 pub struct LoopFault;
 
 impl LoopFault {
-    /// The number and the name by which the program reports it: 40 Poll.
-    pub fn report(self) -> Report
-        ensures number { result.number ≡ 40 }
-        ensures name { result.name.now ≡ codes "Poll" }
+    /// The reason by which the program reports it: 40 Poll.
+    pub fn reason(self) -> Reason
+        ensures { result ≡ Reason.Poll }
     {
-        Report::new(40, "Poll")
+        Reason::Poll
     }
 }
 

@@ -195,11 +195,11 @@ fn put_close(text: &mut Vec<u8>, client: usize) -> Result<(), AllocError>
 fn put_refusal(text: &mut Vec<u8>, fault: RecordFault) -> Result<(), AllocError>
     ensures { OnOk result (text.new.items ≡ text.old.items ++ refusal_text (Record fault)) }
 {
-    let report = fault.report();
+    let reason = fault.reason();
     text.extend_from_slice(b"refused ")?;
-    put_number(text, report.number as usize)?;
+    put_number(text, usize::from(reason.number()))?;
     text.push(b' ')?;
-    text.extend_from_slice(report.name.as_bytes())
+    text.extend_from_slice(reason.name().as_bytes())
 }
 
 /// What a record says, or why it is refused.

@@ -1,32 +1,28 @@
 //! Why a text is no script.
 ghost use Rattle.std.specs.Prelude.{◌≡◌};
-ghost use Rattle.protocol.specs.Report.{IsReport};
-ghost use Rattle.event_script.specs.Faults.{script_report};
+ghost use Rattle.event_script.specs.Faults.{script_reason};
 ghost use Rattle.event_script.specs.declared.fault.ScriptFault.TheVariants.{OutOfMemory as ScriptOutOfMemory};
 
-use protocol::report::Report;
+use protocol::reason::Reason;
 use std::alloc::{AllocError, AllocFailed};
-use thiserror::Error;
 
 /// Why a text is no script.
-#[derive(Clone, Copy, Debug, PartialEq, Eq, Drop, Error)]
+#[derive(Clone, Copy, Debug, PartialEq, Eq, Drop)]
 pub enum ScriptFault {
     /// There is no memory for its events.
-    #[error("out of memory")]
     OutOfMemory,
     /// A line is no event.
-    #[error("a line of the script is no event")]
     Script,
 }
 
 impl ScriptFault {
-    /// The number and the name by which the program reports it: 25 or 45.
-    pub fn report(self) -> Report
-        ensures { IsReport (script_report self) result }
+    /// The reason by which the program reports it: 25 or 45.
+    pub fn reason(self) -> Reason
+        ensures { result ≡ script_reason self }
     {
         match self {
-            ScriptFault::OutOfMemory => Report::new(25, "OutOfMemory"),
-            ScriptFault::Script => Report::new(45, "Script"),
+            ScriptFault::OutOfMemory => Reason::OutOfMemory,
+            ScriptFault::Script => Reason::Script,
         }
     }
 }

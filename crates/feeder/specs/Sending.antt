@@ -7,15 +7,16 @@ use Rattle.std.specs.declared.option.Option.{Option}
 use Rattle.sl_io.specs.Counts.{StopsReading, StopsWriting}
 use Rattle.sl_io.specs.Known.{AppendsBeginning}
 use Rattle.sl_io.specs.declared.faults.ReadFault.TheVariants.{Read as ReadingFailed}
-use Rattle.protocol.specs.Report.{Told, told}
+use Rattle.protocol.specs.declared.reason.Reason.{Reason}
+use Rattle.protocol.specs.declared.reason.Reason.TheVariants as reason
 use Rattle.protocol.specs.Streams.{feed_of}
 use Rattle.feeder.specs.declared.sending.SendFault.{SendFault}
 use Rattle.feeder.specs.declared.sending.SendFault.TheVariants.{Partial, Read, Write}
 
-abbrev pub send_report : SendFault → Told
-send_report Partial = told 41 (codes "Partial")
-send_report Read = told 42 (codes "Read")
-send_report Write = told 43 (codes "Write")
+abbrev pub send_reason : SendFault → Reason
+send_reason Partial = reason.Partial
+send_reason Read = reason.Read
+send_reason Write = reason.Write
 
 -- a count that stays at 2^64 - 1
 abbrev pub capped : ℕ → ℕ

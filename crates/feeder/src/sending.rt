@@ -4,15 +4,13 @@ ghost use Rattle.std.specs.Prelude.{IfSome};
 ghost use Rattle.std.specs.Io.KnownBytes.{Appends, Consumes, IsAtEnd, Keeps};
 ghost use Rattle.sl_io.specs.Counts.{IsMore};
 ghost use Rattle.sl_io.specs.Known.{AppendsBeginning};
-ghost use Rattle.protocol.specs.Report.{IsReport};
 ghost use Rattle.protocol.specs.Streams.{feed_of};
-ghost use Rattle.feeder.specs.Sending.{Breaks, Passes, StopsSending, capped, send_report};
+ghost use Rattle.feeder.specs.Sending.{Breaks, Passes, StopsSending, capped, send_reason};
 ghost use Rattle.feeder.specs.Sending.{whole_part};
 ghost use Rattle.feeder.specs.declared.sending.SendFault.TheVariants.{Partial, Read};
 
-use protocol::report::Report;
+use protocol::reason::Reason;
 use sl_io::{Sink, Source, write_all};
-use thiserror::Error;
 
 /// The length of a record, in bytes.
 const RECORD: usize = 512;
@@ -21,28 +19,25 @@ const RECORD: usize = 512;
 const BLOCK: usize = 65_536;
 
 /// Why not all of a feed was sent.
-#[derive(Clone, Copy, Debug, PartialEq, Eq, Drop, Error)]
+#[derive(Clone, Copy, PartialEq, Eq, Drop)]
 pub enum SendFault {
     /// The input ends inside a record. All whole records were written, and no byte of the rest.
-    #[error("the input ends inside a record")]
     Partial,
     /// A read failed, or 2^64 - 1 reads were made. A beginning of the whole records was written.
-    #[error("the records could not be read to their end")]
     Read,
     /// A write failed, or took none of the bytes that were left. A beginning of the whole records was written.
-    #[error("the records could not be written")]
     Write,
 }
 
 impl SendFault {
-    /// The number and the name by which the program reports it: 41, 42 or 43.
-    pub fn report(self) -> Report
-        ensures { IsReport (send_report self) result }
+    /// The reason by which the program reports it: 41, 42 or 43.
+    pub fn reason(self) -> Reason
+        ensures { result ≡ send_reason self }
     {
         match self {
-            SendFault::Partial => Report::new(41, "Partial"),
-            SendFault::Read => Report::new(42, "Read"),
-            SendFault::Write => Report::new(43, "Write"),
+            SendFault::Partial => Reason::Partial,
+            SendFault::Read => Reason::Read,
+            SendFault::Write => Reason::Write,
         }
     }
 }

@@ -1,5 +1,5 @@
 //! Texts of addresses, and whom they allow.
-use crate::reports::is_report;
+use crate::reasons::is_reason;
 use access_list::{AccessFault, AccessList, address};
 use std::alloc::Global;
 use std::net::Ipv4Addr;
@@ -85,6 +85,6 @@ fn faults_have_numbers_and_names(rt: HostRuntime) {
         (AccessFault::Mask, 12, "Mask"),
         (AccessFault::OutOfMemory, 25, "OutOfMemory"),
     ] {
-        assert!(rt; is_report(fault.report(), number, name), "{name}");
+        assert!(rt; is_reason(fault.reason(), number, name), "{name}");
     }
 }

@@ -1,7 +1,7 @@
 //! Readers and writers: whole reads, whole writes, and what is counted of them.
 ghost use Rattle.std.specs.Prelude.{◌≡◌, ◌<◌, IfOk};
 
-use crate::reports::is_report;
+use crate::reasons::is_reason;
 use crate::worked::round;
 use sl_io::{
     DeviceFault, MemorySink, MemorySource, Outer, ReadFault, Sink, Source, WriteFault, read_all,
@@ -166,12 +166,12 @@ fn an_empty_write_is_counted(rt: HostRuntime) {
 
 #[test]
 fn numbers_and_names(rt: HostRuntime) {
-    assert!(rt; is_report(DeviceFault.report(), 48, "Device"));
-    assert!(rt; is_report(WriteFault.report(), 43, "Write"));
+    assert!(rt; is_reason(DeviceFault.reason(), 48, "Device"));
+    assert!(rt; is_reason(WriteFault.reason(), 43, "Write"));
     for (fault, number, name) in [
         (ReadFault::OutOfMemory, 25, "OutOfMemory"),
         (ReadFault::Read, 42, "Read"),
     ] {
-        assert!(rt; is_report(fault.report(), number, name), "{name}");
+        assert!(rt; is_reason(fault.reason(), number, name), "{name}");
     }
 }

@@ -32,7 +32,7 @@ mod pools;
 #[cfg(test)]
 mod random_records;
 #[cfg(test)]
-mod reports;
+mod reasons;
 #[cfg(test)]
 mod selectors;
 #[cfg(test)]

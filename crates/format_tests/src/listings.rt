@@ -1,7 +1,7 @@
 //! Listings of records: in large pieces, with readers and writers that fail, and of stations that are not expected.
 ghost use Rattle.std.specs.Prelude.{false};
 
-use crate::reports::is_report;
+use crate::reasons::is_reason;
 use crate::worked::{Changes, HEAD, record_of};
 use mseed_header::RecordFault;
 use record_listing::{FileFault, ListingOptions, Stations, check_records};
@@ -56,7 +56,7 @@ fn numbers_of_faults(rt: HostRuntime) -> Result<(), Fail> {
         (StreamFault::Read, 42, "Read"),
         (StreamFault::Write, 43, "Write"),
     ] {
-        assert!(rt; is_report(fault.report(), number, name), "{name}");
+        assert!(rt; is_reason(fault.reason(), number, name), "{name}");
     }
     Ok(())
 }
@@ -64,6 +64,6 @@ fn numbers_of_faults(rt: HostRuntime) -> Result<(), Fail> {
 #[test]
 fn numbers_and_names_of_what_is_wrong(rt: HostRuntime) {
     let refused = FileFault::Record(RecordFault::Blockettes);
-    assert!(rt; is_report(refused.report(), 4, "Blockettes"));
-    assert!(rt; is_report(FileFault::Partial.report(), 41, "Partial"));
+    assert!(rt; is_reason(refused.reason(), 4, "Blockettes"));
+    assert!(rt; is_reason(FileFault::Partial.reason(), 41, "Partial"));
 }

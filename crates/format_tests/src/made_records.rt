@@ -1,5 +1,5 @@
 //! Records as they are made.
-use crate::reports::is_report;
+use crate::reasons::is_reason;
 use crate::worked::{HEAD, record_of};
 use mseed_header::{ByteOrder, FieldFault, Fields, Header, Kind, make, read};
 use sl_time::{Tick, of_btime};
@@ -114,7 +114,7 @@ fn refuses_other_fields_out_of_range(rt: HostRuntime) {
 
 #[test]
 fn a_refusal_of_fields_has_a_number_and_a_name(rt: HostRuntime) {
-    assert!(rt; is_report(FieldFault::Field.report(), 8, "Field"));
+    assert!(rt; is_reason(FieldFault::Field.reason(), 8, "Field"));
 }
 
 /// Whether a record is made of that day of 2056 in an order of bytes.

@@ -1,11 +1,11 @@
 //! Times of commands, and starts of records.
-use crate::reports::is_report;
+use crate::reasons::is_reason;
 use sl_time::{Tick, TimeFault, of_btime, parse};
 
 fn ticks_of(text: &[u8]) -> Result<i64, u8> {
     match parse(text) {
         Ok(tick) => Ok(tick.value()),
-        Err(fault) => Err(fault.report().number),
+        Err(fault) => Err(fault.reason().number()),
     }
 }
 
@@ -110,6 +110,6 @@ fn ticks_are_ordered_in_time(rt: HostRuntime) {
 
 #[test]
 fn the_faults_have_names(rt: HostRuntime) {
-    assert!(rt; is_report(TimeFault::Shape.report(), 60, "Shape"));
-    assert!(rt; is_report(TimeFault::Range.report(), 61, "Range"));
+    assert!(rt; is_reason(TimeFault::Shape.reason(), 60, "Shape"));
+    assert!(rt; is_reason(TimeFault::Range.reason(), 61, "Range"));
 }

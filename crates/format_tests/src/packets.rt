@@ -1,7 +1,7 @@
 //! Streams of packets by the piece.
 ghost use Rattle.std.specs.Prelude.{◌<◌};
 
-use crate::reports::is_report;
+use crate::reasons::is_reason;
 use sl_packet::{Cut, Fed, NotAPacket, PacketCutter, Seq, frame};
 use std::alloc::{AllocError, Global};
 use std::test::Fail;
@@ -174,5 +174,5 @@ fn a_framed_record_is_cut(rt: HostRuntime) -> Result<(), Fail> {
 
 #[test]
 fn the_fault_says_what_it_is(rt: HostRuntime) {
-    assert!(rt; is_report(NotAPacket.report(), 10, "NotAPacket"));
+    assert!(rt; is_reason(NotAPacket.reason(), 10, "NotAPacket"));
 }

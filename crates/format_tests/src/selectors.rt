@@ -1,5 +1,5 @@
 //! Patterns, and lists of them.
-use crate::reports::is_report;
+use crate::reasons::is_reason;
 use protocol::record::Kind;
 use selector::{Full, Pool, Selector};
 use std::alloc::Global;
@@ -155,5 +155,5 @@ fn lists_let_pass_what_they_choose_and_do_not_negate(rt: HostRuntime) {
 
 #[test]
 fn a_full_list_has_a_number_and_a_name(rt: HostRuntime) {
-    assert!(rt; is_report(Full.report(), 62, "Full"));
+    assert!(rt; is_reason(Full.reason(), 62, "Full"));
 }

@@ -1,45 +1,46 @@
 -- The numbers and names by which the program reports a replay that failed, and any other failure of its own.
 use Rattle.std.specs.Prelude.{codes}
-use Rattle.protocol.specs.Report.{Told, told}
-use Rattle.catalog.specs.Faults.{config_report}
-use Rattle.feeder.specs.Sending.{send_report}
-use Rattle.sl_time.specs.Parsed.{time_report}
-use Rattle.slreader.specs.Faults.{reader_report}
-use Rattle.packet_listing.specs.Faults.{listing_report}
-use Rattle.serving.specs.Faults.{serve_report}
-use Rattle.socket_ports.specs.Faults.{listen_report}
-use Rattle.sl_io.specs.Faults.{stream_report}
-use Rattle.record_listing.specs.Listing.{file_report}
+use Rattle.protocol.specs.declared.reason.Reason.{Reason}
+use Rattle.protocol.specs.declared.reason.Reason.TheVariants as reason
+use Rattle.catalog.specs.Faults.{config_reason}
+use Rattle.feeder.specs.Sending.{send_reason}
+use Rattle.sl_time.specs.Parsed.{time_reason}
+use Rattle.slreader.specs.Faults.{reader_reason}
+use Rattle.packet_listing.specs.Faults.{listing_reason}
+use Rattle.serving.specs.Faults.{serve_reason}
+use Rattle.socket_ports.specs.Faults.{listen_reason}
+use Rattle.sl_io.specs.Faults.{stream_reason}
+use Rattle.record_listing.specs.Listing.{file_reason}
 use Rattle.incidents.specs.declared.failure.Failure.{Failure}
 use Rattle.incidents.specs.declared.failure.Failure.TheVariants as failure
 use Rattle.incidents.specs.declared.faults.ReplayFault.{ReplayFault}
 use Rattle.incidents.specs.declared.faults.ReplayFault.TheVariants as replay
 
 -- what the program tells of a replay that failed
-abbrev pub replay_report : ReplayFault → Told
-replay_report (replay.Stream fault) = stream_report fault
-replay_report (replay.Script line) = told 45 (codes "Script")
+abbrev pub replay_reason : ReplayFault → Reason
+replay_reason (replay.Stream fault) = stream_reason fault
+replay_reason (replay.Script line) = reason.Script
 
 -- what the program tells of a failure of the program
-abbrev pub failure_report : Failure → Told
-failure_report failure.OutOfMemory = told 25 (codes "OutOfMemory")
-failure_report failure.Write = told 43 (codes "Write")
-failure_report failure.File = told 44 (codes "File")
-failure_report (failure.Config fault) = config_report fault
-failure_report (failure.Replay fault) = replay_report fault
-failure_report (failure.Check fault) = stream_report fault
-failure_report (failure.Records fault) = file_report fault
-failure_report failure.Address = told 11 (codes "Address")
-failure_report failure.Client = told 11 (codes "Address")
-failure_report (failure.Listen fault) = listen_report fault
-failure_report failure.Connect = told 47 (codes "Connect")
-failure_report (failure.Reload fault) = told 34 (codes "Different")
-failure_report (failure.Serve fault) = serve_report fault
-failure_report (failure.Send fault) = send_report fault
-failure_report failure.Untaken = told 43 (codes "Write")
-failure_report failure.Unanswered = told 42 (codes "Read")
-failure_report (failure.Moment fault) = time_report fault
-failure_report (failure.Want fault) = reader_report fault
-failure_report (failure.Packets fault) = listing_report fault
-failure_report (failure.Numbers fault) = told 49 (codes "Numbers")
-failure_report (failure.State fault) = told 53 (codes "State")
+abbrev pub failure_reason : Failure → Reason
+failure_reason failure.OutOfMemory = reason.OutOfMemory
+failure_reason failure.Write = reason.Write
+failure_reason failure.File = reason.File
+failure_reason (failure.Config fault) = config_reason fault
+failure_reason (failure.Replay fault) = replay_reason fault
+failure_reason (failure.Check fault) = stream_reason fault
+failure_reason (failure.Records fault) = file_reason fault
+failure_reason failure.Address = reason.Address
+failure_reason failure.Client = reason.Address
+failure_reason (failure.Listen fault) = listen_reason fault
+failure_reason failure.Connect = reason.Connect
+failure_reason (failure.Reload fault) = reason.Different
+failure_reason (failure.Serve fault) = serve_reason fault
+failure_reason (failure.Send fault) = send_reason fault
+failure_reason failure.Untaken = reason.Write
+failure_reason failure.Unanswered = reason.Read
+failure_reason (failure.Moment fault) = time_reason fault
+failure_reason (failure.Want fault) = reader_reason fault
+failure_reason (failure.Packets fault) = listing_reason fault
+failure_reason (failure.Numbers fault) = reason.Numbers
+failure_reason (failure.State fault) = reason.State

@@ -1,8 +1,9 @@
--- Where a failure happened, by its number: it is not the place's if memory was refused, or an output took no more.
+-- Where a failure happened, by its reason: it is not the place's if memory was refused, or an output took no more.
 use Rattle.std.specs.Prelude.{◌≡◌, ℕ, ◌==◌, ◌||◌, Bool, if◌then◌else◌, List, Option, Some, None, option_map}
 use Rattle.std.specs.Borrow.{Bor}
 use Rattle.std.specs.declared.io.Error.{Error}
-use Rattle.incidents.specs.Faults.{failure_report}
+use Rattle.protocol.specs.Reason.{is_memory, is_output}
+use Rattle.incidents.specs.Faults.{failure_reason}
 use Rattle.incidents.specs.declared.failure.Failure.{Failure}
 use Rattle.incidents.specs.declared.incident.Site.{Site}
 use Rattle.incidents.specs.declared.incident.Site.TheVariants.{Unnamed, File, Setting, Differing, Unread, Unwritten, Word}
@@ -20,21 +21,14 @@ use Rattle.catalog.specs.declared.fault.ConfigFault.TheVariants as config
 use Rattle.config_findings.specs.declared.difference.Difference.{Difference}
 use Rattle.config_findings.specs.declared.finding.Finding.{Finding}
 
--- memory was refused
-abbrev pub is_memory : Failure → Bool
-is_memory failure = (failure_report failure).number == 25
-
--- an output took no more
-abbrev pub is_output : Failure → Bool
-is_output failure = (failure_report failure).number == 43
-
 -- of a job that reads a file
 abbrev pub file_site : Failure → Bor (List ℕ) → Site
-file_site failure path = if is_memory failure || is_output failure then Unnamed else File path
+file_site failure path =
+    if is_memory (failure_reason failure) || is_output (failure_reason failure) then Unnamed else File path
 
 -- of a word that is read
 abbrev pub word_site : Failure → Bor (List ℕ) → Site
-word_site failure word = if is_memory failure then Unnamed else Word word
+word_site failure word = if is_memory (failure_reason failure) then Unnamed else Word word
 
 -- of a word that spells no want
 abbrev pub want_site : ReaderFault → WindowValue → Bor (List ℕ) → Site
@@ -49,7 +43,8 @@ IsListSite word _ = ⊥
 
 -- of a job that reads from a server
 abbrev pub server_site : Failure → Bor (List ℕ) → Site
-server_site failure address = if is_memory failure || is_output failure then Unnamed else Server address
+server_site failure address =
+    if is_memory (failure_reason failure) || is_output (failure_reason failure) then Unnamed else Server address
 
 -- of a job that also writes to a file: that file, if it took no more for that reason, or else another place
 abbrev pub output_site : Bor (List ℕ) → Option Error → Site → Site
@@ -69,7 +64,8 @@ input_site path (Some reason) other = Unread path reason
 -- of a job that reads a file and writes to a server
 abbrev pub feed_site : Failure → (path address : Bor (List ℕ)) → Site
 feed_site failure path address =
-    if is_memory failure then Unnamed else if is_output failure then Server address else File path
+    if is_memory (failure_reason failure) then Unnamed
+    else if is_output (failure_reason failure) then Server address else File path
 
 -- of a job that listens at two addresses, of which one can't be listened on
 abbrev pub listening_site : (clients feeds : Bor (List ℕ)) → ListenError → Site

@@ -1,13 +1,12 @@
 //! Why the program ends with status 1.
 ghost use Rattle.std.specs.Prelude.{◌≡◌};
-ghost use Rattle.protocol.specs.Report.{IsReport};
-ghost use Rattle.incidents.specs.Faults.{failure_report};
+ghost use Rattle.incidents.specs.Faults.{failure_reason};
 
 use crate::faults::{NumbersFault, ReplayFault, StateFault};
 use catalog::ConfigFault;
 use feeder::SendFault;
 use packet_listing::ListingFault;
-use protocol::report::Report;
+use protocol::reason::Reason;
 use record_listing::FileFault;
 use server_core::ReloadFault;
 use serving::ServeFault;
@@ -15,7 +14,7 @@ use sl_io::StreamFault;
 use sl_time::TimeFault;
 use slreader::ReaderFault;
 use socket_ports::ListenFault;
-use std::fmt::{self, Display, Formatter, Write};
+use std::fmt::{self, Formatter, Write};
 
 /// What keeps the program from doing its job, once its words are read.
 #[derive(Clone, Copy, Drop)]
@@ -65,80 +64,89 @@ pub enum Failure {
 }
 
 impl Failure {
-    /// The number and the name by which the program reports it: 1 to 6, 10, 11, 20 to 25, 34, 40 to 47, 49, 51,
+    /// The reason by which the program reports it: 1 to 6, 10, 11, 20 to 25, 34, 40 to 47, 49, 51,
     /// 52, 53, 60 or 61.
-    pub fn report(self) -> Report
-        ensures { IsReport (failure_report self) result }
+    pub fn reason(self) -> Reason
+        ensures { result ≡ failure_reason self }
     {
         match self {
-            Failure::OutOfMemory => Report::new(25, "OutOfMemory"),
-            Failure::Write => Report::new(43, "Write"),
-            Failure::File => Report::new(44, "File"),
-            Failure::Config(fault) => fault.report(),
-            Failure::Replay(fault) => fault.report(),
-            Failure::Check(fault) => fault.report(),
-            Failure::Records(fault) => fault.report(),
-            Failure::Address => Report::new(11, "Address"),
-            Failure::Client => Report::new(11, "Address"),
-            Failure::Listen(fault) => fault.report(),
-            Failure::Connect => Report::new(47, "Connect"),
-            Failure::Reload(fault) => fault.report(),
-            Failure::Serve(fault) => fault.report(),
-            Failure::Send(fault) => fault.report(),
-            Failure::Untaken => Report::new(43, "Write"),
-            Failure::Unanswered => Report::new(42, "Read"),
-            Failure::Moment(fault) => fault.report(),
-            Failure::Want(fault) => fault.report(),
-            Failure::Packets(fault) => fault.report(),
-            Failure::Numbers(fault) => fault.report(),
-            Failure::State(fault) => fault.report(),
+            Failure::OutOfMemory => Reason::OutOfMemory,
+            Failure::Write => Reason::Write,
+            Failure::File => Reason::File,
+            Failure::Config(fault) => fault.reason(),
+            Failure::Replay(fault) => fault.reason(),
+            Failure::Check(fault) => fault.reason(),
+            Failure::Records(fault) => fault.reason(),
+            Failure::Address => Reason::Address,
+            Failure::Client => Reason::Address,
+            Failure::Listen(fault) => fault.reason(),
+            Failure::Connect => Reason::Connect,
+            Failure::Reload(fault) => fault.reason(),
+            Failure::Serve(fault) => fault.reason(),
+            Failure::Send(fault) => fault.reason(),
+            Failure::Untaken => Reason::Write,
+            Failure::Unanswered => Reason::Read,
+            Failure::Moment(fault) => fault.reason(),
+            Failure::Want(fault) => fault.reason(),
+            Failure::Packets(fault) => fault.reason(),
+            Failure::Numbers(fault) => fault.reason(),
+            Failure::State(fault) => fault.reason(),
         }
     }
 }
 
-/// What is said of a failure that no other crate has a sentence for.
-fn own_cause(failure: Failure) -> &'static str {
-    match failure {
-        Failure::OutOfMemory => "out of memory",
+/// What is said of a failure, where that is more than its reason says.
+fn own_cause(failure: Failure) -> Option<&'static str> {
+    let cause = match failure {
         Failure::Write => "help could not be written",
-        Failure::File => "a file could not be opened",
         Failure::Address => "a word is no address with a port",
         Failure::Client => "a word is no address",
-        Failure::Connect => "no connection to the server could be made",
+        Failure::Records(FileFault::Station) =>
+            "no station has the record's network and station codes",
+        Failure::Records(FileFault::Partial) => "the file ends inside a record",
         Failure::Untaken => {
             "the server ended the connection before it had read everything; perhaps it takes no feed from here now"
         }
         Failure::Unanswered => {
             "the connection ended before HELLO was answered; perhaps the server takes no client from here now"
         }
-        _ => "",
-    }
-}
-
-/// What is said of a word that is no time.
-fn put_moment<W: Write>(f: &mut Formatter<W>, fault: &TimeFault) -> fmt::Result {
-    f.write_str("a word is no time: ")?;
-    fault.fmt(f)
-}
-
-impl Display for Failure {
-    /// What happened, in a sentence: that of the fault that it holds, if it holds one.
-    fn fmt<W: Write>(&self, f: &mut Formatter<W>) -> fmt::Result {
-        match self {
-            Failure::Config(fault) => fault.fmt(f),
-            Failure::Replay(fault) => fault.fmt(f),
-            Failure::Check(fault) => fault.fmt(f),
-            Failure::Records(fault) => fault.fmt(f),
-            Failure::Listen(fault) => fault.fmt(f),
-            Failure::Reload(fault) => fault.fmt(f),
-            Failure::Serve(fault) => fault.fmt(f),
-            Failure::Send(fault) => fault.fmt(f),
-            Failure::Want(fault) => fault.fmt(f),
-            Failure::Packets(fault) => fault.fmt(f),
-            Failure::Numbers(fault) => fault.fmt(f),
-            Failure::State(fault) => fault.fmt(f),
-            Failure::Moment(fault) => put_moment(f, fault),
-            own => f.write_str(own_cause(*own)),
+        Failure::Want(ReaderFault::Limit) => "this can't be asked for in SeedLink",
+        Failure::Packets(ListingFault::Reader(ReaderFault::Limit)) =>
+            "this can't be asked for in SeedLink",
+        Failure::Packets(ListingFault::Read) =>
+            "the connection ended before the end of the transfer",
+        Failure::Numbers(NumbersFault::Unread) => "the file of numbers can't be read",
+        Failure::Numbers(NumbersFault::Invalid) => {
+            "the file of numbers is not in TOML with a network, a code and a number for each station"
         }
+        Failure::State(StateFault::Unread) => "the file with the state can't be read",
+        Failure::State(StateFault::Invalid) => {
+            "the file with the state is not in lines of a network, a station, a number and an end"
+        }
+        _ => return None,
+    };
+    Some(cause)
+}
+
+impl Failure {
+    /// What happened, in a sentence without what stands before it.
+    fn cause(self) -> &'static str {
+        match own_cause(self) {
+            Some(cause) => cause,
+            None => self.reason().cause(),
+        }
+    }
+
+    /// Writes what happened, in a sentence.
+    pub(crate) fn put_cause<W: Write>(self, f: &mut Formatter<W>) -> fmt::Result {
+        match self {
+            Failure::Moment(_) => f.write_str("a word is no time: ")?,
+            Failure::Config(ConfigFault::Access(fault)) => {
+                f.write_str("an access list is refused: ")?;
+                return f.write_str(fault.reason().cause());
+            }
+            _ => {}
+        }
+        f.write_str(self.cause())
     }
 }

@@ -5,7 +5,7 @@ ghost use Rattle.incidents.specs.Sites.{is_output};
 ghost use Rattle.incidents.specs.Sites.{listening_site, output_site, server_site, state_site, want_site, word_site};
 ghost use Rattle.slreader.specs.WantTexts.{window_value};
 ghost use Rattle.socket_ports.specs.Faults.{fault_of};
-ghost use Rattle.incidents.specs.Faults.{failure_report};
+ghost use Rattle.incidents.specs.Faults.{failure_reason};
 ghost use Rattle.incidents.specs.Sites.{IsListSite};
 ghost use Rattle.incidents.specs.declared.failure.Failure.TheVariants.{Config, Listen, OutOfMemory, Records};
 ghost use Rattle.incidents.specs.declared.failure.Failure.TheVariants.{Want as WantFailure};
@@ -65,26 +65,12 @@ pub struct Incident<'a> {
 }
 
 impl Failure {
-    /// Whether memory was refused.
-    fn is_memory(self) -> bool
-        ensures { result ≡ is_memory self }
-    {
-        self.report().number == 25
-    }
-
-    /// Whether an output took no more.
-    fn is_output(self) -> bool
-        ensures { result ≡ is_output self }
-    {
-        self.report().number == 43
-    }
-
     /// It, in a job that reads a file.
     pub fn in_file<'a>(self, path: &'a str) -> Incident<'a>
         ensures failure { result.failure ≡ self }
         ensures site { result.site ≡ file_site self path.entry }
     {
-        let site = if self.is_memory() || self.is_output() {
+        let site = if self.reason().is_memory() || self.reason().is_output() {
             Site::Unnamed
         } else {
             Site::File(path)
@@ -100,7 +86,7 @@ impl Failure {
         ensures failure { result.failure ≡ self }
         ensures site { result.site ≡ word_site self word.entry }
     {
-        let site = if self.is_memory() {
+        let site = if self.reason().is_memory() {
             Site::Unnamed
         } else {
             Site::Word(word)
@@ -116,7 +102,7 @@ impl Failure {
         ensures failure { result.failure ≡ self }
         ensures site { result.site ≡ server_site self address.entry }
     {
-        let site = if self.is_memory() || self.is_output() {
+        let site = if self.reason().is_memory() || self.reason().is_output() {
             Site::Unnamed
         } else {
             Site::Server(address)
@@ -132,9 +118,9 @@ impl Failure {
         ensures failure { result.failure ≡ self }
         ensures site { result.site ≡ feed_site self path.entry address.entry }
     {
-        let site = if self.is_memory() {
+        let site = if self.reason().is_memory() {
             Site::Unnamed
-        } else if self.is_output() {
+        } else if self.reason().is_output() {
             Site::Server(address)
         } else {
             Site::File(path)
@@ -162,7 +148,7 @@ impl<'a> Incident<'a> {
 
     /// A configuration in a file that differs in more than its access lists, and in what first, if that is known.
     pub fn of_difference(path: &'a str, difference: Option<Difference>) -> Incident<'a>
-        ensures failure { (failure_report result.failure).number ≡ 34 }
+        ensures failure { failure_reason result.failure ≡ Reason.Different }
         ensures site { result.site ≡ difference_site path.entry difference }
     {
         let site = match difference {
@@ -291,10 +277,29 @@ impl<'a> From<Failure> for Incident<'a> {
     }
 }
 
+/// What standard error is told of an incident: the line `seedlinkd: N Name`, and on request the lines that explain it.
+pub struct Told<'t, 'a> {
+    pub incident: &'t Incident<'a>,
+    pub is_verbose: bool,
+}
+
+impl Display for Told<'_, '_> {
+    fn fmt<W: Write>(&self, f: &mut Formatter<W>) -> fmt::Result {
+        let reason = self.incident.failure.reason();
+        writeln!(f, "seedlinkd: {} {}", reason.number(), reason.name())?;
+        if self.is_verbose {
+            self.incident.fmt(f)?;
+        }
+        Ok(())
+    }
+}
+
 impl Display for Incident<'_> {
     /// The lines that explain it, each with two spaces before it.
     fn fmt<W: Write>(&self, f: &mut Formatter<W>) -> fmt::Result {
-        writeln!(f, "  cause: {}", self.failure)?;
+        f.write_str("  cause: ")?;
+        self.failure.put_cause(f)?;
+        f.write_str("\n")?;
         write!(f, "{}", self.site)?;
         match self.failure {
             Failure::Replay(ReplayFault::Script(line)) => writeln!(f, "  line: {line}"),

@@ -6,7 +6,7 @@ ghost use Rattle.sl_io.specs.Known.{AppendsBeginning, ConsumesSome};
 ghost use Rattle.sl_io.specs.declared.faults.ReadFault.TheVariants.{Read as ReadingFailed};
 ghost use Rattle.protocol.specs.Streams.{feed_of};
 ghost use Rattle.feeder.specs.Sending.{capped, whole_part};
-ghost use Rattle.incidents.specs.Faults.{failure_report};
+ghost use Rattle.incidents.specs.Faults.{failure_reason};
 ghost use Rattle.jobs.specs.Feeding.{StopsFeeding};
 ghost use Rattle.incidents.specs.declared.failure.Failure.TheVariants.{Untaken};
 
@@ -32,7 +32,7 @@ pub fn feed_records<R: Source, W: Sink>(records: &mut R, server: &mut W) -> Resu
     ensures ok { OnOk result (IfSome (R.left records.old) (λ bytes.
         Appends (W.written server.old) (W.written server.new) (whole_part bytes))) }
     ensures all { OnOk result (IfSome (R.left records.old) (λ bytes. (feed_of bytes).rest ≡ [])) }
-    ensures partial { IfErr result (λ failure. (failure_report failure).number ≡ 41
+    ensures partial { IfErr result (λ failure. failure_reason failure ≡ Reason.Partial
         → IfSome (R.left records.old) (λ bytes. Appends (W.written server.old) (W.written server.new) (whole_part bytes)
         × (0 < length (feed_of bytes).rest))) }
     ensures begun { OnErr result (IfSome (R.left records.old) (λ bytes.

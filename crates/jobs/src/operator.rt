@@ -12,10 +12,9 @@ use crate::files::config_at;
 use catalog::Config;
 use config_findings::{Difference, first_difference};
 use error_lines::{Device, Line};
-use incidents::{Failure, Incident, Site};
+use incidents::{Failure, Incident, Site, Told};
 use job_parts::{NumberFile, SharedLines};
 use ports::Ports;
-use protocol::report::Report;
 use serving::{Activity, Ahead, Between, Due, Pace, Refusal, ServeFault, Timetable, serve_between};
 use std::fmt::Write;
 use std::rt::{Clock, Files};
@@ -149,14 +148,17 @@ impl<'r, 'a, 'l, R: Clock, D> Operator<'r, 'a, 'l, R, D> {
     }
 }
 
-/// The line `seedlinkd: N Name` of an incident, and on request the lines that explain it. What is too long is left out.
+/// What is told of an incident, without its last line's end. What is too long is left out.
 fn line_of(incident: &Incident<'_>, is_verbose: bool) -> Line {
-    let Report { number, name } = incident.failure.report();
     let mut line = Line::new();
-    let _ = write!(line, "seedlinkd: {number} {name}");
-    if is_verbose {
-        let _ = write!(line, "\n{incident}");
-    }
+    let _ = write!(
+        line,
+        "{}",
+        Told {
+            incident,
+            is_verbose
+        }
+    );
     if line.as_str().ends_with('\n') {
         let _end = line.pop();
     }

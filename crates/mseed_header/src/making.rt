@@ -11,26 +11,23 @@ ghost use Rattle.mseed_header.specs.Fields.{fields_value, has_codes_of};
 use crate::fields::Fields;
 use crate::header::{Header, read};
 use crate::layout::{layout_of, padded};
-use protocol::report::Report;
+use protocol::reason::Reason;
 use sl_time::{Tick, of_btime};
-use thiserror::Error;
 
 /// Why no record is made of fields.
-#[derive(Clone, Copy, Debug, PartialEq, Eq, Drop, Error)]
+#[derive(Clone, Copy, Debug, PartialEq, Eq, Drop)]
 pub enum FieldFault {
     /// A field is out of its range, or the record would not be read as the fields.
-    #[error("the fields spell no record")]
     Field,
 }
 
 impl FieldFault {
-    /// The number and the name by which the program reports it: 8 Field.
-    pub fn report(self) -> Report
-        ensures number { result.number ≡ 8 }
-        ensures name { result.name.now ≡ codes "Field" }
+    /// The reason by which the program reports it: 8 Field.
+    pub fn reason(self) -> Reason
+        ensures { result ≡ Reason.Field }
     {
         match self {
-            FieldFault::Field => Report::new(8, "Field"),
+            FieldFault::Field => Reason::Field,
         }
     }
 }

@@ -1,13 +1,14 @@
 -- The numbers and names by which a listing of packets that stops is reported.
 use Rattle.std.specs.Prelude.{codes}
-use Rattle.protocol.specs.Report.{Told, told}
-use Rattle.slreader.specs.Faults.{reader_report}
+use Rattle.protocol.specs.declared.reason.Reason.{Reason}
+use Rattle.protocol.specs.declared.reason.Reason.TheVariants as reason
+use Rattle.slreader.specs.Faults.{reader_reason}
 use Rattle.packet_listing.specs.declared.fault.ListingFault.{ListingFault}
 use Rattle.packet_listing.specs.declared.fault.ListingFault.TheVariants.{Reader, Read, Write, State}
 
 -- what the program tells of it
-abbrev pub listing_report : ListingFault → Told
-listing_report (Reader fault) = reader_report fault
-listing_report Read = told 42 (codes "Read")
-listing_report Write = told 43 (codes "Write")
-listing_report State = told 53 (codes "State")
+abbrev pub listing_reason : ListingFault → Reason
+listing_reason (Reader fault) = reader_reason fault
+listing_reason Read = reason.Read
+listing_reason Write = reason.Write
+listing_reason State = reason.State

@@ -1,9 +1,8 @@
 //! What ports answer.
 ghost use Rattle.std.specs.Prelude.{◌≡◌, codes};
 
-use protocol::report::Report;
+use protocol::reason::Reason;
 use std::net::Ipv4Addr;
-use thiserror::Error;
 
 /// What happened at some port.
 #[derive(Clone, Copy, Drop)]
@@ -41,16 +40,14 @@ pub enum Put {
 }
 
 /// A call on the ports failed.
-#[derive(Clone, Copy, Debug, Drop, Error)]
-#[error("the port failed")]
+#[derive(Clone, Copy, Drop)]
 pub struct PortFault;
 
 impl PortFault {
-    /// The number and the name by which the program reports it: 48 Device.
-    pub fn report(self) -> Report
-        ensures number { result.number ≡ 48 }
-        ensures name { result.name.now ≡ codes "Device" }
+    /// The reason by which the program reports it: 48 Device.
+    pub fn reason(self) -> Reason
+        ensures { result ≡ Reason.Device }
     {
-        Report::new(48, "Device")
+        Reason::Device
     }
 }

@@ -1,6 +1,6 @@
 -- Records as vectors: the first one, changes of it, and what each is read as.
 use Rattle.std.specs.Prelude.{◌≡◌, refl, ℕ, ◌+◌, suc, zero, List, [], ◌∷◌, ◌++◌, length, take, drop, codes, replicate}
-use Rattle.std.specs.Prelude.{pos, Option, Some, None, Result, Ok, Err, filter, is_none}
+use Rattle.std.specs.Prelude.{pos, Some, None, Result, Ok, Err, filter, is_none}
 use Rattle.protocol.specs.declared.record.Kind.{Kind}
 use Rattle.protocol.specs.Record.{Facts, header_of}
 use Rattle.protocol.specs.declared.record.RecordFault.{RecordFault}

@@ -1,6 +1,6 @@
 pub mod Pieces
 pub mod Time
-pub mod Report
+pub mod Reason
 pub mod Record
 pub mod Reading
 pub mod Made

@@ -3,7 +3,7 @@
 -- samples, flags, the time correction, and what blockettes other than 1000 hold (the rate of blockette 100 too).
 use Rattle.std.specs.Prelude.{ℕ, ◌+◌, ◌-◌, ◌*◌, ◌/◌, Bool, ◌&&◌, ◌||◌, not, zero, suc, take, unwrap_or, find, Result}
 use Rattle.std.specs.Prelude.{Ok, Err, nat_le, nat_lt, ◌==◌, if◌then◌else◌, List, [], ◌∷◌, ◌++◌, length, replicate}
-use Rattle.std.specs.Prelude.{codes, slice_index, slice_range, ℤ, pos, negsuc, ◌+ℤ◌, Option, Some, None, option_map}
+use Rattle.std.specs.Prelude.{slice_index, slice_range, ℤ, pos, negsuc, ◌+ℤ◌, Option, Some, None, option_map}
 use Rattle.std.specs.List.{list_all}
 use Rattle.protocol.specs.declared.record.ByteOrder.{ByteOrder}
 use Rattle.protocol.specs.declared.record.ByteOrder.TheVariants.{Big, Little}
@@ -11,7 +11,8 @@ use Rattle.protocol.specs.declared.record.Kind.{Kind}
 use Rattle.protocol.specs.declared.record.Kind.TheVariants.{D, E, C, O, T, L}
 use Rattle.protocol.specs.declared.record.RecordFault.{RecordFault}
 use Rattle.protocol.specs.declared.record.RecordFault.TheVariants.{Sequence, Quality, Time, Blockettes, No1000, Length}
-use Rattle.protocol.specs.Report.{Told, told}
+use Rattle.protocol.specs.declared.reason.Reason.{Reason}
+use Rattle.protocol.specs.declared.reason.Reason.TheVariants as reason
 use Rattle.protocol.specs.Time.{is_day, is_time_of_day, tick}
 
 -- What a server keeps of a record. Network and station have no spaces at their end; start and stop are ticks, and stop
@@ -184,13 +185,13 @@ abbrev pub has_time : ByteOrder → List ℕ → Bool
 has_time o r = is_time_of_day (slice_index r 24) (slice_index r 25) (slice_index r 26) (word o r 28)
 
 -- what the program tells of a fault
-abbrev pub record_report : RecordFault → Told
-record_report Sequence = told 1 (codes "Sequence")
-record_report Quality = told 2 (codes "Quality")
-record_report Time = told 3 (codes "Time")
-record_report Blockettes = told 4 (codes "Blockettes")
-record_report No1000 = told 5 (codes "No1000")
-record_report Length = told 6 (codes "Length")
+abbrev pub record_reason : RecordFault → Reason
+record_reason Sequence = reason.Sequence
+record_reason Quality = reason.Quality
+record_reason Time = reason.Time
+record_reason Blockettes = reason.Blockettes
+record_reason No1000 = reason.No1000
+record_reason Length = reason.Length
 
 -- The byte at 6 of the first blockette 1000 gives the record's length, as a power of two: 2^9 is 512.
 abbrev pub read_length : ByteOrder → List ℕ → List ℕ → Option ℕ → Result Facts RecordFault

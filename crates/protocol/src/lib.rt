@@ -7,6 +7,8 @@ ghost use Rattle.std.specs.Prelude.{◌≡◌, ◌≢◌, ◌<◌, ◌≤◌, �
 ghost use Rattle.std.specs.Prelude.{Bool, true, false, List, [], ◌∷◌, map, option_map, slice_get, Some, Ok, Err, All};
 ghost use Rattle.std.specs.List.{list_any, concat};
 ghost use Rattle.protocol.specs.declared.record.RecordFault.{RecordFault};
+ghost use Rattle.protocol.specs.declared.reason.Reason.{Reason};
+ghost use Rattle.protocol.specs.Reason.{number_of as reason_number, name_of as reason_name};
 ghost use Rattle.protocol.specs.Time.{days_before, is_leap, days_of_year_before};
 ghost use Rattle.protocol.specs.Record.{Facts, header_of};
 ghost use Rattle.protocol.specs.Reading.{Not, HasFacts, IsTrueOf, IsFirstFault};
@@ -34,8 +36,8 @@ ghost use Rattle.protocol.specs.Offers.{arrivals, client_after, offers, bytes_si
 ghost use Rattle.protocol.specs.Offers.{offers_to, handed_to_since};
 ghost use Rattle.protocol.specs.Transfers.{KeepsUp, MissesAreOverruns, HandsItsChoices, MissesNothing};
 
+pub mod reason;
 pub mod record;
-pub mod report;
 
 // ---- Records
 
@@ -71,6 +73,12 @@ pub fn fields_spelled()
 pub fn calendar()
     ensures year { (y : ℕ) → 1 ≤ y → days_before (y + 1) ≡ days_before y + (if is_leap y then 366 else 365) }
     ensures months { (y : ℕ) → days_of_year_before y 13 ≡ (if is_leap y then 366 else 365) }
+{}
+
+/// No two reasons to refuse something have the same number, and none the same name.
+pub fn reasons_told()
+    ensures numbers { (r s : Reason) → reason_number r ≡ reason_number s → r ≡ s }
+    ensures names { (r s : Reason) → reason_name r ≡ reason_name s → r ≡ s }
 {}
 
 // ---- What stands on the wire

@@ -16,16 +16,13 @@ use sl_time::Tick;
 use slreader::{LastPacket, Reached};
 use std::alloc::Global;
 use text_parts::separators::cut_at;
-use thiserror::Error;
 
 /// Why a text is no state.
-#[derive(Clone, Copy, Debug, Drop, Error)]
+#[derive(Clone, Copy, Debug, Drop)]
 pub enum StateFault {
     /// Memory lacks.
-    #[error("out of memory")]
     OutOfMemory,
     /// A line is none of a state, or the last one has no end.
-    #[error("a line is not as it has to be")]
     Invalid,
 }
 

@@ -81,7 +81,7 @@ fn malformed_words_are_refused(rt: HostRuntime) -> Result<(), Fail> {
         assert!(rt; patterns(rt.alloc(), word) == Err(ReaderFault::Limit));
         assert!(rt; wrong_part(word) == Some(*part));
     }
-    assert_eq!(rt; ReaderFault::Limit.report().number, 22);
+    assert_eq!(rt; ReaderFault::Limit.reason().number(), 22);
     Ok(())
 }
 

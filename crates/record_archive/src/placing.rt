@@ -9,7 +9,6 @@ use crate::path::{has_place, put_file, put_folder};
 use mseed_header::{Header, read};
 use sl_time::{DayOfYear, day_of};
 use std::alloc::AllocError;
-use thiserror::Error;
 
 /// What became of a record.
 #[derive(Clone, Copy, Drop)]
@@ -21,13 +20,11 @@ pub enum Placed {
 }
 
 /// Why a record could not be put into an archive.
-#[derive(Clone, Copy, Debug, Drop, Error)]
+#[derive(Clone, Copy, Drop)]
 pub enum ArchiveFault {
     /// A folder can't be made, or a file can't be opened or takes no more.
-    #[error("a file of the archive can't be opened, or takes no more")]
     Folder,
     /// Memory lacks.
-    #[error("out of memory")]
     OutOfMemory,
 }
 

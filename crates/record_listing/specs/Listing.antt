@@ -3,8 +3,10 @@
 use Rattle.std.specs.Prelude.{ℕ, ◌+◌, ◌==◌, Bool, if◌then◌else◌, List, [], ◌∷◌, ◌++◌, length, codes}
 use Rattle.std.specs.Prelude.{decimal, Option, Some, None, Result, Ok, Err}
 use Rattle.protocol.specs.declared.record.RecordFault.{RecordFault}
-use Rattle.protocol.specs.Report.{Told, told}
-use Rattle.protocol.specs.Record.{Facts, header_of, record_report}
+use Rattle.protocol.specs.declared.reason.Reason.{Reason}
+use Rattle.protocol.specs.declared.reason.Reason.TheVariants as reason
+use Rattle.protocol.specs.Reason.{name_of, number_of}
+use Rattle.protocol.specs.Record.{Facts, header_of, record_reason}
 use Rattle.protocol.specs.Streams.{FeedRead, feed_of}
 use Rattle.record_listing.specs.declared.fault.FileFault.{FileFault}
 use Rattle.record_listing.specs.declared.fault.FileFault.TheVariants.{Record, Station, Partial}
@@ -37,14 +39,14 @@ abbrev pub header_text : Times → Facts → List ℕ
 header_text times x = stream_text x.network x.station x.location x.channel ++ extent_text times x
 
 -- what the program tells of what is wrong with a file
-abbrev pub file_report : FileFault → Told
-file_report (Record fault) = record_report fault
-file_report Station = told 32 (codes "UnknownStation")
-file_report Partial = told 41 (codes "Partial")
+abbrev pub file_reason : FileFault → Reason
+file_reason (Record fault) = record_reason fault
+file_reason Station = reason.UnknownStation
+file_reason Partial = reason.Partial
 
 -- why a record is refused
 abbrev pub refusal_text : FileFault → List ℕ
-refusal_text fault = codes "refused " ++ word_text (decimal (file_report fault).number) ++ (file_report fault).name
+refusal_text fault = codes "refused " ++ word_text (decimal (number_of (file_reason fault))) ++ name_of (file_reason fault)
 
 -- what a record says, or why it is refused
 abbrev pub record_text : Times → Result Facts FileFault → List ℕ

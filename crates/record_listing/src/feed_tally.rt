@@ -25,11 +25,13 @@ pub struct RefusedRecord {
 impl Display for RefusedRecord {
     /// `record 1: 6 Length, 4096 bytes where 512 are taken`.
     fn fmt<W: Write>(&self, f: &mut Formatter<W>) -> fmt::Result {
-        let report = self.fault.report();
+        let reason = self.fault.reason();
         write!(
             f,
             "record {}: {} {}",
-            self.number, report.number, report.name
+            self.number,
+            reason.number(),
+            reason.name()
         )?;
         match self.power {
             Some(power) if power < 64 => write!(f, ", {} bytes where 512 are taken", 1u64 << power),

@@ -141,9 +141,9 @@ fn put_refusal(text: &mut Vec<u8>, fault: FileFault) -> Result<(), AllocError>
     ensures { OnOk result (text.new.items ≡ text.old.items ++ refusal_text fault) }
 {
     text.extend_from_slice(b"refused ")?;
-    let report = fault.report();
-    put_number_word(text, report.number)?;
-    text.extend_from_slice(report.name.as_bytes())?;
+    let reason = fault.reason();
+    put_number_word(text, reason.number())?;
+    text.extend_from_slice(reason.name().as_bytes())?;
     Ok(())
 }
 

@@ -3,22 +3,19 @@ ghost use Rattle.std.specs.Prelude.{◌≡◌, codes};
 ghost use Rattle.selector.specs.Matching.{passes_parts};
 
 use crate::pattern::Selector;
+use protocol::reason::Reason;
 use protocol::record::Kind;
-use protocol::report::Report;
-use thiserror::Error;
 
 /// There is no room for a selector more.
-#[derive(Clone, Copy, Debug, Drop, Error)]
-#[error("no selector more has room")]
+#[derive(Clone, Copy, Drop)]
 pub struct Full;
 
 impl Full {
-    /// The number and the name by which the program reports it: 62 Full.
-    pub fn report(self) -> Report
-        ensures number { result.number ≡ 62 }
-        ensures name { result.name.now ≡ codes "Full" }
+    /// The reason by which the program reports it: 62 Full.
+    pub fn reason(self) -> Reason
+        ensures { result ≡ Reason.Full }
     {
-        Report::new(62, "Full")
+        Reason::Full
     }
 }
 

@@ -3,8 +3,9 @@
 use Rattle.std.specs.Prelude.{◌≡◌, ℕ, List, ◌-◌, ◌^◌, true, is_some, length, position, Option, Some, None, Result, Ok}
 use Rattle.std.specs.Prelude.{Err, codes}
 use Rattle.protocol.specs.declared.record.RecordFault.{RecordFault}
-use Rattle.protocol.specs.Report.{Told, told}
-use Rattle.protocol.specs.Record.{Facts, header_of, record_report}
+use Rattle.protocol.specs.declared.reason.Reason.{Reason}
+use Rattle.protocol.specs.declared.reason.Reason.TheVariants as reason
+use Rattle.protocol.specs.Record.{Facts, header_of, record_reason}
 use Rattle.protocol.specs.Catalog.{Config, has_codes}
 use Rattle.protocol.specs.History.{Arrival, number_at}
 use Rattle.protocol.specs.World.{accepted}
@@ -15,10 +16,10 @@ use Rattle.server_core.specs.declared.arrivals.ArriveFault.{ArriveFault}
 use Rattle.server_core.specs.declared.arrivals.ArriveFault.TheVariants.{Record, UnknownStation, Exhausted}
 
 -- what the program tells of a fault
-abbrev pub arrive_report : ArriveFault → Told
-arrive_report (Record f) = record_report f
-arrive_report UnknownStation = told 32 (codes "UnknownStation")
-arrive_report Exhausted = told 33 (codes "Exhausted")
+abbrev pub arrive_reason : ArriveFault → Reason
+arrive_reason (Record f) = record_reason f
+arrive_reason UnknownStation = reason.UnknownStation
+arrive_reason Exhausted = reason.Exhausted
 
 -- the place of the first station with a record's codes
 abbrev pub place_of : Config → Facts → Option ℕ

@@ -1,16 +1,17 @@
 -- Why bytes are not taken, and what a server answers.
 use Rattle.std.specs.Prelude.{ℕ, nat_lt, ◌-◌, Bool, true, false, if◌then◌else◌, List, length, Option, Some, None}
 use Rattle.std.specs.Prelude.{Result, Ok, Err, codes}
-use Rattle.protocol.specs.Report.{Told, told}
+use Rattle.protocol.specs.declared.reason.Reason.{Reason}
+use Rattle.protocol.specs.declared.reason.Reason.TheVariants as reason
 use Rattle.protocol.specs.Client.{Client, inbox, is_nothing, is_ending}
 use Rattle.server_core.specs.declared.client.Refusal.{Refusal}
 use Rattle.server_core.specs.declared.client.Refusal.TheVariants.{Gone, NoRoom}
 use Rattle.server_core.specs.declared.client.Offer.{Offer}
 use Rattle.server_core.specs.declared.client.Offer.TheVariants.{Bytes, Ended, Idle}
 
-abbrev pub refusal_report : Refusal → Told
-refusal_report Gone = told 30 (codes "Gone")
-refusal_report NoRoom = told 31 (codes "NoRoom")
+abbrev pub refusal_reason : Refusal → Reason
+refusal_reason Gone = reason.Gone
+refusal_reason NoRoom = reason.NoRoom
 
 -- how many bytes a client may send
 abbrev pub room_of : Client → ℕ

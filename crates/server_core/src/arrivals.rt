@@ -1,40 +1,35 @@
 //! Records that arrive.
 ghost use Rattle.std.specs.Prelude.{◌≡◌, ◌≢◌, IfOk, IfErr, Err};
-ghost use Rattle.protocol.specs.Report.{IsReport};
 ghost use Rattle.protocol.specs.Record.{header_of};
 ghost use Rattle.station_ring.specs.HeldRecords.{summary_of};
-ghost use Rattle.server_core.specs.Arrivals.{arrive_report, placed_by, IsPlaced};
+ghost use Rattle.server_core.specs.Arrivals.{arrive_reason, placed_by, IsPlaced};
 ghost use Rattle.server_core.specs.declared.arrivals.ArriveFault.TheVariants.{Exhausted};
 
 use catalog::Config;
 use mseed_header::{Header, RecordFault, read};
-use protocol::report::Report;
+use protocol::reason::Reason;
 use station_ring::Summary;
-use thiserror::Error;
 
 /// Why a record is not taken. Then nothing changes.
-#[derive(Clone, Copy, Debug, PartialEq, Eq, Drop, Error)]
+#[derive(Clone, Copy, Debug, PartialEq, Eq, Drop)]
 pub enum ArriveFault {
     /// It is no record.
-    #[error("{0}")]
     Record(RecordFault),
     /// No station of the configuration has the record's network and station codes.
-    #[error("no station has the record's codes")]
     UnknownStation,
     /// As many records arrived as can be counted, 2^64 - 1.
-    #[error("no more records can be counted")]
     Exhausted,
 }
 
 impl ArriveFault {
-    /// The number and the name by which the program reports it: those of the record's fault, 1 to 6, or 32 or 33.
-    pub fn report(self) -> Report
-        ensures { IsReport (arrive_report self) result }
+    /// The reason by which the program reports it: those of the record's fault, 1 to 6, or 32 or 33.
+    pub fn reason(self) -> Reason
+        ensures { result ≡ arrive_reason self }
     {
         match self {
-            ArriveFault::Record(fault) => fault.report(),
-            ArriveFault::UnknownStation => Report::new(32, "UnknownStation"),
-            ArriveFault::Exhausted => Report::new(33, "Exhausted"),
+            ArriveFault::Record(fault) => fault.reason(),
+            ArriveFault::UnknownStation => Reason::UnknownStation,
+            ArriveFault::Exhausted => Reason::Exhausted,
         }
     }
 }

@@ -1,11 +1,9 @@
 //! Clients by their numbers, and why one is not answered.
 ghost use Rattle.std.specs.Prelude.{◌≡◌, codes};
-ghost use Rattle.protocol.specs.Report.{IsReport};
-ghost use Rattle.server_core.specs.Refusals.{refusal_report};
+ghost use Rattle.server_core.specs.Refusals.{refusal_reason};
 
-use protocol::report::Report;
+use protocol::reason::Reason;
 use std::marker::Model;
-use thiserror::Error;
 
 /// A client of a server: how many opened before it. No server gives a number twice, and one that closed has it for
 /// good.
@@ -51,54 +49,48 @@ pub enum Offer {
 }
 
 /// No open client of this server has the number.
-#[derive(Clone, Copy, Debug, PartialEq, Eq, Drop, Error)]
-#[error("no open client has this number")]
+#[derive(Clone, Copy, Debug, PartialEq, Eq, Drop)]
 pub struct Gone;
 
 impl Gone {
-    /// The number and the name by which the program reports it: 30 Gone.
-    pub fn report(self) -> Report
-        ensures number { result.number ≡ 30 }
-        ensures name { result.name.now ≡ codes "Gone" }
+    /// The reason by which the program reports it: 30 Gone.
+    pub fn reason(self) -> Reason
+        ensures { result ≡ Reason.Gone }
     {
-        Report::new(30, "Gone")
+        Reason::Gone
     }
 }
 
 /// Why bytes of a client are not taken. Then nothing changes.
-#[derive(Clone, Copy, Debug, PartialEq, Eq, Drop, Error)]
+#[derive(Clone, Copy, Debug, PartialEq, Eq, Drop)]
 pub enum Refusal {
     /// No open client of this server has the number.
-    #[error("no open client has this number")]
     Gone,
     /// There are more bytes than there is room for: 1,024 less the unread ones.
-    #[error("there is no room for so many bytes")]
     NoRoom,
 }
 
 impl Refusal {
-    /// The number and the name by which the program reports it: 30 or 31.
-    pub fn report(self) -> Report
-        ensures { IsReport (refusal_report self) result }
+    /// The reason by which the program reports it: 30 or 31.
+    pub fn reason(self) -> Reason
+        ensures { result ≡ refusal_reason self }
     {
         match self {
-            Refusal::Gone => Report::new(30, "Gone"),
-            Refusal::NoRoom => Report::new(31, "NoRoom"),
+            Refusal::Gone => Reason::Gone,
+            Refusal::NoRoom => Reason::NoRoom,
         }
     }
 }
 
 /// A new configuration differs from the one in force in more than who may use which station. Then nothing changes.
-#[derive(Clone, Copy, Debug, Drop, Error)]
-#[error("the configuration differs in more than its access lists")]
+#[derive(Clone, Copy, Drop)]
 pub struct ReloadFault;
 
 impl ReloadFault {
-    /// The number and the name by which the program reports it: 34 Different.
-    pub fn report(self) -> Report
-        ensures number { result.number ≡ 34 }
-        ensures name { result.name.now ≡ codes "Different" }
+    /// The reason by which the program reports it: 34 Different.
+    pub fn reason(self) -> Reason
+        ensures { result ≡ Reason.Different }
     {
-        Report::new(34, "Different")
+        Reason::Different
     }
 }

@@ -1,90 +1,79 @@
 //! Why a read or a write was refused, and why bytes didn't get from an input to an output.
 ghost use Rattle.std.specs.Prelude.{◌≡◌, codes};
-ghost use Rattle.protocol.specs.Report.{IsReport};
-ghost use Rattle.sl_io.specs.Faults.{read_report, stream_report};
+ghost use Rattle.sl_io.specs.Faults.{read_reason, stream_reason};
 ghost use Rattle.sl_io.specs.Faults.{stream_of};
 ghost use Rattle.sl_io.specs.declared.faults.StreamFault.TheVariants.{OutOfMemory, Write};
 
-use protocol::report::Report;
+use protocol::reason::Reason;
 use std::alloc::AllocError;
-use thiserror::Error;
 
 /// One read or write failed.
-#[derive(Clone, Copy, Debug, PartialEq, Eq, Drop, Error)]
-#[error("the device failed")]
+#[derive(Clone, Copy, PartialEq, Eq, Drop)]
 pub struct DeviceFault;
 
 impl DeviceFault {
-    /// The number and the name by which the program reports it: 48 Device.
-    pub fn report(self) -> Report
-        ensures number { result.number ≡ 48 }
-        ensures name { result.name.now ≡ codes "Device" }
+    /// The reason by which the program reports it: 48 Device.
+    pub fn reason(self) -> Reason
+        ensures { result ≡ Reason.Device }
     {
-        Report::new(48, "Device")
+        Reason::Device
     }
 }
 
 /// Why an input was not read to its end.
-#[derive(Clone, Copy, Debug, PartialEq, Eq, Drop, Error)]
+#[derive(Clone, Copy, Debug, PartialEq, Eq, Drop)]
 pub enum ReadFault {
     /// There was no memory for its bytes.
-    #[error("there is no memory for what was read")]
     OutOfMemory,
     /// A read failed, or 2^64 - 1 reads were made.
-    #[error("the input could not be read to its end")]
     Read,
 }
 
 impl ReadFault {
-    /// The number and the name by which the program reports it: 25 or 42.
-    pub fn report(self) -> Report
-        ensures { IsReport (read_report self) result }
+    /// The reason by which the program reports it: 25 or 42.
+    pub fn reason(self) -> Reason
+        ensures { result ≡ read_reason self }
     {
         match self {
-            ReadFault::OutOfMemory => Report::new(25, "OutOfMemory"),
-            ReadFault::Read => Report::new(42, "Read"),
+            ReadFault::OutOfMemory => Reason::OutOfMemory,
+            ReadFault::Read => Reason::Read,
         }
     }
 }
 
 /// Not all bytes were written: a write failed, or took none of the bytes that were left.
-#[derive(Clone, Copy, Debug, PartialEq, Eq, Drop, Error)]
-#[error("not all bytes could be written")]
+#[derive(Clone, Copy, Debug, PartialEq, Eq, Drop)]
 pub struct WriteFault;
 
 impl WriteFault {
-    /// The number and the name by which the program reports it: 43 Write.
-    pub fn report(self) -> Report
-        ensures number { result.number ≡ 43 }
-        ensures name { result.name.now ≡ codes "Write" }
+    /// The reason by which the program reports it: 43 Write.
+    pub fn reason(self) -> Reason
+        ensures { result ≡ Reason.Write }
     {
-        Report::new(43, "Write")
+        Reason::Write
     }
 }
 
 /// Why an input was not read to its end, or why not all that it gives was written.
-#[derive(Clone, Copy, Debug, PartialEq, Eq, Drop, Error)]
+#[derive(Clone, Copy, Debug, PartialEq, Eq, Drop)]
 pub enum StreamFault {
     /// There was no memory for what was read, or for what it gives.
-    #[error("out of memory")]
     OutOfMemory,
     /// A read failed, or 2^64 - 1 reads were made.
-    #[error("the input could not be read to its end")]
     Read,
     /// A write failed, or took none of the bytes that were left.
-    #[error("not all bytes could be written")]
     Write,
 }
 
 impl StreamFault {
-    /// The number and the name by which the program reports it: 25, 42 or 43.
-    pub fn report(self) -> Report
-        ensures { IsReport (stream_report self) result }
+    /// The reason by which the program reports it: 25, 42 or 43.
+    pub fn reason(self) -> Reason
+        ensures { result ≡ stream_reason self }
     {
         match self {
-            StreamFault::OutOfMemory => Report::new(25, "OutOfMemory"),
-            StreamFault::Read => Report::new(42, "Read"),
-            StreamFault::Write => Report::new(43, "Write"),
+            StreamFault::OutOfMemory => Reason::OutOfMemory,
+            StreamFault::Read => Reason::Read,
+            StreamFault::Write => Reason::Write,
         }
     }
 }

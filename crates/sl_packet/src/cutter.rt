@@ -3,23 +3,20 @@ ghost use Rattle.std.specs.Prelude.{◌≡◌, ◌+◌, ◌<◌, ◌++◌, lengt
 ghost use Rattle.sl_packet.specs.States.{end_piece};
 
 use crate::packets::{PACKET, may_continue};
-use protocol::report::Report;
+use protocol::reason::Reason;
 use std::marker::Model;
-use thiserror::Error;
 use unfinished::Unfinished;
 
 /// A byte fits no stream of packets: it stands neither in a packet nor in the end, or behind the end.
-#[derive(Clone, Copy, Debug, Drop, Error)]
-#[error("the bytes are no stream of packets")]
+#[derive(Clone, Copy, Debug, Drop)]
 pub struct NotAPacket;
 
 impl NotAPacket {
-    /// The number and the name by which the program reports it: 10 NotAPacket.
-    pub fn report(self) -> Report
-        ensures number { result.number ≡ 10 }
-        ensures name { result.name.now ≡ codes "NotAPacket" }
+    /// The reason by which the program reports it: 10 NotAPacket.
+    pub fn reason(self) -> Reason
+        ensures { result ≡ Reason.NotAPacket }
     {
-        Report::new(10, "NotAPacket")
+        Reason::NotAPacket
     }
 }
 

@@ -1,7 +1,8 @@
 -- What the text of a command's time is read as.
 use Rattle.std.specs.Prelude.{ℕ, List, ℤ, Option, Some, None, Result, Err, codes}
 use Rattle.std.specs.Option.{ok_or}
-use Rattle.protocol.specs.Report.{Told, told}
+use Rattle.protocol.specs.declared.reason.Reason.{Reason}
+use Rattle.protocol.specs.declared.reason.Reason.TheVariants as reason
 use Rattle.protocol.specs.Time.{CivilTime, civil_of, civil_tick}
 use Rattle.sl_time.specs.declared.command.TimeFault.{TimeFault}
 use Rattle.sl_time.specs.declared.command.TimeFault.TheVariants.{Shape, Range}
@@ -15,6 +16,6 @@ tick_or_fault (Some t) = ok_or (civil_tick t) Range
 abbrev pub parsed : List ℕ → Result ℤ TimeFault
 parsed text = tick_or_fault (civil_of text)
 
-abbrev pub time_report : TimeFault → Told
-time_report Shape = told 60 (codes "Shape")
-time_report Range = told 61 (codes "Range")
+abbrev pub time_reason : TimeFault → Reason
+time_reason Shape = reason.Shape
+time_reason Range = reason.Range

@@ -1,36 +1,32 @@
 //! The times of commands.
 ghost use Rattle.std.specs.Prelude.{◌≡◌};
-ghost use Rattle.protocol.specs.Report.{IsReport};
 ghost use Rattle.protocol.specs.Time.{civil_of, civil_tick, time_of};
 ghost use Rattle.std.specs.Result.{result_ok};
-ghost use Rattle.sl_time.specs.Parsed.{time_report, parsed};
+ghost use Rattle.sl_time.specs.Parsed.{time_reason, parsed};
 
 use crate::calendar;
 use crate::parts::Parts;
 use crate::ticks::{self, Tick};
-use protocol::report::Report;
+use protocol::reason::Reason;
 use std::marker::Model;
-use thiserror::Error;
 
 /// Why a text is no time.
-#[derive(Clone, Copy, Debug, Drop, Error)]
+#[derive(Clone, Copy, Drop)]
 pub enum TimeFault {
     /// The text has not the shape of a time.
-    #[error("the text has not the shape of a time")]
     Shape,
     /// The text has the shape of a time, and a number in it is out of range or the calendar has no such date.
-    #[error("a number of the time is out of range, or there is no such date")]
     Range,
 }
 
 impl TimeFault {
-    /// The number and the name by which the program reports it: 60 or 61.
-    pub fn report(self) -> Report
-        ensures { IsReport (time_report self) result }
+    /// The reason by which the program reports it: 60 or 61.
+    pub fn reason(self) -> Reason
+        ensures { result ≡ time_reason self }
     {
         match self {
-            TimeFault::Shape => Report::new(60, "Shape"),
-            TimeFault::Range => Report::new(61, "Range"),
+            TimeFault::Shape => Reason::Shape,
+            TimeFault::Range => Reason::Range,
         }
     }
 }

@@ -1,14 +1,15 @@
 -- The numbers and names by which the program reports that it can't listen.
 use Rattle.std.specs.Prelude.{codes}
-use Rattle.protocol.specs.Report.{Told, told}
+use Rattle.protocol.specs.declared.reason.Reason.{Reason}
+use Rattle.protocol.specs.declared.reason.Reason.TheVariants as reason
 use Rattle.socket_ports.specs.declared.fault.ListenFault.{ListenFault}
 use Rattle.socket_ports.specs.declared.fault.ListenFault.TheVariants.{OutOfMemory, Listen}
 use Rattle.socket_ports.specs.declared.fault.ListenError.{ListenError}
 use Rattle.socket_ports.specs.declared.fault.ListenError.TheVariants as error
 
-abbrev pub listen_report : ListenFault → Told
-listen_report OutOfMemory = told 25 (codes "OutOfMemory")
-listen_report Listen = told 46 (codes "Listen")
+abbrev pub listen_reason : ListenFault → Reason
+listen_reason OutOfMemory = reason.OutOfMemory
+listen_reason Listen = reason.Listen
 
 -- the fault, without what the system says
 abbrev pub fault_of : ListenError → ListenFault

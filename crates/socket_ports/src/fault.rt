@@ -1,32 +1,28 @@
 //! Why no sockets can be listened on.
 ghost use Rattle.std.specs.Prelude.{◌≡◌};
-ghost use Rattle.protocol.specs.Report.{IsReport};
-ghost use Rattle.socket_ports.specs.Faults.{fault_of, listen_report};
+ghost use Rattle.socket_ports.specs.Faults.{fault_of, listen_reason};
 
-use protocol::report::Report;
+use protocol::reason::Reason;
 use std::io;
-use thiserror::Error;
 
 /// Why no sockets can be listened on.
-#[derive(Clone, Copy, Debug, Drop, Error)]
+#[derive(Clone, Copy, Drop)]
 pub enum ListenFault {
     /// Out of memory.
-    #[error("out of memory")]
     OutOfMemory,
     /// An address can't be listened on: its port is taken, it is not an address of this machine, or the system lets the
     /// program have no socket.
-    #[error("an address can't be listened on")]
     Listen,
 }
 
 impl ListenFault {
-    /// The number and the name by which the program reports it: 25 or 46.
-    pub fn report(self) -> Report
-        ensures { IsReport (listen_report self) result }
+    /// The reason by which the program reports it: 25 or 46.
+    pub fn reason(self) -> Reason
+        ensures { result ≡ listen_reason self }
     {
         match self {
-            ListenFault::OutOfMemory => Report::new(25, "OutOfMemory"),
-            ListenFault::Listen => Report::new(46, "Listen"),
+            ListenFault::OutOfMemory => Reason::OutOfMemory,
+            ListenFault::Listen => Reason::Listen,
         }
     }
 }

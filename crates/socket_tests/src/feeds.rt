@@ -50,7 +50,7 @@ fn fed<R: Net + AllocGlobal>(
     centre.turns(3);
     let number = match begun.and_then(|feed| feed.wait()) {
         Ok(count) => Some(count),
-        Err(failure) if failure.report().number == 41 => None,
+        Err(failure) if failure.reason().number() == 41 => None,
         Err(_) => return Err(Fail::from("another fault")),
     };
     Ok((number, holds_two(rt, centre)?))
@@ -106,7 +106,7 @@ fn the_records_of_files_are_sent(rt: HostRuntime) -> Result<(), Fail> {
 fn fault_of(ended: Result<u64, Failure>) -> u8 {
     match ended {
         Ok(_) => 0,
-        Err(failure) => failure.report().number,
+        Err(failure) => failure.reason().number(),
     }
 }
 
@@ -213,7 +213,7 @@ fn told_after_many<R: Net + AllocGlobal>(rt: &R, centre: &mut Centre) -> Result<
     for _ in 0..PIECES {
         let bytes = many_records(rt.alloc(), IN_A_PIECE)?;
         if let Err(failure) = feed_records(&mut MemorySource::new(&bytes), &mut stream) {
-            return Ok(failure.report().number);
+            return Ok(failure.reason().number());
         }
         centre.turns(1);
     }
@@ -234,7 +234,7 @@ fn ended_after(due: u64) -> (u8, bool) {
     let mut server = Failing::new(MemorySource::in_pieces(&bytes, 100), due);
     let fault = match await_end(&mut server) {
         Ok(()) => 0,
-        Err(failure) => failure.report().number,
+        Err(failure) => failure.reason().number(),
     };
     (fault, server.counts().calls == 11)
 }
@@ -257,6 +257,6 @@ fn a_feed_to_a_closed_port_is_fault_47(rt: HostRuntime) -> Result<(), Fail> {
     let bytes = two_records(rt.alloc(), b"")?;
     let begun = begin_feed(&rt, here(feeds), &mut MemorySource::new(bytes.as_slice()));
     assert!(rt; matches!(begun, Err(Failure::Connect)));
-    assert_eq!(rt; Failure::Connect.report().number, 47);
+    assert_eq!(rt; Failure::Connect.reason().number(), 47);
     Ok(())
 }

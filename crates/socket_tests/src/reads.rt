@@ -126,7 +126,7 @@ fn fault_of_the_refused<R: Net + AllocGlobal>(rt: &R, centre: &mut Centre) -> Re
         return Err(Fail::from("other lines"));
     }
     let fault = listed.fault.ok_or("no fault")?;
-    Ok(fault.report().number)
+    Ok(fault.reason().number())
 }
 
 #[test]

@@ -60,7 +60,7 @@ fn unheard(rt: &HostRuntime, clients: SocketAddrV4, feeds: SocketAddrV4) -> Resu
         Ok(_) => Ok(String::new(rt.alloc())),
         Err(error) => {
             let incident = Incident::of_listening("A", "B", error);
-            Ok(format!(in rt.alloc(); "{}{incident}", incident.failure.report().number)?)
+            Ok(format!(in rt.alloc(); "{}{incident}", incident.failure.reason().number())?)
         }
     }
 }

@@ -156,7 +156,7 @@ fn numbers_and_names(rt: HostRuntime) {
         (ReplayFault::Script(1), 45, "Script"),
     ] {
         assert!(rt;
-            fault.report().number == number && fault.report().name == name,
+            fault.reason().number() == number && fault.reason().name() == name,
             "{name}"
         );
     }

@@ -178,10 +178,10 @@ fn fields_that_are_no_record(rt: HostRuntime) -> Result<(), Fail> {
 
 #[test]
 fn numbers_and_names_of_faults(rt: HostRuntime) -> Result<(), Fail> {
-    let poor = ScriptFault::OutOfMemory.report();
-    let wrong = ScriptFault::Script.report();
-    assert!(rt; poor.number == 25 && poor.name == "OutOfMemory");
-    assert!(rt; wrong.number == 45 && wrong.name == "Script");
+    let poor = ScriptFault::OutOfMemory.reason();
+    let wrong = ScriptFault::Script.reason();
+    assert!(rt; poor.number() == 25 && poor.name() == "OutOfMemory");
+    assert!(rt; wrong.number() == 45 && wrong.name() == "Script");
     Ok(())
 }
 

@@ -99,17 +99,17 @@ fn each_refusal_has_its_number(rt: HostRuntime) {
     for &(old, new, number) in &NUMBERS {
         let judged = judged_with(rt.alloc(), old, new);
         assert!(rt;
-            judged.map_err(|fault| fault.report().number) == Err(number),
+            judged.map_err(|fault| fault.reason().number()) == Err(number),
             "{number}"
         );
     }
-    assert!(rt; ConfigFault::OutOfMemory.report().number == 25);
+    assert!(rt; ConfigFault::OutOfMemory.reason().number() == 25);
 }
 
 #[test]
 fn a_refusal_by_addresses_has_a_cause(rt: HostRuntime) {
     let unspelled = judged_with(rt.alloc(), "10.0.0.0/8", "10.0.0/8");
-    assert!(rt; unspelled.map_err(|fault| fault.report().name) == Err("Access"));
+    assert!(rt; unspelled.map_err(|fault| fault.reason().name()) == Err("Access"));
     assert_eq!(rt;
         unspelled.map_err(|fault| fault.cause()),
         Err(Some(AccessFault::Address))
