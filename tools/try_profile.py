@@ -3,7 +3,7 @@
 
     tools/try_profile.py
 
-- Each fault of its tables is reported somewhere in the sources by that number and name, and each of the sources stands in a table.
+- Each fault of its tables is a reason of the program by that number and name, and each reason stands in a table.
 - Each example of the table of configurations is refused with the fault of its row.
 - The dialogue that README shows is what `replay --text` prints, and without `--text` the digits of as many takes come.
 - Each example of the section "Faults that are explained" is run, with files and servers as the text beside it has them, and prints
@@ -41,14 +41,9 @@ def check(is_right, what):
 
 
 def faults_of_sources():
-    """The numbers and names that the program's sources report."""
-    found = set()
-    for folder, _, files in os.walk(f"{TOP}/crates"):
-        if folder.endswith("/src") or "/src/" in folder:
-            for name in files:
-                with open(f"{folder}/{name}", encoding="utf-8") as text:
-                    found |= {(int(number), word) for number, word in re.findall(r'Report::new\((\d+), "(\w+)"\)', text.read())}
-    return found
+    """The numbers and names of the table of reasons."""
+    with open(f"{TOP}/crates/protocol/src/reason.rt", encoding="utf-8") as text:
+        return {(int(number), word) for number, word in re.findall(r'row_of\(\s*(\d+),\s*"(\w+)"', text.read())}
 
 
 def faults_of_tables(page):
