@@ -278,6 +278,7 @@ impl<'a> From<Failure> for Incident<'a> {
 }
 
 /// What standard error is told of an incident: the line `seedlinkd: N Name`, and on request the lines that explain it.
+#[derive(Clone, Copy)]
 pub struct Told<'t, 'a> {
     pub incident: &'t Incident<'a>,
     pub is_verbose: bool,

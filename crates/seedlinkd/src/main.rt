@@ -1,13 +1,15 @@
 //! A SeedLink 3 server whose stations are open to stated addresses only, as a program of several jobs. It ends with
 //! status 0 if its job was done or help was asked for; with status 1 at an input or device fault, of which the standard
 //! error has the line `seedlinkd: N Name`, and on request lines that explain it; and with status 2 if the command line
-//! is invalid.
+//! is invalid. Before anything else, each of the three standard descriptors that is closed is opened on `/dev/null`.
 #![tactic(auto)]
 
+mod standard;
 #[cfg(test)]
 mod tests;
 
 use jobs::{Failure, failed, obey, told};
+use standard::fill_closed;
 use std::process::ExitCode;
 use std::rt::Env;
 use std::{env, io};
@@ -19,6 +21,7 @@ fn given_words<R: Env + AllocGlobal>(rt: &R) -> io::Result<Vec<String>> {
 }
 
 fn main(rt: HostRuntime) -> ExitCode {
+    fill_closed(&rt);
     match given_words(&rt) {
         Ok(words) => obey(&rt, words.as_slice()),
         Err(error) => {
