@@ -38,6 +38,7 @@ failure_reason (failure.Reload fault) = reason.Different
 failure_reason (failure.Serve fault) = serve_reason fault
 failure_reason (failure.Send fault) = send_reason fault
 failure_reason failure.Untaken = reason.Write
+failure_reason failure.Answered = reason.BadReply
 failure_reason failure.Unanswered = reason.Read
 failure_reason (failure.Moment fault) = time_reason fault
 failure_reason (failure.Want fault) = reader_reason fault

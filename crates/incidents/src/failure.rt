@@ -49,6 +49,8 @@ pub enum Failure {
     Send(SendFault),
     /// The server ended a feed before it had read everything.
     Untaken,
+    /// The server answered a feed.
+    Answered,
     /// A word is no time.
     Moment(TimeFault),
     /// A word is no want, or the plan is outside the reader's limits.
@@ -85,6 +87,7 @@ impl Failure {
             Failure::Serve(fault) => fault.reason(),
             Failure::Send(fault) => fault.reason(),
             Failure::Untaken => Reason::Write,
+            Failure::Answered => Reason::BadReply,
             Failure::Unanswered => Reason::Read,
             Failure::Moment(fault) => fault.reason(),
             Failure::Want(fault) => fault.reason(),
@@ -107,6 +110,8 @@ fn own_cause(failure: Failure) -> Option<&'static str> {
         Failure::Untaken => {
             "the server ended the connection before it had read everything; perhaps it takes no feed from here now"
         }
+        Failure::Answered =>
+            "the server answered, which a feed port never does; perhaps this is its port for clients",
         Failure::Unanswered => {
             "the connection ended before HELLO was answered; perhaps the server takes no client from here now"
         }
@@ -119,6 +124,9 @@ fn own_cause(failure: Failure) -> Option<&'static str> {
         Failure::Numbers(NumbersFault::Invalid) => {
             "the file of numbers is not in TOML with a network, a code and a number for each station"
         }
+        Failure::Numbers(NumbersFault::Locked) =>
+            "another server keeps its numbers in the file of numbers",
+        Failure::Numbers(NumbersFault::Special) => "the file of numbers is no plain file",
         Failure::State(StateFault::Unread) => "the file with the state can't be read",
         Failure::State(StateFault::Invalid) => {
             "the file with the state is not in lines of a network, a station, a number and an end"

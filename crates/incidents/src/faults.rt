@@ -35,6 +35,10 @@ pub enum NumbersFault {
     Unread,
     /// Its text is not as it has to be.
     Invalid,
+    /// Another server keeps its numbers there.
+    Locked,
+    /// It is a device, a folder or the like.
+    Special,
 }
 
 impl NumbersFault {

@@ -1,10 +1,10 @@
 //! A failure, and where it happened.
 ghost use Rattle.std.specs.Prelude.{◌≡◌, ◌≢◌};
-ghost use Rattle.incidents.specs.Sites.{config_site, difference_site, feed_site, file_site, input_site, is_memory};
-ghost use Rattle.incidents.specs.Sites.{is_output};
+ghost use Rattle.incidents.specs.Sites.{config_site, difference_site, feed_site, file_site, input_site};
 ghost use Rattle.incidents.specs.Sites.{listening_site, output_site, server_site, state_site, want_site, word_site};
 ghost use Rattle.slreader.specs.WantTexts.{window_value};
 ghost use Rattle.socket_ports.specs.Faults.{fault_of};
+ghost use Rattle.protocol.specs.declared.reason.Reason.TheVariants.{Different};
 ghost use Rattle.incidents.specs.Faults.{failure_reason};
 ghost use Rattle.incidents.specs.Sites.{IsListSite};
 ghost use Rattle.incidents.specs.declared.failure.Failure.TheVariants.{Config, Listen, OutOfMemory, Records};
@@ -148,7 +148,7 @@ impl<'a> Incident<'a> {
 
     /// A configuration in a file that differs in more than its access lists, and in what first, if that is known.
     pub fn of_difference(path: &'a str, difference: Option<Difference>) -> Incident<'a>
-        ensures failure { failure_reason result.failure ≡ Reason.Different }
+        ensures failure { failure_reason result.failure ≡ Different }
         ensures site { result.site ≡ difference_site path.entry difference }
     {
         let site = match difference {
