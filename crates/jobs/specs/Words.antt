@@ -2,8 +2,8 @@
 use Rattle.std.specs.Prelude.{ℕ, Bool, true, false, Option, Some, None}
 use Rattle.command_line.specs.declared.job.Every.{Every}
 use Rattle.command_line.specs.declared.job.Every.TheVariants.{Seconds, Turns}
-use Rattle.job_parts.specs.declared.replaying.ReplayStyle.{ReplayStyle}
-use Rattle.job_parts.specs.declared.replaying.ReplayStyle.TheVariants.{Hexadecimal, Dialogue}
+use Rattle.job_check.specs.declared.replaying.ReplayStyle.{ReplayStyle}
+use Rattle.job_check.specs.declared.replaying.ReplayStyle.TheVariants.{Hexadecimal, Dialogue}
 
 -- every so many turns
 abbrev pub turns_of : Every → Option ℕ

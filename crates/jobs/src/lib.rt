@@ -1,28 +1,14 @@
-//! The jobs of `seedlinkd`, over files, sockets and the standard output: a server, a feeder, a reader, a replay of a
-//! script and a check of records, and what the exit status is.
+//! Which job of `seedlinkd` the words of a command line start, with which options, and what the exit status is. It does
+//! not know how a job is done.
 #![tactic(auto)]
 
-mod archiving;
-mod connections;
-mod feeding;
-mod feeds;
-mod files;
-mod misspelled;
-mod network;
-mod operator;
-mod reading;
-mod states;
 mod statuses;
-mod telling;
-mod times;
-mod viewing;
 mod work;
 
-pub use feeding::{Feed, SentFeed, await_end, begin_feed, feed_records, send_feed};
-pub use feeds::send_files;
-pub use incidents::{Failure, Incident, NumbersFault, ReplayFault, Site, StateFault};
-pub use job_parts::{Endpoint, ReplayStyle, replay};
-pub use serving::{Activity, ServeFault, serve, serve_block};
+pub use incidents::{Failure, Incident, ReplayFault};
+pub use job_base::Endpoint;
+pub use job_check::{ReplayStyle, list_holders, list_seen, replay};
+pub use job_feed::{await_end, begin_feed, feed_records, send_feed, send_files};
+pub use serving::serve;
 pub use statuses::{failed, obey, told};
-pub use viewing::{list_holders, list_seen};
 pub use work::run_job;

@@ -4,10 +4,10 @@ ghost use Rattle.std.specs.Prelude.{◌≡◌, ◌≢◌, ◌⊎◌, false, true
 ghost use Rattle.std.specs.Process.{exit_status};
 ghost use Rattle.command_line.specs.Jobs.{IsJob, IsMistake};
 
-use crate::telling::tell_incident;
 use crate::work::run_job;
 use command_line::{Request, WordsFault, read_words};
 use incidents::{Failure, Incident};
+use job_base::tell_incident;
 use std::fs::File;
 use std::net::Net;
 use std::os::fd::AsRawFd;

@@ -2,15 +2,12 @@
 ghost use Rattle.std.specs.Prelude.{◌≡◌, ◌||◌, is_some, option_and_then};
 ghost use Rattle.jobs.specs.Words.{seconds_of, style_by, turns_of};
 
-use crate::feeds::feed_files;
-use crate::files::{check_file, replay_files};
-use crate::network::serve_sockets;
-use crate::operator::ServeOptions;
-use crate::reading::read_servers;
-use crate::viewing::view_file;
 use command_line::{Every, Job};
 use incidents::Incident;
-use job_parts::ReplayStyle;
+use job_check::{ReplayStyle, check_file, replay_files, view_file};
+use job_feed::feed_files;
+use job_read::read_servers;
+use job_serve::{ServeOptions, serve_sockets};
 use serving::{KEEP_EVERY, Timetable};
 use std::fs::File;
 use std::net::Net;

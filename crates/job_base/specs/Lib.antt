@@ -1,0 +1,4 @@
+pub mod Configured
+pub mod Endpoints
+pub mod Meters
+pub mod Times

@@ -1,0 +1,80 @@
+//! Files that are read whole, configurations among them, and files that are replaced whole.
+use crate::reasons::ReasonKeeper;
+use catalog::{Config, ConfigError};
+use config_findings::{Finding, finding_of};
+use incidents::{Failure, Incident, Site};
+use sl_io::{Outer, ReadFault, read_all};
+use std::alloc::Global;
+use std::fs::OpenFile;
+use std::io::Write;
+use std::rt::Files;
+use std::{fs, io};
+
+/// The configuration in a file.
+pub fn config_at<'a, R: Files + AllocGlobal>(
+    rt: &R,
+    path: &'a str,
+) -> Result<Config, Incident<'a>> {
+    let text = match text_at(rt, path) {
+        Ok(text) => text,
+        Err(incident) => return Err(incident),
+    };
+    config_in(rt.alloc(), path, text.as_slice())
+}
+
+/// The text of a configuration's file.
+pub fn text_at<'a, R: Files + AllocGlobal>(rt: &R, path: &'a str) -> Result<Vec<u8>, Incident<'a>> {
+    let mut file = Outer::new(ReasonKeeper::new(open(rt, path)?));
+    match read_all(rt.alloc(), &mut file) {
+        Ok(text) => Ok(text),
+        Err(ReadFault::OutOfMemory) => Err(Failure::OutOfMemory.in_file(path)),
+        Err(ReadFault::Read) => {
+            let incident = Failure::File.in_file(path);
+            Err(incident.at_input(path, file.into_inner().into_reason()))
+        }
+    }
+}
+
+/// The configuration that the text of a file spells.
+pub fn config_in<'a>(alloc: Global, path: &'a str, text: &[u8]) -> Result<Config, Incident<'a>> {
+    match Config::read_by_steps(alloc, text) {
+        Ok(config) => Ok(config),
+        Err(error) => Err(refused(alloc, path, text, error)),
+    }
+}
+
+/// A configuration that is refused, and what is found where it is. Without memory that is nothing.
+fn refused<'a>(alloc: Global, path: &'a str, text: &[u8], error: ConfigError) -> Incident<'a> {
+    let finding = match finding_of(alloc, text, &error) {
+        Ok(finding) => finding,
+        Err(_) => Finding::Nothing,
+    };
+    Incident::of_config(path, error, finding)
+}
+
+/// A file that is opened to be read.
+pub fn open<'a, R: Files>(rt: &R, path: &'a str) -> Result<R::File, Incident<'a>> {
+    match fs::open(rt, path) {
+        Ok(file) => Ok(file),
+        Err(reason) => Err(unopened(path, reason)),
+    }
+}
+
+/// Why a file could not be opened.
+pub fn unopened<'a>(path: &'a str, reason: io::Error) -> Incident<'a> {
+    if reason.kind() == io::ErrorKind::OutOfMemory {
+        return Incident::from(Failure::OutOfMemory);
+    }
+    Incident {
+        failure: Failure::File,
+        site: Site::Unopened(path, reason),
+    }
+}
+
+/// Writes a file under another name first, which takes the file's place once all of it is on the disk.
+pub fn replace<R: Files>(rt: &R, new_path: &str, path: &str, text: &[u8]) -> io::Result<()> {
+    let mut file = fs::create(rt, new_path)?;
+    file.write_all(text)?;
+    file.sync_all()?;
+    fs::rename(rt, new_path, path)
+}

@@ -1,0 +1,23 @@
+//! What the jobs of `seedlinkd` share: servers that words name, files that are read or replaced whole, configurations
+//! among them, and what stands between a job and its device. It does not know which job does what, and when.
+#![tactic(auto)]
+
+mod endpoint;
+mod files;
+mod misspelled;
+mod progress;
+mod reasons;
+mod servers;
+mod standard_error;
+mod telling;
+mod times;
+
+pub use endpoint::Endpoint;
+pub use files::{config_at, config_in, open, replace, text_at, unopened};
+pub use misspelled::{checked_config_at, tell_unknown_keys};
+pub use progress::{Watched, is_output_terminal, is_terminal, size_of};
+pub use reasons::ReasonKeeper;
+pub use servers::{ServerAddress, connect, connection, server_of, unconnected};
+pub use standard_error::StandardError;
+pub use telling::tell_incident;
+pub use times::times_of;

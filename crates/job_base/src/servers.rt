@@ -1,0 +1,55 @@
+//! Servers that words name, and connections to them.
+ghost use Rattle.std.specs.Prelude.{◌≡◌, IfErr, IfOk, None, Some};
+ghost use Rattle.incidents.specs.declared.failure.Failure.TheVariants.{Address};
+ghost use Rattle.job_base.specs.Endpoints.{endpoint_of, endpoint_value};
+
+use crate::endpoint::Endpoint;
+use incidents::{Failure, Incident, Site};
+use std::io;
+use std::net::{Net, SocketAddr, TcpStream};
+
+/// The address of a server, and the word that names it.
+#[derive(Clone, Copy)]
+pub struct ServerAddress<'a> {
+    pub word: &'a str,
+    pub endpoint: Endpoint,
+}
+
+/// The address that a word names.
+///
+/// It fails with Address where the word is no address with a port.
+pub fn server_of<'a>(word: &'a str) -> Result<ServerAddress<'a>, Incident<'a>>
+    ensures endpoint { IfOk result (λ server. endpoint_of word.now ≡ Some (endpoint_value server.endpoint)) }
+    ensures word { IfOk result (λ server. server.word ≡ word.entry) }
+    ensures refused { IfErr result (λ incident.
+        (endpoint_of word.now ≡ None) × (incident.failure ≡ Address)) }
+{
+    match Endpoint::parse(word.as_bytes()) {
+        Some(endpoint) => Ok(ServerAddress { word, endpoint }),
+        None => Err(Failure::Address.in_word(word)),
+    }
+}
+
+/// A connection to a server.
+pub fn connect<R: Net>(rt: &R, server: Endpoint) -> io::Result<R::Stream> {
+    TcpStream::connect(rt, SocketAddr::V4(server.socket_address()))
+}
+
+/// A connection to a server that a word names.
+pub fn connection<'a, R: Net>(
+    rt: &R,
+    server: ServerAddress<'a>,
+) -> Result<R::Stream, Incident<'a>> {
+    match connect(rt, server.endpoint) {
+        Ok(stream) => Ok(stream),
+        Err(reason) => Err(unconnected(server, reason)),
+    }
+}
+
+/// Why no connection could be made.
+pub fn unconnected<'a>(server: ServerAddress<'a>, reason: io::Error) -> Incident<'a> {
+    Incident {
+        failure: Failure::Connect,
+        site: Site::Socket(server.word, reason),
+    }
+}

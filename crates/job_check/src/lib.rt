@@ -1,0 +1,12 @@
+//! The jobs that try files without a server: `check` of records, `view` of a configuration and `replay` of a script.
+//! It does not know what a line of a listing says, nor how an event is answered.
+#![tactic(auto)]
+
+mod checking;
+mod configured;
+mod replaying;
+mod viewing;
+
+pub use checking::check_file;
+pub use replaying::{ReplayStyle, replay, replay_files};
+pub use viewing::{list_holders, list_seen, view_file};

@@ -1,0 +1,164 @@
+//! A script's events at a server: from a reader to a writer, and from a file to the standard output.
+ghost use Rattle.std.specs.Prelude.{◌≡◌, ◌≢◌, Some, None, map, IfOk, OnOk, IfErr, IfSome, MatchResult};
+ghost use Rattle.std.specs.List.{slice_split};
+ghost use Rattle.server_core.specs.Runs.{event_value, handed_value};
+ghost use Rattle.event_script.specs.Failing.{FailsAtLine};
+ghost use Rattle.event_script.specs.Script.{is_line_feed};
+ghost use Rattle.job_check.specs.Output.{output_after, replayed, written_of};
+ghost use Rattle.job_check.specs.Replaying.{IfScript, LeavesReader, LeavesWriter, WritesAll, WritesBeginning};
+ghost use Rattle.event_script.specs.declared.fault.ScriptFault.TheVariants.{Script as ScriptIsNone};
+ghost use Rattle.incidents.specs.declared.faults.ReplayFault.TheVariants.{Stream};
+ghost use Rattle.sl_io.specs.declared.faults.StreamFault.TheVariants.{Write};
+
+use catalog::Config;
+use event_script::{ScriptError, ScriptFault, dialogue_of, events_of, output_of};
+use incidents::{Failure, Incident, ReplayFault};
+use job_base::{ReasonKeeper, config_at, open};
+use server_core::{Event, Handed, run};
+use sl_io::{Outer, Sink, Source, StreamFault, read_all, write_all};
+use std::alloc::{AllocError, Global};
+use std::io;
+use std::rt::Files;
+
+/// How a replay writes what happens.
+#[derive(Clone, Copy, Drop)]
+pub enum ReplayStyle {
+    /// A line for each take: what it was handed, in hexadecimal digits.
+    Hexadecimal,
+    /// A line for each event, as text.
+    Dialogue,
+}
+
+/// What is written of events and of what their takes were handed.
+fn written_of(
+    alloc: Global,
+    style: ReplayStyle,
+    events: &[Event],
+    takes: &[Handed],
+) -> Result<Vec<u8>, AllocError>
+    ensures { IfOk result
+        (λ text. text.items ≡ written_of style (map event_value events.now) (map handed_value takes.now)) }
+{
+    match style {
+        ReplayStyle::Hexadecimal => output_of(alloc, takes),
+        ReplayStyle::Dialogue => dialogue_of(alloc, events, takes),
+    }
+}
+
+/// What a server with that configuration writes of events.
+fn output_after(
+    alloc: Global,
+    style: ReplayStyle,
+    config: Config,
+    events: &[Event],
+) -> Result<Vec<u8>, AllocError>
+    ensures ok { IfOk result (λ output. output.items ≡ output_after style config (map event_value events.now)) }
+{
+    let takes = run(alloc, config, events)?;
+    let output = written_of(alloc, style, events, takes.as_slice())?;
+    Ok(output)
+}
+
+/// What a server with that configuration writes of a script. A text that is none is refused at its first line that is
+/// no event.
+fn output_for(
+    alloc: Global,
+    style: ReplayStyle,
+    config: Config,
+    text: &[u8],
+) -> Result<Vec<u8>, ScriptError>
+    ensures ok { IfOk result (λ output. replayed style config text.now ≡ Some output.items) }
+    ensures script { IfErr result (λ e. e.fault ≡ ScriptIsNone → replayed style config text.now ≡ None) }
+    ensures line { IfErr result (λ e. e.fault ≡ ScriptIsNone
+        → FailsAtLine (slice_split is_line_feed text.now) e.line) }
+{
+    let events = match events_of(alloc, text) {
+        Ok(events) => events,
+        Err(error) => return Err(error),
+    };
+    match output_after(alloc, style, config, events.as_slice()) {
+        Ok(output) => Ok(output),
+        Err(_) => Err(ScriptError {
+            fault: ScriptFault::OutOfMemory,
+            line: 0,
+        }),
+    }
+}
+
+/// Reads a script to its end, does its events at a new server with that configuration, and writes a line for each take,
+/// or for each event, as the style says. The output is made whole before its first byte is written, and written in as
+/// few calls as the writer takes.
+///
+/// It fails with Read where a read failed or 2^64 - 1 reads were made, with Script where the text is no script, and the
+/// line that it names is the first that is no event, with Write where a write failed or took no byte, and with
+/// OutOfMemory only where there is no memory. The writer is unchanged at all of them but Write, at which it was given a
+/// beginning of the output.
+pub fn replay<R: Source, W: Sink>(
+    alloc: Global,
+    style: ReplayStyle,
+    config: Config,
+    script: &mut R,
+    out: &mut W,
+) -> Result<(), ReplayFault>
+    ensures ok { OnOk result
+        (IfSome (R.left script.old)
+        (λ text. WritesAll (replayed style config text) (W.written out.old) (W.written out.new))) }
+    ensures write { IfErr result (λ fault. fault ≡ Stream Write →
+        IfSome (R.left script.old)
+        (λ text. WritesBeginning (replayed style config text) (W.written out.old) (W.written out.new))) }
+    ensures script { IfErr result (λ fault. IfScript fault (λ line.
+        IfSome (R.left script.old) (λ text. replayed style config text ≡ None))) }
+    ensures line { IfErr result (λ fault. IfScript fault (λ line.
+        IfSome (R.left script.old) (λ text. FailsAtLine (slice_split is_line_feed text) line))) }
+    ensures unchanged { IfErr result (λ fault. fault ≢ Stream Write → out.new ≡ out.old) }
+    ensures reader { MatchResult result (λ _. R.failures script.new ≡ R.failures script.old)
+        (λ fault. LeavesReader fault (R.failures script.old) (R.failures script.new) (R.calls script.old)
+        (R.calls script.new)) }
+    ensures writer { MatchResult result
+        (λ _. (W.failures out.new ≡ W.failures out.old) × (W.empty_writes out.new ≡ W.empty_writes out.old))
+        (λ fault. LeavesWriter fault (W.failures out.old) (W.failures out.new) (W.empty_writes out.old)
+        (W.empty_writes out.new)) }
+{
+    let text = match read_all(alloc, script) {
+        Ok(text) => text,
+        Err(fault) => return Err(ReplayFault::Stream(StreamFault::from(fault))),
+    };
+    let output = match output_for(alloc, style, config, text.as_slice()) {
+        Ok(output) => output,
+        Err(
+            ScriptError {
+                fault: ScriptFault::OutOfMemory,
+                ..
+            },
+        ) => return Err(ReplayFault::Stream(StreamFault::OutOfMemory)),
+        Err(
+            ScriptError {
+                fault: ScriptFault::Script,
+                line,
+            },
+        ) => return Err(ReplayFault::Script(line)),
+    };
+    match write_all(out, output.as_slice()) {
+        Ok(()) => Ok(()),
+        Err(fault) => Err(ReplayFault::Stream(StreamFault::from(fault))),
+    }
+}
+
+/// Writes the output of a script. The configuration is judged before the script is opened.
+pub fn replay_files<'a, R: Files + Print + AllocGlobal>(
+    rt: &R,
+    style: ReplayStyle,
+    config: &'a str,
+    script: &'a str,
+) -> Result<(), Incident<'a>> {
+    let config = config_at(rt, config)?;
+    let mut file = Outer::new(ReasonKeeper::new(open(rt, script)?));
+    let mut out = Outer::new(io::writer(rt));
+    match replay(rt.alloc(), style, config, &mut file, &mut out) {
+        Ok(()) => Ok(()),
+        Err(fault) => {
+            let incident = Failure::Replay(fault).in_file(script);
+            Err(incident.at_input(script, file.into_inner().into_reason()))
+        }
+    }
+}

@@ -1,0 +1,147 @@
+//! Files of records go to a server.
+use crate::feeding::{Feed, SentFeed};
+use incidents::{Failure, Incident};
+use job_base::{ReasonKeeper, Watched, connection, is_terminal, open, server_of, size_of};
+use record_listing::FeedTally;
+use sl_io::Outer;
+use std::fs::File;
+use std::io::{self, Read};
+use std::net::{Net, OpenStream};
+use std::rt::{Clock, Files};
+
+/// Passes on what is read of a file of records, and judges the records.
+#[derive(Drop)]
+struct Judged<'t, T> {
+    inner: T,
+    tally: &'t mut FeedTally,
+}
+
+impl<T: Read> Read for Judged<'_, T> {
+    fn read(&mut self, block: &mut [u8]) -> io::Result<usize> {
+        let count = self.inner.read(block)?;
+        self.tally.see(&block[..count]);
+        Ok(count)
+    }
+}
+
+/// A file of records, or the standard input if its name is `-`.
+fn input<'a, R: Files>(rt: &R, path: &'a str) -> Result<R::File, Incident<'a>> {
+    match path {
+        "-" => open(rt, "/dev/stdin"),
+        _ => open(rt, path),
+    }
+}
+
+/// Sends the records of a file that is open.
+fn send_input<'a, R: Files<File = File> + Eprint + Clock, T: OpenStream + io::Write + Drop>(
+    rt: &R,
+    feed: &mut Feed<T>,
+    tally: &mut FeedTally,
+    file: File,
+    path: &'a str,
+    server: &'a str,
+) -> Result<(), Incident<'a>> {
+    let size = size_of(&file);
+    let watched = Watched::new(rt, ReasonKeeper::new(file), size, is_terminal());
+    let mut records = Outer::new(Judged {
+        inner: watched,
+        tally,
+    });
+    let sent = feed.send(&mut records);
+    let Judged { inner, tally } = records.into_inner();
+    tally.end_file();
+    let reason = inner.end().into_reason();
+    match sent {
+        Ok(()) => Ok(()),
+        Err(failure) => Err(failure.in_feed(path, server).at_input(path, reason)),
+    }
+}
+
+/// Sends the records of files, one file after the other.
+fn send_each<'a, R: Files<File = File> + Eprint + Clock, T: OpenStream + io::Write + Drop>(
+    rt: &R,
+    feed: &mut Feed<T>,
+    tally: &mut FeedTally,
+    files: &[&'a str],
+    server: &'a str,
+) -> Result<(), Incident<'a>> {
+    for path in files {
+        let file = input(rt, path)?;
+        send_input(rt, feed, tally, file, path, server)?;
+    }
+    Ok(())
+}
+
+/// Sends the records of files over a connection, of which the first file is open, and shuts its sending half.
+fn send_over<'a, R: Files<File = File> + Eprint + Clock, T: OpenStream + io::Write + Drop>(
+    rt: &R,
+    mut feed: Feed<T>,
+    tally: &mut FeedTally,
+    file: File,
+    first: &'a str,
+    others: &[&'a str],
+    server: &'a str,
+) -> Result<SentFeed<T>, Incident<'a>> {
+    send_input(rt, &mut feed, tally, file, first, server)?;
+    send_each(rt, &mut feed, tally, others, server)?;
+    match feed.shut() {
+        Ok(sent) => Ok(sent),
+        Err(failure) => Err(failure.in_feed(first, server)),
+    }
+}
+
+/// Sends the records of files to a server, one file after the other, and shuts the sending half of the connection. The
+/// first file is opened before the connection is made.
+pub fn send_files<'a, R: Files<File = File> + Eprint + Clock + Net>(
+    rt: &R,
+    server: &'a str,
+    files: &[&'a str],
+    tally: &mut FeedTally,
+) -> Result<Option<SentFeed<R::Stream>>, Incident<'a>> {
+    let endpoint = server_of(server)?;
+    let Some((first, others)) = files.split_first() else {
+        return Ok(None);
+    };
+    let file = input(rt, first)?;
+    let feed = Feed::new(connection(rt, endpoint)?);
+    match send_over(rt, feed, tally, file, first, others, server) {
+        Ok(sent) => Ok(Some(sent)),
+        Err(incident) => Err(incident),
+    }
+}
+
+/// Says how many records were sent, how many of them no server takes, and why the first.
+fn tell_sent<R: Eprint>(rt: &R, count: u64, tally: &FeedTally) {
+    let _ = match tally.first() {
+        Some(first) => {
+            eprintln!(rt;
+                "sent {count} records, of which no server takes {}; {first}",
+                tally.refused()
+            )
+        }
+        None => eprintln!(rt; "sent {count} records"),
+    };
+}
+
+/// Sends the records of files to a server, and waits until it has read them. With `is_verbose` the last line of the
+/// standard error says how many they were, and how many of them no server takes.
+pub fn feed_files<'a, R: Files<File = File> + Eprint + Clock + Net>(
+    rt: &R,
+    server: &'a str,
+    files: &[&'a str],
+    is_verbose: bool,
+) -> Result<(), Incident<'a>> {
+    let mut tally = FeedTally::new();
+    let Some(sent) = send_files(rt, server, files, &mut tally)? else {
+        return Ok(());
+    };
+    match sent.wait() {
+        Ok(count) => {
+            if is_verbose {
+                tell_sent(rt, count, &tally);
+            }
+            Ok(())
+        }
+        Err(failure) => Err(failure.in_feed(server, server)),
+    }
+}

@@ -1,2 +1,0 @@
-pub mod ConfiguredLemmas
-mod Examples

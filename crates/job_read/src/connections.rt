@@ -1,0 +1,122 @@
+//! Connections to servers that are asked one after the other.
+use crate::reading::{Places, Reading, unlisted};
+use crate::sides::{AnswerCounter, CommandWriter};
+use incidents::{Failure, Incident};
+use job_base::{ServerAddress, connection, unconnected};
+use packet_listing::{ListingFault, Servers};
+use sl_io::Outer;
+use socket_ports::notice_silence;
+use std::cell::RefCell;
+use std::io;
+use std::net::{Net, OpenStream};
+use std::os::fd::AsRawFd;
+use std::rt::Clock;
+
+/// The servers of a reading, and whose turn it is.
+#[derive(Drop)]
+pub struct Connections<'r, 'a, 'w, R: Net> {
+    rt: &'r R,
+    reading: &'r Reading<'a, 'w>,
+    places: Places,
+    /// The connection that is read.
+    present: &'r RefCell<Option<R::Stream>>,
+}
+
+impl<'r, 'a, 'w, R: Eprint + Clock + Net> Connections<'r, 'a, 'w, R> {
+    /// No connection was made yet.
+    pub fn new(
+        rt: &'r R,
+        reading: &'r Reading<'a, 'w>,
+        present: &'r RefCell<Option<R::Stream>>,
+    ) -> Connections<'r, 'a, 'w, R> {
+        Connections {
+            rt,
+            reading,
+            places: Places::new(reading.servers.len()),
+            present,
+        }
+    }
+
+    /// The server whose turn it is.
+    pub fn server(&self) -> Result<ServerAddress<'a>, Incident<'a>> {
+        match self.reading.servers.get(self.places.place()) {
+            Some(server) => Ok(*server),
+            None => Err(Incident::from(Failure::Connect)),
+        }
+    }
+
+    /// The turn passes to the next server after a failure, unless that ends the reading.
+    fn pass(&mut self, incident: Incident<'a>) -> Result<(), Incident<'a>> {
+        self.reading
+            .pass_over(self.rt, incident, self.places.is_last())?;
+        self.places.pass();
+        Ok(())
+    }
+}
+
+/// What comes over a connection, and where commands go.
+type Connected<S> = (Outer<AnswerCounter<S>>, Outer<CommandWriter<S>>);
+
+/// Keeps a connection as the one that is read. `None` is kept when it is over.
+fn hold<S: Drop>(present: &RefCell<Option<S>>, stream: Option<S>) {
+    if let Ok(mut held) = present.try_borrow_mut() {
+        *held = stream;
+    }
+}
+
+/// Both sides of a connection, which ends if the server's machine is gone.
+fn sides<S: OpenStream + AsRawFd + Drop>(
+    stream: S,
+    present: &RefCell<Option<S>>,
+) -> io::Result<Connected<S>> {
+    notice_silence(&stream)?;
+    let writer = stream.try_clone()?;
+    hold(present, Some(stream.try_clone()?));
+    Ok((
+        Outer::new(AnswerCounter::new(stream)),
+        Outer::new(CommandWriter::new(writer)),
+    ))
+}
+
+/// A connection to a server.
+fn connected<'a, R: Net>(
+    rt: &R,
+    server: ServerAddress<'a>,
+    present: &RefCell<Option<R::Stream>>,
+) -> Result<Connected<R::Stream>, Incident<'a>> {
+    match sides(connection(rt, server)?, present) {
+        Ok(sides) => Ok(sides),
+        Err(reason) => Err(unconnected(server, reason)),
+    }
+}
+
+impl<'r, 'a, 'w, R: Eprint + Clock + Net> Servers for Connections<'r, 'a, 'w, R> {
+    type Reader = Outer<AnswerCounter<R::Stream>>;
+
+    type Writer = Outer<CommandWriter<R::Stream>>;
+
+    type Fault = Incident<'a>;
+
+    fn connect(&mut self) -> Result<Connected<R::Stream>, Incident<'a>> {
+        for _ in 0..u64::MAX {
+            let server = self.server()?;
+            match connected(self.rt, server, self.present) {
+                Ok(sides) => return Ok(sides),
+                Err(incident) => self.pass(incident)?,
+            }
+        }
+        Err(Incident::from(Failure::Connect))
+    }
+
+    fn pass_over(
+        &mut self,
+        fault: ListingFault,
+        reader: Outer<AnswerCounter<R::Stream>>,
+        _writer: Outer<CommandWriter<R::Stream>>,
+    ) -> Result<(), Incident<'a>> {
+        hold(self.present, None);
+        let failure = unlisted(fault, reader.into_inner().is_answered());
+        let server = self.server()?;
+        self.pass(failure.at_server(server.word))
+    }
+}

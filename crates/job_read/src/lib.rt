@@ -1,0 +1,12 @@
+//! The job `read`: servers that are asked one after the other, the moments that are asked for, where lines and records
+//! go, and the file that says how far a reader is. It does not know how a server is spoken with, nor what a line says.
+#![tactic(auto)]
+
+mod archiving;
+mod connections;
+mod reading;
+mod sides;
+mod states;
+mod windows;
+
+pub use reading::read_servers;

@@ -1,0 +1,376 @@
+//! Reads records from a server.
+ghost use Rattle.std.specs.Prelude.{◌≡◌};
+ghost use Rattle.job_read.specs.Endings.{goes_on, is_mendable, lost, unlisted};
+ghost use Rattle.job_read.specs.Places.{is_last_place, place_after};
+
+use crate::archiving::{Lasting, archive_at, at_archive, tell_unplaced};
+use crate::connections::Connections;
+use crate::states::{StateFile, StateKeeper};
+use crate::windows::Moments;
+use command_line::ReadOptions;
+use incidents::{Failure, Incident, Site};
+use job_base::{
+    ReasonKeeper, ServerAddress, StandardError as Eprinted, server_of, tell_incident, times_of,
+    unopened,
+};
+use packet_listing::{Break, ListingFault, Nowhere, follow};
+use record_listing::Times;
+use sl_io::{Outer, Sink};
+use slreader::{Tally, Want, Window};
+use std::alloc::{AllocError, Global};
+use std::cell::RefCell;
+use std::fs::{File, OpenOptions};
+use std::net::Net;
+use std::rt::{Clock, Files};
+use std::time::Duration;
+use std::{io, thread};
+
+/// The servers that a word names, with commas between them.
+fn servers_of<'a>(alloc: Global, word: &'a str) -> Result<Vec<ServerAddress<'a>>, Incident<'a>> {
+    let mut servers = Vec::new(alloc);
+    for part in word.split(',') {
+        let server = server_of(part)?;
+        servers
+            .push(server)
+            .map_err(|_| Incident::from(Failure::OutOfMemory))?;
+    }
+    Ok(servers)
+}
+
+/// What is read, and of which servers.
+#[derive(Drop)]
+pub struct Reading<'a, 'w> {
+    pub servers: Vec<ServerAddress<'a>>,
+    wants: Vec<Want<'w>>,
+    /// After how long the next server is asked, or the first one again, if none is to be left out for good.
+    pause: Option<Duration>,
+    is_verbose: bool,
+    /// How times are written.
+    times: Times,
+}
+
+impl<'a> Reading<'a, '_> {
+    /// Tells a failure after which the next server is asked, and waits before that: a server that is a moment behind
+    /// the last one would hand out records again. It fails with a failure that ends the reading.
+    pub fn pass_over<R: Eprint + Clock>(
+        &self,
+        rt: &R,
+        incident: Incident<'a>,
+        is_last: bool,
+    ) -> Result<(), Incident<'a>> {
+        if !goes_on(incident.failure, is_last, self.pause.is_some()) {
+            return Err(incident);
+        }
+        tell_incident(rt, incident, self.is_verbose);
+        if let Some(pause) = self.pause {
+            thread::sleep(rt, pause);
+        }
+        Ok(())
+    }
+}
+
+/// The place of the server that is asked, among so many.
+#[derive(Clone, Copy)]
+pub struct Places {
+    place: usize,
+    count: usize,
+}
+
+impl Places {
+    /// The first.
+    pub fn new(count: usize) -> Places
+        ensures { (result.place ≡ 0) × (result.count ≡ count) }
+    {
+        Places { place: 0, count }
+    }
+
+    /// Its place.
+    pub fn place(&self) -> usize
+        ensures { result ≡ self.now.place }
+    {
+        self.place
+    }
+
+    /// Whether none comes after it.
+    pub fn is_last(&self) -> bool
+        ensures { result ≡ is_last_place self.now.place self.now.count }
+    {
+        self.count.saturating_sub(self.place) <= 1
+    }
+
+    /// The next one, and after the last the first.
+    pub fn pass(&mut self)
+        ensures { self.new ≡ record self.old { place = place_after self.old.place self.old.count } }
+    {
+        self.place = if self.is_last() { 0 } else { self.place + 1 };
+    }
+}
+
+/// What the words of wants ask for.
+fn wants_of<'a: 'w, 'w>(
+    alloc: Global,
+    words: &[&'a str],
+    window: Window<'w>,
+) -> Result<Vec<Want<'w>>, Incident<'a>> {
+    let mut wants = Vec::new(alloc);
+    for word in words {
+        let want = want_of(alloc, word, window)?;
+        wants
+            .push(want)
+            .map_err(|_| Incident::from(Failure::OutOfMemory))?;
+    }
+    Ok(wants)
+}
+
+/// What the word of a want asks for.
+fn want_of<'a: 'w, 'w>(
+    alloc: Global,
+    word: &'a str,
+    window: Window<'w>,
+) -> Result<Want<'w>, Incident<'a>> {
+    match Want::parse(alloc, word.as_bytes(), window) {
+        Ok(want) => Ok(want),
+        Err(fault) => Err(Incident::of_want(word, window, fault)),
+    }
+}
+
+/// A file to which records are added.
+fn opened_to_add<'a, R: Files>(rt: &R, path: &'a str) -> Result<R::File, Incident<'a>> {
+    let mut options = OpenOptions::new();
+    options.append(true);
+    options.create(true);
+    match options.open(rt, path) {
+        Ok(file) => Ok(file),
+        Err(reason) => Err(Incident {
+            failure: Failure::File,
+            site: Site::Unopened(path, reason),
+        }),
+    }
+}
+
+/// Whether another connection may mend a failure: none could be made, or it ended before the end of the transfer.
+fn is_mendable(failure: Failure) -> bool
+    ensures { result ≡ is_mendable failure }
+{
+    matches!(
+        failure,
+        Failure::Connect | Failure::Unanswered | Failure::Packets(ListingFault::Read)
+    )
+}
+
+/// Whether another server is asked after a failure, or the first one again.
+fn goes_on(failure: Failure, is_last: bool, is_retried: bool) -> bool
+    ensures { result ≡ goes_on failure is_last is_retried }
+{
+    is_mendable(failure) && (is_retried || !is_last)
+}
+
+/// Asks one server after the other, and the first one again after a pause if there is one, each of them for what comes
+/// after the packets that were written. With a state it begins after what that tells of, and keeps there how far it is.
+/// A failure after which it goes on is told.
+fn list_on<'a, R, O: Sink, P: Sink + Lasting>(
+    rt: &R,
+    reading: &Reading<'a, '_>,
+    state: Option<StateFile<'a>>,
+    output: Option<File>,
+    out: &mut O,
+    records: &mut P,
+) -> Result<(), Incident<'a>>
+where
+    R: Files + Eprint + Clock + Net + AllocGlobal,
+{
+    match tally_after(rt.alloc(), &reading.wants, &state) {
+        Ok(mut tally) => list_after(rt, reading, &mut tally, state, output, out, records),
+        Err(AllocError) => Err(Incident::from(Failure::OutOfMemory)),
+    }
+}
+
+/// The same, after the packets that were counted.
+fn list_after<'a, R, O: Sink, P: Sink + Lasting>(
+    rt: &R,
+    reading: &Reading<'a, '_>,
+    tally: &mut Tally,
+    state: Option<StateFile<'a>>,
+    output: Option<File>,
+    out: &mut O,
+    records: &mut P,
+) -> Result<(), Incident<'a>>
+where
+    R: Files + Eprint + Clock + Net + AllocGlobal,
+{
+    let present = RefCell::new(None);
+    let mut servers = Connections::new(rt, reading, &present);
+    let mut keeper = StateKeeper::new(rt, state, &reading.wants, output, &present);
+    let read = follow(
+        rt.alloc(),
+        reading.times,
+        &reading.wants,
+        tally,
+        &mut servers,
+        out,
+        records,
+        &mut keeper,
+    );
+    match read {
+        Ok(()) => Ok(()),
+        Err(end) => Err(ended_by(end, servers.server(), keeper.site())),
+    }
+}
+
+/// Why a reading ended before its end: what no server mended, or what a listing met at a server, or where the state
+/// could not be kept.
+fn ended_by<'a>(
+    end: Break<Incident<'a>>,
+    server: Result<ServerAddress<'a>, Incident<'a>>,
+    site: Option<Site<'a>>,
+) -> Incident<'a> {
+    match end {
+        Break::Server(incident) => incident,
+        Break::Listing(fault) => match server {
+            Ok(server) => Failure::Packets(fault)
+                .at_server(server.word)
+                .at_state(site),
+            Err(incident) => incident,
+        },
+    }
+}
+
+/// What is counted before the first packet: what the state tells of, if there is one.
+fn tally_after(
+    alloc: Global,
+    wants: &[Want<'_>],
+    state: &Option<StateFile<'_>>,
+) -> Result<Tally, AllocError> {
+    match state {
+        Some(state) => Tally::after(alloc, wants, state.before()),
+        None => Tally::before(alloc, wants),
+    }
+}
+
+/// Why packets were not listed to the end, by whether HELLO was answered before.
+pub fn unlisted(fault: ListingFault, is_answered: bool) -> Failure
+    ensures { result ≡ unlisted fault is_answered }
+{
+    match fault {
+        ListingFault::Read => lost(is_answered),
+        _ => Failure::Packets(fault),
+    }
+}
+
+/// The connection ended before the end of the transfer, by whether HELLO was answered before.
+fn lost(is_answered: bool) -> Failure
+    ensures { result ≡ lost is_answered }
+{
+    if is_answered {
+        Failure::Packets(ListingFault::Read)
+    } else {
+        Failure::Unanswered
+    }
+}
+
+/// Lists packets on the standard output, and writes no records.
+fn list_lines<'a, R: Files + Print + Eprint + Clock + Net + AllocGlobal>(
+    rt: &R,
+    reading: &Reading<'a, '_>,
+    state: Option<StateFile<'a>>,
+) -> Result<(), Incident<'a>> {
+    let mut lines = Outer::new(io::writer(rt));
+    list_on(rt, reading, state, None, &mut lines, &mut Nowhere::new())
+}
+
+/// Lists packets on the standard error, and writes their records to the standard output.
+fn list_records<'a, R: Files + Print + Eprint + Clock + Net + AllocGlobal>(
+    rt: &R,
+    reading: &Reading<'a, '_>,
+    state: Option<StateFile<'a>>,
+) -> Result<(), Incident<'a>> {
+    let mut lines = Outer::new(Eprinted::new(rt));
+    let mut records = Outer::new(io::writer(rt));
+    list_on(rt, reading, state, None, &mut lines, &mut records)
+}
+
+/// Lists packets on the standard output, and adds their records to a file.
+fn list_and_add<'a, R: Files<File = File> + Print + Eprint + Clock + Net + AllocGlobal>(
+    rt: &R,
+    reading: &Reading<'a, '_>,
+    state: Option<StateFile<'a>>,
+    path: &'a str,
+) -> Result<(), Incident<'a>> {
+    let mut lines = Outer::new(io::writer(rt));
+    let file = opened_to_add(rt, path)?;
+    let same = match file.try_clone() {
+        Ok(same) => same,
+        Err(reason) => return Err(unopened(path, reason)),
+    };
+    let mut records = Outer::new(ReasonKeeper::new(file));
+    match list_on(rt, reading, state, Some(same), &mut lines, &mut records) {
+        Ok(()) => Ok(()),
+        Err(incident) => Err(incident.at_output(path, records.into_inner().into_reason())),
+    }
+}
+
+/// Lists packets on the standard output, and adds their records to an archive.
+fn list_and_archive<'a, R: Files<File = File> + Print + Eprint + Clock + Net + AllocGlobal>(
+    rt: &R,
+    reading: &Reading<'a, '_>,
+    state: Option<StateFile<'a>>,
+    top: &'a str,
+) -> Result<(), Incident<'a>> {
+    let mut lines = Outer::new(io::writer(rt));
+    let mut archive = archive_at(rt, top, state.is_some())?;
+    let read = list_on(rt, reading, state, None, &mut lines, &mut archive);
+    tell_unplaced(rt, &archive);
+    match read {
+        Ok(()) => Ok(()),
+        Err(incident) => Err(at_archive(incident, archive, top)),
+    }
+}
+
+/// The state in a file, if one is named.
+fn state_in<'a, R: Files + AllocGlobal>(
+    rt: &R,
+    path: Option<&'a str>,
+) -> Result<Option<StateFile<'a>>, Incident<'a>> {
+    match path {
+        Some(path) => Ok(Some(StateFile::open(rt, path)?)),
+        None => Ok(None),
+    }
+}
+
+/// Asks servers for records, and writes a line for each packet to the standard output. With an output each record is
+/// added to that file. If the output is `-`, records go to the standard output, and lines to the standard error. With
+/// an archive each record is added to the file of its stream and day. With a state the reading goes on after the
+/// packets that the state names, and the last packet of each station is kept in it.
+pub fn read_servers<'a, R: Files<File = File> + Print + Eprint + Clock + Net + AllocGlobal>(
+    rt: &R,
+    servers: &'a str,
+    wants: &[&'a str],
+    options: ReadOptions<'a>,
+    is_verbose: bool,
+) -> Result<(), Incident<'a>> {
+    let servers = servers_of(rt.alloc(), servers)?;
+    let moments = Moments::read(rt.alloc(), options)?;
+    let reading = Reading {
+        servers,
+        wants: wants_of(rt.alloc(), wants, moments.window())?,
+        pause: options.retry.map(|count| Duration::from_secs(count as u64)),
+        is_verbose,
+        times: times_of(options.is_iso),
+    };
+    read_to(rt, &reading, options)
+}
+
+/// Reads, with the outputs and the state of the options.
+fn read_to<'a, R: Files<File = File> + Print + Eprint + Clock + Net + AllocGlobal>(
+    rt: &R,
+    reading: &Reading<'a, '_>,
+    options: ReadOptions<'a>,
+) -> Result<(), Incident<'a>> {
+    let state = state_in(rt, options.state)?;
+    match (options.archive, options.output) {
+        (Some(top), _) => list_and_archive(rt, reading, state, top),
+        (None, None) => list_lines(rt, reading, state),
+        (None, Some("-")) => list_records(rt, reading, state),
+        (None, Some(path)) => list_and_add(rt, reading, state, path),
+    }
+}

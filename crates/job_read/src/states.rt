@@ -1,0 +1,276 @@
+//! The file in which a reader keeps how far it is, and when it does.
+ghost use Rattle.std.specs.Prelude.{◌≡◌, None};
+ghost use Rattle.sl_io.specs.Counts.{CountsFailure};
+
+use crate::archiving::Lasting;
+use incidents::{Failure, Incident, Site, StateFault};
+use job_base::replace;
+use packet_listing::{KeepFault, Keeper};
+use reader_state::{read_state, write_state};
+use sl_io::{Outer, ReadFault, Sink, read_all};
+use slreader::{LastPacket, Tally, Want};
+use std::alloc::{AllocError, Global};
+use std::cell::RefCell;
+use std::fs::File;
+use std::io::ErrorKind;
+use std::net::{Net, OpenStream};
+use std::rt::{Clock, Files};
+use std::time::Duration;
+use std::{fs, io};
+
+/// How many milliseconds lie at least between two times that a state is kept.
+const EVERY: u64 = 1_000;
+
+/// A file with the state of a reader: what it said when the reader began, and what it is to say.
+#[derive(Drop)]
+pub struct StateFile<'a> {
+    path: &'a str,
+    /// Another name in the same folder, under which the file is written anew.
+    new_path: String,
+    /// The last packets that it told of when the reader began.
+    before: Vec<LastPacket>,
+    text: Vec<u8>,
+}
+
+impl<'a> StateFile<'a> {
+    /// Reads a state. A file that is not there tells of no packet.
+    pub fn open<R: Files + AllocGlobal>(
+        rt: &R,
+        path: &'a str,
+    ) -> Result<StateFile<'a>, Incident<'a>> {
+        let before = lasts_at(rt, path)?;
+        match StateFile::of(rt.alloc(), path, before) {
+            Ok(file) => Ok(file),
+            Err(_) => Err(Incident::from(Failure::OutOfMemory)),
+        }
+    }
+
+    /// A file that told of these packets.
+    fn of(
+        alloc: Global,
+        path: &'a str,
+        before: Vec<LastPacket>,
+    ) -> Result<StateFile<'a>, AllocError> {
+        let new_path = format!(in alloc; "{path}.new")?;
+        Ok(StateFile {
+            path,
+            new_path,
+            before,
+            text: Vec::new(alloc),
+        })
+    }
+
+    /// The last packets that it told of when the reader began.
+    pub fn before(&self) -> &[LastPacket] {
+        self.before.as_slice()
+    }
+
+    /// Where it is.
+    pub fn path(&self) -> &'a str {
+        self.path
+    }
+
+    /// The file is written anew under another name, which then takes its place.
+    fn keep<R: Files + AllocGlobal>(
+        &mut self,
+        rt: &R,
+        tally: &Tally,
+        wants: &[Want<'_>],
+    ) -> io::Result<()> {
+        let written = write_state(
+            rt.alloc(),
+            &mut self.text,
+            tally,
+            wants,
+            self.before.as_slice(),
+        );
+        if written.is_err() {
+            return Err(io::Error::from(ErrorKind::OutOfMemory));
+        }
+        replace(rt, self.new_path.as_str(), self.path, self.text.as_slice())
+    }
+}
+
+/// The last packets that a file tells of; none if it is not there.
+fn lasts_at<'a, R: Files + AllocGlobal>(
+    rt: &R,
+    path: &'a str,
+) -> Result<Vec<LastPacket>, Incident<'a>> {
+    match fs::open(rt, path) {
+        Ok(file) => lasts_in(rt.alloc(), file, path),
+        Err(reason) if reason.kind() == ErrorKind::NotFound => Ok(Vec::new(rt.alloc())),
+        Err(reason) => Err(Incident {
+            failure: Failure::State(StateFault::Unread),
+            site: Site::Unopened(path, reason),
+        }),
+    }
+}
+
+/// The last packets that a file tells of which is open.
+fn lasts_in<'a, F: io::Read + Drop>(
+    alloc: Global,
+    file: F,
+    path: &'a str,
+) -> Result<Vec<LastPacket>, Incident<'a>> {
+    let mut file = Outer::new(file);
+    let text = match read_all(alloc, &mut file) {
+        Ok(text) => text,
+        Err(ReadFault::OutOfMemory) => return Err(Failure::OutOfMemory.in_file(path)),
+        Err(ReadFault::Read) => return Err(Failure::State(StateFault::Unread).in_file(path)),
+    };
+    match read_state(alloc, text.as_slice()) {
+        Ok(lasts) => Ok(lasts),
+        Err(reader_state::StateFault::OutOfMemory) => Err(Failure::OutOfMemory.in_file(path)),
+        Err(reader_state::StateFault::Invalid) => {
+            Err(Failure::State(StateFault::Invalid).in_file(path))
+        }
+    }
+}
+
+/// Keeps the state of a reader in its file, if it has one, at most once a second while packets come, and once nothing
+/// came up to the end of that second.
+#[derive(Drop)]
+pub struct StateKeeper<'r, 'a, 'w, R: Net> {
+    rt: &'r R,
+    file: Option<StateFile<'a>>,
+    wants: &'r [Want<'w>],
+    /// The file to which records are added, if they are, once more.
+    output: Option<File>,
+    /// The connection that is read.
+    present: &'r RefCell<Option<R::Stream>>,
+    /// When the state was kept last, in milliseconds.
+    kept: u64,
+    reason: Option<io::Error>,
+    failures: u64,
+}
+
+impl<'r, 'a, 'w, R: Net> StateKeeper<'r, 'a, 'w, R> {
+    /// A keeper that has kept nothing yet.
+    pub fn new(
+        rt: &'r R,
+        file: Option<StateFile<'a>>,
+        wants: &'r [Want<'w>],
+        output: Option<File>,
+        present: &'r RefCell<Option<R::Stream>>,
+    ) -> StateKeeper<'r, 'a, 'w, R> {
+        StateKeeper {
+            rt,
+            file,
+            wants,
+            output,
+            present,
+            kept: 0,
+            reason: None,
+            failures: 0,
+        }
+    }
+
+    /// Where the state could not be kept, if that is what ended the reading.
+    pub fn site(self) -> Option<Site<'a>> {
+        match (self.file, self.reason) {
+            (Some(file), Some(reason)) => Some(Site::Unwritten(file.path, reason)),
+            _ => None,
+        }
+    }
+
+    /// A call failed for that reason.
+    fn fail(&mut self, reason: io::Error) -> Result<(), KeepFault>
+        ensures { CountsFailure self.old.failures self.new.failures result }
+    {
+        self.reason = Some(reason);
+        self.failures = self.failures.wrapping_add(1);
+        Err(KeepFault)
+    }
+
+    /// Whether the connection brings nothing for so many milliseconds. One that can't be asked brings nothing.
+    fn is_silent(&self, milliseconds: u64) -> bool {
+        match self.present.try_borrow() {
+            Ok(present) => match present.as_ref() {
+                Some(stream) => is_silent(stream, Duration::from_millis(milliseconds)),
+                None => true,
+            },
+            Err(_) => true,
+        }
+    }
+}
+
+/// Whether a connection brings nothing for a while. One that can't be asked brings nothing.
+fn is_silent<S: OpenStream>(stream: &S, time: Duration) -> bool {
+    if stream.set_read_timeout(Some(time)).is_err() {
+        return true;
+    }
+    let mut byte = [0u8; 1];
+    let looked = stream.peek(&mut byte);
+    let reset = stream.set_read_timeout(None);
+    looked.is_err() || reset.is_err()
+}
+
+impl<'r, 'a, 'w, R: Clock + Net> StateKeeper<'r, 'a, 'w, R> {
+    /// Milliseconds of the system's clock; 0 where it can't be read.
+    fn now(&self) -> u64 {
+        match self.rt.monotonic() {
+            Ok(now) => u64::try_from(now.as_millis()).unwrap_or(u64::MAX),
+            Err(_) => 0,
+        }
+    }
+}
+
+impl<'r, 'a, 'w, R, P> Keeper<P> for StateKeeper<'r, 'a, 'w, R>
+where
+    R: Files + Clock + Net + AllocGlobal,
+    P: Sink + Lasting,
+{
+    ghost done = { λ _. None };
+
+    ghost failures = { λ k. k.failures };
+
+    fn is_due(&mut self) -> bool {
+        if self.file.is_none() {
+            return false;
+        }
+        let passed = self.now().saturating_sub(self.kept);
+        if passed < EVERY && !self.is_silent(EVERY - passed) {
+            return false;
+        }
+        self.kept = self.now();
+        true
+    }
+
+    fn flush(&mut self, records: &P) -> Result<(), KeepFault> {
+        if self.file.is_none() {
+            return Ok(());
+        }
+        match last_all(records, &self.output) {
+            Ok(()) => Ok(()),
+            Err(reason) => self.fail(reason),
+        }
+    }
+
+    fn keep(&mut self, tally: &Tally) -> Result<(), KeepFault> {
+        let kept = match &mut self.file {
+            Some(file) => file.keep(self.rt, tally, self.wants),
+            None => Ok(()),
+        };
+        match kept {
+            Ok(()) => Ok(()),
+            Err(reason) => self.fail(reason),
+        }
+    }
+}
+
+/// Makes what was written last, in records and in a file to which they are added.
+fn last_all<P: Lasting>(records: &P, output: &Option<File>) -> io::Result<()> {
+    records.make_last()?;
+    match output {
+        Some(file) => synced(file),
+        None => Ok(()),
+    }
+}
+
+/// Has the system put on the disk what was written to a file. One that lies on no disk, as a pipe, has no need of it.
+fn synced(file: &File) -> io::Result<()> {
+    match file.sync_data() {
+        Err(reason) if reason.kind() != ErrorKind::InvalidInput => Err(reason),
+        _ => Ok(()),
+    }
+}

@@ -1,0 +1,3 @@
+pub mod Admitting
+pub mod Configured
+pub mod Serving

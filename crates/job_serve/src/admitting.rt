@@ -1,0 +1,38 @@
+//! Who may connect to a server, by the words of its command line.
+ghost use Rattle.std.specs.Prelude.{◌≡◌, ◌≢◌, IfErr, IfOk};
+ghost use Rattle.job_serve.specs.Admitting.{FeedsFrom, RefusesList};
+ghost use Rattle.incidents.specs.declared.failure.Failure.TheVariants.{OutOfMemory};
+
+use access_list::AccessList;
+use incidents::{Failure, Incident};
+use socket_ports::Admission;
+use std::alloc::Global;
+
+/// Who may connect: feeds from the addresses of a list alone, if a word has one, and at most so many clients of one
+/// address.
+///
+/// It fails with the fault of the first invalid entry of the list, or with OutOfMemory if there is no memory.
+pub fn admission_of<'a>(
+    alloc: Global,
+    feed_from: Option<&'a str>,
+    per_address: Option<usize>,
+) -> Result<Admission, Incident<'a>>
+    ensures feeds { IfOk result (λ admission. FeedsFrom feed_from.entry admission.feed_from) }
+    ensures clients { IfOk result (λ admission. admission.per_address ≡ per_address) }
+    ensures refused { IfErr result (λ incident. incident.failure ≢ OutOfMemory →
+        RefusesList feed_from.entry incident) }
+{
+    let Some(word) = feed_from else {
+        return Ok(Admission {
+            feed_from: None,
+            per_address,
+        });
+    };
+    match AccessList::parse(alloc, word.as_bytes()) {
+        Ok(list) => Ok(Admission {
+            feed_from: Some(list),
+            per_address,
+        }),
+        Err(fault) => Err(Incident::of_list(word, fault)),
+    }
+}

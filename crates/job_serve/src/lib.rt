@@ -1,0 +1,13 @@
+//! The job `serve`: a server over sockets, whom it takes, which file of numbers it keeps, and what it asks and tells
+//! between its turns. It does not know how a client is answered.
+#![tactic(auto)]
+
+mod admitting;
+mod configured;
+mod numbers;
+mod operator;
+mod sockets;
+mod visits;
+
+pub use operator::ServeOptions;
+pub use sockets::serve_sockets;

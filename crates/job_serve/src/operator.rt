@@ -1,0 +1,263 @@
+//! What a server asks and reports between its turns, over the file of its configuration and lines to standard error.
+ghost use Rattle.std.specs.Prelude.{◌≡◌, ◌∷◌, [], None, IfErr, IfOk};
+ghost use Rattle.serving.specs.Asked.{Tells};
+ghost use Rattle.serving.specs.Asked.Asked.{Looks, Refuses};
+ghost use Rattle.serving.specs.Paces.{IsPaced};
+ghost use Rattle.serving.specs.declared.faults.ServeFault.TheVariants.{OutOfMemory, Poll};
+ghost use Rattle.incidents.specs.declared.failure.Failure.TheVariants.{Serve};
+ghost use Rattle.job_serve.specs.Serving.{ServedByFile, EndedByFile};
+ghost use Rattle.incidents.specs.declared.incident.Incident.{Incident};
+
+use crate::numbers::NumberFile;
+use crate::visits::SharedLines;
+use catalog::Config;
+use config_findings::{Difference, first_difference};
+use error_lines::{Device, Line};
+use incidents::{Failure, Incident, Site, Told};
+use job_base::config_at;
+use ports::Ports;
+use serving::{Activity, Ahead, Between, Due, Pace, Refusal, ServeFault, Timetable, serve_between};
+use std::fmt::Write;
+use std::rt::{Clock, Files};
+use std::time::Duration;
+
+/// Whom a server takes, what it does between its turns, and how it tells it.
+#[derive(Clone, Copy)]
+pub struct ServeOptions<'a> {
+    /// The file of its configuration.
+    pub path: &'a str,
+    /// The file of its numbers, if it has one.
+    pub numbers: Option<&'a str>,
+    /// The addresses that feeds are taken from; all without a list.
+    pub feed_from: Option<&'a str>,
+    /// How many clients of one address are taken; any number without one.
+    pub per_address: Option<usize>,
+    pub timetable: Timetable,
+    /// Every how many seconds the configuration is read again, and it is reported what was done.
+    pub reread_seconds: Option<usize>,
+    pub report_seconds: Option<usize>,
+    /// Whether a configuration that is not taken is explained.
+    pub is_verbose: bool,
+    /// Whether it is told who comes and goes.
+    pub log: bool,
+}
+
+/// The files of a configuration and of numbers, and lines to a device that never waits: whoever reads them can't stop
+/// the server.
+#[derive(Drop)]
+pub struct Operator<'r, 'a, 'l, R, D> {
+    rt: &'r R,
+    path: &'a str,
+    /// When the server began, by the system's clock, and what is done by it.
+    began: Duration,
+    reread: Pace,
+    report: Pace,
+    numbers: Option<NumberFile<'a>>,
+    /// Whether numbers were kept, and else where they could not be.
+    has_kept: bool,
+    unkept: Site<'a>,
+    is_verbose: bool,
+    errors: &'l SharedLines<D>,
+    /// The configuration that the server began with.
+    begun: Config,
+    /// What the configuration that was read last differs in first, but for access lists.
+    difference: Option<Difference>,
+}
+
+impl<'r, 'a, 'l, R, D: Device> Operator<'r, 'a, 'l, R, D> {
+    /// Tells an incident that ends nothing.
+    fn tell(&mut self, incident: &Incident<'_>) {
+        self.errors.write_line(&line_of(incident, self.is_verbose));
+    }
+
+    /// Tells that the configuration that was read last differs in more than access lists.
+    fn tell_difference(&mut self) {
+        let incident = Incident::of_difference(self.path, self.difference.take());
+        self.tell(&incident);
+    }
+
+    /// Tells that numbers could not be kept; before any were kept, that ends the run, which tells it then.
+    fn note_unkept(&mut self, incident: Incident<'a>) {
+        if self.has_kept {
+            self.tell(&incident);
+        } else {
+            self.unkept = incident.site;
+        }
+    }
+}
+
+impl<'r, 'a, 'l, R: Clock + AllocGlobal, D> Operator<'r, 'a, 'l, R, D> {
+    /// An operator that begins with a configuration now. It fails only for want of memory.
+    fn new(
+        rt: &'r R,
+        config: &Config,
+        options: ServeOptions<'a>,
+        numbers: Option<NumberFile<'a>>,
+        errors: &'l SharedLines<D>,
+    ) -> Result<Operator<'r, 'a, 'l, R, D>, Incident<'a>>
+        ensures { IfErr result (λ incident. incident.failure ≡ Serve OutOfMemory) }
+    {
+        let Ok(begun) = config.copy(rt.alloc()) else {
+            return Err(Incident {
+                failure: Failure::Serve(ServeFault::OutOfMemory),
+                site: Site::Unnamed,
+            });
+        };
+        Ok(Operator {
+            rt,
+            path: options.path,
+            began: rt.monotonic().unwrap_or(Duration::ZERO),
+            reread: Pace::new(options.reread_seconds),
+            report: Pace::new(options.report_seconds),
+            numbers,
+            has_kept: false,
+            unkept: Site::Unnamed,
+            is_verbose: options.is_verbose,
+            errors,
+            begun,
+            difference: None,
+        })
+    }
+}
+
+impl<'r, 'a, 'l, R, D> Operator<'r, 'a, 'l, R, D> {
+    /// What ended a run, and where, if that is known.
+    fn incident_of(self, fault: ServeFault) -> Incident<'a>
+        ensures { result.failure ≡ Serve fault }
+    {
+        let unkept = self.unkept;
+        Incident {
+            failure: Failure::Serve(fault),
+            site: match fault {
+                ServeFault::Numbers => unkept,
+                _ => Site::Unnamed,
+            },
+        }
+    }
+}
+
+impl<'r, 'a, 'l, R: Clock, D> Operator<'r, 'a, 'l, R, D> {
+    /// How many milliseconds have passed since the server began, if the system can tell the time.
+    fn passed(&self) -> Option<u64> {
+        match self.rt.monotonic() {
+            Ok(now) => {
+                let passed = now.saturating_sub(self.began).as_millis();
+                Some(u64::try_from(passed).unwrap_or(u64::MAX))
+            }
+            Err(_) => None,
+        }
+    }
+}
+
+/// What is told of an incident, without its last line's end. What is too long is left out.
+fn line_of(incident: &Incident<'_>, is_verbose: bool) -> Line {
+    let mut line = Line::new();
+    let _ = write!(
+        line,
+        "{}",
+        Told {
+            incident,
+            is_verbose
+        }
+    );
+    if line.as_str().ends_with('\n') {
+        let _end = line.pop();
+    }
+    line
+}
+
+impl<'r, 'a, 'l, R: Files + Clock + AllocGlobal, D: Device> Between for Operator<'r, 'a, 'l, R, D> {
+    type Fault = Incident<'a>;
+
+    // What a clock tells, a file holds and the standard error takes, no contract can say.
+    ghost asked = { λ _. None };
+
+    /// By one look at the clock.
+    fn due(&mut self) -> Due
+        ensures call { Tells {F = Incident} None None (Looks result ∷ []) }
+        ensures paced { IsPaced self.old.reread self.old.report result self.new.reread self.new.report }
+    {
+        let now = self.passed();
+        Due {
+            reread: self.reread.comes(now),
+            report: self.report.comes(now),
+        }
+    }
+
+    fn configuration(&mut self) -> Result<Config, Incident<'a>> {
+        let mut config = config_at(self.rt, self.path)?;
+        if let Some(file) = &self.numbers {
+            file.begin(&mut config);
+        }
+        self.difference = match first_difference(self.rt.alloc(), &self.begun, &config) {
+            Ok(difference) => difference,
+            Err(_) => None,
+        };
+        Ok(config)
+    }
+
+    fn refused(&mut self, refusal: Refusal<Incident<'a>>)
+        ensures call { Tells None None (Refuses refusal.entry ∷ []) }
+    {
+        match refusal {
+            Refusal::Unread(incident) => self.tell(&incident),
+            Refusal::Different => self.tell_difference(),
+            Refusal::Unkept(incident) => self.note_unkept(incident),
+        }
+    }
+
+    /// In the line `seedlinkd: clients 3, feeds 1, records 1200, refused 2`.
+    fn report(&mut self, activity: Activity) {
+        let mut line = Line::new();
+        let _ = write!(line, "seedlinkd: {activity}");
+        self.errors.write_line(&line);
+    }
+
+    fn keep(&mut self, numbers: &Ahead<'_>) -> Result<(), Incident<'a>> {
+        let Some(file) = &mut self.numbers else {
+            return Ok(());
+        };
+        file.keep(self.rt, numbers)?;
+        self.has_kept = true;
+        Ok(())
+    }
+}
+
+/// Runs a new server with a configuration over ports, beside its operator, and gives the ports back.
+fn serve_beside<'r, 'a, R: Files + Clock + AllocGlobal, P: Ports + Drop, D: Device + Drop>(
+    config: Config,
+    ports: P,
+    mut operator: Operator<'r, 'a, '_, R, D>,
+    timetable: Timetable,
+) -> Result<P, Incident<'a>>
+    ensures served { IfOk result (λ left. ServedByFile timetable config (P.calls ports) (P.calls left)) }
+    ensures ended { IfErr result (λ incident. incident.failure ≡ Serve Poll →
+        EndedByFile timetable config (P.calls ports)) }
+{
+    let alloc = operator.rt.alloc();
+    match serve_between(alloc, config, ports, &mut operator, timetable) {
+        Ok(ports) => Ok(ports),
+        Err(fault) => Err(operator.incident_of(fault)),
+    }
+}
+
+/// Runs a new server with the configuration that was read from a file over ports, as the options say, with lines to a
+/// device and the numbers in a file, if there is one, and gives the ports back.
+pub fn serve_by<'a, R: Files + Clock + AllocGlobal, P: Ports + Drop, D: Device + Drop>(
+    rt: &R,
+    config: Config,
+    ports: P,
+    options: ServeOptions<'a>,
+    numbers: Option<NumberFile<'a>>,
+    errors: &SharedLines<D>,
+) -> Result<P, Incident<'a>>
+    ensures served { IfOk result (λ left.
+        ServedByFile options.entry.timetable config (P.calls ports) (P.calls left)) }
+    ensures ended { IfErr result (λ incident. incident.failure ≡ Serve Poll →
+        EndedByFile options.entry.timetable config (P.calls ports)) }
+{
+    match Operator::new(rt, &config, options, numbers, errors) {
+        Ok(operator) => serve_beside(config, ports, operator, options.timetable),
+        Err(incident) => Err(incident),
+    }
+}

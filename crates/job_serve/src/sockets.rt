@@ -1,0 +1,162 @@
+//! A server over sockets.
+ghost use Rattle.std.specs.Prelude.{◌≡◌, IfOk};
+
+use crate::admitting::admission_of;
+use crate::configured::ConfiguredRecords;
+use crate::numbers::NumberFile;
+use crate::operator::{ServeOptions, serve_by};
+use crate::visits::{SharedLines, VisitLines};
+use catalog::Config;
+use error_lines::{Device, StandardError};
+use incidents::{Failure, Incident, Site};
+use job_base::{ServerAddress, checked_config_at, config_at, server_of};
+use logged_ports::LoggedPorts;
+use serving::ServeFault;
+use socket_ports::{Admission, MioPorts};
+use std::alloc::{AllocError, Global};
+use std::net::Net;
+use std::os::fd::AsRawFd;
+use std::rt::{Clock, Files};
+
+/// Listens at two addresses, for clients and for feeds, of which those are taken that are admitted.
+fn listen_at<'a, R: Net + AllocGlobal>(
+    rt: &R,
+    clients: ServerAddress<'a>,
+    feeds: ServerAddress<'a>,
+    admission: Admission,
+) -> Result<MioPorts, Incident<'a>> {
+    let for_clients = clients.endpoint.socket_address();
+    let for_feeds = feeds.endpoint.socket_address();
+    match MioPorts::listen_to(rt, rt.alloc(), for_clients, for_feeds, admission) {
+        Ok(ports) => Ok(ports),
+        Err(error) => Err(Incident::of_listening(clients.word, feeds.word, error)),
+    }
+}
+
+/// Serves clients and feeds as the options say, and then sends what was not sent yet. If faults are explained, the keys
+/// of the configuration that are not known are named first.
+pub fn serve_sockets<'a, R: Files + Eprint + Clock + Net + AllocGlobal>(
+    rt: &R,
+    listen: &'a str,
+    feed: &'a str,
+    options: ServeOptions<'a>,
+) -> Result<(), Incident<'a>>
+where
+    R::File: AsRawFd,
+{
+    let clients = server_of(listen)?;
+    let feeds = server_of(feed)?;
+    let admission = admission_of(rt.alloc(), options.feed_from, options.per_address)?;
+    let config = if options.is_verbose {
+        checked_config_at(rt, options.path)?
+    } else {
+        config_at(rt, options.path)?
+    };
+    serve_with(rt, clients, feeds, admission, config, options)
+}
+
+/// Serves those who are admitted, with a configuration that was read.
+fn serve_with<'a, R: Files + Eprint + Clock + Net + AllocGlobal>(
+    rt: &R,
+    clients: ServerAddress<'a>,
+    feeds: ServerAddress<'a>,
+    admission: Admission,
+    mut config: Config,
+    options: ServeOptions<'a>,
+) -> Result<(), Incident<'a>>
+where
+    R::File: AsRawFd,
+{
+    let numbers = numbers_for(rt, options.numbers, &mut config)?;
+    match listen_at(rt, clients, feeds, admission) {
+        Ok(ports) => serve_to_the_end(rt, config, ports, options, numbers),
+        Err(incident) => Err(incident),
+    }
+}
+
+/// Serves over ports that are listened on, and then sends what was not sent yet.
+fn serve_to_the_end<'a, R: Files + Eprint + Clock + AllocGlobal>(
+    rt: &R,
+    config: Config,
+    ports: MioPorts,
+    options: ServeOptions<'a>,
+    numbers: Option<NumberFile<'a>>,
+) -> Result<(), Incident<'a>>
+where
+    R::File: AsRawFd,
+{
+    let mut ports = serve_over(rt, config, ports, options, numbers)?;
+    ports.finish();
+    Ok(())
+}
+
+/// Serves over ports that are listened on, with lines to the standard error, and gives the ports back.
+fn serve_over<'a, R: Files + Eprint + Clock + AllocGlobal>(
+    rt: &R,
+    config: Config,
+    ports: MioPorts,
+    options: ServeOptions<'a>,
+    numbers: Option<NumberFile<'a>>,
+) -> Result<MioPorts, Incident<'a>>
+where
+    R::File: AsRawFd,
+{
+    let lines = SharedLines::new(StandardError::open(rt));
+    if options.log {
+        serve_logged(rt, config, ports, options, numbers, &lines)
+    } else {
+        serve_by(rt, config, ports, options, numbers, &lines)
+    }
+}
+
+/// Ports that tell who comes and goes, and how many records of each feed were refused. A reread never changes the
+/// stations, so the judge keeps a copy of the configuration from the start.
+fn ports_that_log<'l, D: Device + Drop>(
+    alloc: Global,
+    config: &Config,
+    ports: MioPorts,
+    lines: &'l SharedLines<D>,
+) -> Result<LoggedPorts<MioPorts, VisitLines<'l, D>, ConfiguredRecords>, AllocError>
+    ensures inner { IfOk result (λ logged. logged.inner ≡ ports) }
+    ensures judge { IfOk result (λ logged. logged.judge.config ≡ config.now) }
+{
+    let judge = ConfiguredRecords::new(config.copy(alloc)?);
+    let most = config.max_connections();
+    LoggedPorts::new(alloc, ports, most, VisitLines::new(lines), judge)
+}
+
+/// Serves as the options say, and tells who comes and goes.
+fn serve_logged<'a, R: Files + Clock + AllocGlobal, D: Device + Drop>(
+    rt: &R,
+    config: Config,
+    ports: MioPorts,
+    options: ServeOptions<'a>,
+    numbers: Option<NumberFile<'a>>,
+    lines: &SharedLines<D>,
+) -> Result<MioPorts, Incident<'a>> {
+    let Ok(logged) = ports_that_log(rt.alloc(), &config, ports, lines) else {
+        return Err(Incident {
+            failure: Failure::Serve(ServeFault::OutOfMemory),
+            site: Site::Unnamed,
+        });
+    };
+    match serve_by(rt, config, logged, options, numbers, lines) {
+        Ok(logged) => {
+            let (ports, _journal) = logged.into_parts();
+            Ok(ports)
+        }
+        Err(incident) => Err(incident),
+    }
+}
+
+/// The file of numbers that is named, with which the stations of a configuration begin.
+fn numbers_for<'a, R: Files + AllocGlobal>(
+    rt: &R,
+    path: Option<&'a str>,
+    config: &mut Config,
+) -> Result<Option<NumberFile<'a>>, Incident<'a>> {
+    match path {
+        Some(path) => Ok(Some(NumberFile::open(rt, path, config)?)),
+        None => Ok(None),
+    }
+}
