@@ -223,24 +223,6 @@ impl<'r, 'a, 'l, R: Files + Clock + AllocGlobal, D: Device> Between for Operator
     }
 }
 
-/// Runs a new server with a configuration over ports, beside its operator, and gives the ports back.
-fn serve_beside<'r, 'a, R: Files + Clock + AllocGlobal, P: Ports + Drop, D: Device + Drop>(
-    config: Config,
-    ports: P,
-    mut operator: Operator<'r, 'a, '_, R, D>,
-    timetable: Timetable,
-) -> Result<P, Incident<'a>>
-    ensures served { IfOk result (λ left. ServedByFile timetable config (P.calls ports) (P.calls left)) }
-    ensures ended { IfErr result (λ incident. incident.failure ≡ Serve Poll →
-        EndedByFile timetable config (P.calls ports)) }
-{
-    let alloc = operator.rt.alloc();
-    match serve_between(alloc, config, ports, &mut operator, timetable) {
-        Ok(ports) => Ok(ports),
-        Err(fault) => Err(operator.incident_of(fault)),
-    }
-}
-
 /// Runs a new server with the configuration that was read from a file over ports, as the options say, with lines to a
 /// device and the numbers in a file, if there is one, and gives the ports back.
 pub fn serve_by<'a, R: Files + Clock + AllocGlobal, P: Ports + Drop, D: Device + Drop>(
@@ -256,8 +238,12 @@ pub fn serve_by<'a, R: Files + Clock + AllocGlobal, P: Ports + Drop, D: Device +
     ensures ended { IfErr result (λ incident. incident.failure ≡ Serve Poll →
         EndedByFile options.entry.timetable config (P.calls ports)) }
 {
-    match Operator::new(rt, &config, options, numbers, errors) {
-        Ok(operator) => serve_beside(config, ports, operator, options.timetable),
-        Err(incident) => Err(incident),
+    let mut operator = match Operator::new(rt, &config, options, numbers, errors) {
+        Ok(operator) => operator,
+        Err(incident) => return Err(incident),
+    };
+    match serve_between(rt.alloc(), config, ports, &mut operator, options.timetable) {
+        Ok(ports) => Ok(ports),
+        Err(fault) => Err(operator.incident_of(fault)),
     }
 }

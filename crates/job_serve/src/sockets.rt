@@ -55,7 +55,7 @@ where
     serve_with(rt, clients, feeds, admission, config, options)
 }
 
-/// Serves those who are admitted, with a configuration that was read.
+/// Serves those who are admitted, with a configuration that was read, and then sends what was not sent yet.
 fn serve_with<'a, R: Files + Eprint + Clock + Net + AllocGlobal>(
     rt: &R,
     clients: ServerAddress<'a>,
@@ -68,23 +68,7 @@ where
     R::File: AsRawFd,
 {
     let numbers = numbers_for(rt, options.numbers, &mut config)?;
-    match listen_at(rt, clients, feeds, admission) {
-        Ok(ports) => serve_to_the_end(rt, config, ports, options, numbers),
-        Err(incident) => Err(incident),
-    }
-}
-
-/// Serves over ports that are listened on, and then sends what was not sent yet.
-fn serve_to_the_end<'a, R: Files + Eprint + Clock + AllocGlobal>(
-    rt: &R,
-    config: Config,
-    ports: MioPorts,
-    options: ServeOptions<'a>,
-    numbers: Option<NumberFile<'a>>,
-) -> Result<(), Incident<'a>>
-where
-    R::File: AsRawFd,
-{
+    let ports = listen_at(rt, clients, feeds, admission)?;
     let mut ports = serve_over(rt, config, ports, options, numbers)?;
     ports.finish();
     Ok(())
