@@ -71,10 +71,29 @@ pub fn unopened<'a>(path: &'a str, reason: io::Error) -> Incident<'a> {
     }
 }
 
-/// Writes a file under another name first, which takes the file's place once all of it is on the disk.
+/// Writes a file under another name first, which takes the file's place once all of it is on the disk. Then its folder
+/// is put on the disk too, as far as the system does that for folders.
 pub fn replace<R: Files>(rt: &R, new_path: &str, path: &str, text: &[u8]) -> io::Result<()> {
     let mut file = fs::create(rt, new_path)?;
     file.write_all(text)?;
     file.sync_all()?;
-    fs::rename(rt, new_path, path)
+    fs::rename(rt, new_path, path)?;
+    sync_folder(rt, path);
+    Ok(())
+}
+
+/// Puts the folder of a file on the disk. What fails is passed over, since some systems don't do it for folders.
+fn sync_folder<R: Files>(rt: &R, path: &str) {
+    if let Ok(folder) = fs::open(rt, folder_of(path)) {
+        let _ = folder.sync_all();
+    }
+}
+
+/// The folder that a path lies in.
+fn folder_of(path: &str) -> &str {
+    match path.rsplit_once('/') {
+        Some(("", _)) => "/",
+        Some((folder, _)) => folder,
+        None => ".",
+    }
 }

@@ -1,15 +1,14 @@
 //! The records of a reader go to a server's feed port.
-ghost use Rattle.std.specs.Prelude.{◌≡◌, ◌<◌, [], length, IfErr, IfOk, IfSome, MatchResult, OnErr, OnOk};
+ghost use Rattle.std.specs.Prelude.{◌≡◌, ◌≢◌, ◌<◌, ◌⊎◌, [], length, IfErr, IfOk, IfSome, MatchResult, OnErr, OnOk};
 ghost use Rattle.std.specs.Io.KnownBytes.{Appends, IsAtEnd};
-ghost use Rattle.sl_io.specs.Counts.{StopsReading};
-ghost use Rattle.sl_io.specs.Known.{AppendsBeginning, ConsumesSome};
-ghost use Rattle.sl_io.specs.declared.faults.ReadFault.TheVariants.{Read as ReadingFailed};
+ghost use Rattle.sl_io.specs.Counts.{IsMore};
+ghost use Rattle.sl_io.specs.Known.{AppendsBeginning};
 ghost use Rattle.protocol.specs.Streams.{feed_of};
 ghost use Rattle.protocol.specs.declared.reason.Reason.TheVariants.{Partial};
 ghost use Rattle.feeder.specs.Sending.{capped, whole_part};
 ghost use Rattle.incidents.specs.Faults.{failure_reason};
 ghost use Rattle.job_feed.specs.Feeding.{StopsFeeding};
-ghost use Rattle.incidents.specs.declared.failure.Failure.TheVariants.{Untaken};
+ghost use Rattle.incidents.specs.declared.failure.Failure.TheVariants.{Answered, Untaken};
 
 use feeder::send;
 use incidents::Failure;
@@ -17,9 +16,6 @@ use job_base::{Endpoint, connect};
 use sl_io::{Outer, Sink, Source};
 use std::io::{ErrorKind, Read, Write};
 use std::net::{Net, OpenStream, Shutdown};
-
-/// How many bytes of a server are read at most by one call.
-const BLOCK: usize = 512;
 
 /// Sends the whole records that are left of a reader, and answers how many they are (2^64 - 1 if there are more).
 ///
@@ -49,26 +45,26 @@ pub fn feed_records<R: Source, W: Sink>(records: &mut R, server: &mut W) -> Resu
     }
 }
 
-/// Waits until a server ends its half of a connection: reads, and drops what comes, until nothing is left.
+/// Waits until a server ends its half of a connection.
 ///
-/// It fails with 43 only if a read failed, as when the server resets the connection, or if 2^64 - 1 reads were made.
+/// It fails with 52 if something comes before that, which a feed port never sends, and with 43 if the read failed, as
+/// when the server resets the connection.
 pub fn await_end<R: Source>(server: &mut R) -> Result<(), Failure>
     ensures end { OnOk result (IsAtEnd (R.left server.new)) }
-    ensures dropped { ConsumesSome (R.left server.old) (R.left server.new) }
+    ensures silent { OnOk result (IsAtEnd (R.left server.old)) }
     ensures same { OnOk result (R.failures server.new ≡ R.failures server.old) }
-    ensures fault { IfErr result (λ failure. failure ≡ Untaken) }
-    ensures stopped { OnErr result (StopsReading ReadingFailed (R.failures server.old) (R.failures server.new)
-        (R.calls server.old) (R.calls server.new)) }
+    ensures once { IsMore (R.calls server.old) (R.calls server.new) 1 }
+    ensures fault { IfErr result (λ failure. (failure ≡ Untaken) ⊎ (failure ≡ Answered)) }
+    ensures failed { IfErr result (λ failure. failure ≡ Untaken
+        → IsMore (R.failures server.old) (R.failures server.new) 1) }
+    ensures answered { IfErr result (λ failure. failure ≡ Answered
+        → IfSome (R.left server.old) (λ bytes. bytes ≢ [])) }
 {
-    let mut block = [0; BLOCK];
-    'reads: for _ in 0..u64::MAX {
-        match server.read(&mut block) {
-            Ok(0) => return Ok(()),
-            Ok(_) => {}
-            Err(_) => return Err(Failure::Untaken),
-        }
+    match server.read(&mut [0; 1]) {
+        Ok(0) => Ok(()),
+        Ok(_) => Err(Failure::Answered),
+        Err(_) => Err(Failure::Untaken),
     }
-    Err(Failure::Untaken)
 }
 
 /// Whether a connection is over before this side has ended it: the server has ended its half, or the connection has
@@ -101,7 +97,7 @@ pub struct SentFeed<T> {
 impl<T: OpenStream + Read + Drop> SentFeed<T> {
     /// Waits for the server's end. If it comes in order, the server has read everything: then the answer is how many
     /// records were sent. It fails with 43 if the connection was reset, or if the server ended it before it had read
-    /// to the end.
+    /// to the end, and with 52 if the server answered something.
     pub fn wait(self) -> Result<u64, Failure> {
         let SentFeed { stream, count } = self;
         let mut server = Outer::new(stream);

@@ -1,6 +1,6 @@
 //! Files of records go to a server.
 use crate::feeding::{Feed, SentFeed};
-use incidents::{Failure, Incident};
+use incidents::{Failure, Incident, Site};
 use job_base::{ReasonKeeper, Watched, connection, is_terminal, open, server_of, size_of};
 use record_listing::FeedTally;
 use sl_io::Outer;
@@ -110,8 +110,9 @@ pub fn send_files<'a, R: Files<File = File> + Eprint + Clock + Net>(
     }
 }
 
-/// Says how many records were sent, how many of them no server takes, and why the first.
-fn tell_sent<R: Eprint>(rt: &R, count: u64, tally: &FeedTally) {
+/// Says how many records were sent, how many of them no server takes, and why the first. If all may be taken, it is
+/// said on request alone.
+fn tell_sent<R: Eprint>(rt: &R, count: u64, tally: &FeedTally, is_verbose: bool) {
     let _ = match tally.first() {
         Some(first) => {
             eprintln!(rt;
@@ -119,12 +120,13 @@ fn tell_sent<R: Eprint>(rt: &R, count: u64, tally: &FeedTally) {
                 tally.refused()
             )
         }
-        None => eprintln!(rt; "sent {count} records"),
+        None if is_verbose => eprintln!(rt; "sent {count} records"),
+        None => Ok(()),
     };
 }
 
-/// Sends the records of files to a server, and waits until it has read them. With `is_verbose` the last line of the
-/// standard error says how many they were, and how many of them no server takes.
+/// Sends the records of files to a server, and waits until it has read them. If no server takes some of them, or with
+/// `is_verbose`, the last line of the standard error says how many they were, and how many of them no server takes.
 pub fn feed_files<'a, R: Files<File = File> + Eprint + Clock + Net>(
     rt: &R,
     server: &'a str,
@@ -137,11 +139,12 @@ pub fn feed_files<'a, R: Files<File = File> + Eprint + Clock + Net>(
     };
     match sent.wait() {
         Ok(count) => {
-            if is_verbose {
-                tell_sent(rt, count, &tally);
-            }
+            tell_sent(rt, count, &tally, is_verbose);
             Ok(())
         }
-        Err(failure) => Err(failure.in_feed(server, server)),
+        Err(failure) => Err(Incident {
+            failure,
+            site: Site::Server(server),
+        }),
     }
 }

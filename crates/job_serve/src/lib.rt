@@ -7,6 +7,7 @@ mod configured;
 mod numbers;
 mod operator;
 mod sockets;
+mod spare;
 mod visits;
 
 pub use operator::ServeOptions;

@@ -11,31 +11,39 @@ use number_file::{NumberTable, read_numbers};
 use serving::{Ahead, ServeFault};
 use sl_io::{Outer, ReadFault, read_all};
 use std::alloc::{AllocError, Global};
+use std::fs::{File, OpenOptions, TryLockError};
 use std::rt::Files;
 use std::{fs, io};
 
 /// A file of numbers: what it said when the server began, and what it is to say.
 #[derive(Drop)]
 pub struct NumberFile<'a> {
+    /// The word that names it.
     path: &'a str,
+    /// Where it is: not a symbolic link that points to it.
+    place: String,
     /// Another name in the same folder, under which the file is written anew.
     new_path: String,
+    /// Locked until the end, so that no other server begins with numbers that this one is about to pass.
+    _lock: File,
     first: Vec<KeptNumber>,
     table: NumberTable,
     text: Vec<u8>,
 }
 
 impl<'a> NumberFile<'a> {
-    /// Reads a file of numbers, and has the stations of a configuration begin with them. One that is not there has
-    /// none.
-    pub fn open<R: Files + AllocGlobal>(
+    /// Locks a file of numbers, reads it, and has the stations of a configuration begin with them. One that is not
+    /// there has none.
+    pub fn open<R: Files<File = File> + AllocGlobal>(
         rt: &R,
         path: &'a str,
         config: &mut Config,
     ) -> Result<NumberFile<'a>, Incident<'a>> {
-        let first = kept_at(rt, path)?;
+        let place = place_of(rt, path)?;
+        let lock = locked(rt, place.as_str(), path)?;
+        let first = kept_at(rt, place.as_str(), path)?;
         config.begin_at(first.as_slice());
-        match NumberFile::of(rt.alloc(), path, first, config) {
+        match NumberFile::of(rt.alloc(), path, place, lock, first, config) {
             Ok(file) => Ok(file),
             Err(_) => Err(Incident::from(Failure::OutOfMemory)),
         }
@@ -45,14 +53,18 @@ impl<'a> NumberFile<'a> {
     fn of(
         alloc: Global,
         path: &'a str,
+        place: String,
+        lock: File,
         first: Vec<KeptNumber>,
         config: &Config,
     ) -> Result<NumberFile<'a>, AllocError> {
         let table = NumberTable::new(alloc, config, first.as_slice())?;
-        let new_path = format!(in alloc; "{path}.new")?;
+        let new_path = format!(in alloc; "{place}.new")?;
         Ok(NumberFile {
             path,
+            place,
             new_path,
+            _lock: lock,
             first,
             table,
             text: Vec::new(alloc),
@@ -73,7 +85,12 @@ impl<'a> NumberFile<'a> {
         if self.table.write(&mut self.text).is_err() {
             return Err(Incident::from(Failure::OutOfMemory));
         }
-        match replace(rt, self.new_path.as_str(), self.path, self.text.as_slice()) {
+        match replace(
+            rt,
+            self.new_path.as_str(),
+            self.place.as_str(),
+            self.text.as_slice(),
+        ) {
             Ok(()) => Ok(()),
             Err(reason) => Err(Incident {
                 failure: Failure::Serve(ServeFault::Numbers),
@@ -95,18 +112,81 @@ fn set_numbers(table: &mut NumberTable, numbers: &Ahead<'_>)
     }
 }
 
+/// Why a file of numbers, that a word names, was not opened.
+fn unopened<'a>(path: &'a str, reason: io::Error) -> Incident<'a> {
+    if reason.kind() == io::ErrorKind::OutOfMemory {
+        return Incident::from(Failure::OutOfMemory);
+    }
+    Incident {
+        failure: Failure::Numbers(NumbersFault::Unread),
+        site: Site::Unopened(path, reason),
+    }
+}
+
+/// Where the file is that a word names: if that is a symbolic link, the file to which it points. It fails if that is no
+/// plain file.
+fn place_of<'a, R: Files + AllocGlobal>(rt: &R, path: &'a str) -> Result<String, Incident<'a>> {
+    match fs::metadata(rt, path) {
+        Ok(found) if found.is_file() => target_of(rt, path),
+        Ok(_) => Err(Failure::Numbers(NumbersFault::Special).in_file(path)),
+        Err(reason) if reason.kind() == io::ErrorKind::NotFound => new_place(rt, path),
+        Err(reason) => Err(unopened(path, reason)),
+    }
+}
+
+/// Where a file is that is there.
+fn target_of<'a, R: Files + AllocGlobal>(rt: &R, path: &'a str) -> Result<String, Incident<'a>> {
+    match fs::canonicalize(rt, path) {
+        Ok(place) => Ok(place.into_string()),
+        Err(reason) => Err(unopened(path, reason)),
+    }
+}
+
+/// Where a file is to be that is not there: not at a symbolic link to nothing, of which only a name is known.
+fn new_place<'a, R: Files + AllocGlobal>(rt: &R, path: &'a str) -> Result<String, Incident<'a>> {
+    if fs::symlink_metadata(rt, path).is_ok() {
+        return Err(Failure::Numbers(NumbersFault::Special).in_file(path));
+    }
+    match path.to_string(rt.alloc()) {
+        Ok(place) => Ok(place),
+        Err(_) => Err(Incident::from(Failure::OutOfMemory)),
+    }
+}
+
+/// The lock of the file of numbers at a place, that a word names: a file beside it.
+fn locked<'a, R: Files<File = File> + AllocGlobal>(
+    rt: &R,
+    place: &str,
+    path: &'a str,
+) -> Result<File, Incident<'a>> {
+    let Ok(name) = format!(in rt.alloc(); "{place}.lock") else {
+        return Err(Incident::from(Failure::OutOfMemory));
+    };
+    let lock = match OpenOptions::new()
+        .write(true)
+        .create(true)
+        .open(rt, name.as_str())
+    {
+        Ok(lock) => lock,
+        Err(reason) => return Err(unopened(path, reason)),
+    };
+    match lock.try_lock() {
+        Ok(()) => Ok(lock),
+        Err(TryLockError::WouldBlock) => Err(Failure::Numbers(NumbersFault::Locked).in_file(path)),
+        Err(TryLockError::Error(reason)) => Err(unopened(path, reason)),
+    }
+}
+
 /// The numbers in a file; none if it is not there.
 fn kept_at<'a, R: Files + AllocGlobal>(
     rt: &R,
+    place: &str,
     path: &'a str,
 ) -> Result<Vec<KeptNumber>, Incident<'a>> {
-    match fs::open(rt, path) {
+    match fs::open(rt, place) {
         Ok(file) => kept_in(rt.alloc(), file, path),
         Err(reason) if reason.kind() == io::ErrorKind::NotFound => Ok(Vec::new(rt.alloc())),
-        Err(reason) => Err(Incident {
-            failure: Failure::Numbers(NumbersFault::Unread),
-            site: Site::Unopened(path, reason),
-        }),
+        Err(reason) => Err(unopened(path, reason)),
     }
 }
 

@@ -9,6 +9,7 @@ ghost use Rattle.job_serve.specs.Serving.{ServedByFile, EndedByFile};
 ghost use Rattle.incidents.specs.declared.incident.Incident.{Incident};
 
 use crate::numbers::NumberFile;
+use crate::spare::Spare;
 use crate::visits::SharedLines;
 use catalog::Config;
 use config_findings::{Difference, first_difference};
@@ -18,6 +19,7 @@ use job_base::config_at;
 use ports::Ports;
 use serving::{Activity, Ahead, Between, Due, Pace, Refusal, ServeFault, Timetable, serve_between};
 use std::fmt::Write;
+use std::fs::File;
 use std::rt::{Clock, Files};
 use std::time::Duration;
 
@@ -53,6 +55,8 @@ pub struct Operator<'r, 'a, 'l, R, D> {
     reread: Pace,
     report: Pace,
     numbers: Option<NumberFile<'a>>,
+    /// The descriptor for these files, which nobody else gets.
+    spare: Spare,
     /// Whether numbers were kept, and else where they could not be.
     has_kept: bool,
     unkept: Site<'a>,
@@ -86,7 +90,7 @@ impl<'r, 'a, 'l, R, D: Device> Operator<'r, 'a, 'l, R, D> {
     }
 }
 
-impl<'r, 'a, 'l, R: Clock + AllocGlobal, D> Operator<'r, 'a, 'l, R, D> {
+impl<'r, 'a, 'l, R: Files<File = File> + Clock + AllocGlobal, D> Operator<'r, 'a, 'l, R, D> {
     /// An operator that begins with a configuration now. It fails only for want of memory.
     fn new(
         rt: &'r R,
@@ -110,6 +114,7 @@ impl<'r, 'a, 'l, R: Clock + AllocGlobal, D> Operator<'r, 'a, 'l, R, D> {
             reread: Pace::new(options.reread_seconds),
             report: Pace::new(options.report_seconds),
             numbers,
+            spare: Spare::new(rt),
             has_kept: false,
             unkept: Site::Unnamed,
             is_verbose: options.is_verbose,
@@ -166,7 +171,8 @@ fn line_of(incident: &Incident<'_>, is_verbose: bool) -> Line {
     line
 }
 
-impl<'r, 'a, 'l, R: Files + Clock + AllocGlobal, D: Device> Between for Operator<'r, 'a, 'l, R, D> {
+impl<'r, 'a, 'l, R: Files<File = File> + Clock + AllocGlobal, D: Device> Between
+    for Operator<'r, 'a, 'l, R, D> {
     type Fault = Incident<'a>;
 
     // What a clock tells, a file holds and the standard error takes, no contract can say.
@@ -185,7 +191,10 @@ impl<'r, 'a, 'l, R: Files + Clock + AllocGlobal, D: Device> Between for Operator
     }
 
     fn configuration(&mut self) -> Result<Config, Incident<'a>> {
-        let mut config = config_at(self.rt, self.path)?;
+        self.spare.let_go();
+        let read = config_at(self.rt, self.path);
+        self.spare.take(self.rt);
+        let mut config = read?;
         if let Some(file) = &self.numbers {
             file.begin(&mut config);
         }
@@ -217,7 +226,10 @@ impl<'r, 'a, 'l, R: Files + Clock + AllocGlobal, D: Device> Between for Operator
         let Some(file) = &mut self.numbers else {
             return Ok(());
         };
-        file.keep(self.rt, numbers)?;
+        self.spare.let_go();
+        let kept = file.keep(self.rt, numbers);
+        self.spare.take(self.rt);
+        kept?;
         self.has_kept = true;
         Ok(())
     }
@@ -225,7 +237,7 @@ impl<'r, 'a, 'l, R: Files + Clock + AllocGlobal, D: Device> Between for Operator
 
 /// Runs a new server with the configuration that was read from a file over ports, as the options say, with lines to a
 /// device and the numbers in a file, if there is one, and gives the ports back.
-pub fn serve_by<'a, R: Files + Clock + AllocGlobal, P: Ports + Drop, D: Device + Drop>(
+pub fn serve_by<'a, R: Files<File = File> + Clock + AllocGlobal, P: Ports + Drop, D: Device + Drop>(
     rt: &R,
     config: Config,
     ports: P,

@@ -9,13 +9,13 @@ use crate::visits::{SharedLines, VisitLines};
 use catalog::Config;
 use error_lines::{Device, StandardError};
 use incidents::{Failure, Incident, Site};
-use job_base::{ServerAddress, checked_config_at, config_at, server_of};
+use job_base::{ServerAddress, checked_config_at, server_of};
 use logged_ports::LoggedPorts;
 use serving::ServeFault;
 use socket_ports::{Admission, MioPorts};
 use std::alloc::{AllocError, Global};
+use std::fs::File;
 use std::net::Net;
-use std::os::fd::AsRawFd;
 use std::rt::{Clock, Files};
 
 /// Listens at two addresses, for clients and for feeds, of which those are taken that are admitted.
@@ -33,40 +33,30 @@ fn listen_at<'a, R: Net + AllocGlobal>(
     }
 }
 
-/// Serves clients and feeds as the options say, and then sends what was not sent yet. If faults are explained, the keys
-/// of the configuration that are not known are named first.
-pub fn serve_sockets<'a, R: Files + Eprint + Clock + Net + AllocGlobal>(
+/// Serves clients and feeds as the options say, and then sends what was not sent yet. The keys of the configuration that
+/// are not known are named first.
+pub fn serve_sockets<'a, R: Files<File = File> + Eprint + Clock + Net + AllocGlobal>(
     rt: &R,
     listen: &'a str,
     feed: &'a str,
     options: ServeOptions<'a>,
-) -> Result<(), Incident<'a>>
-where
-    R::File: AsRawFd,
-{
+) -> Result<(), Incident<'a>> {
     let clients = server_of(listen)?;
     let feeds = server_of(feed)?;
     let admission = admission_of(rt.alloc(), options.feed_from, options.per_address)?;
-    let config = if options.is_verbose {
-        checked_config_at(rt, options.path)?
-    } else {
-        config_at(rt, options.path)?
-    };
+    let config = checked_config_at(rt, options.path)?;
     serve_with(rt, clients, feeds, admission, config, options)
 }
 
 /// Serves those who are admitted, with a configuration that was read, and then sends what was not sent yet.
-fn serve_with<'a, R: Files + Eprint + Clock + Net + AllocGlobal>(
+fn serve_with<'a, R: Files<File = File> + Eprint + Clock + Net + AllocGlobal>(
     rt: &R,
     clients: ServerAddress<'a>,
     feeds: ServerAddress<'a>,
     admission: Admission,
     mut config: Config,
     options: ServeOptions<'a>,
-) -> Result<(), Incident<'a>>
-where
-    R::File: AsRawFd,
-{
+) -> Result<(), Incident<'a>> {
     let numbers = numbers_for(rt, options.numbers, &mut config)?;
     let ports = listen_at(rt, clients, feeds, admission)?;
     let mut ports = serve_over(rt, config, ports, options, numbers)?;
@@ -75,16 +65,13 @@ where
 }
 
 /// Serves over ports that are listened on, with lines to the standard error, and gives the ports back.
-fn serve_over<'a, R: Files + Eprint + Clock + AllocGlobal>(
+fn serve_over<'a, R: Files<File = File> + Eprint + Clock + AllocGlobal>(
     rt: &R,
     config: Config,
     ports: MioPorts,
     options: ServeOptions<'a>,
     numbers: Option<NumberFile<'a>>,
-) -> Result<MioPorts, Incident<'a>>
-where
-    R::File: AsRawFd,
-{
+) -> Result<MioPorts, Incident<'a>> {
     let lines = SharedLines::new(StandardError::open(rt));
     if options.log {
         serve_logged(rt, config, ports, options, numbers, &lines)
@@ -110,7 +97,7 @@ fn ports_that_log<'l, D: Device + Drop>(
 }
 
 /// Serves as the options say, and tells who comes and goes.
-fn serve_logged<'a, R: Files + Clock + AllocGlobal, D: Device + Drop>(
+fn serve_logged<'a, R: Files<File = File> + Clock + AllocGlobal, D: Device + Drop>(
     rt: &R,
     config: Config,
     ports: MioPorts,
@@ -134,7 +121,7 @@ fn serve_logged<'a, R: Files + Clock + AllocGlobal, D: Device + Drop>(
 }
 
 /// The file of numbers that is named, with which the stations of a configuration begin.
-fn numbers_for<'a, R: Files + AllocGlobal>(
+fn numbers_for<'a, R: Files<File = File> + AllocGlobal>(
     rt: &R,
     path: Option<&'a str>,
     config: &mut Config,
