@@ -1,12 +1,15 @@
 //! What `feed` does over sockets.
-use jobs::{Endpoint, Failure, await_end, begin_feed, feed_records, send_feed, send_files};
-use loopback::{CENTRE, Centre, any_port, at_centre, packet, record};
+use crate::records::{gives_packet, send};
+use incidents::Failure;
+use job_base::Endpoint;
+use job_feed::{await_end, begin_feed, feed_records, send_feed, send_files};
+use loopback::{Centre, any_port, at_centre, record};
 use record_listing::FeedTally;
 use sl_io::{Failing, MemorySource, Outer};
 use socket_ports::MioPorts;
 use std::alloc::Global;
 use std::fs::{self, File};
-use std::io::Write;
+use std::io::{Read, Write};
 use std::net::{Ipv4Addr, Net, OpenStream};
 use std::rt::{Clock, Files};
 use std::test::Fail;
@@ -27,16 +30,41 @@ fn two_records(alloc: Global, rest: &[u8]) -> Result<Vec<u8>, Fail> {
     Ok(bytes)
 }
 
+/// Whether a client that fetches from GE APE is given two packets, those of `two_records`, and then the end.
+fn gives_both<S: Read + Write>(centre: &mut Centre, client: &mut S) -> Result<bool, Fail> {
+    client.write_all(b"FETCH\r")?;
+    Ok(
+        gives_packet(centre, client, b"SL000000", b"APE", b"BHZ", 1)?
+            && gives_packet(centre, client, b"SL000001", b"APE", b"BHZ", 2)?
+            && centre.gives(client, b"END")?,
+    )
+}
+
 /// Whether GE APE holds two records, those of `two_records`.
 fn holds_two<R: Net>(rt: &R, centre: &mut Centre) -> Result<bool, Fail> {
     let mut client = centre.client(rt)?;
-    let first = packet(b"SL000000", &record(b"APE", b"BHZ", 1)?);
-    let second = packet(b"SL000001", &record(b"APE", b"BHZ", 2)?);
-    Ok(
-        centre.answers(&mut client, b"FETCH\r", &first)?
-            && centre.gives(&mut client, &second)?
-            && centre.gives(&mut client, b"END")?,
-    )
+    gives_both(centre, &mut client)
+}
+
+/// How a feed of these bytes ends once the server has had so many turns: how many records were sent.
+fn ended<R: Net>(rt: &R, centre: &mut Centre, bytes: &[u8], turns: u8) -> Result<u64, Failure> {
+    let begun = begin_feed(rt, here(centre.ports().1), &mut MemorySource::new(bytes));
+    centre.turns(turns);
+    begun.and_then(|feed| feed.wait())
+}
+
+/// The same of two records and a rest: None for fault 41.
+fn ended_with_rest<R: Net + AllocGlobal>(
+    rt: &R,
+    centre: &mut Centre,
+    rest: &[u8],
+) -> Result<Option<u64>, Fail> {
+    let bytes = two_records(rt.alloc(), rest)?;
+    match ended(rt, centre, bytes.as_slice(), 3) {
+        Ok(count) => Ok(Some(count)),
+        Err(failure) if failure.reason().number() == 41 => Ok(None),
+        Err(_) => Err(Fail::from("another fault")),
+    }
 }
 
 /// What a feed of two records and a rest answers once the server has had its turns, and whether the two have arrived.
@@ -45,14 +73,7 @@ fn fed<R: Net + AllocGlobal>(
     centre: &mut Centre,
     rest: &[u8],
 ) -> Result<(Option<u64>, bool), Fail> {
-    let bytes = two_records(rt.alloc(), rest)?;
-    let begun = begin_feed(rt, here(centre.ports().1), &mut MemorySource::new(&bytes));
-    centre.turns(3);
-    let number = match begun.and_then(|feed| feed.wait()) {
-        Ok(count) => Some(count),
-        Err(failure) if failure.reason().number() == 41 => None,
-        Err(_) => return Err(Fail::from("another fault")),
-    };
+    let number = ended_with_rest(rt, centre, rest)?;
     Ok((number, holds_two(rt, centre)?))
 }
 
@@ -72,27 +93,38 @@ fn a_feed_that_ends_inside_a_record_is_fault_41_and_its_whole_records_arrive(
     Ok(())
 }
 
-/// Sends two files of a record each as the job `feed` does, and answers whether both have arrived once the server has
-/// ended the feed in order, and whether a server takes both.
+/// Two files of a record each.
+fn make_files<R: Files>(rt: &R) -> Result<(), Fail> {
+    fs::write(rt, "first.mseed", &record(b"APE", b"BHZ", 1)?)?;
+    fs::write(rt, "second.mseed", &record(b"APE", b"BHZ", 2)?)?;
+    Ok(())
+}
+
+/// Sends both as the job `feed` does to a server, which has its turns then. Whether it has ended the feed in order, and
+/// a server takes both records.
+fn are_taken<R: Files<File = File> + Eprint + Clock + Net>(
+    rt: &R,
+    centre: &mut Centre,
+    server: &str,
+) -> bool {
+    let mut tally = FeedTally::new();
+    let files = ["first.mseed", "second.mseed"];
+    let Ok(Some(feed)) = send_files(rt, server, &files, &mut tally) else {
+        return false;
+    };
+    centre.turns(3);
+    matches!(feed.wait(), Ok(2)) && tally.refused() == 0
+}
+
+/// The same, and whether both records have arrived.
 fn fed_from_files<R: Files<File = File> + Eprint + Clock + Net + AllocGlobal>(
     rt: &R,
     centre: &mut Centre,
 ) -> Result<bool, Fail> {
-    fs::write(rt, "first.mseed", &record(b"APE", b"BHZ", 1)?)?;
-    fs::write(rt, "second.mseed", &record(b"APE", b"BHZ", 2)?)?;
+    make_files(rt)?;
     let server = format!(in rt.alloc(); "127.0.0.1:{}", centre.ports().1)?;
-    let mut tally = FeedTally::new();
-    let sent = send_files(
-        rt,
-        server.as_str(),
-        &["first.mseed", "second.mseed"],
-        &mut tally,
-    );
-    let Ok(Some(feed)) = sent else {
-        return Ok(false);
-    };
-    centre.turns(3);
-    Ok(matches!(feed.wait(), Ok(2)) && holds_two(rt, centre)? && tally.refused() == 0)
+    let are_taken = are_taken(rt, centre, server.as_str());
+    Ok(are_taken && holds_two(rt, centre)?)
 }
 
 #[test]
@@ -129,11 +161,9 @@ fn told_beside_all_feeds<R: Net + AllocGlobal>(
     centre: &mut Centre,
     count: u8,
 ) -> Result<u8, Fail> {
-    let _feeds = all_feeds(rt, centre)?;
     let bytes = many_records(rt.alloc(), count)?;
-    let begun = begin_feed(rt, here(centre.ports().1), &mut MemorySource::new(&bytes));
-    centre.turns(2);
-    Ok(fault_of(begun.and_then(|feed| feed.wait())))
+    let _feeds = all_feeds(rt, centre)?;
+    Ok(fault_of(ended(rt, centre, bytes.as_slice(), 2)))
 }
 
 /// So many records of GE APE.
@@ -154,14 +184,25 @@ fn a_feed_beside_16_others_is_fault_43(rt: HostRuntime) -> Result<(), Fail> {
     Ok(())
 }
 
-/// What a feed of two records is told whose server turned it away before it sent anything.
-fn told_once_turned_away<R: Net + AllocGlobal>(rt: &R, centre: &mut Centre) -> Result<u8, Fail> {
+/// What a feed of these bytes over a connection is told.
+fn told_over<S: OpenStream + Read + Write + Drop>(stream: S, bytes: &[u8]) -> u8 {
+    let begun = send_feed(stream, &mut MemorySource::new(bytes));
+    fault_of(begun.and_then(|feed| feed.wait()))
+}
+
+/// A connection that a server has turned away beside all its feeds.
+fn turned_away<R: Net + AllocGlobal>(rt: &R, centre: &mut Centre) -> Result<R::Stream, Fail> {
     let _feeds = all_feeds(rt, centre)?;
     let stream = connected(rt, centre)?;
     centre.turns(2);
+    Ok(stream)
+}
+
+/// What a feed of two records is told whose server turned it away before it sent anything.
+fn told_once_turned_away<R: Net + AllocGlobal>(rt: &R, centre: &mut Centre) -> Result<u8, Fail> {
     let bytes = two_records(rt.alloc(), b"")?;
-    let begun = send_feed(stream, &mut MemorySource::new(&bytes));
-    Ok(fault_of(begun.and_then(|feed| feed.wait())))
+    let stream = turned_away(rt, centre)?;
+    Ok(told_over(stream, bytes.as_slice()))
 }
 
 /// A connection to the server's port for feeds, whose calls wait.
@@ -178,20 +219,31 @@ fn a_feed_that_was_turned_away_before_it_sent_is_fault_43(rt: HostRuntime) -> Re
     Ok(())
 }
 
-/// What a feed of two records is told whose server goes once it has taken the connection, before or after it read
-/// them.
-fn told_when_the_server_goes<R: Net + AllocGlobal>(rt: &R, has_read: bool) -> Result<u8, Fail> {
-    let mut centre = Centre::open(rt, CENTRE)?;
-    let mut stream = connected(rt, &centre)?;
+/// A connection that a server has taken and that sent a record, which the server has read or not.
+fn begun<R: Net>(rt: &R, centre: &mut Centre, has_read: bool) -> Result<R::Stream, Fail> {
+    let mut stream = connected(rt, centre)?;
     centre.turns(1);
-    stream.write_all(&record(b"APE", b"BHZ", 1)?)?;
+    send(&mut stream, b"APE", b"BHZ", 1)?;
     if has_read {
         centre.turns(2);
     }
-    drop(centre);
+    Ok(stream)
+}
+
+/// The same once its server has gone.
+fn left_behind<R: Net + AllocGlobal>(rt: &R, has_read: bool) -> Result<R::Stream, Fail> {
+    at_centre(
+        rt,
+        |rt: &R, centre: &mut Centre| begun(rt, centre, has_read),
+    )
+}
+
+/// What a feed of two records more is told whose server goes once it has taken the connection, before or after it read
+/// the first.
+fn told_when_the_server_goes<R: Net + AllocGlobal>(rt: &R, has_read: bool) -> Result<u8, Fail> {
     let bytes = two_records(rt.alloc(), b"")?;
-    let begun = send_feed(stream, &mut MemorySource::new(&bytes));
-    Ok(fault_of(begun.and_then(|feed| feed.wait())))
+    let stream = left_behind(rt, has_read)?;
+    Ok(told_over(stream, bytes.as_slice()))
 }
 
 #[test]
@@ -206,20 +258,33 @@ const PIECES: u8 = 100;
 
 const IN_A_PIECE: u8 = 60;
 
-/// Sends many records piece by piece, with turns of the server between, so that nothing waits for room. What the feed
-/// is told once the server has read them.
-fn told_after_many<R: Net + AllocGlobal>(rt: &R, centre: &mut Centre) -> Result<u8, Fail> {
-    let mut stream = Outer::new(connected(rt, centre)?);
+/// Sends many records piece by piece, with turns of the server between, so that nothing waits for room. The number of
+/// the fault at which that stopped, or 0.
+fn fault_of_many<S: Write>(centre: &mut Centre, stream: &mut Outer<S>, piece: &[u8]) -> u8 {
     for _ in 0..PIECES {
-        let bytes = many_records(rt.alloc(), IN_A_PIECE)?;
-        if let Err(failure) = feed_records(&mut MemorySource::new(&bytes), &mut stream) {
-            return Ok(failure.reason().number());
+        if let Err(failure) = feed_records(&mut MemorySource::new(piece), stream) {
+            return failure.reason().number();
         }
         centre.turns(1);
     }
-    let begun = send_feed(stream.into_inner(), &mut MemorySource::new(b""));
+    0
+}
+
+/// What a feed that has sent all is told once the server has read it.
+fn told_at_the_end<S: OpenStream + Read + Write + Drop>(centre: &mut Centre, stream: S) -> u8 {
+    let begun = send_feed(stream, &mut MemorySource::new(b""));
     centre.turns(4);
-    Ok(fault_of(begun.and_then(|feed| feed.wait())))
+    fault_of(begun.and_then(|feed| feed.wait()))
+}
+
+/// The fault of a long feed, or 0.
+fn told_after_many<R: Net + AllocGlobal>(rt: &R, centre: &mut Centre) -> Result<u8, Fail> {
+    let piece = many_records(rt.alloc(), IN_A_PIECE)?;
+    let mut stream = Outer::new(connected(rt, centre)?);
+    match fault_of_many(centre, &mut stream, piece.as_slice()) {
+        0 => Ok(told_at_the_end(centre, stream.into_inner())),
+        fault => Ok(fault),
+    }
 }
 
 #[test]
@@ -249,14 +314,23 @@ fn the_end_is_awaited_however_much_comes_before(rt: HostRuntime) -> Result<(), F
     Ok(())
 }
 
+/// A port that the system chose, which is free again.
+fn free_port<R: Net + AllocGlobal>(rt: &R) -> Result<u16, Fail> {
+    let ports = MioPorts::listen(rt, rt.alloc(), any_port(), any_port())?;
+    Ok(ports.bound().1)
+}
+
+/// Whether a feed to a port at which nobody listens fails at the connection.
+fn is_not_connected<R: Net + AllocGlobal>(rt: &R) -> Result<bool, Fail> {
+    let port = free_port(rt)?;
+    let bytes = two_records(rt.alloc(), b"")?;
+    let begun = begin_feed(rt, here(port), &mut MemorySource::new(bytes.as_slice()));
+    Ok(matches!(begun, Err(Failure::Connect)))
+}
+
 #[test]
 fn a_feed_to_a_closed_port_is_fault_47(rt: HostRuntime) -> Result<(), Fail> {
-    let ports = MioPorts::listen(&rt, rt.alloc(), any_port(), any_port())?;
-    let (_, feeds) = ports.bound();
-    drop(ports);
-    let bytes = two_records(rt.alloc(), b"")?;
-    let begun = begin_feed(&rt, here(feeds), &mut MemorySource::new(bytes.as_slice()));
-    assert!(rt; matches!(begun, Err(Failure::Connect)));
+    assert!(rt; is_not_connected(&rt)?);
     assert_eq!(rt; Failure::Connect.reason().number(), 47);
     Ok(())
 }

@@ -1,5 +1,6 @@
 //! Clients and feeds that misbehave: the server loses nothing but their own connections.
-use loopback::{Centre, GREETING, at_centre, packet, record};
+use crate::records::{feed_forest, gives_two, send};
+use loopback::{Centre, GREETING, at_centre, record};
 use std::alloc::{AllocError, Global};
 use std::io;
 use std::io::{ErrorKind, Read, Write};
@@ -12,19 +13,6 @@ const MANY: u16 = 30_000;
 /// How often a client comes and leaves.
 const VISITS: u16 = 10_000;
 
-/// Records of GE WLF come, so many.
-fn feed<R: Net>(rt: &R, centre: &mut Centre, count: u16) -> Result<(), Fail> {
-    let mut feed = centre.feed(rt)?;
-    for samples in 0..count {
-        feed.write_all(&record(b"WLF", b"BHZ", samples)?)?;
-        if samples % 16 == 15 {
-            centre.turns(1);
-        }
-    }
-    centre.turns(3);
-    Ok(())
-}
-
 /// Whether a client that comes now is greeted.
 fn is_well<R: Net>(rt: &R, centre: &mut Centre) -> Result<bool, Fail> {
     let mut client = centre.client(rt)?;
@@ -36,7 +24,7 @@ fn is_well<R: Net>(rt: &R, centre: &mut Centre) -> Result<bool, Fail> {
 fn reset<R: Net>(rt: &R, centre: &mut Centre) -> Result<bool, Fail> {
     let mut client = centre.client(rt)?;
     let is_asked = centre.answers(&mut client, b"STATION WLF GE\rDATA\rEND\r", b"OK\r\nOK\r\n")?;
-    feed(rt, centre, MANY)?;
+    feed_forest(rt, centre, MANY)?;
     let mut part = [0u8; 100];
     Ok(is_asked && centre.fills(&mut client, &mut part)? && centre.clients() == 1)
 }
@@ -44,7 +32,7 @@ fn reset<R: Net>(rt: &R, centre: &mut Centre) -> Result<bool, Fail> {
 /// Whether the server closes a client that resets, and serves the next one.
 fn closes_the_reset_alone<R: Net>(rt: &R, centre: &mut Centre) -> Result<bool, Fail> {
     let is_reset = reset(rt, centre)?;
-    feed(rt, centre, 32)?;
+    feed_forest(rt, centre, 32)?;
     Ok(is_reset && centre.clients() == 0 && is_well(rt, centre)?)
 }
 
@@ -151,12 +139,18 @@ fn clients_that_leave_at_once_leave_nothing(rt: HostRuntime) -> Result<(), Fail>
     Ok(())
 }
 
+/// A part of a record is sent.
+fn send_a_part<S: Write>(feed: &mut S) -> Result<(), Fail> {
+    let second = record(b"WLF", b"BHZ", 2)?;
+    feed.write_all(second.as_slice().get(..188).unwrap_or(&[]))?;
+    Ok(())
+}
+
 /// A feed sends a record and a part of the next one, and goes.
 fn half_fed<R: Net>(rt: &R, centre: &mut Centre) -> Result<(), Fail> {
     let mut feed = centre.feed(rt)?;
-    feed.write_all(&record(b"WLF", b"BHZ", 1)?)?;
-    let second = record(b"WLF", b"BHZ", 2)?;
-    feed.write_all(second.as_slice().get(..188).unwrap_or(&[]))?;
+    send(&mut feed, b"WLF", b"BHZ", 1)?;
+    send_a_part(&mut feed)?;
     centre.turns(3);
     Ok(())
 }
@@ -164,24 +158,21 @@ fn half_fed<R: Net>(rt: &R, centre: &mut Centre) -> Result<(), Fail> {
 /// Another feed sends the third record.
 fn feed_third<R: Net>(rt: &R, centre: &Centre) -> Result<(), Fail> {
     let mut feed = centre.feed(rt)?;
-    feed.write_all(&record(b"WLF", b"BHZ", 3)?)?;
-    Ok(())
+    send(&mut feed, b"WLF", b"BHZ", 3)
 }
 
-/// Whether a client reads the packets of the first and the third record next.
-fn gives_both<S: Read>(centre: &mut Centre, client: &mut S) -> Result<bool, Fail> {
-    let first = packet(b"SLFFFFFE", &record(b"WLF", b"BHZ", 1)?);
-    let third = packet(b"SLFFFFFF", &record(b"WLF", b"BHZ", 3)?);
-    Ok(centre.gives(client, &first)? && centre.gives(client, &third)?)
+/// A record and a part of the next one come on a feed, and the third on another one.
+fn feed_first_and_third<R: Net>(rt: &R, centre: &mut Centre) -> Result<(), Fail> {
+    half_fed(rt, centre)?;
+    feed_third(rt, centre)
 }
 
 /// Whether the record that was not whole is the only one that a client misses.
 fn misses_that_alone<R: Net>(rt: &R, centre: &mut Centre) -> Result<bool, Fail> {
     let mut client = centre.client(rt)?;
     let is_asked = centre.answers(&mut client, b"STATION WLF GE\rDATA\rEND\r", b"OK\r\nOK\r\n")?;
-    half_fed(rt, centre)?;
-    feed_third(rt, centre)?;
-    Ok(is_asked && gives_both(centre, &mut client)?)
+    feed_first_and_third(rt, centre)?;
+    Ok(is_asked && gives_two(centre, &mut client, 1, 3)?)
 }
 
 #[test]

@@ -1,6 +1,7 @@
 //! Dialogues as slinktool and other programs on libslink send them: each command ends with CR, and the next one waits
 //! for the answer, but for the last one.
-use loopback::{Centre, GREETING, at_centre, packet, record};
+use crate::records::{gives_packet, send};
+use loopback::{Centre, GREETING, at_centre};
 use std::io;
 use std::io::{Read, Write};
 use std::net::Net;
@@ -31,7 +32,7 @@ enum Step {
 fn feed<R: Net>(rt: &R, centre: &mut Centre, arrivals: &[Arrival]) -> Result<(), Fail> {
     let mut feed = centre.feed(rt)?;
     for &(station, channel, samples) in arrivals {
-        feed.write_all(&record(station, channel, samples)?)?;
+        send(&mut feed, station, channel, samples)?;
     }
     centre.turns(3);
     Ok(())
@@ -53,8 +54,7 @@ fn goes<R: Net, S: Read + Write>(
         Step::Say(said, answer) => Ok(centre.answers(client, said, answer)?),
         Step::Feed(arrivals) => feed(rt, centre, arrivals).map(|_| true),
         Step::Packet(number, (station, channel, samples)) => {
-            let packet = packet(number, &record(station, channel, *samples)?);
-            Ok(centre.gives(client, &packet)?)
+            gives_packet(centre, client, number, station, channel, *samples)
         }
         Step::Silence => Ok(centre.is_silent(client)?),
         Step::End => Ok(ends(centre, client)?),

@@ -1,5 +1,6 @@
 //! What `read` does over sockets.
-use jobs::Failure;
+use crate::records::send;
+use incidents::Failure;
 use loopback::{Centre, at_centre, record};
 use packet_listing::{ListingFault, Times, read_over};
 use sl_io::{MemorySink, Outer};
@@ -27,9 +28,9 @@ impl<'a, S: Read> Read for Waiting<'a, S> {
 /// Two records of GE APE, and one of GE WLF.
 fn feed<R: Net>(rt: &R, centre: &mut Centre) -> Result<(), Fail> {
     let mut feed = centre.feed(rt)?;
-    feed.write_all(&record(b"APE", b"BHZ", 1)?)?;
-    feed.write_all(&record(b"WLF", b"BHN", 2)?)?;
-    feed.write_all(&record(b"APE", b"BHE", 3)?)?;
+    send(&mut feed, b"APE", b"BHZ", 1)?;
+    send(&mut feed, b"WLF", b"BHN", 2)?;
+    send(&mut feed, b"APE", b"BHE", 3)?;
     centre.turns(3);
     Ok(())
 }
@@ -51,20 +52,19 @@ struct Listed {
     fault: Option<ListingFault>,
 }
 
-/// Reads what a server sends for a plan of words.
-fn read<R: Net + AllocGlobal>(
-    rt: &R,
-    centre: &mut Centre,
-    words: &[&[u8]],
-) -> Result<Listed, Fail> {
-    let plan = plan(rt.alloc(), words)?;
-    let client = centre.client(rt)?;
-    let mut writer = Outer::new(client.try_clone()?);
-    let mut reader = Outer::new(Waiting { centre, client });
-    let mut lines = MemorySink::new(rt.alloc());
-    let mut records = MemorySink::new(rt.alloc());
+/// Reads what a server sends for a plan over a connection.
+fn list_over<S: Read + Drop, T: Write + Drop>(
+    alloc: Global,
+    plan: Plan<'_>,
+    client: S,
+    asking: T,
+) -> Listed {
+    let mut reader = Outer::new(client);
+    let mut writer = Outer::new(asking);
+    let mut lines = MemorySink::new(alloc);
+    let mut records = MemorySink::new(alloc);
     let ended = read_over(
-        rt.alloc(),
+        alloc,
         Times::Ticks,
         plan,
         &mut reader,
@@ -72,11 +72,23 @@ fn read<R: Net + AllocGlobal>(
         &mut lines,
         &mut records,
     );
-    Ok(Listed {
+    Listed {
         lines,
         records,
         fault: ended.err(),
-    })
+    }
+}
+
+/// Reads what a server sends for a plan of words.
+fn read<R: Net + AllocGlobal>(
+    rt: &R,
+    centre: &mut Centre,
+    words: &[&[u8]],
+) -> Result<Listed, Fail> {
+    let client = centre.client(rt)?;
+    let asking = client.try_clone()?;
+    let plan = plan(rt.alloc(), words)?;
+    Ok(list_over(rt.alloc(), plan, Waiting { centre, client }, asking))
 }
 
 const LINES: &[u8] = b"refused ZZ SHUT
@@ -84,6 +96,15 @@ const LINES: &[u8] = b"refused ZZ SHUT
 FFFFFE GE WLF -- BHN D 17091648000000 17091648000200 2
 000001 GE APE -- BHE D 17091648000000 17091648000300 3
 ";
+
+/// Whether a reader ended well, and wrote those lines, and so many bytes of records, of which that is the first.
+fn has_listed(listed: &Listed, lines: &[u8], length: usize, first: &[u8; 512]) -> bool {
+    let written = listed.records.bytes();
+    listed.fault.is_none()
+        && written.len() == length
+        && written.starts_with(first)
+        && listed.lines.bytes() == lines
+}
 
 /// Whether a reader of a server that was fed writes those lines, and so many bytes of records, of which that is the
 /// first.
@@ -96,9 +117,7 @@ fn lists<R: Net + AllocGlobal>(
 ) -> Result<bool, Fail> {
     feed(rt, centre)?;
     let listed = read(rt, centre, words)?;
-    let written = listed.records.bytes();
-    let are_records = written.len() == records.0 && written.starts_with(&records.1);
-    Ok(listed.fault.is_none() && are_records && listed.lines.bytes() == lines)
+    Ok(has_listed(&listed, lines, records.0, &records.1))
 }
 
 #[test]
@@ -152,6 +171,11 @@ fn a_full_output_is_explained_with_its_file(rt: HostRuntime) -> Result<(), Fail>
         "  cause: not everything could be written\n  file: ape.mseed\n  \
             reason: No space left on device (os error 28)\n"
     );
+    Ok(())
+}
+
+#[test]
+fn a_write_that_fails_for_no_reason_is_explained_with_no_file(rt: HostRuntime) -> Result<(), Fail> {
     let other = explained(rt.alloc(), None)?;
     assert_eq!(rt;
         other.as_str(),

@@ -1,5 +1,6 @@
 //! Access lists that are read again while clients are in a transfer.
-use loopback::{Centre, at_centre, packet, record};
+use crate::records::{gives_packet, send};
+use loopback::{Centre, at_centre};
 use std::io::{Read, Write};
 use std::net::Net;
 use std::test::Fail;
@@ -67,24 +68,50 @@ fn is_carried<C: Read, F: Write>(
     number: &[u8; 8],
     samples: u16,
 ) -> Result<bool, Fail> {
-    let record = record(b"APE", b"BHZ", samples)?;
-    feed.write_all(&record)?;
-    Ok(centre.gives(client, &packet(number, &record))?)
+    send(feed, b"APE", b"BHZ", samples)?;
+    gives_packet(centre, client, number, b"APE", b"BHZ", samples)
 }
 
-/// Whether records go on through a reload that changes nothing for this machine, and then one cuts the client, with
-/// nothing more to be read.
+/// Whether a client that asks for GE APE gets a record that a feed sends.
+fn follows<C: Read + Write, F: Write>(
+    centre: &mut Centre,
+    client: &mut C,
+    feed: &mut F,
+) -> Result<bool, Fail> {
+    let said = b"STATION APE GE\rDATA\rEND\r";
+    Ok(
+        centre.answers(client, said, b"OK\r\nOK\r\n")?
+            && is_carried(centre, client, feed, b"SL000000", 1)?,
+    )
+}
+
+/// Whether a record goes on through a reload that changes nothing for this machine.
+fn goes_on<R: AllocGlobal, C: Read, F: Write>(
+    rt: &R,
+    centre: &mut Centre,
+    client: &mut C,
+    feed: &mut F,
+) -> Result<bool, Fail> {
+    Ok(centre.rereads(rt, VAULT_OPENED)? && is_carried(centre, client, feed, b"SL000001", 2)?)
+}
+
+/// Whether a reload cuts a client, with nothing more to be read.
+fn is_cut<R: AllocGlobal, C: Read>(
+    rt: &R,
+    centre: &mut Centre,
+    client: &mut C,
+) -> Result<bool, Fail> {
+    Ok(centre.rereads(rt, APE_CLOSED)? && centre.ends(client)? && centre.clients() == 0)
+}
+
+/// Whether records go on through a reload that changes nothing for this machine, and then one cuts the client.
 fn is_cut_in_time<R: Net + AllocGlobal>(rt: &R, centre: &mut Centre) -> Result<bool, Fail> {
     let mut client = centre.client(rt)?;
     let mut feed = centre.feed(rt)?;
     Ok(
-        centre.answers(&mut client, b"STATION APE GE\rDATA\rEND\r", b"OK\r\nOK\r\n")?
-            && is_carried(centre, &mut client, &mut feed, b"SL000000", 1)?
-            && centre.rereads(rt, VAULT_OPENED)?
-            && is_carried(centre, &mut client, &mut feed, b"SL000001", 2)?
-            && centre.rereads(rt, APE_CLOSED)?
-            && centre.ends(&mut client)?
-            && centre.clients() == 0,
+        follows(centre, &mut client, &mut feed)?
+            && goes_on(rt, centre, &mut client, &mut feed)?
+            && is_cut(rt, centre, &mut client)?,
     )
 }
 

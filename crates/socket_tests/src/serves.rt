@@ -1,7 +1,8 @@
 //! What `serve` does over sockets.
 use catalog::Config;
-use jobs::{Incident, serve};
+use incidents::Incident;
 use loopback::{CENTRE, GREETING, any_port, connect};
+use serving::serve;
 use socket_ports::MioPorts;
 use std::io;
 use std::io::{Read, Write};
@@ -34,23 +35,44 @@ fn is_greeted<S: Read>(client: &mut S) -> io::Result<bool> {
     Ok(answer.as_slice() == GREETING)
 }
 
+/// Ports of a server that the system chose.
+fn some_ports<R: Net + AllocGlobal>(rt: &R) -> Result<MioPorts, Fail> {
+    Ok(MioPorts::listen(rt, rt.alloc(), any_port(), any_port())?)
+}
+
+/// A client that has said HELLO, and the ports after so many turns of a server.
+#[derive(Drop)]
+struct Visited<S> {
+    client: S,
+    ports: MioPorts,
+}
+
+/// A client says HELLO at a server that has so many turns.
+fn visit<R: Net + AllocGlobal>(rt: &R, turns: u64) -> Result<Visited<R::Stream>, Fail> {
+    let ports = some_ports(rt)?;
+    let client = visitor(rt, &ports)?;
+    let ports = served(rt, ports, turns)?;
+    Ok(Visited { client, ports })
+}
+
 #[test]
 fn hello_is_answered_by_serve(rt: HostRuntime) -> Result<(), Fail> {
-    let ports = MioPorts::listen(&rt, rt.alloc(), any_port(), any_port())?;
-    let mut client = visitor(&rt, &ports)?;
-    let _ports = served(&rt, ports, 20)?;
-    assert!(rt; is_greeted(&mut client)?);
+    let mut visited = visit(&rt, 20)?;
+    assert!(rt; is_greeted(&mut visited.client)?);
     Ok(())
+}
+
+/// Whether a client finds nothing to read until the ports have finished.
+fn is_greeted_at_the_end<S: Read>(visited: &mut Visited<S>) -> io::Result<bool> {
+    let finds_nothing = finds_nothing(&mut visited.client);
+    visited.ports.finish();
+    Ok(finds_nothing && is_greeted(&mut visited.client)?)
 }
 
 #[test]
 fn the_last_bytes_are_sent_once_serve_has_ended(rt: HostRuntime) -> Result<(), Fail> {
-    let ports = MioPorts::listen(&rt, rt.alloc(), any_port(), any_port())?;
-    let mut client = visitor(&rt, &ports)?;
-    let mut ports = served(&rt, ports, 1)?;
-    assert!(rt; finds_nothing(&mut client));
-    ports.finish();
-    assert!(rt; is_greeted(&mut client)?);
+    let mut visited = visit(&rt, 1)?;
+    assert!(rt; is_greeted_at_the_end(&mut visited)?);
     Ok(())
 }
 
@@ -82,7 +104,7 @@ fn is_told(rt: &HostRuntime, taken: SocketAddrV4) -> Result<bool, Fail> {
 
 #[test]
 fn a_taken_port_is_told_with_its_address(rt: HostRuntime) -> Result<(), Fail> {
-    let ports = MioPorts::listen(&rt, rt.alloc(), any_port(), any_port())?;
+    let ports = some_ports(&rt)?;
     let (clients, feeds) = ports.bound();
     for port in [clients, feeds] {
         assert!(rt;

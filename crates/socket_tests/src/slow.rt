@@ -1,4 +1,5 @@
 //! Clients that don't read for a while.
+use crate::records::feed_forest;
 use loopback::{Centre, at_centre, record};
 use sl_packet::{Seq, frame};
 use std::io::{Read, Write};
@@ -10,19 +11,6 @@ const HELD: u16 = 200;
 
 /// More records than the buffers of the system take.
 const MANY: u16 = 30_000;
-
-/// Records of GE WLF come, told apart by their samples.
-fn feed<R: Net>(rt: &R, centre: &mut Centre, count: u16) -> Result<(), Fail> {
-    let mut feed = centre.feed(rt)?;
-    for samples in 0..count {
-        feed.write_all(&record(b"WLF", b"BHZ", samples)?)?;
-        if samples % 16 == 15 {
-            centre.turns(1);
-        }
-    }
-    centre.turns(3);
-    Ok(())
-}
 
 /// What a client read: how often packets were missing, how many came since, and the samples of the last one.
 #[derive(Clone, Copy, PartialEq, Debug, Drop)]
@@ -73,7 +61,7 @@ fn read_late<R: Net>(rt: &R, centre: &mut Centre) -> Result<Option<Came>, Fail> 
     if !centre.answers(&mut client, b"STATION WLF GE\rDATA\rEND\r", b"OK\r\nOK\r\n")? {
         return Ok(None);
     }
-    feed(rt, centre, MANY)?;
+    feed_forest(rt, centre, MANY)?;
     Ok(Some(read_packets(centre, &mut client)?))
 }
 
@@ -117,7 +105,7 @@ fn is_given_all_late<S: Read + Write>(centre: &mut Centre, client: &mut S) -> Re
 
 /// The same with a client that comes for it, when all records have come.
 fn late_client_is_given_all<R: Net>(rt: &R, centre: &mut Centre) -> Result<bool, Fail> {
-    feed(rt, centre, HELD)?;
+    feed_forest(rt, centre, HELD)?;
     let mut client = centre.client(rt)?;
     is_given_all_late(centre, &mut client)
 }

@@ -1,6 +1,7 @@
 //! Clients that no reader and no feed is to notice: a crowd that connects and leaves, lines without an end, and peers
 //! that close their sending half.
-use loopback::{Centre, GREETING, at_centre, packet, record};
+use crate::records::{feed_forest, gives_two, send};
+use loopback::{Centre, GREETING, at_centre};
 use std::io;
 use std::io::{Read, Write};
 use std::net::{Net, OpenStream, Shutdown};
@@ -43,6 +44,18 @@ fn has_come<S: Read>(client: &mut S, samples: u16) -> io::Result<bool> {
     Ok(count == 520 && u16::from_be_bytes([came[38], came[39]]) == samples)
 }
 
+/// Whether a record with so many samples that a feed sends comes to a reader within some turns.
+fn is_handed<S: Read, F: Write>(
+    centre: &mut Centre,
+    reader: &mut S,
+    feed: &mut F,
+    samples: u16,
+) -> Result<bool, Fail> {
+    send(feed, b"WLF", b"BHZ", samples)?;
+    centre.turns(TURNS);
+    Ok(has_come(reader, samples)?)
+}
+
 /// Whether a reader gets each record of a feed within some turns, with a crowd at the door each time.
 fn are_handed_in_time<R: Net, S: Read, F: Write>(
     rt: &R,
@@ -53,9 +66,7 @@ fn are_handed_in_time<R: Net, S: Read, F: Write>(
     for samples in 0..CROWDS {
         come_and_go(rt, centre)?;
         centre.turns(1);
-        feed.write_all(&record(b"WLF", b"BHZ", samples)?)?;
-        centre.turns(TURNS);
-        if !has_come(reader, samples)? {
+        if !is_handed(centre, reader, feed, samples)? {
             return Ok(false);
         }
         centre.turns(CROWD_TURNS);
@@ -63,16 +74,25 @@ fn are_handed_in_time<R: Net, S: Read, F: Write>(
     Ok(true)
 }
 
-/// The same with a reader and a feed that are there already.
-fn crowd_is_not_noticed<R: Net>(rt: &R, centre: &mut Centre) -> Result<bool, Fail> {
-    let mut reader = centre.client(rt)?;
-    if !centre.answers(&mut reader, FOLLOW, FOLLOWED)? {
-        return Ok(false);
-    }
+/// The same with a feed that is there already, and then nobody but the reader is there.
+fn crowd_is_not_noticed_by<R: Net, S: Read>(
+    rt: &R,
+    centre: &mut Centre,
+    reader: &mut S,
+) -> Result<bool, Fail> {
     let mut feed = centre.feed(rt)?;
     centre.turns(2);
-    let are_handed = are_handed_in_time(rt, centre, &mut reader, &mut feed)?;
+    let are_handed = are_handed_in_time(rt, centre, reader, &mut feed)?;
     Ok(are_handed && centre.clients() == 1)
+}
+
+/// The same with a reader that is there already.
+fn crowd_is_not_noticed<R: Net>(rt: &R, centre: &mut Centre) -> Result<bool, Fail> {
+    let mut reader = centre.client(rt)?;
+    Ok(
+        centre.answers(&mut reader, FOLLOW, FOLLOWED)?
+            && crowd_is_not_noticed_by(rt, centre, &mut reader)?,
+    )
 }
 
 #[test]
@@ -81,18 +101,25 @@ fn two_thousand_that_connect_and_leave_keep_no_record_back(rt: HostRuntime) -> R
     Ok(())
 }
 
-/// Whether a feed that comes after a crowd brings its record within some turns.
-fn new_feed_is_heard<R: Net>(rt: &R, centre: &mut Centre) -> Result<bool, Fail> {
-    let mut reader = centre.client(rt)?;
-    if !centre.answers(&mut reader, FOLLOW, FOLLOWED)? {
-        return Ok(false);
-    }
+/// Whether a feed that comes after a crowd brings its record to a reader within some turns.
+fn new_feed_is_heard_by<R: Net, S: Read>(
+    rt: &R,
+    centre: &mut Centre,
+    reader: &mut S,
+) -> Result<bool, Fail> {
     come_and_go(rt, centre)?;
     centre.turns(1);
     let mut feed = centre.feed(rt)?;
-    feed.write_all(&record(b"WLF", b"BHZ", 7)?)?;
-    centre.turns(TURNS);
-    Ok(has_come(&mut reader, 7)?)
+    is_handed(centre, reader, &mut feed, 7)
+}
+
+/// The same with a reader that is there already.
+fn new_feed_is_heard<R: Net>(rt: &R, centre: &mut Centre) -> Result<bool, Fail> {
+    let mut reader = centre.client(rt)?;
+    Ok(
+        centre.answers(&mut reader, FOLLOW, FOLLOWED)?
+            && new_feed_is_heard_by(rt, centre, &mut reader)?,
+    )
 }
 
 #[test]
@@ -112,18 +139,28 @@ fn babblers<R: Net + AllocGlobal>(rt: &R, centre: &mut Centre) -> Result<Vec<R::
     Ok(clients)
 }
 
-/// Whether a reader gets a record within some turns, while clients send lines without an end, and all of these stay.
+/// Whether a reader gets a record of a feed within some turns, while clients send lines without an end, and all of
+/// these stay.
+fn is_handed_beside_babble<R: Net + AllocGlobal, S: Read, F: Write>(
+    rt: &R,
+    centre: &mut Centre,
+    reader: &mut S,
+    feed: &mut F,
+) -> Result<bool, Fail> {
+    let clients = babblers(rt, centre)?;
+    centre.turns(3);
+    let is_handed = is_handed(centre, reader, feed, 9)?;
+    Ok(is_handed && centre.clients() == clients.len().saturating_add(1))
+}
+
+/// The same with a reader and a feed that are there already.
 fn babble_is_not_noticed<R: Net + AllocGlobal>(rt: &R, centre: &mut Centre) -> Result<bool, Fail> {
     let mut reader = centre.client(rt)?;
     if !centre.answers(&mut reader, FOLLOW, FOLLOWED)? {
         return Ok(false);
     }
     let mut feed = centre.feed(rt)?;
-    let clients = babblers(rt, centre)?;
-    centre.turns(3);
-    feed.write_all(&record(b"WLF", b"BHZ", 9)?)?;
-    centre.turns(TURNS);
-    Ok(has_come(&mut reader, 9)? && centre.clients() == clients.len().saturating_add(1))
+    is_handed_beside_babble(rt, centre, &mut reader, &mut feed)
 }
 
 #[test]
@@ -132,23 +169,36 @@ fn lines_without_an_end_keep_no_record_back(rt: HostRuntime) -> Result<(), Fail>
     Ok(())
 }
 
+/// Whether what a client has said is answered with an error and a greeting, and not before some turns.
+fn is_answered_slowly<S: Read>(centre: &mut Centre, client: &mut S) -> io::Result<bool> {
+    Ok(
+        centre.is_silent(client)?
+            && centre.gives(client, b"ERROR\r\n")?
+            && centre.gives(client, GREETING)?,
+    )
+}
+
 /// Whether a line that stands behind 20,000 bytes is answered, and not before some turns: a client gives 4,096 in each.
 fn long_input_is_read<R: Net>(rt: &R, centre: &mut Centre) -> Result<bool, Fail> {
     let mut client = centre.client(rt)?;
     client.write_all(&BABBLE[..20_000])?;
     client.write_all(b"\rHELLO\r")?;
-    let is_read_slowly = centre.is_silent(&mut client)?;
-    Ok(
-        is_read_slowly
-            && centre.gives(&mut client, b"ERROR\r\n")?
-            && centre.gives(&mut client, GREETING)?,
-    )
+    Ok(is_answered_slowly(centre, &mut client)?)
 }
 
 #[test]
 fn a_client_is_read_a_piece_a_turn_and_to_its_end(rt: HostRuntime) -> Result<(), Fail> {
     assert!(rt; at_centre(&rt, long_input_is_read)?);
     Ok(())
+}
+
+/// A client says something, and sends no more.
+fn say_and_end<R: Net>(rt: &R, centre: &mut Centre, said: &[u8]) -> io::Result<R::Stream> {
+    let mut client = centre.client(rt)?;
+    centre.turns(2);
+    client.write_all(said)?;
+    client.shutdown(Shutdown::Write)?;
+    Ok(client)
 }
 
 /// Whether a client that says something and sends no more gets the answer and then the end.
@@ -158,10 +208,7 @@ fn is_answered_once_it_sends_no_more<R: Net>(
     said: &[u8],
     answer: &[u8],
 ) -> Result<bool, Fail> {
-    let mut client = centre.client(rt)?;
-    centre.turns(2);
-    client.write_all(said)?;
-    client.shutdown(Shutdown::Write)?;
+    let mut client = say_and_end(rt, centre, said)?;
     Ok(centre.gives(&mut client, answer)? && centre.ends(&mut client)?)
 }
 
@@ -182,39 +229,24 @@ fn a_client_that_closes_its_sending_half_is_answered(rt: HostRuntime) -> Result<
     Ok(())
 }
 
-/// Two records of GE WLF come.
-fn feed_two<R: Net>(rt: &R, centre: &mut Centre) -> Result<(), Fail> {
-    let mut feed = centre.feed(rt)?;
-    for samples in 0..2u16 {
-        feed.write_all(&record(b"WLF", b"BHZ", samples)?)?;
-    }
-    centre.turns(3);
-    Ok(())
-}
-
-/// A client asks for what is held, and sends no more.
-fn fetch_and_end<R: Net>(rt: &R, centre: &mut Centre) -> io::Result<R::Stream> {
-    let mut client = centre.client(rt)?;
-    centre.turns(2);
-    client.write_all(b"STATION WLF GE\rFETCH\rEND\r")?;
-    client.shutdown(Shutdown::Write)?;
-    Ok(client)
+/// Whether a client is given the end, and then the connection is over.
+fn gives_the_end<S: Read>(centre: &mut Centre, client: &mut S) -> io::Result<bool> {
+    Ok(centre.gives(client, b"END")? && centre.ends(client)?)
 }
 
 /// Whether a client is told that its station is taken, gets both records, and then the end.
 fn gives_both_and_ends<S: Read>(centre: &mut Centre, client: &mut S) -> Result<bool, Fail> {
-    let first = packet(b"SLFFFFFE", &record(b"WLF", b"BHZ", 0)?);
-    let second = packet(b"SLFFFFFF", &record(b"WLF", b"BHZ", 1)?);
-    let are_given = centre.gives(client, FOLLOWED)?
-        && centre.gives(client, &first)?
-        && centre.gives(client, &second)?;
-    Ok(are_given && centre.gives(client, b"END")? && centre.ends(client)?)
+    Ok(
+        centre.gives(client, FOLLOWED)?
+            && gives_two(centre, client, 0, 1)?
+            && gives_the_end(centre, client)?,
+    )
 }
 
 /// Whether a client that asks for what is held and sends no more gets all of it.
 fn is_given_what_it_fetched<R: Net>(rt: &R, centre: &mut Centre) -> Result<bool, Fail> {
-    feed_two(rt, centre)?;
-    let mut client = fetch_and_end(rt, centre)?;
+    feed_forest(rt, centre, 2)?;
+    let mut client = say_and_end(rt, centre, b"STATION WLF GE\rFETCH\rEND\r")?;
     gives_both_and_ends(centre, &mut client)
 }
 

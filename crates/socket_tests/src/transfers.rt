@@ -1,7 +1,7 @@
 //! Records from feeds to clients over sockets.
 use loopback::{Centre, at_centre, packet, record};
 use std::io;
-use std::io::Write;
+use std::io::{Read, Write};
 use std::net::Net;
 use std::test::Fail;
 
@@ -14,13 +14,25 @@ fn send_in_two<S: Write>(centre: &mut Centre, feed: &mut S, record: &[u8; 512]) 
     Ok(())
 }
 
+/// Whether a client that fetches gets a record, and then the end.
+fn is_fetched<S: Read + Write>(
+    centre: &mut Centre,
+    client: &mut S,
+    first: &[u8; 512],
+) -> io::Result<bool> {
+    Ok(
+        centre.answers(client, b"FETCH\r", &packet(b"SL000000", first))?
+            && centre.gives(client, b"END")?
+            && centre.ends(client)?,
+    )
+}
+
 /// Whether a client that fetches gets a record that came from a feed, and then the end.
 fn goes_to_a_client<R: Net>(rt: &R, centre: &mut Centre, first: &[u8; 512]) -> Result<bool, Fail> {
     let mut feed = centre.feed(rt)?;
     send_in_two(centre, &mut feed, first)?;
     let mut client = centre.client(rt)?;
-    let is_given = centre.answers(&mut client, b"FETCH\r", &packet(b"SL000000", first))?;
-    Ok(is_given && centre.gives(&mut client, b"END")? && centre.ends(&mut client)?)
+    Ok(is_fetched(centre, &mut client, first)?)
 }
 
 #[test]
@@ -33,21 +45,57 @@ fn a_record_goes_from_a_feed_to_a_client(rt: HostRuntime) -> Result<(), Fail> {
 /// What CAT is answered.
 static STATIONS: &[u8] = b"GE APE   Island\r\nGE WLF   Forest\r\nEND\r\n";
 
-/// Whether one client gets a record that comes, and another the list of stations at the same time.
+/// Whether one client is told the list of stations, and another gets a record.
+fn are_both_served<S: Read + Write>(
+    centre: &mut Centre,
+    reader: &mut S,
+    other: &mut S,
+    first: &[u8; 512],
+) -> io::Result<bool> {
+    Ok(
+        centre.answers(other, b"CAT\r", STATIONS)?
+            && centre.gives(reader, &packet(b"SLFFFFFE", first))?,
+    )
+}
+
+/// Whether both are told nothing more.
+fn are_silent<S: Read>(centre: &mut Centre, reader: &mut S, other: &mut S) -> io::Result<bool> {
+    Ok(centre.is_silent(reader)? && centre.is_silent(other)?)
+}
+
+/// A record comes on a feed that ends then.
+fn feed<R: Net>(rt: &R, centre: &Centre, record: &[u8; 512]) -> io::Result<()> {
+    let mut feed = centre.feed(rt)?;
+    feed.write_all(record)
+}
+
+/// Whether a client gets a record that comes, and one that comes for it the list of stations at the same time.
+fn is_listed_beside<R: Net>(
+    rt: &R,
+    centre: &mut Centre,
+    reader: &mut R::Stream,
+    first: &[u8; 512],
+) -> Result<bool, Fail> {
+    let mut other = centre.client(rt)?;
+    feed(rt, centre, first)?;
+    Ok(
+        are_both_served(centre, reader, &mut other, first)?
+            && are_silent(centre, reader, &mut other)?,
+    )
+}
+
+/// The same with a client in a transfer that comes for it.
 fn list_beside_a_transfer<R: Net>(
     rt: &R,
     centre: &mut Centre,
     first: &[u8; 512],
 ) -> Result<bool, Fail> {
     let mut reader = centre.client(rt)?;
-    if !centre.answers(&mut reader, b"STATION WLF GE\rDATA\rEND\r", b"OK\r\nOK\r\n")? {
-        return Ok(false);
-    }
-    let mut other = centre.client(rt)?;
-    centre.feed(rt)?.write_all(first)?;
-    let is_listed = centre.answers(&mut other, b"CAT\r", STATIONS)?;
-    let is_given = centre.gives(&mut reader, &packet(b"SLFFFFFE", first))?;
-    Ok(is_listed && is_given && centre.is_silent(&mut reader)? && centre.is_silent(&mut other)?)
+    let said = b"STATION WLF GE\rDATA\rEND\r";
+    Ok(
+        centre.answers(&mut reader, said, b"OK\r\nOK\r\n")?
+            && is_listed_beside(rt, centre, &mut reader, first)?,
+    )
 }
 
 #[test]

@@ -1,7 +1,7 @@
 //! Jobs that fail, as the words of a command line start them: the status, the standard error, and which of several
 //! faults comes first.
-use jobs::obey;
-use loopback::{Actor, Stage, any_port};
+use crate::outcome::{Outcome, free_ports, job_of};
+use loopback::{Actor, any_port};
 use socket_ports::MioPorts;
 use std::alloc::Global;
 use std::cell::RefCell;
@@ -134,12 +134,33 @@ static CENTRE: &str =
     "title = \"Centre\"\nmax_connections = 9\n[[station]]\nnetwork = \"GE\"\ncode = \"APE\"\n\
     description = \"Island\"\ncapacity = 9\n";
 
+/// The text with a port in place of a word.
+fn with_port(alloc: Global, text: &str, word: &str, port: u16) -> Result<String, Fail> {
+    let port = format!(in alloc; "{port}")?;
+    Ok(text.replace(alloc, word, port.as_str())?)
+}
+
 /// The text with the two ports in it.
 fn with_ports(alloc: Global, text: &str, taken: u16, free: u16) -> Result<String, Fail> {
-    let taken = format!(in alloc; "{taken}")?;
-    let free = format!(in alloc; "{free}")?;
-    let text = text.replace(alloc, "TAKEN", taken.as_str())?;
-    Ok(text.as_str().replace(alloc, "FREE", free.as_str())?)
+    let text = with_port(alloc, text, "TAKEN", taken)?;
+    with_port(alloc, text.as_str(), "FREE", free)
+}
+
+/// Does the job of a command line with the two ports in it.
+fn outcome_of<R>(rt: &R, words: &str, taken: u16, free: u16) -> Result<Outcome, Fail>
+where
+    R: Files<File = File> + Net + AllocGlobal,
+    R::File: AsRawFd,
+{
+    let line = with_ports(rt.alloc(), words, taken, free)?;
+    let nobody = RefCell::new(Nobody);
+    job_of(rt, &nobody, line.as_str())
+}
+
+/// Whether a job ended with status 1, and reports a fault by that line and by what it names.
+fn reports(outcome: &Outcome, line: &str, names: &str) -> bool {
+    let errors = outcome.errors.as_str();
+    outcome.status == ExitCode::FAILURE && errors.starts_with(line) && errors.contains(names)
 }
 
 /// Whether a row's command line ends with status 1 and reports what the row says.
@@ -148,21 +169,35 @@ where
     R: Files<File = File> + Net + AllocGlobal,
     R::File: AsRawFd,
 {
-    let line = with_ports(rt.alloc(), row.words, taken, free)?;
     let names = with_ports(rt.alloc(), row.names, taken, free)?;
-    let mut words = Vec::new(rt.alloc());
-    for word in line.as_str().split(' ') {
-        words.push(String::from_str(rt.alloc(), word)?)?;
+    let outcome = outcome_of(rt, row.words, taken, free)?;
+    Ok(reports(&outcome, row.line, names.as_str()))
+}
+
+/// The place of the first row whose command line ends otherwise.
+fn first_other_row<R>(rt: &R, taken: u16, free: u16) -> Result<Option<usize>, Fail>
+where
+    R: Files<File = File> + Net + AllocGlobal,
+    R::File: AsRawFd,
+{
+    for (place, row) in ROWS.iter().enumerate() {
+        if !fails_so(rt, row, taken, free)? {
+            return Ok(Some(place));
+        }
     }
-    let nobody = RefCell::new(Nobody);
-    let stage = Stage::new(rt, &nobody);
-    let status = obey(&stage, words.as_slice());
-    let (_, errors) = stage.into_parts();
-    Ok(
-        status == ExitCode::FAILURE
-            && errors.as_str().starts_with(row.line)
-            && errors.as_str().contains(names.as_str()),
-    )
+    Ok(None)
+}
+
+/// The same with a port that is taken, and one that is free.
+fn first_other<R>(rt: &R) -> Result<Option<usize>, Fail>
+where
+    R: Files<File = File> + Net + AllocGlobal,
+    R::File: AsRawFd,
+{
+    let ports = MioPorts::listen(rt, rt.alloc(), any_port(), any_port())?;
+    let (taken, _) = ports.bound();
+    let (free, _) = free_ports(rt)?;
+    first_other_row(rt, taken, free)
 }
 
 /// The files that the rows name.
@@ -176,29 +211,16 @@ fn make_files<R: Files>(rt: &R) -> Result<(), Fail> {
 #[test]
 fn the_first_of_several_faults_is_reported_with_status_1(rt: HostRuntime) -> Result<(), Fail> {
     make_files(&rt)?;
-    let ports = MioPorts::listen(&rt, rt.alloc(), any_port(), any_port())?;
-    let others = MioPorts::listen(&rt, rt.alloc(), any_port(), any_port())?;
-    let (taken, _) = ports.bound();
-    let (free, _) = others.bound();
-    drop(others);
-    for row in &ROWS {
-        assert!(rt; fails_so(&rt, row, taken, free)?, "{}", row.words);
-    }
+    assert_eq!(rt; first_other(&rt)?, None);
     Ok(())
 }
 
 #[test]
 fn words_that_are_no_job_end_with_status_2(rt: HostRuntime) -> Result<(), Fail> {
     let nobody = RefCell::new(Nobody);
-    let stage = Stage::new(&rt, &nobody);
-    let words = vec![in rt.alloc();
-        String::from_str(rt.alloc(), "seedlinkd")?,
-        String::from_str(rt.alloc(), "sing")?,
-    ]?;
-    let status = obey(&stage, words.as_slice());
-    let (output, errors) = stage.into_parts();
-    assert!(rt; status == ExitCode::from(2));
-    assert!(rt; output.is_empty());
-    assert!(rt; errors.as_str().contains("sing"));
+    let outcome = job_of(&rt, &nobody, "seedlinkd sing")?;
+    assert!(rt; outcome.status == ExitCode::from(2));
+    assert!(rt; outcome.output.is_empty());
+    assert!(rt; outcome.errors.as_str().contains("sing"));
     Ok(())
 }

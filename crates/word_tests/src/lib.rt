@@ -1,0 +1,15 @@
+//! Tests of jobs over sockets on loopback, with both ends in one process: a server, a feeder and a reader as the words
+//! of a command line start them, jobs that fail, and a reader that follows servers which end. Whoever waits lets the
+//! other end act. Nothing but tests.
+#![tactic(auto)]
+
+#[cfg(test)]
+mod clients_by_words;
+#[cfg(test)]
+mod failing_jobs;
+#[cfg(test)]
+mod followers;
+#[cfg(test)]
+mod outcome;
+#[cfg(test)]
+mod words;
