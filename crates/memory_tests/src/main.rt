@@ -16,7 +16,6 @@ mod servers;
 mod trial;
 mod wires;
 
-use anyhow::anyhow;
 use std::alloc::Global;
 use std::env;
 use std::io::Print;
@@ -42,7 +41,7 @@ fn tried(alloc: Global, call: &str) -> Result<Trial, Fault> {
         "turn" => looping::turn(alloc),
         "ports" => looping::ports(alloc),
         "replay" => replaying::replay_of_script(alloc),
-        _ => Err(anyhow!("there is no such call")),
+        _ => Err(Fault),
     }
 }
 

@@ -1,4 +1,11 @@
 //! What comes of a call.
+use catalog::ConfigFault;
+use incidents::ReplayFault;
+use mseed_header::FieldFault;
+use server_core::{ArriveFault, Gone, Refusal};
+use std::alloc::{AllocError, AllocFailed};
+use std::{fmt, io};
+
 /// What comes of a call.
 #[derive(Clone, Copy, Drop)]
 pub enum Trial {
@@ -20,4 +27,65 @@ impl Trial {
 }
 
 /// Something before the call could not be done.
-pub type Fault = anyhow::Error;
+#[derive(Clone, Copy, Drop)]
+pub struct Fault;
+
+impl From<AllocError> for Fault {
+    fn from(_fault: AllocError) -> Fault {
+        Fault
+    }
+}
+
+impl From<io::Error> for Fault {
+    fn from(_fault: io::Error) -> Fault {
+        Fault
+    }
+}
+
+impl From<fmt::Error> for Fault {
+    fn from(_fault: fmt::Error) -> Fault {
+        Fault
+    }
+}
+
+impl From<Gone> for Fault {
+    fn from(_fault: Gone) -> Fault {
+        Fault
+    }
+}
+
+impl From<Refusal> for Fault {
+    fn from(_fault: Refusal) -> Fault {
+        Fault
+    }
+}
+
+impl From<ArriveFault> for Fault {
+    fn from(_fault: ArriveFault) -> Fault {
+        Fault
+    }
+}
+
+impl From<ConfigFault> for Fault {
+    fn from(_fault: ConfigFault) -> Fault {
+        Fault
+    }
+}
+
+impl From<FieldFault> for Fault {
+    fn from(_fault: FieldFault) -> Fault {
+        Fault
+    }
+}
+
+impl From<ReplayFault> for Fault {
+    fn from(_fault: ReplayFault) -> Fault {
+        Fault
+    }
+}
+
+impl<T: Drop> From<AllocFailed<T>> for Fault {
+    fn from(_failed: AllocFailed<T>) -> Fault {
+        Fault
+    }
+}
