@@ -34,16 +34,19 @@ tree=$room/tree
 doc=$tree/usr/share/doc/seedlinkd
 parts=$top/tools/package
 
-# Puts a file, or what it is given, into the tree. The manual page and changelog are compressed, as Debian has them.
+# Puts a file, or what it is given, into the tree. The manual pages and the changelog are compressed, as Debian has them.
 put() { install -D -m "$1" "$2" "$tree/$3"; }
 put_text() { mkdir -p "$(dirname "$tree/$1")" && cat >"$tree/$1"; }
 put_compressed() { mkdir -p "$(dirname "$tree/$1")" && gzip -9 -n >"$tree/$1"; }
 
 put 755 "$program" usr/bin/seedlinkd
 strip --remove-section=.comment --remove-section=.note "$tree/usr/bin/seedlinkd"
-sed "s/^\.Os\$/.Os seedlinkd $version/; s|examples/loopback.toml|/etc/seedlinkd/seedlinkd.toml|; s|docs/\([A-Z]*\.md\)|/usr/share/doc/seedlinkd/\1|
-    s|^\.It Pa examples/\(seedlinkd[-a-z@]*.service\)|.It Pa /usr/lib/systemd/system/\1|" docs/seedlinkd.1 |
-    put_compressed usr/share/man/man1/seedlinkd.1.gz
+for page in seedlinkd.8 seedlinkd.toml.5; do
+    sed "s|examples/loopback.toml|/etc/seedlinkd/seedlinkd.toml|; s|docs/\([A-Z]*\.md\)|/usr/share/doc/seedlinkd/\1|
+        s|^\.It Pa examples/\(seedlinkd[-a-z@]*.service\)|.It Pa /usr/lib/systemd/system/\1|
+        s|examples/records/|/usr/share/doc/seedlinkd/&|" "docs/$page" >"$room/page"
+    put_compressed "usr/share/man/man${page##*.}/$page.gz" <"$room/page"
+done
 for unit in examples/*.service; do
     case $unit in
         *@.service) head='# A unit of which each instance is a server' ;;

@@ -1,6 +1,6 @@
 #!/bin/sh
 # Tries the package in a bare Debian: installs it there, runs the server as its user with the configuration that it ships,
-# feeds and reads records through it, shows the manual page, upgrades, removes and purges it, and says what is left.
+# feeds and reads records through it, checks the manual pages, upgrades, removes and purges it, and says what is left.
 #
 #     tools/try_package.sh [SUITE]
 #
@@ -36,7 +36,7 @@ lintian --allow-root --fail-on error,warning --info "$package"
 lintian --allow-root --show-overrides "$package" | sed -n 's/^O: /overridden: /p'
 
 step "a bare Debian ($suite)"
-debootstrap --variant=minbase --include=man-db,systemd "$suite" "$bare" >/dev/null
+debootstrap --variant=minbase --include=man-db,mandoc,systemd "$suite" "$bare" >/dev/null
 mount -t proc proc "$bare/proc"
 printf '#!/bin/sh\nexit 101\n' >"$bare/usr/sbin/policy-rc.d" && chmod 755 "$bare/usr/sbin/policy-rc.d"
 files >"$bare/tmp/before"
@@ -70,10 +70,20 @@ wait "$server" 2>/dev/null || true
 server=
 inside /usr/share/doc/seedlinkd/examples/demo | tail -n 1
 
-step "man -l"
-inside man -l /usr/share/man/man1/seedlinkd.1.gz >"$bare/tmp/page" || fail "man -l"
-head -n 1 "$bare/tmp/page"
-tail -n 1 "$bare/tmp/page"
+step "manual pages"
+doc=$bare/usr/share/doc/seedlinkd
+for page in man8/seedlinkd.8 man5/seedlinkd.toml.5; do
+    # Its findings are on standard output; on standard error it says that its index doesn't have the page.
+    inside mandoc -T lint "/usr/share/man/$page.gz" 2>/dev/null || fail "mandoc -T lint $page"
+    inside man --warnings -l "/usr/share/man/$page.gz" >"$bare/tmp/page" 2>"$bare/tmp/warnings" || fail "man -l $page"
+    [ ! -s "$bare/tmp/warnings" ] || fail "man --warnings: $(cat "$bare/tmp/warnings")"
+    sed -n '1p' "$bare/tmp/page"
+done
+# The faults that the tables of PROFILE have in their first column, and those of the manual page's table.
+grep -oE '^\| [^|]* \|' "$doc/PROFILE.md" | grep -oE '[0-9]+ [A-Z][a-z][A-Za-z0-9]*' | sort -u >"$bare/tmp/profile"
+zcat "$bare/usr/share/man/man8/seedlinkd.8.gz" | sed -nE 's/^\.It ([0-9]+ [A-Z][A-Za-z0-9]*)$/\1/p' | sort -u >"$bare/tmp/manual"
+diff "$bare/tmp/profile" "$bare/tmp/manual" || fail "the manual page has other faults than PROFILE.md"
+echo "$(wc -l <"$bare/tmp/manual") faults, as in PROFILE.md"
 
 step "upgrade, with a configuration that was changed"
 inside sed -i 's/^title = .*/title = "Changed here"/' /etc/seedlinkd/seedlinkd.toml
