@@ -27,16 +27,17 @@ fail() {
 end() {
     for it in "${running[@]}"; do kill "$it" 2>/dev/null; done
     stop_broker 2>/dev/null
-    [ -z "${epmd-}" ] || kill "$epmd"
+    [ -z "${epmd-}" ] || kill "$epmd" 2>/dev/null
     wait
     rm -rf "$room"
 }
-# Waits until a command succeeds.
+# Waits until a command succeeds. Nothing comes any more once the broker has ended by itself.
 await() {
     local what=$1
     shift
     until "$@"; do
         [ "$SECONDS" -lt 600 ] || fail "waited in vain: $what"
+        [ -z "${broker-}" ] || ! has_ended "$broker" || fail "the broker ended; waited for: $what"
         sleep 0.2
     done
 }
@@ -47,9 +48,10 @@ has_ended() { ! kill -0 "$1" 2>/dev/null; }
 
 # ---- the broker
 
+# It has a session of its own, so that all of it can be ended before it has written its number.
 start_broker() {
-    env HOME="$room" RABBITMQ_BASE="$room" RABBITMQ_MNESIA_BASE="$room/mnesia" RABBITMQ_LOG_BASE="$room/log" RABBITMQ_PID_FILE="$room/pid" \
-        RABBITMQ_ENABLED_PLUGINS_FILE="$room/plugins" RABBITMQ_CONFIG_FILE="$room/rabbitmq" RABBITMQ_NODENAME=seedlink@localhost \
+    setsid env HOME="$room" RABBITMQ_BASE="$room" RABBITMQ_MNESIA_BASE="$room/mnesia" RABBITMQ_LOG_BASE="$room/log" RABBITMQ_PID_FILE="$room/pid" \
+        RABBITMQ_ENABLED_PLUGINS_FILE="$room/plugins" RABBITMQ_CONFIG_FILE="$room/rabbitmq" RABBITMQ_NODENAME=seedlink@localhost ERL_CRASH_DUMP="$room/crash" \
         RABBITMQ_NODE_IP_ADDRESS=127.0.0.1 RABBITMQ_NODE_PORT="$amqp" RABBITMQ_DIST_PORT="$dist" \
         RABBITMQ_SERVER_ADDITIONAL_ERL_ARGS="-kernel inet_dist_use_interface {127,0,0,1}" \
         ERL_EPMD_ADDRESS=127.0.0.1 ERL_EPMD_PORT="$names" /usr/lib/rabbitmq/bin/rabbitmq-server >"$room/broker.said" 2>&1 &
@@ -59,7 +61,7 @@ start_broker() {
 # Ends the broker by its own number, which stands in a file, and waits for it.
 stop_broker() {
     [ -n "${broker-}" ] || return 0
-    kill "$(cat "$room/pid")"
+    if [ -s "$room/pid" ]; then kill "$(cat "$room/pid")"; else kill -- "-$broker"; fi
     wait "$broker"
     broker=
 }
@@ -136,6 +138,8 @@ declare -A reader
 echo '[].' >"$room/plugins"
 ERL_EPMD_ADDRESS=127.0.0.1 epmd -port "$names" >"$room/epmd.said" 2>&1 &
 epmd=$!
+sleep 0.5
+! has_ended "$epmd" || fail "epmd ended"
 start_broker
 say "a broker"
 
