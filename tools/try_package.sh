@@ -1,10 +1,12 @@
 #!/bin/sh
 # Tries the package in a bare Debian: installs it there, runs the server as its user with the configuration that it ships,
-# feeds and reads records through it, checks the manual pages, upgrades, removes and purges it, and says what is left.
+# feeds and reads records through it, checks the manual pages, upgrades, removes and purges it, and says what is left. Then it
+# does much of that again under systemd, with the units.
 #
 #     tools/try_package.sh [SUITE]
 #
-# It needs root, debootstrap, lintian and Debian's packages (SUITE is bookworm if left out), and 600 MB in $TMPDIR.
+# It needs root, debootstrap, lintian and Debian's packages (SUITE is bookworm if left out), 600 MB in $TMPDIR, and for systemd
+# a kernel with cgroup2. All sockets are on loopback.
 set -eu
 export LC_ALL=C DEBIAN_FRONTEND=noninteractive
 top=$(cd "$(dirname "$(readlink -f "$0")")/.." && pwd)
@@ -36,7 +38,7 @@ lintian --allow-root --fail-on error,warning --info "$package"
 lintian --allow-root --show-overrides "$package" | sed -n 's/^O: /overridden: /p'
 
 step "a bare Debian ($suite)"
-debootstrap --variant=minbase --include=man-db,mandoc,systemd "$suite" "$bare" >/dev/null
+debootstrap --variant=minbase --include=man-db,mandoc,procps,systemd "$suite" "$bare" >/dev/null
 mount -t proc proc "$bare/proc"
 printf '#!/bin/sh\nexit 101\n' >"$bare/usr/sbin/policy-rc.d" && chmod 755 "$bare/usr/sbin/policy-rc.d"
 files >"$bare/tmp/before"
@@ -104,4 +106,88 @@ inside apt-get purge -y seedlinkd >/dev/null 2>&1 || fail "purge"
 files >"$bare/tmp/after"
 diff "$bare/tmp/before" "$bare/tmp/after" >"$bare/tmp/left" && echo "no file is left" || sed -n 's/^> /left: /p' "$bare/tmp/left"
 echo "the user is left, as Debian leaves them: $(inside getent passwd seedlinkd)"
+step "under systemd"
+# The bare Debian is booted in namespaces of its own, for two minutes at most, with loopback as its only network. There systemd
+# runs /root/units and ends.
+mv "$bare/tmp/seedlinkd.deb" "$bare/tmp/newer.deb" "$bare/root/"
+rm "$bare/usr/sbin/policy-rc.d"
+cat >"$bare/root/units" <<'EOF'
+#!/bin/sh
+exec >/root/said 2>&1
+reader=seedlinkd-archive@127.0.0.1:18000
+sds=/var/lib/seedlinkd-archive/127.0.0.1:18000/sds
+states() { for unit in seedlinkd "$reader"; do echo "$1: $unit $(systemctl is-active "$unit"), restarts $(systemctl show -P NRestarts "$unit")"; done; }
+pids() { systemctl show -P MainPID seedlinkd "$reader"; }
+dpkg -i /root/seedlinkd.deb >/root/dpkg 2>&1 || echo "dpkg -i failed"
+mkdir /etc/seedlinkd-archive
+echo 'WANTS=GE_APE CH_DAVOX' >/etc/seedlinkd-archive/127.0.0.1:18000.conf
+systemctl enable --now seedlinkd 2>/dev/null
+sleep 1
+systemctl enable --now "$reader" 2>/dev/null
+sleep 1
+seedlinkd -v feed 127.0.0.1:18001 /usr/share/doc/seedlinkd/examples/records/records.mseed
+sleep 2
+states "after a feed"
+for it in $(pids); do grep -q '^Seccomp:.2' "/proc/$it/status" && grep -q '^CapEff:.0*$' "/proc/$it/status" && echo "system calls are filtered, no capability"; done
+find "$sds" -type f -name '*.D.*' | xargs cat | seedlinkd check /dev/stdin --quiet --summary
+journalctl -u seedlinkd -u "$reader" -o cat | sort
+before=$(pids)
+dpkg -i --force-confold /root/newer.deb >>/root/dpkg 2>&1 || echo "the upgrade failed"
+sleep 2
+states "after an upgrade"
+for it in $before; do [ ! -e "/proc/$it" ] || echo "process $it was not restarted"; done
+dpkg -r seedlinkd >>/root/dpkg 2>&1 || echo "dpkg -r failed"
+pgrep -x seedlinkd >/dev/null && echo "a program is left" || echo "after a removal: no program is left"
+EOF
+cat >"$bare/etc/systemd/system/units.service" <<'EOF'
+[Unit]
+After=multi-user.target
+[Service]
+Type=oneshot
+ExecStart=/bin/sh /root/units
+ExecStopPost=systemctl --no-block exit 0
+[Install]
+WantedBy=multi-user.target
+EOF
+ln -s ../units.service "$bare/etc/systemd/system/multi-user.target.wants/units.service"
+mkdir "$bare/old"
+cat >"$bare/root/boot" <<'EOF'
+set -e
+cd "$1"
+mount --bind . .
+cd "$1"
+mount -t proc proc proc
+mount -t sysfs -o ro sysfs sys
+mount -t cgroup2 cgroup2 sys/fs/cgroup
+mount -t tmpfs -o mode=755 tmpfs dev
+for it in null zero full random urandom tty; do : >"dev/$it" && mount --bind "/dev/$it" "dev/$it"; done
+ln -s /proc/self/fd dev/fd
+mkdir dev/shm dev/pts
+mount -t devpts -o newinstance,ptmxmode=666 devpts dev/pts
+ln -s pts/ptmx dev/ptmx
+for it in dev/shm run tmp; do mount -t tmpfs tmpfs "$it"; done
+ip link set lo up
+pivot_root . old
+umount -l old
+exec env -i container=try_package /lib/systemd/systemd --unit=multi-user.target </dev/null >/dev/null 2>&1
+EOF
+# In a group of its own, so that systemd has no other processes than these.
+cat >"$bare/root/enter" <<'EOF'
+set -e
+mount -t cgroup2 cgroup2 "$1/mnt"
+group=$1/mnt/try_package.$$
+mkdir "$group"
+echo $$ >"$group/cgroup.procs"
+timeout -k 5 120 unshare --mount --pid --fork --cgroup --net --uts --ipc --kill-child sh "$1/root/boot" "$1" || true
+echo $$ >"$1/mnt/cgroup.procs"
+find "$group" -depth -type d -exec rmdir {} + 2>/dev/null || true
+EOF
+unshare --mount --propagation private sh "$bare/root/enter" "$bare" || fail "systemd was not started"
+cat "$bare/root/said"
+for it in "after a feed: seedlinkd active, restarts 0" "after a feed: seedlinkd-archive@127.0.0.1:18000 active, restarts 0" "refused CH DAVOX" \
+    "GE APE -- BHZ D 15 " "after an upgrade: seedlinkd active" "after an upgrade: seedlinkd-archive@127.0.0.1:18000 active" "after a removal: no program"; do
+    grep -q "^$it" "$bare/root/said" || fail "under systemd: no line '$it'"
+done
+! grep -q 'failed$\|was not restarted' "$bare/root/said" || fail "under systemd"
+[ "$(grep -c 'system calls are filtered' "$bare/root/said")" -eq 2 ] || fail "the filters are not in force"
 step "done"
