@@ -182,6 +182,7 @@ PREPARE = {
     ("42 Read", "read"): Room.full_of_clients,
     ("43 Write", "feed"): Room.full_of_feeds,
     ("43 Write", "read"): Room.held_records,
+    ("52 BadReply", "feed"): Room.held_records,
 }
 
 
