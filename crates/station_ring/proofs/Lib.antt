@@ -9,3 +9,4 @@ pub mod PlaceLemmas
 pub mod RingsLemmas
 pub mod HistoryLemmas
 pub mod FirstLemmas
+pub mod LevelLemmas

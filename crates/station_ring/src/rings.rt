@@ -1,6 +1,6 @@
 //! The rings of all stations.
 ghost use Rattle.std.specs.Prelude.{◌≡◌, ◌≢◌, ◌≤◌, ◌<◌, ◌^◌, ◌+◌, ◌-◌, [], ◌∷◌, ◌++◌, List, ℕ, length, map, take};
-ghost use Rattle.std.specs.Prelude.{slice_get, slice_set, option_map, IfOk, IfSome, Some, None, true};
+ghost use Rattle.std.specs.Prelude.{slice_get, slice_set, option_map, IfOk, IfSome, Some, None, true, if◌then◌else◌};
 ghost use Rattle.protocol.specs.Catalog.{Config as ProtocolConfig, Station};
 ghost use Rattle.protocol.specs.History.{Arrival, is_of, number_at as number_in_history, oldest_held, held_with_number};
 ghost use Rattle.protocol.specs.History.{from_number};
@@ -8,6 +8,7 @@ ghost use Rattle.catalog.specs.Places.{station_at, HasDistinctCodes};
 ghost use Rattle.station_ring.specs.Rings.{RingValue, pushed, number_at, place_with};
 ghost use Rattle.station_ring.specs.HeldRecords.{AllGrow, AreBehind, GrowByOne, IsBefore, IsBehind, holdings_of};
 ghost use Rattle.station_ring.specs.HeldRecords.{next_numbers, numbers_after, place_from, ring_of, summary_of};
+ghost use Rattle.station_ring.specs.Levels.{is_raise, raises_after, raises_in, raises_of};
 
 use crate::held::Summary;
 use crate::ring::Ring;
@@ -16,22 +17,31 @@ use sl_packet::Seq;
 use std::alloc::{AllocError, Global};
 use std::marker::Model;
 
-/// A ring for each station of a configuration, at the station's place, and how many records arrived at all of them.
+/// How many records of a station raise its level each time, as long as there are fewer than the next number.
+const RAISE_EVERY: u64 = 1_024;
+
+/// From so many records of a station on, so many raise its level each time.
+const RAISE_LATER: u64 = 8_192;
+
+/// A ring for each station of a configuration, at the station's place, how many records arrived at all of them, and how
+/// far they have come: the levels of all stations together.
 #[derive(Drop)]
 pub struct Rings {
     rings: Vec<Ring>,
     arrivals: u64,
+    raises: u64,
     latest: usize,
 }
 
 impl Model for Rings {
-    ghost use Rattle.station_ring.specs.HeldRecords.{RingsValue, AreBehind};
+    ghost use Rattle.station_ring.specs.HeldRecords.{RingsValue};
+    ghost use Rattle.station_ring.specs.Levels.{IsCounted};
 
     ghost Value = { RingsValue };
 
     ghost view = { λ s. record { rings = s.rings.items; arrivals = s.arrivals } };
 
-    ghost invariant = { λ s. AreBehind s.arrivals s.rings.items };
+    ghost invariant = { λ s. IsCounted s.arrivals s.raises s.rings.items };
 }
 
 impl Rings {
@@ -47,6 +57,7 @@ impl Rings {
         Ok(Rings {
             rings,
             arrivals: 0,
+            raises: 0,
             latest: 0,
         })
     }
@@ -61,6 +72,17 @@ impl Rings {
     {
         let _ = &self.rings;
         self.arrivals
+    }
+
+    /// How far the stations' records have come: the levels of all stations together, each by how many of its own
+    /// records arrived. Each time that a number has to be kept anew for some station, this rises.
+    pub fn raises(&self) -> u64
+        ensures value { result ≡ raises_in self.now }
+        ensures history { (config : ProtocolConfig) (h : List Arrival) → self.now ≡ holdings_of config h
+            → result ≡ raises_after config h }
+    {
+        let _ = &self.rings;
+        self.raises
     }
 
     /// The ring of the station at a place, where one is there. Its stamps are positions in the history.
@@ -115,7 +137,7 @@ impl Rings {
         ensures by_one { GrowByOne self.old.rings self.new.rings }
         ensures others { (other : ℕ) → other ≢ place → slice_get self.new.rings other ≡ slice_get self.old.rings other }
     {
-        let number = push_at(
+        let pushed = push_at(
             self.rings.as_mut_slice(),
             place,
             self.arrivals,
@@ -123,8 +145,9 @@ impl Rings {
             summary,
         );
         self.arrivals += 1;
+        self.raises += u64::from(pushed.is_raise);
         self.latest = place;
-        number
+        pushed.number
     }
 
     /// The position of the oldest held record of the station at a place, or that of the next arrival where none is
@@ -154,6 +177,13 @@ impl Rings {
     }
 }
 
+/// What a push answers: the record's number, and whether it raised its station's level.
+#[derive(Clone, Copy, Drop)]
+struct Pushed {
+    number: Seq,
+    is_raise: bool,
+}
+
 /// Pushes a record to the ring at a place. Its stamp is the count of the records that arrived before.
 fn push_at(
     rings: &mut [Ring],
@@ -161,20 +191,37 @@ fn push_at(
     arrivals: u64,
     bytes: &[u8; 512],
     summary: Summary,
-) -> Seq
+) -> Pushed
     requires there { place < length rings.old }
     requires behind { AreBehind arrivals rings.old }
     requires countable { arrivals < 2 ^ 64 - 1 }
     ensures pushed { (r : RingValue) → slice_get rings.old place ≡ Some r →
         rings.new ≡ slice_set rings.old place
         (pushed r (record { stamp = arrivals; bytes = bytes.now; summary = summary })) }
-    ensures number { (r : RingValue) → slice_get rings.old place ≡ Some r → result ≡ number_at r r.pushes }
+    ensures number { (r : RingValue) → slice_get rings.old place ≡ Some r → result.number ≡ number_at r r.pushes }
+    ensures raises { raises_of rings.new ≡ raises_of rings.old + (if result.is_raise then 1 else 0) }
     ensures behind { AreBehind (arrivals + 1) rings.new }
     ensures grow { AllGrow rings.old rings.new }
     ensures by_one { GrowByOne rings.old rings.new }
     ensures others { (other : ℕ) → other ≢ place → slice_get rings.new other ≡ slice_get rings.old other }
 {
-    rings[place].push(arrivals, bytes, summary)
+    let number = rings[place].push(arrivals, bytes, summary);
+    Pushed {
+        number,
+        is_raise: is_raise(rings[place].pushes()),
+    }
+}
+
+/// Whether the last of so many records of a station raised its level.
+fn is_raise(count: u64) -> bool
+    ensures { result ≡ is_raise count }
+{
+    let every = if count < RAISE_LATER {
+        RAISE_EVERY
+    } else {
+        RAISE_LATER
+    };
+    count % every == 0
 }
 
 /// The position of the oldest held record, or that of the next arrival where none is held.

@@ -18,10 +18,10 @@ returns-clause-holds c = λ config h a is distinct of_station bytes_are summary_
     let there : slice_get c.as_mut_slice.result.now c.args.place
     ≡ Some (ring_of (station_at config.entries c.args.place) h) =
     ap (λ rs. slice_get rs c.args.place) lent ∙ ring_of_place config h c.args.place all is_all within in
-    arrives config h a c.args.place all c.push_at-number.new.rings c.self.inside.rings.len item c.self.inside.rings.ok.0
+    arrives config h a c.args.place all c.push_at-pushed.new.rings c.self.inside.rings.len item c.self.inside.rings.ok.0
     is_all distinct of_station within
     (is_held_of c.self.inside.arrivals a c.args.bytes.now c.args.summary bytes_are summary_is)
-    (c.push_at-number.ensures.pushed (ring_of (station_at config.entries c.args.place) h) there
+    (c.push_at-pushed.ensures.pushed (ring_of (station_at config.entries c.args.place) h) there
     ∙ ap (λ rs. slice_set rs c.args.place (pushed (ring_of (station_at config.entries c.args.place) h) item)) lent)
 
 pub returns-clause-number : goal.returns-clause-number
@@ -34,5 +34,5 @@ returns-clause-number c = λ config h is.
     let there : slice_get c.as_mut_slice.result.now c.args.place
     ≡ Some (ring_of (station_at config.entries c.args.place) h) =
     ap (λ rs. slice_get rs c.args.place) lent ∙ ring_of_place config h c.args.place all is_all within in
-    c.push_at-number.ensures.number (ring_of (station_at config.entries c.args.place) h) there
+    c.push_at-pushed.ensures.number (ring_of (station_at config.entries c.args.place) h) there
     ∙ next_number-ring (station_at config.entries c.args.place) h
