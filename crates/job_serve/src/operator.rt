@@ -44,6 +44,16 @@ pub struct ServeOptions<'a> {
     pub log: bool,
 }
 
+/// How the last keep of numbers went.
+#[derive(Clone, Copy, Drop)]
+enum LastKeep {
+    /// None succeeded yet.
+    Missing,
+    Succeeded,
+    /// It failed after one that succeeded, which was told.
+    Failed,
+}
+
 /// The files of a configuration and of numbers, and lines to a device that never waits: whoever reads them can't stop
 /// the server.
 #[derive(Drop)]
@@ -57,8 +67,8 @@ pub struct Operator<'r, 'a, 'l, R, D> {
     numbers: Option<NumberFile<'a>>,
     /// The descriptor for these files, which nobody else gets.
     spare: Spare,
-    /// Whether numbers were kept, and else where they could not be.
-    has_kept: bool,
+    /// How the last keep of numbers went, and where the first one failed, if it did.
+    last_keep: LastKeep,
     unkept: Site<'a>,
     is_verbose: bool,
     errors: &'l SharedLines<D>,
@@ -80,12 +90,16 @@ impl<'r, 'a, 'l, R, D: Device> Operator<'r, 'a, 'l, R, D> {
         self.tell(&incident);
     }
 
-    /// Tells that numbers could not be kept; before any were kept, that ends the run, which tells it then.
+    /// Tells that numbers could not be kept, but not again until they were kept: a keep that fails is tried again after
+    /// each turn. Before any were kept, that ends the run, which tells it then.
     fn note_unkept(&mut self, incident: Incident<'a>) {
-        if self.has_kept {
-            self.tell(&incident);
-        } else {
-            self.unkept = incident.site;
+        match self.last_keep {
+            LastKeep::Missing => self.unkept = incident.site,
+            LastKeep::Succeeded => {
+                self.last_keep = LastKeep::Failed;
+                self.tell(&incident);
+            }
+            LastKeep::Failed => {}
         }
     }
 }
@@ -115,7 +129,7 @@ impl<'r, 'a, 'l, R: Files<File = File> + Clock + AllocGlobal, D> Operator<'r, 'a
             report: Pace::new(options.report_seconds),
             numbers,
             spare: Spare::new(rt),
-            has_kept: false,
+            last_keep: LastKeep::Missing,
             unkept: Site::Unnamed,
             is_verbose: options.is_verbose,
             errors,
@@ -230,7 +244,7 @@ impl<'r, 'a, 'l, R: Files<File = File> + Clock + AllocGlobal, D: Device> Between
         let kept = file.keep(self.rt, numbers);
         self.spare.take(self.rt);
         kept?;
-        self.has_kept = true;
+        self.last_keep = LastKeep::Succeeded;
         Ok(())
     }
 }

@@ -8,7 +8,7 @@ use job_check::{ReplayStyle, check_file, replay_files, view_file};
 use job_feed::feed_files;
 use job_read::read_servers;
 use job_serve::{ServeOptions, serve_sockets};
-use serving::{KEEP_EVERY, Timetable};
+use serving::Timetable;
 use std::fs::File;
 use std::net::Net;
 use std::os::fd::AsRawFd;
@@ -45,8 +45,8 @@ fn style_of(is_text: bool) -> ReplayStyle
     }
 }
 
-/// When a server does what, by the words of a command line: by turns, by time, and with a file of numbers once so many
-/// records came.
+/// When a server does what, by the words of a command line: by turns, by time, and with a file of numbers each time
+/// that these change.
 fn timetable_of(
     turns: Option<usize>,
     reread: Option<Every>,
@@ -58,14 +58,14 @@ fn timetable_of(
     ensures report { result.report ≡ option_and_then turns_of report }
     ensures timed { result.timed ≡ (is_some (option_and_then seconds_of reread)
         || is_some (option_and_then seconds_of report)) }
-    ensures keep { is_some result.keep ≡ is_some numbers.entry }
+    ensures keep { result.keep ≡ is_some numbers.entry }
 {
     Timetable {
         turns,
         reread: turns_in(reread),
         report: turns_in(report),
         timed: seconds_in(reread).is_some() || seconds_in(report).is_some(),
-        keep: numbers.map(|_| KEEP_EVERY),
+        keep: numbers.is_some(),
     }
 }
 

@@ -89,7 +89,7 @@ fn a_server_asks_and_reports_when_it_is_due(rt: HostRuntime) -> Result<(), Fail>
         reread: Some(2),
         report: Some(3),
         timed: false,
-        keep: None,
+        keep: false,
     };
     run_over(rt.alloc(), &mut between, timetable)?;
     assert!(rt; were_made(&between, &ASKED));
@@ -117,7 +117,7 @@ fn a_server_asks_and_reports_when_it_is_time(rt: HostRuntime) -> Result<(), Fail
         reread: None,
         report: None,
         timed: true,
-        keep: None,
+        keep: false,
     };
     run_over(rt.alloc(), &mut between, timetable)?;
     assert!(rt; were_made(&between, &ASKED_BY_TIME));

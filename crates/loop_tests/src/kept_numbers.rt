@@ -15,20 +15,43 @@ const FETCH: &[u8] = b"STATION APE GE\rFETCH\rSTATION WLF GE\rFETCH\rEND\r";
 /// The feed joins, and a client after it.
 static FED: [Row; 5] = [Feed(1), Quiet, Quiet, Inside(2), Quiet];
 
-/// Three records of GE APE and two of GE WLF, where that one has a station.
-fn records(alloc: Global) -> Result<Vec<u8>, Fail> {
+/// Further records of a station of GE.
+#[derive(Clone, Copy)]
+struct More {
+    code: &'static [u8],
+    count: usize,
+}
+
+/// No further records.
+const NO_MORE: More = More {
+    code: b"WLF",
+    count: 0,
+};
+
+/// So many of GE WLF that its number is kept anew.
+const MANY: More = More {
+    code: b"WLF",
+    count: 1100,
+};
+
+/// Three records of GE APE and two of GE WLF, where that one has a station, and then further ones.
+fn records(alloc: Global, more: More) -> Result<Vec<u8>, Fail> {
     let mut bytes = Vec::new(alloc);
     for second in 1..3 {
         bytes.extend_from_slice(&record(b"GE", b"APE", second)?)?;
         bytes.extend_from_slice(&record(b"GE", b"WLF", second)?)?;
     }
     bytes.extend_from_slice(&record(b"GE", b"APE", 3)?)?;
+    let another = record(b"GE", more.code, 4)?;
+    for _ in 0..more.count {
+        bytes.extend_from_slice(&another)?;
+    }
     Ok(bytes)
 }
 
 /// The feed of these records, and the client.
-fn scripts(alloc: Global) -> Result<Vec<PortScript>, Fail> {
-    let feed = feed(alloc, 1, records(alloc)?.as_slice(), 512)?;
+fn scripts(alloc: Global, more: More) -> Result<Vec<PortScript>, Fail> {
+    let feed = feed(alloc, 1, records(alloc, more)?.as_slice(), 512)?;
     both(alloc, feed, port(alloc, 2, FETCH, 520, 520, 40)?)
 }
 
@@ -39,28 +62,27 @@ struct Run {
     taken: Vec<u8>,
 }
 
-/// Runs a server for six turns, with numbers that are kept once more than so many records came. Its stations begin with
-/// some that were kept.
+/// Runs a server for forty turns, with numbers that are kept. Its stations begin with some that were kept.
 fn served(
     alloc: Global,
     text: &[u8],
     kept: &[KeptNumber],
-    keep: usize,
+    more: More,
     unkept: Vec<bool>,
 ) -> Result<Run, Fail> {
     let mut config = Config::read(alloc, text)?;
     config.begin_at(kept);
     let ports = MemoryPorts::new(
         alloc,
-        Script::new(happenings(alloc, &FED)?, scripts(alloc)?),
+        Script::new(happenings(alloc, &FED)?, scripts(alloc, more)?),
     );
     let mut between = MemoryBetween::new(alloc, Vec::new(alloc)).refusing(unkept);
     let timetable = Timetable {
-        turns: Some(6),
+        turns: Some(40),
         reread: None,
         report: None,
         timed: false,
-        keep: Some(keep),
+        keep: true,
     };
     let ports = serve_between(alloc, config, ports, &mut between, timetable)?;
     let taken = ports.record(alloc, 2)?.taken;
@@ -112,19 +134,19 @@ struct Left {
 }
 
 /// Runs a server that begins with the numbers that the one before it left.
-fn follow(alloc: Global, text: &[u8], before: &[KeptNumber], keep: usize) -> Result<Left, Fail> {
-    follow_refused(alloc, text, before, keep, Vec::new(alloc))
+fn follow(alloc: Global, text: &[u8], before: &[KeptNumber]) -> Result<Left, Fail> {
+    follow_refused(alloc, text, before, NO_MORE, Vec::new(alloc))
 }
 
-/// The same, where some of its keeps are refused.
+/// The same with further records, where some of its keeps are refused.
 fn follow_refused(
     alloc: Global,
     text: &[u8],
     before: &[KeptNumber],
-    keep: usize,
+    more: More,
     unkept: Vec<bool>,
 ) -> Result<Left, Fail> {
-    let run = served(alloc, text, before, keep, unkept)?;
+    let run = served(alloc, text, before, more, unkept)?;
     let kept = kept_by(alloc, text, before, &run)?;
     let digits = digits(alloc, run.taken.as_slice())?;
     let keeps = keeps(&run);
@@ -149,53 +171,54 @@ fn keeps(run: &Run) -> usize {
 #[test]
 fn the_first_server_counts_from_the_first_numbers(rt: HostRuntime) -> Result<(), Fail> {
     let alloc = rt.alloc();
-    let run = served(alloc, CENTRE, &[], 2, Vec::new(alloc))?;
+    let run = served(alloc, CENTRE, &[], NO_MORE, Vec::new(alloc))?;
     assert_eq!(rt;
         digits(alloc, run.taken.as_slice())?.as_slice(),
         b"000000FFFFFE000001FFFFFF000002".as_slice()
     );
-    assert_eq!(rt; keeps(&run), 2);
+    assert_eq!(rt; keeps(&run), 1);
     Ok(())
 }
 
 #[test]
 fn the_next_server_goes_on_beyond_them(rt: HostRuntime) -> Result<(), Fail> {
     let alloc = rt.alloc();
-    let first = follow(alloc, CENTRE, &[], 2)?;
-    let next = follow(alloc, CENTRE, first.kept.as_slice(), 2)?;
+    let first = follow(alloc, CENTRE, &[])?;
+    let next = follow(alloc, CENTRE, first.kept.as_slice())?;
     assert_eq!(rt;
         next.digits.as_slice(),
-        b"004003004000004004004001004005".as_slice()
+        b"0008000007FE0008010007FF000802".as_slice()
     );
     Ok(())
 }
 
 #[test]
-fn numbers_that_were_kept_at_the_start_are_ahead_too(rt: HostRuntime) -> Result<(), Fail> {
+fn records_of_a_station_change_its_own_number_alone(rt: HostRuntime) -> Result<(), Fail> {
     let alloc = rt.alloc();
-    let first = follow(alloc, CENTRE, &[], 5)?;
-    assert_eq!(rt; first.keeps, 1);
-    let next = follow(alloc, CENTRE, first.kept.as_slice(), 5)?;
+    let first = follow_refused(alloc, CENTRE, &[], MANY, Vec::new(alloc))?;
+    assert_eq!(rt; first.keeps, 2);
+    let next = follow(alloc, CENTRE, first.kept.as_slice())?;
     assert_eq!(rt;
         next.digits.as_slice(),
-        b"004000003FFE004001003FFF004002".as_slice()
+        b"000800000BFE000801000BFF000802".as_slice()
     );
     Ok(())
 }
 
 #[test]
-fn a_keep_that_fails_is_tried_after_more_records(rt: HostRuntime) -> Result<(), Fail> {
+fn a_keep_that_fails_is_tried_after_each_turn(rt: HostRuntime) -> Result<(), Fail> {
     let alloc = rt.alloc();
     let mut unkept = Vec::new(alloc);
     unkept.push(true)?;
+    unkept.push(true)?;
     unkept.push(false)?;
-    let first = follow_refused(alloc, CENTRE, &[], 2, unkept)?;
-    assert_eq!(rt; first.keeps, 2);
-    assert_eq!(rt; first.calls, 3);
-    let next = follow(alloc, CENTRE, first.kept.as_slice(), 2)?;
+    let first = follow_refused(alloc, CENTRE, &[], MANY, unkept)?;
+    assert_eq!(rt; first.keeps, 4);
+    assert_eq!(rt; first.calls, 6);
+    let next = follow(alloc, CENTRE, first.kept.as_slice())?;
     assert_eq!(rt;
         next.digits.as_slice(),
-        b"004000003FFE004001003FFF004002".as_slice()
+        b"000800000BFE000801000BFF000802".as_slice()
     );
     Ok(())
 }
@@ -213,19 +236,19 @@ first = "FFFFFE"
 
 /// What is left by a server with GE WLF alone, and by one with both stations after it.
 fn both_after_one(alloc: Global) -> Result<Left, Fail> {
-    let one = follow(alloc, FOREST, &[], 1)?;
-    follow(alloc, CENTRE, one.kept.as_slice(), 1)
+    let one = follow(alloc, FOREST, &[])?;
+    follow(alloc, CENTRE, one.kept.as_slice())
 }
 
 #[test]
 fn a_station_that_is_new_begins_as_it_is_configured(rt: HostRuntime) -> Result<(), Fail> {
     let alloc = rt.alloc();
-    let one = follow(alloc, FOREST, &[], 1)?;
+    let one = follow(alloc, FOREST, &[])?;
     assert_eq!(rt; one.kept.len(), 1);
     let both = both_after_one(alloc)?;
     assert_eq!(rt;
         both.digits.as_slice(),
-        b"000000004000000001004001000002".as_slice()
+        b"0000000007FE0000010007FF000002".as_slice()
     );
     assert_eq!(rt; both.kept.len(), 3);
     Ok(())
@@ -235,12 +258,12 @@ fn a_station_that_is_new_begins_as_it_is_configured(rt: HostRuntime) -> Result<(
 fn a_station_that_comes_back_goes_on(rt: HostRuntime) -> Result<(), Fail> {
     let alloc = rt.alloc();
     let both = both_after_one(alloc)?;
-    let one = follow(alloc, FOREST, both.kept.as_slice(), 1)?;
+    let one = follow(alloc, FOREST, both.kept.as_slice())?;
     assert_eq!(rt; one.kept.len(), 3);
-    let last = follow(alloc, CENTRE, one.kept.as_slice(), 1)?;
+    let last = follow(alloc, CENTRE, one.kept.as_slice())?;
     assert_eq!(rt;
         last.digits.as_slice(),
-        b"00400300C00400400400C005004005".as_slice()
+        b"0008000017FE0008010017FF000802".as_slice()
     );
     Ok(())
 }

@@ -6,6 +6,7 @@ use Rattle.std.proofs.lemmas.Grind.{common_steps}
 use Rattle.protocol.specs.Catalog.{Config, is_same_but_for_access}
 use Rattle.protocol.specs.World.{World}
 use Rattle.event_loop.specs.Loops.{LoopValue}
+use Rattle.station_ring.specs.Levels.{raises_after}
 use Rattle.serving.specs.declared.timetable.Timetable.{Timetable}
 use Rattle.serving.specs.declared.between.Refusal.TheVariants.{Different}
 use Rattle.serving.specs.Timetables.{is_due, is_keep_due, nothing_due, turns_of}
@@ -77,10 +78,10 @@ module _ {F : Type 0} where
   keep-since : (due : Bool) (config : Config) (w : World) (kept kept' : ℕ) (a b : Option (List (Asked F)))
       (ys : List (Asked F)) → KeepsIf due config w kept a kept' b → b ≡ Some ys → Since a ys 0
   keep-since true config w kept kept' a b ys x e =
-      let answer = x.0.answer in
+      let answer = x.answer in
       let numbers = numbers_ahead config w.history in
       subst (λ n. Since a ys n) (keep-asks numbers answer)
-      (told-since a b (Keeps numbers answer ∷ unkept answer) ys x.0.tells e)
+      (told-since a b (Keeps numbers answer ∷ unkept answer) ys x.tells e)
   keep-since false config w kept kept' a b ys x e = record { xs = ys; was = sym x.1 ∙ e; counts = omega arith }
 
   look-since : (timed : Bool) (by_time : Due) (a b : Option (List (Asked F))) (ys : List (Asked F))
@@ -115,7 +116,7 @@ module _ {F : Type 0} where
       subst (λ d. Since x.first s.xs (if d then 1 else 0)) again
       (reread-since x.due.reread config w v v' x.first x.between acts s.xs x.reread s.was) in
       let k : Since x.looked r.xs 0 =
-      keep-since (is_keep_due t kept (length w.history)) config w kept kept' x.looked x.first r.xs x.keep r.was in
+      keep-since (is_keep_due t kept (raises_after config w.history)) config w kept kept' x.looked x.first r.xs x.keep r.was in
       let l : Since a k.xs 0 = look-since t.timed x.finds.by_time a x.looked k.xs x.finds.looks k.was in
       record { xs = l.xs; was = l.was; counts = omega (arith, s.counts, r.counts, k.counts, l.counts) }
 

@@ -1,8 +1,7 @@
 -- What is kept along a run.
 use Rattle.std.proofs.Common.{◌≡◌, ℕ, suc, ◌+◌, ◌-◌, ◌*◌, ◌≤◌, Bool, true, false, if◌then◌else◌, List, []}
-use Rattle.std.proofs.Common.{◌∷◌, ◌++◌, length, refl, sym, ap, subst, ◌∙◌, arith, append_assoc, append-nil}
+use Rattle.std.proofs.Common.{◌∷◌, ◌++◌, ◌&&◌, length, refl, sym, ap, subst, ◌∙◌, arith, append_assoc, append-nil}
 use Rattle.std.proofs.Common.{length-append, Option, Some, None, Result, Ok, Err, nat_lt, get_or}
-use Rattle.std.specs.Option.{option_map_or}
 use Rattle.std.proofs.lemmas.Bool.Decides.{nat_tests}
 use Rattle.protocol.specs.Catalog.{Config, is_same_but_for_access}
 use Rattle.protocol.specs.History.{Arrival}
@@ -10,27 +9,30 @@ use Rattle.protocol.specs.World.{Event, World, accepted, arrived, config_after, 
 use Rattle.protocol.specs.World.Event.{Open, Bytes, Take, Close, Arrive, Reload}
 use Rattle.protocol.proofs.Connections.{world_from-append}
 use Rattle.station_ring.specs.HeldRecords.{numbers_after}
+use Rattle.station_ring.specs.Levels.{raises_after}
 use Rattle.event_loop.specs.Deeds.{Deed, events_in, world_beyond}
 use Rattle.event_loop.specs.Loops.{LoopValue}
 use Rattle.event_loop.specs.Turns.{BringsAtMost}
 use Rattle.serving.specs.declared.between.Refusal.TheVariants.{Different}
 use Rattle.serving.specs.declared.timetable.Timetable.{Timetable}
-use Rattle.serving.specs.Ahead.{numbers_ahead, room}
+use Rattle.serving.specs.Ahead.{numbers_ahead}
 use Rattle.serving.specs.Asked.{Asked, Tells}
 use Rattle.serving.specs.Asked.Asked.{Configuration, Keeps, Refuses}
 use Rattle.serving.specs.Acts.{Act, all_events, config_then, world_then}
 use Rattle.serving.specs.Acts.Act.{Turning}
-use Rattle.serving.specs.Keeping.{AreAhead, BeginsTurn, IsAhead, Kept, KeepsAhead, just_kept, kept_by, kept_from}
+use Rattle.serving.specs.Keeping.{AreAhead, BeginsTurn, IsAhead, Kept, KeepsAhead, KeepsExactly, just_kept, kept_by}
+use Rattle.serving.specs.Keeping.{kept_from}
 use Rattle.serving.specs.Keeping.{kept_with}
 use Rattle.serving.specs.Keeping.{nothing_kept}
 use Rattle.serving.specs.Keeping.BeginsTurn.{no_turn, of_made, of_failed}
 use Rattle.serving.specs.declared.between.Due.{Due}
-use Rattle.serving.specs.Runs.{KeepsIf, LooksIf, RereadsIf, Runs, Stops, refusals, reloads, reports_if, unkept}
+use Rattle.serving.specs.Runs.{KeepsIf, LooksIf, RereadsIf, Runs, Stops, refusals, reloads, raises_kept, reports_if}
+use Rattle.serving.specs.Runs.{unkept}
 use Rattle.serving.specs.Runs.Runs.{begins, turned, failed}
 use Rattle.serving.specs.Timetables.{is_keep_due}
 use Rattle.serving.proofs.ActLemmas.{world-append}
 use Rattle.serving.proofs.RunLemmas.{world-turned}
-use Rattle.serving.proofs.AheadLemmas.{ahead-at, ahead-stays}
+use Rattle.serving.proofs.AheadLemmas.{ahead-at, ahead-same, ahead-stays, raises-stay}
 
 -- ---- histories grow
 
@@ -140,170 +142,159 @@ module _ {F : Type 0} where
 -- ---- along a run
 
 -- The number of a station after a history, and that of what is kept.
-abbrev AheadAt : Config → List Arrival → List ℕ → ℕ → Type 0
-AheadAt config h kept place = IsAhead (get_or (numbers_after config h) place 0) (get_or kept place 0)
+abbrev AheadAt : ℕ → Config → List Arrival → List ℕ → ℕ → Type 0
+AheadAt least config h kept place =
+    IsAhead least (get_or (numbers_after config h) place 0) (get_or kept place 0)
 
--- Since the numbers were kept last, so many records came at most, by the keeps that failed since.
-record Follows (config : Config) (every : ℕ) (h : List Arrival) (kept : ℕ) (k : Kept) : Type 0 where
+-- The numbers were kept last after the beginning of a history, and what is to be kept has not changed since, unless a
+-- keep failed.
+record Follows (config : Config) (h : List Arrival) (kept : ℕ) (k : Kept) : Type 0 where
   earlier : List Arrival
   later : List Arrival
   is : h ≡ earlier ++ later
   numbers : k.numbers ≡ Some (numbers_ahead config earlier)
-  since : kept ≤ length earlier + k.fails * (every + 1024)
-  few : length h ≤ kept + every
+  levels : kept ≡ raises_after config earlier
+  exact : k.fails ≡ 0 → numbers_ahead config h ≡ numbers_ahead config earlier
 
-module _ (config : Config) (every : ℕ) where
+module _ (config : Config) where
   -- numbers that are kept at once
-  just : (h : List Arrival) → Follows config every h (length h) (just_kept (numbers_ahead config h))
+  just : (h : List Arrival) → Follows config h (raises_after config h) (just_kept (numbers_ahead config h))
   just h = record {
     earlier = h;
     later = [];
     is = sym (append-nil h);
     numbers = refl;
-    since = omega arith;
-    few = omega arith;
+    levels = refl;
+    exact = λ none. refl;
   }
 
-  module _ (h h' : List Arrival) (kept : ℕ) (k : Kept) (f : Follows config every h kept k) (grows : Grows h h')
-      (few : length h' ≤ length h + 1024) where
+  module _ (h h' : List Arrival) (kept : ℕ) (k : Kept) (f : Follows config h kept k) (grows : Grows h h') where
     abbrev later' : List Arrival
     later' = f.later ++ grows.more
 
     is' : h' ≡ f.earlier ++ later'
     is' = grows.is ∙ ap (λ l. l ++ grows.more) f.is ∙ append_assoc f.earlier f.later grows.more
 
-    not-due : length h' ≤ kept + every → Follows config every h' kept k
+    not-due : raises_after config h' ≤ kept → Follows config h' kept k
     not-due still = record {
       earlier = f.earlier;
       later = later';
       is = is';
       numbers = f.numbers;
-      since = f.since;
-      few = still;
+      levels = f.levels;
+      exact = λ none.
+          subst (λ l. numbers_ahead config l ≡ numbers_ahead config f.earlier) (sym is')
+          (ahead-same config f.earlier later'
+          (subst (λ l. raises_after config l ≤ raises_after config f.earlier) is'
+          (subst (λ n. raises_after config h' ≤ n) f.levels still)));
     }
 
-    failed-keep : Follows config every h' (length h') (record k { fails = suc k.fails })
+    failed-keep : Follows config h' kept (record k { fails = suc k.fails })
     failed-keep = record {
       earlier = f.earlier;
       later = later';
       is = is';
       numbers = f.numbers;
-      since = one-more (length f.earlier) k.fails (every + 1024) kept (length h) (length h') every
-          f.since f.few few refl;
-      few = omega arith;
+      levels = f.levels;
+      exact = λ none. absurd (cc);
     }
-      where
-        one-more : (e n m kept h h' every : ℕ) → kept ≤ e + n * m → h ≤ kept + every → h' ≤ h + 1024
-            → m ≡ every + 1024 → h' ≤ e + suc n * m
-        one-more e n m kept h h' every p q r s = grind (arith, p, q, r, s)
 
-    -- what is kept is ahead, where keeps that failed are few
-    are-ahead : (k.fails + 1) * (every + 1024) ≤ room → AreAhead config h' k
-    are-ahead small =
-        let size : length h' ≡ length f.earlier + length later' = ap (λ (l : List Arrival). length l) is'
-        ∙ length-append f.earlier later' in
-        let within : length later' ≤ room =
-        in-room (length f.earlier) (length later') k.fails (every + 1024) kept (length h) (length h') every room
-        f.since f.few few refl size small in
-        record {
-          kept = numbers_ahead config f.earlier;
-          last = f.numbers;
-          ahead = λ place inside.
-              subst (λ l. AheadAt config l (numbers_ahead config f.earlier) place) (sym is')
-              (ahead-at config.entries f.earlier later' place within inside);
-        }
-      where
-        in-room : (e l n m kept h h' every room : ℕ) → kept ≤ e + n * m → h ≤ kept + every → h' ≤ h + 1024
-            → m ≡ every + 1024 → h' ≡ e + l → (n + 1) * m ≤ room → l ≤ room
-        in-room e l n m kept h h' every room p q r s t u = grind (arith, p, q, r, s, t, u)
+  -- what is kept is ahead
+  are-ahead : (least : ℕ) (h more : List Arrival) (kept : ℕ) (k : Kept) → Follows config h kept k → k.fails ≡ 0
+      → length more + least ≤ 1025 → AreAhead least config (h ++ more) k
+  are-ahead least h more kept k f none few = record {
+    kept = numbers_ahead config h;
+    last = f.numbers ∙ ap {B = Option (List ℕ)} Some (sym (f.exact none));
+    ahead = λ place inside. ahead-at least config.entries h more place few inside;
+  }
 
   -- the keep of a stop, if one is due
   keep-follows : {F : Type 0} (due : Bool) (t : Timetable) (es : List Event) (w' : World) (h : List Arrival)
       (kept kept' : ℕ) (a b : Option (List (Asked F))) (ys : List (Asked F))
-      → due ≡ is_keep_due t kept (length w'.history) → t.keep ≡ Some every
+      → due ≡ is_keep_due t kept (raises_after (config_after config es) w'.history) → t.keep ≡ true
       → KeepsIf due (config_after config es) w' kept a kept' b → b ≡ Some ys → Grows h w'.history
-      → length w'.history ≤ length h + 1024
       → (xs : List (Asked F)) × (a ≡ Some xs)
-      × (Follows config every h kept (kept_by xs) → Follows config every w'.history kept' (kept_by ys))
-  keep-follows {F = F} false t es w' h kept kept' a b ys due is x e grows few =
-      let still : length w'.history ≤ kept + every = not-more kept (length w'.history) (due ∙ rule t kept _ is) in (
+      × (Follows config h kept (kept_by xs) → Follows config w'.history kept' (kept_by ys))
+  keep-follows {F = F} false t es w' h kept kept' a b ys due is x e grows =
+      let levels : ℕ = raises_after (config_after config es) w'.history in
+      let still : raises_after config w'.history ≤ kept =
+      subst (λ n. n ≤ kept) (raises-stay config es w'.history) (no-more kept levels (due ∙ rule t kept levels is)) in (
         ys,
         sym x.1 ∙ e,
-        λ f. subst (λ n. Follows config every w'.history n (kept_by ys)) (sym x.0)
-            (not-due h w'.history kept (kept_by ys) f grows few still),
+        λ f. subst (λ n. Follows config w'.history n (kept_by ys)) (sym x.0)
+            (not-due h w'.history kept (kept_by ys) f grows still),
       )
     where
-      rule : (t : Timetable) (kept arrivals : ℕ) → t.keep ≡ Some every
-          → is_keep_due t kept arrivals ≡ nat_lt every (arrivals - kept)
-      rule t kept arrivals is = ap (λ o. option_map_or (λ n. nat_lt n (arrivals - kept)) o false) is
+      rule : (t : Timetable) (kept levels : ℕ) → t.keep ≡ true → is_keep_due t kept levels ≡ nat_lt kept levels
+      rule t kept levels is = ap (λ k. k && nat_lt kept levels) is
 
-      not-more : (kept arrivals : ℕ) → false ≡ nat_lt every (arrivals - kept) → arrivals ≤ kept + every
-      not-more kept arrivals test = grind (arith, nat_tests, sym test)
-  keep-follows {F = F} true t es w' h kept kept' a b ys due is x e grows few = by x.0.answer x.0.tells
+      no-more : (kept levels : ℕ) → false ≡ nat_lt kept levels → levels ≤ kept
+      no-more kept levels test = grind (arith, nat_tests, sym test)
+  keep-follows {F = F} true t es w' h kept kept' a b ys due is x e grows = by x.answer x.tells x.counts
     where
       by : (answer : Result (Unit {0}) F)
           → Tells a b (Keeps (numbers_ahead (config_after config es) w'.history) answer ∷ unkept answer)
+          → kept' ≡ raises_kept answer kept (raises_after (config_after config es) w'.history)
           → (xs : List (Asked F)) × (a ≡ Some xs)
-          × (Follows config every h kept (kept_by xs) → Follows config every w'.history kept' (kept_by ys))
-      by (Ok done) tells =
+          × (Follows config h kept (kept_by xs) → Follows config w'.history kept' (kept_by ys))
+      by (Ok done) tells counts =
           let told = told-before a b _ ys tells e in
           let same : kept_by ys ≡ just_kept (numbers_ahead config w'.history) =
-          told.is ∙ ap just_kept (ahead-stays config es w'.history) in (
+          told.is ∙ ap just_kept (ahead-stays config es w'.history) in
+          let levels : kept' ≡ raises_after config w'.history = counts ∙ raises-stay config es w'.history in (
             told.xs,
             told.was,
-            λ f. subst (λ n. Follows config every w'.history n (kept_by ys)) (sym x.1)
-                (subst (Follows config every w'.history (length w'.history)) (sym same) (just w'.history)),
+            λ f. subst (λ n. Follows config w'.history n (kept_by ys)) (sym levels)
+                (subst (Follows config w'.history (raises_after config w'.history)) (sym same) (just w'.history)),
           )
-      by (Err fault) tells =
+      by (Err fault) tells counts =
           let told = told-before a b _ ys tells e in (
             told.xs,
             told.was,
-            λ f. subst (λ n. Follows config every w'.history n (kept_by ys)) (sym x.1)
-                (subst (Follows config every w'.history (length w'.history)) (sym told.is)
-                (failed-keep h w'.history kept (kept_by told.xs) f grows few)),
+            λ f. subst (λ n. Follows config w'.history n (kept_by ys)) (sym counts)
+                (subst (Follows config w'.history kept) (sym told.is)
+                (failed-keep h w'.history kept (kept_by told.xs) f grows)),
           )
 
   -- a stop after a turn
   stop-follows : {F : Type 0} (t : Timetable) (done : ℕ) (es : List Event) (w' : World) (v' v'' : LoopValue)
       (h : List Arrival) (kept kept' : ℕ) (a b : Option (List (Asked F))) (stop : List Act) (ys : List (Asked F))
-      → Stops t done (config_after config es) w' v' kept a stop v'' kept' b → t.keep ≡ Some every → b ≡ Some ys
-      → Grows h w'.history → length w'.history ≤ length h + 1024
+      → Stops t done (config_after config es) w' v' kept a stop v'' kept' b → t.keep ≡ true → b ≡ Some ys
+      → Grows h w'.history
       → (xs : List (Asked F)) × (a ≡ Some xs)
-      × (Follows config every h kept (kept_by xs)
-      → Follows config every (world_then (config_after config es) w' stop).history kept' (kept_by ys))
-  stop-follows t done es w' v' v'' h kept kept' a b stop ys x is e grows few =
+      × (Follows config h kept (kept_by xs)
+      → Follows config (world_then (config_after config es) w' stop).history kept' (kept_by ys))
+  stop-follows t done es w' v' v'' h kept kept' a b stop ys x is e grows =
       let k : Config = config_after config es in
       let r = report-before x.due.report (world_then k w' stop) v'' x.between b ys x.report e in
       let s = reread-before x.due.reread k w' v' v'' x.first x.between stop r.xs x.reread r.was in
-      let m = keep-follows (is_keep_due t kept (length w'.history)) t es w' h kept kept' x.looked x.first s.xs refl is
-      x.keep s.was grows few in
+      let m = keep-follows (is_keep_due t kept (raises_after k w'.history)) t es w' h kept kept' x.looked x.first s.xs
+      refl is x.keep s.was grows in
       let o = look-before t.timed x.finds.by_time a x.looked m.0 x.finds.looks m.1 in
       let same : kept_by ys ≡ kept_by s.xs = r.is ∙ s.is in (
         o.xs,
         o.was,
         λ f.
-            subst (λ l. Follows config every l kept' (kept_by ys))
+            subst (λ l. Follows config l kept' (kept_by ys))
             (sym (reread-brings x.due.reread k w' v' v'' x.first x.between stop x.reread))
-            (subst (Follows config every w'.history kept') (sym same)
-            (m.2 (subst (Follows config every h kept) (sym o.is) f))),
+            (subst (Follows config w'.history kept') (sym same)
+            (m.2 (subst (Follows config h kept) (sym o.is) f))),
       )
 
-module _ {F : Type 0} (t : Timetable) (every : ℕ) (config : Config) (w : World) (first : LoopValue)
-    (asked : List (Asked F)) (is : t.keep ≡ Some every)
+module _ {F : Type 0} (t : Timetable) (config : Config) (w : World) (first : LoopValue)
+    (asked : List (Asked F)) (is : t.keep ≡ true)
     (begun : kept_by asked ≡ just_kept (numbers_ahead config w.history)) where
   -- a turn more, with the stop after it
   turn-follows : (done : ℕ) (acts : List Act) (deeds : List Deed) (v' v'' : LoopValue) (kept kept' : ℕ)
       (a b : Option (List (Asked F))) (stop : List Act) (ys : List (Asked F))
-      → BringsAtMost 1024 (world_then config w acts)
-      (world_beyond (config_then config acts) (world_then config w acts) deeds)
       → Stops t done (config_then config (acts ++ Turning deeds ∷ []))
       (world_then config w (acts ++ Turning deeds ∷ []))
       v' kept a stop v'' kept' b
       → b ≡ Some ys
       → (xs : List (Asked F)) × (a ≡ Some xs)
-      × (Follows config every (world_then config w acts).history kept (kept_by xs)
-      → Follows config every (world_then config w ((acts ++ Turning deeds ∷ []) ++ stop)).history kept' (kept_by ys))
-  turn-follows done acts deeds v' v'' kept kept' a b stop ys few x e =
+      × (Follows config (world_then config w acts).history kept (kept_by xs)
+      → Follows config (world_then config w ((acts ++ Turning deeds ∷ []) ++ stop)).history kept' (kept_by ys))
+  turn-follows done acts deeds v' v'' kept kept' a b stop ys x e =
       let with : List Act = acts ++ Turning deeds ∷ [] in
       let k : Config = config_then config acts in
       let u : World = world_then config w acts in
@@ -311,29 +302,26 @@ module _ {F : Type 0} (t : Timetable) (every : ℕ) (config : Config) (w : World
       let turned : there ≡ world_beyond k u deeds = world-turned config w acts deeds in
       let grows : Grows u.history there.history = subst (λ (z : World). Grows u.history z.history) (sym turned)
       (grows-from k u (events_in deeds)) in
-      let most : length there.history ≤ length u.history + 1024 =
-      subst (λ (z : World). length z.history ≤ length u.history + 1024) (sym turned) few in
-      let m = stop-follows config every t done (all_events with) there v' v'' u.history kept kept' a b stop ys x is e
-      grows most in (
+      let m = stop-follows config t done (all_events with) there v' v'' u.history kept kept' a b stop ys x is e grows in (
         m.0,
         m.1,
         λ f.
-            subst (λ (z : World). Follows config every z.history kept' (kept_by ys))
+            subst (λ (z : World). Follows config z.history kept' (kept_by ys))
             (sym (world-append config w with stop)) (m.2 f),
       )
 
   follows : {done failures kept : ℕ} {acts : List Act} {v : LoopValue} {b : Option (List (Asked F))}
       → Runs t config w first (Some asked) done failures kept acts v b → (ys : List (Asked F)) → b ≡ Some ys
-      → Follows config every (world_then config w acts).history kept (kept_by ys)
+      → Follows config (world_then config w acts).history kept (kept_by ys)
   follows begins ys e =
       let same : asked ≡ ys = cc in
-      subst (λ l. Follows config every w.history (length w.history) (kept_by l)) same
-      (subst (Follows config every w.history (length w.history)) (sym begun) (just config every w.history))
+      subst (λ l. Follows config w.history (raises_after config w.history) (kept_by l)) same
+      (subst (Follows config w.history (raises_after config w.history)) (sym begun) (just config w.history))
   follows (turned {acts = acts} v' tn stop r x refused s) ys e =
-      let m = turn-follows _ acts x.deeds v' _ _ _ _ _ stop ys x.few_records s e in
+      let m = turn-follows _ acts x.deeds v' _ _ _ _ _ stop ys s e in
       m.2 (follows r m.0 m.1)
   follows (failed {acts = acts} v' stop r x refused few s) ys e =
-      let m = turn-follows _ acts x.deeds v' _ _ _ _ _ stop ys (omega (arith, x.no_record)) s e in
+      let m = turn-follows _ acts x.deeds v' _ _ _ _ _ stop ys s e in
       m.2 (follows r m.0 m.1)
 
 -- how many records the first events of a turn bring
@@ -347,9 +335,22 @@ turn-brings config w v events (of_failed v' more x is) =
     first-few config w (events_in x.deeds) events more 1024 is (omega (arith, x.no_record))
 
 pub keeps-ahead : (F : Type 0) → KeepsAhead F
-keeps-ahead F t every config w first v asked asked' done failures kept acts events is begun runs turn small =
+keeps-ahead F t config w first v asked asked' done failures kept acts is begun runs none =
     let k : Config = config_then config acts in
     let u : World = world_then config w acts in
-    let f = follows t every config w first asked is begun runs asked' refl in
-    are-ahead config every u.history (world_from k u events).history kept (kept_by asked') f (grows-from k u events)
-    (turn-brings k u v events turn) small
+    let f = follows t config w first asked is begun runs asked' refl in (
+      subst (λ l. AreAhead 1025 config l (kept_by asked')) (append-nil u.history)
+          (are-ahead config 1025 u.history [] kept (kept_by asked') f none (omega arith)),
+      λ events turn.
+          let grows : Grows u.history (world_from k u events).history = grows-from k u events in
+          let few : BringsAtMost 1024 u (world_from k u events) = turn-brings k u v events turn in
+          let size : length (world_from k u events).history ≡ length u.history + length grows.more =
+          ap (λ (l : List Arrival). length l) grows.is ∙ length-append u.history grows.more in
+          subst (λ l. AreAhead 1 config l (kept_by asked')) (sym grows.is)
+          (are-ahead config 1 u.history grows.more kept (kept_by asked') f none (omega (arith, size, few))),
+    )
+
+pub keeps-exactly : (F : Type 0) → KeepsExactly F
+keeps-exactly F t config w first v asked asked' done failures kept acts is begun runs none =
+    let f = follows t config w first asked is begun runs asked' refl in
+    f.numbers ∙ ap {B = Option (List ℕ)} Some (sym (f.exact none))

@@ -6,3 +6,4 @@ pub mod AheadLemmas
 pub mod KeepLemmas
 pub mod LookLemmas
 pub mod PaceLemmas
+pub mod RestartLemmas

@@ -6,6 +6,7 @@ use Rattle.std.proofs.lemmas.List.{append-nil, map-append}
 use Rattle.protocol.specs.Catalog.{Config, is_same_but_for_access}
 use Rattle.protocol.specs.World.{World}
 use Rattle.event_loop.specs.Loops.{LoopValue}
+use Rattle.station_ring.specs.Levels.{raises_after}
 use Rattle.serving.specs.declared.between.Due.{Due}
 use Rattle.serving.specs.declared.between.Refusal.TheVariants.{Different}
 use Rattle.serving.specs.declared.timetable.Timetable.{Timetable}
@@ -95,11 +96,11 @@ module _ {F : Type 0} where
       (ys rest : List (Asked F)) → KeepsIf due config w kept a kept' b → b ≡ Some ys → IsRest again rest
       → RereadRest again a ys rest
   keep-rest true again config w kept kept' a b ys rest x e h =
-      let answer = x.0.answer in
+      let answer = x.answer in
       let numbers = numbers_ahead config w.history in
       record {
         block = Keeps numbers answer ∷ unkept answer;
-        added = adds a b (Keeps numbers answer ∷ unkept answer) ys x.0.tells e;
+        added = adds a b (Keeps numbers answer ∷ unkept answer) ys x.tells e;
         is_rest = record {
           no_look = keep-look numbers answer rest ∙ h.no_look;
           asks = keep-ask numbers answer rest ∙ h.asks;
@@ -137,7 +138,7 @@ module _ {F : Type 0} where
       reread-rest x.due.reread config w v v' x.first x.between acts p.xs report x.reread p.was
       (report-rest x.due.report u v') in
       let k : RereadRest x.due.reread x.looked r.added.xs (r.block ++ report) =
-      keep-rest (is_keep_due t kept (length w.history)) x.due.reread config w kept kept' x.looked x.first r.added.xs
+      keep-rest (is_keep_due t kept (raises_after config w.history)) x.due.reread config w kept kept' x.looked x.first r.added.xs
       (r.block ++ report) x.keep r.added.was r.is_rest in
       let rest : List (Asked F) = k.block ++ (r.block ++ report) in
       let is_rest : IsRest d.reread rest = subst (λ due. IsRest due rest) again k.is_rest in

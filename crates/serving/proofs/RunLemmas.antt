@@ -3,6 +3,7 @@ use Rattle.std.proofs.Common.{◌≡◌, ℕ, suc, ◌<◌, ◌≤◌, arith, Bo
 use Rattle.std.proofs.Common.{length, [], ◌∷◌, ◌++◌, refl, sym, ap, subst, ◌∙◌, Option}
 use Rattle.protocol.specs.Catalog.{Config}
 use Rattle.protocol.specs.World.{World}
+use Rattle.station_ring.specs.Levels.{raises_after}
 use Rattle.server_core.specs.ServerValues.{ServerValue, StandsAt}
 use Rattle.ports.specs.Calls.{Tells}
 use Rattle.event_loop.specs.Deeds.{Deed, calls_in, world_beyond}
@@ -84,7 +85,7 @@ stop-keeps false config w v v' a b acts x = ap (λ (u : LoopValue). u.calls) x.1
 module _ {F : Type 0} (t : Timetable) (config : Config) (w : World) (first : LoopValue)
     (first_asked : Option (List (Asked F))) where
   -- no turn yet
-  pub ran-nothing : (kept : ℕ) → kept ≡ length w.history → StandsAt first.server config w
+  pub ran-nothing : (kept : ℕ) → kept ≡ raises_after config w.history → StandsAt first.server config w
       → RanSo t config w first first_asked 0 0 kept first first_asked
   ran-nothing kept is stands = record {
     acts = [];

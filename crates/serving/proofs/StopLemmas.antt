@@ -4,6 +4,7 @@ use Rattle.std.proofs.Common.{append_assoc, append-nil, Option, Some, None, Ok, 
 use Rattle.protocol.specs.Catalog.{Config, is_same_but_for_access}
 use Rattle.protocol.specs.World.{World, config_by, step}
 use Rattle.protocol.specs.World.Event.{Reload}
+use Rattle.station_ring.specs.Levels.{raises_after}
 use Rattle.server_core.specs.ServerValues.{StandsAt}
 use Rattle.event_loop.specs.Hearing.{clients_in, feeds_in}
 use Rattle.serving.specs.declared.activity.Activity.{Activity}
@@ -105,34 +106,36 @@ activity-is a w v c f r x =
     ∙ ap (λ n. record (activity_of w v) { refused = n }) x
 
 -- numbers that were kept, or that were not
-pub were-kept : {F : Type 0} (config : Config) (w : World) (a b : Option (List (Asked F))) (numbers : List ℕ)
-    → numbers ≡ numbers_ahead config w.history → Tells a b (Keeps numbers (Ok tt) ∷ []) → KeepsNow config w a b
-were-kept config w a b numbers is tells = record {
+pub were-kept : {F : Type 0} (config : Config) (w : World) (kept raises : ℕ) (a b : Option (List (Asked F)))
+    (numbers : List ℕ) → numbers ≡ numbers_ahead config w.history → raises ≡ raises_after config w.history
+    → Tells a b (Keeps numbers (Ok tt) ∷ []) → KeepsNow config w kept a raises b
+were-kept config w kept raises a b numbers is counts tells = record {
   answer = Ok tt;
   tells = subst (λ ns. Tells a b (Keeps ns (Ok tt) ∷ [])) is tells;
+  counts = counts;
 }
 
-pub were-not-kept : {F : Type 0} (config : Config) (w : World) (a b c : Option (List (Asked F))) (numbers : List ℕ)
-    (fault : F)
+pub were-not-kept : {F : Type 0} (config : Config) (w : World) (kept : ℕ) (a b c : Option (List (Asked F)))
+    (numbers : List ℕ) (fault : F)
     → numbers ≡ numbers_ahead config w.history → Tells a b (Keeps numbers (Err fault) ∷ [])
-    → Tells b c (Refuses (Unkept fault) ∷ []) → KeepsNow config w a c
-were-not-kept config w a b c numbers fault is tells more = record {
+    → Tells b c (Refuses (Unkept fault) ∷ []) → KeepsNow config w kept a kept c
+were-not-kept config w kept a b c numbers fault is tells more = record {
   answer = Err fault;
   tells = subst (λ ns. Tells a c (Keeps ns (Err fault) ∷ Refuses (Unkept fault) ∷ [])) is
       (Tells-trans a b c (Keeps numbers (Err fault) ∷ []) (Refuses (Unkept fault) ∷ []) tells more);
+  counts = refl;
 }
 
 module _ {F : Type 0} (config : Config) (w : World) (kept : ℕ) (a b : Option (List (Asked F))) (due : Bool) where
   pub not-kept : due ≡ false → KeepsIf due config w kept a kept a
   not-kept is = subst (λ d. KeepsIf d config w kept a kept a) (sym is) (refl, refl)
 
-  pub kept-now : due ≡ true → (arrivals : ℕ) → arrivals ≡ length w.history → KeepsNow config w a b
-      → KeepsIf due config w kept a arrivals b
-  kept-now due_is arrivals is x = subst (λ d. KeepsIf d config w kept a arrivals b) (sym due_is) (x, is)
+  pub kept-now : due ≡ true → (kept' : ℕ) → KeepsNow config w kept a kept' b → KeepsIf due config w kept a kept' b
+  kept-now due_is kept' x = subst (λ d. KeepsIf d config w kept a kept' b) (sym due_is) x
 
 module _ {F : Type 0} (t : Timetable) (done : ℕ) (due : Due) (config : Config) (w : World) (v v' : LoopValue)
     (kept kept' : ℕ) (before looked a b : Option (List (Asked F))) (finds : FindsDue t done before due looked)
-    (keeps : KeepsIf (is_keep_due t kept (length w.history)) config w kept looked kept' a) where
+    (keeps : KeepsIf (is_keep_due t kept (raises_after config w.history)) config w kept looked kept' a) where
   pub stops-silent : due.report ≡ false → SomeReread due.reread config w v a v' b →
       SomeStop t done config w v kept before v' (record { kept = kept'; reread = due.reread }) b
   stops-silent silent x =

@@ -1,7 +1,6 @@
 -- That what is kept stays ahead of what is given, at each moment of a run.
-use Rattle.std.specs.Prelude.{◌≡◌, ℕ, suc, ◌+◌, ◌*◌, ◌%◌, ◌<◌, ◌≤◌, List, [], ◌∷◌, ◌++◌, length, slice_index, Option}
-use Rattle.std.specs.Prelude.{Some}
-use Rattle.std.specs.Prelude.{None, Ok, Err}
+use Rattle.std.specs.Prelude.{◌≡◌, ℕ, suc, ◌+◌, ◌%◌, ◌<◌, ◌≤◌, true, List, [], ◌∷◌, ◌++◌, length, slice_index, Option}
+use Rattle.std.specs.Prelude.{Some, None, Ok, Err}
 use Rattle.protocol.specs.Packet.{numbers}
 use Rattle.protocol.specs.Catalog.{Config}
 use Rattle.protocol.specs.History.{Arrival}
@@ -52,19 +51,20 @@ kept_by calls = kept_from nothing_kept calls
 
 -- ---- what is ahead
 
--- A kept number is the next one that is given, or comes after it, by the room at most. So no record that came since it
--- was kept has it.
-pub record IsAhead (next kept : ℕ) : Type 0 where
+-- A kept number comes after the next one that is given, by so many at least and by the room at most. So no record that
+-- came since it was kept has it.
+pub record IsAhead (least next kept : ℕ) : Type 0 where
   pub gap : ℕ
+  pub some : least ≤ gap
   pub few : gap ≤ room
   pub is : kept ≡ (next + gap) % numbers
 
 -- The same of each station after a history.
-pub record AreAhead (config : Config) (h : List Arrival) (k : Kept) : Type 0 where
+pub record AreAhead (least : ℕ) (config : Config) (h : List Arrival) (k : Kept) : Type 0 where
   pub kept : List ℕ
   pub last : k.numbers ≡ Some kept
   pub ahead : (place : ℕ) → place < length config.entries
-      → IsAhead (slice_index (numbers_after config h) place) (slice_index kept place)
+      → IsAhead least (slice_index (numbers_after config h) place) (slice_index kept place)
 
 -- ---- at each moment
 
@@ -77,12 +77,25 @@ pub data BeginsTurn (config : Config) (w : World) (v : LoopValue) (events : List
       events_in x.deeds ≡ events ++ more → BeginsTurn config w v events
 
 -- At each moment of a run the numbers that were kept last are ahead of those that are given, if the first ones were
--- kept before it, and the keeps that failed since are few: at most one for 7,168 records.
+-- kept before it and no keep failed since the last that succeeded: by one at least during a turn, and by more than the
+-- 1,024 records that a turn brings before it begins.
 abbrev pub KeepsAhead : Type 0 → Type 0
-KeepsAhead F = (t : Timetable) (every : ℕ) (config : Config) (w : World) (first v : LoopValue)
-    (asked asked' : List (Asked F)) (done failures kept : ℕ) (acts : List Act) (events : List Event) →
-    t.keep ≡ Some every → kept_by asked ≡ just_kept (numbers_ahead config w.history) →
+KeepsAhead F = (t : Timetable) (config : Config) (w : World) (first v : LoopValue)
+    (asked asked' : List (Asked F)) (done failures kept : ℕ) (acts : List Act) →
+    t.keep ≡ true → kept_by asked ≡ just_kept (numbers_ahead config w.history) →
     Runs t config w first (Some asked) done failures kept acts v (Some asked') →
-    BeginsTurn (config_then config acts) (world_then config w acts) v events →
-    ((kept_by asked').fails + 1) * (every + 1024) ≤ room →
-    AreAhead config (world_from (config_then config acts) (world_then config w acts) events).history (kept_by asked')
+    (kept_by asked').fails ≡ 0 →
+    AreAhead 1025 config (world_then config w acts).history (kept_by asked')
+    × ((events : List Event) → BeginsTurn (config_then config acts) (world_then config w acts) v events →
+    AreAhead 1 config (world_from (config_then config acts) (world_then config w acts) events).history
+    (kept_by asked'))
+
+-- At each stop of a run what was kept last is exactly what is to be kept of each station, by its own records, if the
+-- first numbers were kept before it and no keep failed since the last that succeeded.
+abbrev pub KeepsExactly : Type 0 → Type 0
+KeepsExactly F = (t : Timetable) (config : Config) (w : World) (first v : LoopValue)
+    (asked asked' : List (Asked F)) (done failures kept : ℕ) (acts : List Act) →
+    t.keep ≡ true → kept_by asked ≡ just_kept (numbers_ahead config w.history) →
+    Runs t config w first (Some asked) done failures kept acts v (Some asked') →
+    (kept_by asked').fails ≡ 0 →
+    (kept_by asked').numbers ≡ Some (numbers_ahead config (world_then config w acts).history)

@@ -4,6 +4,7 @@ use Rattle.std.specs.Prelude.{◌≡◌, ℕ, suc, ◌<◌, Bool, true, false, i
 use Rattle.std.specs.Prelude.{length, Option, Some, None, Result, Ok, Err}
 use Rattle.protocol.specs.Catalog.{Config, is_same_but_for_access}
 use Rattle.protocol.specs.World.{World}
+use Rattle.station_ring.specs.Levels.{raises_after}
 use Rattle.server_core.specs.ServerValues.{StandsAt}
 use Rattle.ports.specs.Calls.{Tells as TellsCalls}
 use Rattle.event_loop.specs.declared.turning.Turned.{Turned}
@@ -62,16 +63,23 @@ abbrev pub unkept : {F : Type 0} → Result (Unit {0}) F → List (Asked F)
 unkept (Ok done) = []
 unkept (Err fault) = Refuses (Unkept fault) ∷ []
 
--- The numbers of the stations were to be kept once, so far ahead of those that come next.
-pub record KeepsNow {F : Type 0} (config : Config) (w : World) (asked asked' : Option (List (Asked F)))
-    : Type 0 where
+-- the levels of the stations when their numbers were kept last: those of now, or the ones from before if they could
+-- not be kept now
+abbrev pub raises_kept : {F : Type 0} → Result (Unit {0}) F → (kept raises : ℕ) → ℕ
+raises_kept (Ok done) kept raises = raises
+raises_kept (Err fault) kept raises = kept
+
+-- The numbers of the stations were to be kept once, ahead of those that come next.
+pub record KeepsNow {F : Type 0} (config : Config) (w : World) (kept : ℕ) (asked : Option (List (Asked F)))
+    (kept' : ℕ) (asked' : Option (List (Asked F))) : Type 0 where
   pub answer : Result (Unit {0}) F
   pub tells : Tells asked asked' (Keeps (numbers_ahead config w.history) answer ∷ unkept answer)
+  pub counts : kept' ≡ raises_kept answer kept (raises_after config w.history)
 
--- The same, where it is due; so many records had arrived when they were to be kept last.
+-- The same, where it is due; these were the levels of the stations when their numbers were kept last.
 abbrev pub KeepsIf : {F : Type 0} → Bool → Config → World → (kept : ℕ) → Option (List (Asked F)) → (kept' : ℕ)
     → Option (List (Asked F)) → Type 0
-KeepsIf true config w kept asked kept' asked' = KeepsNow config w asked asked' × (kept' ≡ length w.history)
+KeepsIf true config w kept asked kept' asked' = KeepsNow config w kept asked kept' asked'
 KeepsIf false config w kept asked kept' asked' = (kept' ≡ kept) × (asked' ≡ asked)
 
 -- what a server has done so far
@@ -108,7 +116,7 @@ pub record Stops {F : Type 0} (t : Timetable) (done : ℕ) (config : Config) (w 
   pub first : Option (List (Asked F))
   pub between : Option (List (Asked F))
   pub finds : FindsDue t done asked due looked
-  pub keep : KeepsIf (is_keep_due t kept (length w.history)) config w kept looked kept' first
+  pub keep : KeepsIf (is_keep_due t kept (raises_after config w.history)) config w kept looked kept' first
   pub reread : RereadsIf due.reread config w v first acts v' between
   pub report : Tells between asked' (reports_if due.report (world_then config w acts) v')
 
@@ -132,12 +140,12 @@ pub data OneTurn (failures failures' : ℕ) (config : Config) (w : World) (v v' 
 -- ---- runs
 
 -- So many turns were made, of which the last so many failed in a row since the configuration was last read again, never
--- sixteen; and after each of them what the timetable says. So many records had arrived when the numbers of the stations
--- were to be kept last.
+-- sixteen; and after each of them what the timetable says. The levels of the stations, together, were those when their
+-- numbers were kept last.
 pub data Runs {F : Type 0} (t : Timetable) (config : Config) (w : World) (first : LoopValue)
     (first_asked : Option (List (Asked F)))
     : (done failures kept : ℕ) → List Act → LoopValue → Option (List (Asked F)) → Type 0 where
-  begins : Runs t config w first first_asked 0 0 (length w.history) [] first first_asked
+  begins : Runs t config w first first_asked 0 0 (raises_after config w.history) [] first first_asked
   turned : {done failures kept kept' : ℕ} {acts : List Act} {v v'' : LoopValue}
       {asked asked'' : Option (List (Asked F))}
       (v' : LoopValue) (turned : Turned) (stop : List Act) →
@@ -195,7 +203,7 @@ pub record GaveUp {F : Type 0} (t : Timetable) (config : Config) (w : World) (fi
 
 -- so many turns, with no stop between them
 abbrev pub block_of : ℕ → Timetable
-block_of turns = record { turns = Some turns; reread = None; report = None; timed = false; keep = None }
+block_of turns = record { turns = Some turns; reread = None; report = None; timed = false; keep = false }
 
 -- All turns of a block were made.
 abbrev pub RanBlock : ℕ → Config → World → LoopValue → LoopValue → Type 0

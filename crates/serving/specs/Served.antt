@@ -1,5 +1,5 @@
 -- What a server over ports has done once its turns are over.
-use Rattle.std.specs.Prelude.{◌≡◌, ℕ, List, [], ◌∷◌, Option, Some, None, Ok, Err}
+use Rattle.std.specs.Prelude.{◌≡◌, ℕ, Bool, true, false, List, [], ◌∷◌, Option, None, Ok, Err}
 use Rattle.protocol.specs.Catalog.{Config}
 use Rattle.protocol.specs.World.{empty_world}
 use Rattle.server_core.specs.ServerValues.{StandsAt}
@@ -22,9 +22,9 @@ pub record Begins (config : Config) (calls : Option (List Call)) (first : LoopVa
   pub none_refused : first.refused ≡ 0
 
 -- If numbers are to be kept, those of the first world were kept once, and nothing else was asked.
-abbrev pub KeepsFirst : {F : Type 0} → Option ℕ → Config → (asked asked' : Option (List (Asked F))) → Type 0
-KeepsFirst None config asked asked' = asked' ≡ asked
-KeepsFirst (Some every) config asked asked' = Tells asked asked' (Keeps (numbers_ahead config []) (Ok tt) ∷ [])
+abbrev pub KeepsFirst : {F : Type 0} → Bool → Config → (asked asked' : Option (List (Asked F))) → Type 0
+KeepsFirst false config asked asked' = asked' ≡ asked
+KeepsFirst true config asked asked' = Tells asked asked' (Keeps (numbers_ahead config []) (Ok tt) ∷ [])
 
 -- They could not be kept, which was handed on, and nothing else was asked.
 pub record KeptNothing {F : Type 0} (config : Config) (asked asked' : Option (List (Asked F))) : Type 0 where

@@ -1,7 +1,6 @@
 -- When a server stops between its turns. Timetables are this project's own. Left out: how time passes.
-use Rattle.std.specs.Prelude.{ℕ, zero, suc, ◌-◌, ◌%◌, ◌^◌, ◌==◌, ◌||◌, nat_lt, Bool, false, if◌then◌else◌, Option, Some}
-use Rattle.std.specs.Prelude.{None, unwrap_or}
-use Rattle.std.specs.Option.{option_map_or}
+use Rattle.std.specs.Prelude.{ℕ, zero, suc, ◌-◌, ◌%◌, ◌^◌, ◌==◌, ◌||◌, ◌&&◌, nat_lt, Bool, false, if◌then◌else◌, Option}
+use Rattle.std.specs.Prelude.{Some, None, unwrap_or}
 use Rattle.serving.specs.declared.between.Due.{Due}
 use Rattle.serving.specs.declared.timetable.Timetable.{Timetable}
 
@@ -15,9 +14,9 @@ is_due None done = false
 is_due (Some zero) done = false
 is_due (Some (suc n)) done = done % suc n == 0
 
--- more than a number of records arrived since the numbers of the stations were kept
-abbrev pub is_keep_due : Timetable → (kept arrivals : ℕ) → Bool
-is_keep_due t kept arrivals = option_map_or (λ every. nat_lt every (arrivals - kept)) t.keep false
+-- Numbers are kept, and the level of some station rose since they were.
+abbrev pub is_keep_due : Timetable → (kept raises : ℕ) → Bool
+is_keep_due t kept raises = t.keep && nat_lt kept raises
 
 -- nothing is due by time
 abbrev pub nothing_due : Due

@@ -1,26 +1,27 @@
 //! Numbers that are kept for a later run.
-ghost use Rattle.std.specs.Prelude.{◌≡◌, ◌+◌, ◌%◌, length, slice_get};
+ghost use Rattle.std.specs.Prelude.{◌≡◌, ◌≤◌, ◌+◌, ◌%◌, ℕ, length, slice_get};
+ghost use Rattle.protocol.specs.Packet.{numbers};
 ghost use Rattle.protocol.specs.Catalog.{Config as ProtocolConfig};
 ghost use Rattle.protocol.specs.History.{Arrival};
 ghost use Rattle.std.specs.Prelude.{List};
 ghost use Rattle.station_ring.specs.HeldRecords.{holdings_of};
-ghost use Rattle.serving.specs.Ahead.{ahead_of, number_ahead, numbers_ahead};
+ghost use Rattle.serving.specs.Ahead.{ahead, ahead_of, number_ahead, numbers_ahead};
 
 use sl_packet::Seq;
 use station_ring::Rings;
 
-/// How far a kept number is ahead of the next one that is given.
-const ROOM: u32 = 16_384;
+/// The number that is kept of a station with few records is kept anew each time that so many more came.
+const STEP: u64 = 1_024;
 
-/// Once more than so many records arrived, numbers are to be kept again. With what a turn brings, at most 1,024, this
-/// is half of how far they are ahead, so that a keep that fails can be made good by the next.
-pub const KEEP_EVERY: usize = 7_168;
+/// From so many records of a station on, its number is kept anew each time that so many more came.
+const LATER_STEP: u64 = 8_192;
 
 /// Numbers are those below this one.
 const NUMBERS: u32 = 0x100_0000;
 
 /// The numbers that are to be kept, of each station in the order of the configuration: each so far ahead of the
-/// station's next number that the records of many turns don't reach it.
+/// station's next number that the records of a turn don't reach it. It depends on the station's first number and on
+/// how many of its own records came, and on nothing else.
 #[derive(Clone, Copy)]
 pub struct Ahead<'a> {
     rings: &'a Rings,
@@ -46,16 +47,25 @@ impl<'a> Ahead<'a> {
     pub fn number(&self, place: usize) -> Option<Seq>
         ensures { result ≡ slice_get (ahead_of self.now) place }
     {
-        match self.rings.next_number(place) {
-            Some(next) => Some(number_ahead(next)),
+        match self.rings.ring(place) {
+            Some(ring) => Some(number_ahead(ring.next_number(), ring.pushes())),
             None => None,
         }
     }
 }
 
-/// The number that is kept of a station whose next record is to have that number.
-fn number_ahead(next: Seq) -> Seq
-    ensures { result ≡ number_ahead next }
+/// The number that is kept of a station whose next record is to have that number, after so many records.
+fn number_ahead(next: Seq, count: u64) -> Seq
+    ensures { (first : ℕ) → next ≡ (first + count) % numbers → result ≡ number_ahead first count }
 {
-    Seq::of((next.value() + ROOM) % NUMBERS).unwrap()
+    Seq::of((next.value() + gap(count)) % NUMBERS).unwrap()
+}
+
+/// How far it is ahead of the next one.
+fn gap(count: u64) -> u32
+    ensures ahead { count + result ≡ ahead count }
+    ensures few { result ≤ 16384 }
+{
+    let step = if count < LATER_STEP { STEP } else { LATER_STEP };
+    (2 * step - count % step) as u32
 }

@@ -1,8 +1,9 @@
 //! What follows of a run.
 ghost use Rattle.serving.specs.Counting.{AsksAsDue};
-ghost use Rattle.serving.specs.Keeping.{KeepsAhead};
+ghost use Rattle.serving.specs.Keeping.{KeepsAhead, KeepsExactly};
 ghost use Rattle.serving.specs.Looking.{AsksByTime};
 ghost use Rattle.serving.specs.Paces.{ComesOnTime};
+ghost use Rattle.serving.specs.Restarts.{RestartsTellNothing};
 
 use crate::between::Between;
 
@@ -12,9 +13,15 @@ pub fn asks_as_due<B: Between>()
 {}
 
 /// At each moment of a run, between its turns and during them, the numbers that were kept last are ahead of those that
-/// are given.
+/// are given, unless the last keep failed.
 pub fn keeps_ahead<B: Between>()
     ensures { KeepsAhead B.Fault }
+{}
+
+/// At each stop of a run the number that was kept last of a station depends on the station's own records alone, unless
+/// the last keep failed.
+pub fn keeps_exactly<B: Between>()
+    ensures { KeepsExactly B.Fault }
 {}
 
 /// In a run of all its turns, the configuration is asked for after exactly those turns at which it was said to be due
@@ -27,4 +34,11 @@ pub fn asks_by_time<B: Between>()
 /// last, over any times that don't fall, and not at a look that fails.
 pub fn comes_on_time()
     ensures { ComesOnTime }
+{}
+
+/// A client of two servers, each of which runs any number of times over its own file of numbers, is handed the same in
+/// each run by both, if its own events and the arrivals at its stations are alike in each of them: whatever arrives at
+/// other stations, and whatever other clients do, in whatever run.
+pub fn restarts_tell_nothing()
+    ensures { RestartsTellNothing }
 {}

@@ -14,7 +14,7 @@ mod running;
 mod timetable;
 
 pub use activity::Activity;
-pub use ahead::{Ahead, KEEP_EVERY};
+pub use ahead::Ahead;
 pub use between::{Between, Due, NoConfiguration, NothingBetween, Refusal};
 pub use faults::ServeFault;
 pub use memory_between::{Made, MemoryBetween};

@@ -28,7 +28,7 @@ fn keep_first<P: Ports, B: Between>(
         KeptNothing config (B.asked between.old) (B.asked between.new)) }
     ensures fault { IfErr result (λ fault. fault ≡ Numbers) }
 {
-    if timetable.keep.is_none() {
+    if !timetable.keep {
         return Ok(());
     }
     match between.keep(&Ahead::of(server.rings())) {

@@ -1,7 +1,8 @@
 //! A server over ports, turn after turn.
-ghost use Rattle.std.specs.Prelude.{◌≡◌, ◌≤◌, ◌+◌, ◌<◌, OnErr, OnOk, length};
+ghost use Rattle.std.specs.Prelude.{◌≡◌, ◌≤◌, ◌+◌, ◌<◌, OnErr, OnOk};
 ghost use Rattle.protocol.specs.Catalog.{Config as ProtocolConfig};
 ghost use Rattle.protocol.specs.World.{World};
+ghost use Rattle.station_ring.specs.Levels.{raises_after};
 ghost use Rattle.server_core.specs.ServerValues.{StandsAt};
 ghost use Rattle.event_loop.specs.Hearing.{clients_in, feeds_in};
 ghost use Rattle.serving.specs.Runs.{Ran, GaveUp, RanBlock, GaveUpBlock, KeepsIf, KeepsNow, OneTurn, SomeReread};
@@ -57,19 +58,24 @@ fn reread<P: Ports, B: Between>(server: &mut Loop<P>, between: &mut B, due: bool
     }
 }
 
-/// Has the numbers of the stations kept. A fault is handed on.
-fn keep_now<P: Ports, B: Between>(server: &Loop<P>, between: &mut B)
+/// Has the numbers of the stations kept, which last were at these levels of the stations together. Answers at which
+/// levels they were kept last now: a fault is handed on, and leaves them.
+fn keep_now<P: Ports, B: Between>(server: &Loop<P>, between: &mut B, kept: u64) -> u64
     ensures { (config : ProtocolConfig) (w : World) → StandsAt server.now.server config w →
-        KeepsNow config w (B.asked between.old) (B.asked between.new) }
+        KeepsNow config w kept (B.asked between.old) result (B.asked between.new) }
 {
-    match between.keep(&Ahead::of(server.rings())) {
-        Ok(()) => {}
-        Err(fault) => between.refused(Refusal::Unkept(fault)),
+    let rings = server.rings();
+    match between.keep(&Ahead::of(rings)) {
+        Ok(()) => rings.raises(),
+        Err(fault) => {
+            between.refused(Refusal::Unkept(fault));
+            kept
+        }
     }
 }
 
-/// Has the numbers of the stations kept, if that is due, where so many records had arrived when they were kept last.
-/// Answers how many had when they are kept last now.
+/// Has the numbers of the stations kept, if that is due, which last were at these levels of the stations together.
+/// Answers at which levels they were kept last now.
 fn keep<P: Ports, B: Between>(
     server: &Loop<P>,
     between: &mut B,
@@ -77,15 +83,13 @@ fn keep<P: Ports, B: Between>(
     kept: u64,
 ) -> u64
     ensures { (config : ProtocolConfig) (w : World) → StandsAt server.now.server config w →
-        KeepsIf (is_keep_due timetable.now kept (length w.history)) config w kept (B.asked between.old) result
-        (B.asked between.new) }
+        KeepsIf (is_keep_due timetable.now kept (raises_after config w.history)) config w kept
+        (B.asked between.old) result (B.asked between.new) }
 {
-    let arrivals = server.arrivals();
-    if !timetable.keeps(kept, arrivals) {
+    if !timetable.keeps(kept, server.rings().raises()) {
         return kept;
     }
-    keep_now(server, between);
-    arrivals
+    keep_now(server, between, kept)
 }
 
 /// What is due after so many turns: by their number and, if the timetable says that it is asked for, by time.
@@ -106,13 +110,13 @@ fn due_after<B: Between>(between: &mut B, timetable: &Timetable, done: u64) -> D
 /// What a stop between two turns leaves.
 #[derive(Clone, Copy, Drop)]
 pub struct Stopped {
-    /// How many records had arrived when the numbers were kept last.
+    /// The levels of the stations, together, when their numbers were kept last.
     pub kept: u64,
     /// The configuration was asked for.
     pub reread: bool,
 }
 
-/// Does what is to be done after so many turns, where so many records had arrived when the numbers were kept last.
+/// Does what is to be done after so many turns, where the numbers were kept last at these levels of the stations.
 fn stop<P: Ports, B: Between>(
     server: &mut Loop<P>,
     between: &mut B,
@@ -170,7 +174,7 @@ pub fn run<P: Ports, B: Between>(
     let turns = timetable.total();
     let mut done = 0u64;
     let mut failures = 0u8;
-    let mut kept = server.arrivals();
+    let mut kept = server.rings().raises();
     'going: while done < turns {
         let failed = one_turn(server, failures);
         if failed >= FAILURES {

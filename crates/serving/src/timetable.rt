@@ -10,27 +10,27 @@ use crate::between::Due;
 ///
 /// If it is `timed`, it is asked after each turn what is due by time, and that is done too.
 ///
-/// With `keep` it has the numbers of its stations kept, once more than so many records arrived since they were kept.
+/// With `keep` it has the numbers of its stations kept, each time that the number to be kept of some station changed.
 #[derive(Clone, Copy, Drop)]
 pub struct Timetable {
     pub turns: Option<usize>,
     pub reread: Option<usize>,
     pub report: Option<usize>,
     pub timed: bool,
-    pub keep: Option<usize>,
+    pub keep: bool,
 }
 
 impl Timetable {
     /// So many turns, with no stop between them.
     pub fn of_turns(turns: u64) -> Timetable
-        ensures { result ≡ record { turns = Some turns; reread = None; report = None; timed = false; keep = None } }
+        ensures { result ≡ record { turns = Some turns; reread = None; report = None; timed = false; keep = false } }
     {
         Timetable {
             turns: Some(turns as usize),
             reread: None,
             report: None,
             timed: false,
-            keep: None,
+            keep: false,
         }
     }
 
@@ -54,15 +54,12 @@ impl Timetable {
         }
     }
 
-    /// Whether the numbers are to be kept again, once so many records arrived, of which so many had when they were
-    /// kept.
-    pub fn keeps(&self, kept: u64, arrivals: u64) -> bool
-        ensures { result ≡ is_keep_due self.now kept arrivals }
+    /// Whether the numbers are to be kept again, by the levels of the stations together, and by what these were when
+    /// the numbers were kept.
+    pub fn keeps(&self, kept: u64, raises: u64) -> bool
+        ensures { result ≡ is_keep_due self.now kept raises }
     {
-        match self.keep {
-            None => false,
-            Some(every) => (every as u64) < arrivals.saturating_sub(kept),
-        }
+        self.keep && kept < raises
     }
 }
 

@@ -8,7 +8,8 @@ going-init g c =
     record {
       ran = λ config w stands.
           ran-nothing c.args.timetable config w c.args.server.now (g.B.Between.asked c.args.between.now)
-          c.arrivals-kept.result (c.arrivals-kept.ensures config w stands) stands;
+          c.raises-kept.result
+          (c.raises-kept.ensures.history config w.history (c.rings.ensures.holds config w stands)) stands;
       few_failures = omega arith;
       counted = omega arith;
       within = omega arith;

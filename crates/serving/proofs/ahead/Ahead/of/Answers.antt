@@ -1,9 +1,7 @@
-use Rattle.std.proofs.Common.{◌∙◌, ap, map}
-use Rattle.station_ring.specs.HeldRecords.{next_numbers}
-use Rattle.station_ring.proofs.HeldNumberLemmas.{numbers-held}
-use Rattle.serving.specs.Ahead.{number_ahead}
+use Rattle.std.proofs.Common.{◌∙◌, ap}
+use Rattle.serving.specs.Ahead.{ahead_in}
+use Rattle.serving.proofs.AheadLemmas.{ahead-held}
 use Rattle.serving.proofs.ahead.Ahead.of.Goals as goal
 
 pub returns : goal.returns
-returns c = λ config h is.
-    ap (λ v. map number_ahead (next_numbers v)) is ∙ ap (map number_ahead) (numbers-held config h)
+returns c = λ config h is. ap ahead_in is ∙ ahead-held config h
