@@ -1,7 +1,7 @@
 -- How far kept numbers are ahead.
 use Rattle.std.proofs.Common.{◌≡◌, ℕ, zero, suc, ◌+◌, ◌-◌, ◌*◌, ◌%◌, ◌/◌, ◌<◌, ◌≤◌, List, [], ◌∷◌, ◌++◌, length, map}
-use Rattle.std.proofs.Common.{if◌then◌else◌, get_or, take, slice_get, Option, Some, None, option_map, refl, sym, ap, ◌∙◌}
-use Rattle.std.proofs.Common.{arith}
+use Rattle.std.proofs.Common.{if◌then◌else◌, get_or, take, slice_get, Option, Some, None, option_map, refl, sym, ap}
+use Rattle.std.proofs.Common.{◌∙◌, arith}
 use Rattle.std.specs.List.{sum_by}
 use Rattle.std.proofs.lemmas.Bool.Decides.{nat_tests}
 use Rattle.std.proofs.Math.Nat.{add-mul-mod_self_left, mod-add-div}
@@ -59,7 +59,8 @@ ahead-next next first count gap result is far made =
     let whole : first + count + gap ≡ first + ahead count = omega arith in
     made ∙ ap (λ n. (n + gap) % numbers) is ∙ mod-then (first + count) gap ∙ ap (λ n. n % numbers) whole
 
-counted : (s : Station) (earlier later : List Arrival) → count_of s (earlier ++ later) ≡ count_of s earlier + count_of s later
+counted : (s : Station) (earlier later : List Arrival)
+    → count_of s (earlier ++ later) ≡ count_of s earlier + count_of s later
 counted s earlier later = sum_by-append (λ x. if is_of s x then 1 else 0) earlier later
 
 ahead-one : (least : ℕ) (s : Station) (earlier later : List Arrival) → length later + least ≤ 1025

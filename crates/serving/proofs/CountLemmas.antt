@@ -1,6 +1,6 @@
 -- How often a configuration is asked for.
 use Rattle.std.proofs.Common.{◌≡◌, ◌||◌, ℕ, ◌+◌, Bool, true, false, if◌then◌else◌, List, [], ◌∷◌, ◌++◌, refl, sym, ap}
-use Rattle.std.proofs.Common.{length, subst, ◌∙◌}
+use Rattle.std.proofs.Common.{subst, ◌∙◌}
 use Rattle.std.proofs.Common.{Option, Some, None, Result, Ok, Err, arith, rules}
 use Rattle.std.proofs.lemmas.Grind.{common_steps}
 use Rattle.protocol.specs.Catalog.{Config, is_same_but_for_access}
@@ -116,7 +116,8 @@ module _ {F : Type 0} where
       subst (λ d. Since x.first s.xs (if d then 1 else 0)) again
       (reread-since x.due.reread config w v v' x.first x.between acts s.xs x.reread s.was) in
       let k : Since x.looked r.xs 0 =
-      keep-since (is_keep_due t kept (raises_after config w.history)) config w kept kept' x.looked x.first r.xs x.keep r.was in
+      keep-since (is_keep_due t kept (raises_after config w.history)) config w kept kept' x.looked x.first r.xs
+      x.keep r.was in
       let l : Since a k.xs 0 = look-since t.timed x.finds.by_time a x.looked k.xs x.finds.looks k.was in
       record { xs = l.xs; was = l.was; counts = omega (arith, s.counts, r.counts, k.counts, l.counts) }
 

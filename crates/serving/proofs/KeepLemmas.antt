@@ -1,5 +1,5 @@
 -- What is kept along a run.
-use Rattle.std.proofs.Common.{◌≡◌, ℕ, suc, ◌+◌, ◌-◌, ◌*◌, ◌≤◌, Bool, true, false, if◌then◌else◌, List, []}
+use Rattle.std.proofs.Common.{◌≡◌, ℕ, suc, ◌+◌, ◌≤◌, Bool, true, false, if◌then◌else◌, List, []}
 use Rattle.std.proofs.Common.{◌∷◌, ◌++◌, ◌&&◌, length, refl, sym, ap, subst, ◌∙◌, arith, append_assoc, append-nil}
 use Rattle.std.proofs.Common.{length-append, Option, Some, None, Result, Ok, Err, nat_lt, get_or}
 use Rattle.std.proofs.lemmas.Bool.Decides.{nat_tests}
@@ -302,7 +302,8 @@ module _ {F : Type 0} (t : Timetable) (config : Config) (w : World) (first : Loo
       let turned : there ≡ world_beyond k u deeds = world-turned config w acts deeds in
       let grows : Grows u.history there.history = subst (λ (z : World). Grows u.history z.history) (sym turned)
       (grows-from k u (events_in deeds)) in
-      let m = stop-follows config t done (all_events with) there v' v'' u.history kept kept' a b stop ys x is e grows in (
+      let m = stop-follows config t done (all_events with) there v' v'' u.history kept kept' a b stop ys x is e
+      grows in (
         m.0,
         m.1,
         λ f.

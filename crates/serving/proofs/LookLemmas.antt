@@ -138,8 +138,8 @@ module _ {F : Type 0} where
       reread-rest x.due.reread config w v v' x.first x.between acts p.xs report x.reread p.was
       (report-rest x.due.report u v') in
       let k : RereadRest x.due.reread x.looked r.added.xs (r.block ++ report) =
-      keep-rest (is_keep_due t kept (raises_after config w.history)) x.due.reread config w kept kept' x.looked x.first r.added.xs
-      (r.block ++ report) x.keep r.added.was r.is_rest in
+      keep-rest (is_keep_due t kept (raises_after config w.history)) x.due.reread config w kept kept' x.looked x.first
+      r.added.xs (r.block ++ report) x.keep r.added.was r.is_rest in
       let rest : List (Asked F) = k.block ++ (r.block ++ report) in
       let is_rest : IsRest d.reread rest = subst (λ due. IsRest due rest) again k.is_rest in
       let l : Adds a k.added.xs (Looks d ∷ []) =

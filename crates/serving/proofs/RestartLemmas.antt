@@ -1,7 +1,7 @@
 -- What restarts tell of stations that a client does not see.
 use Rattle.std.proofs.Common.{◌≡◌, ℕ, zero, suc, Bool, true, false, List, [], ◌∷◌, ◌++◌, filter, find, length, map}
 use Rattle.std.proofs.Common.{slice_get}
-use Rattle.std.proofs.Common.{Option, Some, None, refl, sym, ap, subst, ◌∙◌}
+use Rattle.std.proofs.Common.{Some, refl, sym, ap, ◌∙◌}
 use Rattle.std.specs.Str.{bytes_eq}
 use Rattle.std.proofs.lemmas.Bool.{and_parts}
 use Rattle.std.proofs.lemmas.List.Sums.{length-filter}
@@ -14,8 +14,9 @@ use Rattle.protocol.proofs.FoundLemmas.{both}
 use Rattle.protocol.proofs.Views.{alike}
 use Rattle.catalog.specs.Numbers.{Numbered, config_by, entry_by, first_by, numbered}
 use Rattle.number_file.specs.Tables.{is_of_another, with_nexts}
-use Rattle.serving.specs.Ahead.{number_ahead, numbers_ahead}
-use Rattle.serving.specs.Restarts.{AllAlike, AreAlike, Mine, RestartsTellNothing, Run, all_of, comes_to, handed_in, is_mine}
+use Rattle.serving.specs.Ahead.{number_ahead}
+use Rattle.serving.specs.Restarts.{AllAlike, AreAlike, Mine, RestartsTellNothing, Run, all_of, comes_to}
+use Rattle.serving.specs.Restarts.{handed_in, is_mine}
 use Rattle.serving.specs.Restarts.{kept_after, stations_for, view_for}
 use Rattle.serving.specs.Restarts.AllAlike.{none, more}
 
@@ -215,7 +216,8 @@ module _ (mine : Mine) where
     same-views : (kept kept' : List Numbered) → map (number_by kept) own ≡ map (number_by kept') own
         → view_for mine (config_by kept config) ≡ view_for mine (config_by kept' config')
     same-views kept kept' agree =
-        ap (λ t. (let v : View = record { title = t; stations = stations_for mine (config_by kept config) } in v)) titles
+        ap (λ t. (let v : View = record { title = t; stations = stations_for mine (config_by kept config) } in v))
+        titles
         ∙ ap (λ l. (let v : View = record { title = config'.title; stations = l } in v))
         (stations-numbered kept config.entries ∙ agree ∙ ap (map (number_by kept')) stations
         ∙ sym (stations-numbered kept' config'.entries))

@@ -1,5 +1,4 @@
 -- The number and the name by which the program reports a server that ended early.
-use Rattle.std.specs.Prelude.{codes}
 use Rattle.protocol.specs.declared.reason.Reason.{Reason}
 use Rattle.protocol.specs.declared.reason.Reason.TheVariants as reason
 use Rattle.serving.specs.declared.faults.ServeFault.{ServeFault}

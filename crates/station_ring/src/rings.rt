@@ -81,7 +81,6 @@ impl Rings {
         ensures history { (config : ProtocolConfig) (h : List Arrival) → self.now ≡ holdings_of config h
             → result ≡ raises_after config h }
     {
-        let _ = &self.rings;
         self.raises
     }
 

@@ -1,5 +1,4 @@
-use Rattle.std.proofs.Common.{rules, ◌≡◌, ◌+◌, ◌%◌}
-use Rattle.protocol.specs.Packet.{numbers}
+use Rattle.std.proofs.Common.{rules}
 use Rattle.serving.proofs.AheadLemmas.{ahead-next}
 use Rattle.serving.proofs.ahead.number_ahead.Goals as goal
 
