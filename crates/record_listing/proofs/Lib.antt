@@ -1,5 +1,6 @@
 mod CheckLemmas
 mod FindingLemmas
+mod IndexLemmas
 mod TextLemmas
 mod PieceLemmas
 mod StreamLemmas

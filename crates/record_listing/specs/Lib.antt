@@ -1,6 +1,7 @@
 pub mod Checks
 pub mod FeedTallies
 pub mod Findings
+pub mod Index
 pub mod Listing
 pub mod Streams
 pub mod Words

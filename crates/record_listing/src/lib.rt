@@ -9,6 +9,8 @@ mod finding;
 mod listing;
 mod options;
 mod stations;
+mod stream_list;
+mod stream_name;
 mod streams;
 mod texts;
 

@@ -6,7 +6,7 @@ use crate::fault::FileFault;
 use crate::finding::Finding;
 use crate::options::ListingOptions;
 use crate::stations::Stations;
-use crate::streams::{Stream, put_record};
+use crate::stream_list::StreamList;
 use crate::texts::{put_end, put_line};
 use mseed_header::{Header, read};
 use std::alloc::{AllocError, Global};
@@ -48,12 +48,11 @@ fn refusal(said: &Said<'_>) -> Option<FileFault>
 /// one of them is refused, the lines that are not written yet, and the streams.
 #[derive(Drop)]
 pub(crate) struct Listing {
-    alloc: Global,
     count: u128,
     good: u128,
     fault: Option<FileFault>,
     lines: Vec<u8>,
-    streams: Vec<Stream>,
+    streams: StreamList,
 }
 
 impl Model for Listing {
@@ -67,7 +66,7 @@ impl Model for Listing {
       good = s.good;
       fault = s.fault;
       lines = s.lines.items;
-      streams = s.streams.items;
+      streams = s.streams;
     } };
 
     ghost invariant = { λ s. (s.good ≤ s.count) × (s.count ≤ 2 ^ 100) };
@@ -85,12 +84,11 @@ impl Listing {
         ensures { IfOk result (λ l. l ≡ nothing_listed) }
     {
         Ok(Listing {
-            alloc,
             count: 0,
             good: 0,
             fault: None,
             lines: Vec::with_capacity(alloc, ROOM)?,
-            streams: Vec::new(alloc),
+            streams: StreamList::new(alloc),
         })
     }
 
@@ -100,7 +98,7 @@ impl Listing {
             ≡ record self.old { streams = streams_after options self.old.streams said.now }) }
     {
         match said {
-            Ok(header) if options.has_summary => put_record(self.alloc, &mut self.streams, header),
+            Ok(header) if options.has_summary => self.streams.put(header),
             _ => Ok(()),
         }
     }
@@ -143,7 +141,7 @@ impl Listing {
         ensures { OnOk result (self.new
             ≡ record self.old { lines = self.old.lines ++ end_text options self.old.streams count }) }
     {
-        put_end(&mut self.lines, options, &self.streams, count)
+        put_end(&mut self.lines, options, self.streams.as_slice(), count)
     }
 
     /// What is wrong with a file of the records and of so many bytes that are left over, and where.

@@ -1,9 +1,7 @@
 //! The streams of a file of records.
-ghost use Rattle.std.specs.Prelude.{◌≡◌, ◌+◌, ◌<◌, ◌^◌, min, map, IfOk, OnOk, OnErr};
-ghost use Rattle.record_listing.specs.Streams.{begun as spec_begun, earlier as spec_earlier, later as spec_later};
-ghost use Rattle.record_listing.specs.Streams.{gone_on as spec_gone_on, is_known as spec_is_known, is_of as spec_is_of};
-ghost use Rattle.record_listing.specs.Streams.{on_if, streams_with, ticks_after as spec_ticks_after};
-ghost use Rattle.record_listing.specs.Streams.{more_if as spec_more_if};
+ghost use Rattle.std.specs.Prelude.{◌≡◌, ◌+◌, ◌<◌, ◌^◌, min, IfOk};
+ghost use Rattle.record_listing.specs.Streams.{earlier as spec_earlier, later as spec_later};
+ghost use Rattle.record_listing.specs.Streams.{more_if as spec_more_if, ticks_after as spec_ticks_after};
 
 use crate::texts::kind_letter;
 use mseed_header::{Header, Kind};
@@ -143,11 +141,11 @@ impl Model for Stream {
 }
 
 impl Stream {
-    ghost use Rattle.std.specs.Prelude.{◌≡◌, ◌==◌, ◌++◌, IfOk, OnOk};
-    ghost use Rattle.record_listing.specs.Streams.{begun, gone_on, has_gap_at, has_overlap_at, is_data, is_of, on_if};
+    ghost use Rattle.std.specs.Prelude.{◌≡◌, IfOk};
+    ghost use Rattle.record_listing.specs.Streams.{begun, gone_on, has_gap_at, has_overlap_at, is_data};
 
     /// That of a record which is its first.
-    fn new(alloc: Global, header: &Header<'_>) -> Result<Stream, AllocError>
+    pub(crate) fn new(alloc: Global, header: &Header<'_>) -> Result<Stream, AllocError>
         ensures { IfOk result (λ s. s ≡ begun header.now) }
     {
         Ok(Stream {
@@ -163,17 +161,6 @@ impl Stream {
             overlaps: 0,
             latest: Extent::of(header),
         })
-    }
-
-    /// Whether a record belongs to it.
-    fn is_of(&self, header: &Header<'_>) -> bool
-        ensures { result ≡ is_of header.now self.now }
-    {
-        self.network.as_slice() == header.network()
-            && self.station.as_slice() == header.station()
-            && self.location.as_slice() == header.location().as_slice()
-            && self.channel.as_slice() == header.channel().as_slice()
-            && kind_letter(self.kind) == kind_letter(header.kind())
     }
 
     /// Whether it has data: samples at a rate.
@@ -199,7 +186,7 @@ impl Stream {
 
     /// One record more.
     #[tactic(auto, unfolding(crate::specs::Streams::gone_on))]
-    fn go_on(&mut self, header: &Header<'_>)
+    pub(crate) fn go_on(&mut self, header: &Header<'_>)
         ensures { self.new ≡ gone_on header.now self.old }
     {
         let start = header.start();
@@ -211,15 +198,6 @@ impl Stream {
         self.gaps = more_if(has_gap, self.gaps);
         self.overlaps = more_if(has_overlap, self.overlaps);
         self.latest = Extent::of(header);
-    }
-
-    /// One record more, if it belongs to it.
-    fn go_on_if(&mut self, header: &Header<'_>)
-        ensures { self.new ≡ on_if header.now self.old }
-    {
-        if self.is_of(header) {
-            self.go_on(header);
-        }
     }
 
     /// The network's code.
@@ -291,37 +269,4 @@ impl Stream {
     {
         self.overlaps
     }
-}
-
-/// Each of the streams to which a record belongs has one record more.
-fn go_on_all(streams: &mut Vec<Stream>, header: &Header<'_>)
-    ensures { streams.new.items ≡ map (on_if header.now) streams.old.items }
-{
-    for index in 0..streams.len() {
-        let stream = &mut streams[index];
-        stream.go_on_if(header);
-    }
-}
-
-/// Whether a record belongs to one of the streams.
-fn is_known(streams: &[Stream], header: &Header<'_>) -> bool
-    ensures { result ≡ spec_is_known header.now streams.now }
-{
-    streams.iter().any(|stream| stream.is_of(header))
-}
-
-/// One record more: it belongs to one of the streams, or begins one.
-pub(crate) fn put_record(
-    alloc: Global,
-    streams: &mut Vec<Stream>,
-    header: &Header<'_>,
-) -> Result<(), AllocError>
-    ensures { OnOk result (streams.new.items ≡ streams_with streams.old.items header.now) }
-{
-    if is_known(streams, header) {
-        go_on_all(streams, header);
-    } else {
-        streams.push(Stream::new(alloc, header)?)?;
-    }
-    Ok(())
 }
