@@ -1,2 +1,3 @@
+mod LineLemmas
 pub mod OwnerLemmas
 pub mod StationLemmas

@@ -1,6 +1,6 @@
 -- The keys of a configuration that are not known, and the lines that name them.
 -- The configuration's keys are this project's own. Left out: in which order the text has them.
-use Rattle.std.specs.Prelude.{ℕ, ◌+◌, ◌||◌, nat_lt, Bool, if◌then◌else◌, List, [], ◌∷◌, ◌++◌, map, flat_map, codes}
+use Rattle.std.specs.Prelude.{ℕ, zero, suc, ◌+◌, ◌-◌, ◌==◌, ◌||◌, nat_lt, Bool, if◌then◌else◌, List, [], ◌∷◌, ◌++◌, map, flat_map, codes}
 use Rattle.std.specs.Prelude.{decimal, Option, Some, None, option_and_then}
 use Rattle.std.specs.Str.{bytes_eq}
 use Rattle.toml.specs.Data.{Members, no_members, member, as_table, at, get_member}
@@ -79,3 +79,25 @@ stations_from keys place (s ∷ ss) = station_lines keys place s ++ stations_fro
 -- the lines of all keys that are not known
 abbrev pub unknown_text : Members → List Station → List ℕ
 unknown_text keys ss = owner_lines TheServer keys ++ stations_from keys 0 ss
+
+-- ---- at most so many
+
+-- how many lines end in a text
+abbrev pub line_ends : List ℕ → ℕ
+line_ends [] = 0
+line_ends (b ∷ text) = if b == 10 then line_ends text + 1 else line_ends text
+
+-- its first so many lines
+abbrev pub first_lines : ℕ → List ℕ → List ℕ
+first_lines n [] = []
+first_lines zero (b ∷ text) = []
+first_lines (suc n) (b ∷ text) = b ∷ first_lines (if b == 10 then n else suc n) text
+
+-- the line that says how many more keys are not known
+abbrev pub more_line : ℕ → List ℕ
+more_line count = codes "seedlinkd: more unknown keys: " ++ decimal count ++ 10 ∷ []
+
+-- the first 64 lines, and how many more there are, if there are more
+abbrev pub named : List ℕ → List ℕ
+named text =
+    if line_ends text - 64 == 0 then text else first_lines 64 text ++ more_line (line_ends text - 64)

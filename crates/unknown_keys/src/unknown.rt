@@ -6,8 +6,9 @@ ghost use Rattle.toml.specs.Data.{get_member};
 ghost use Rattle.toml.specs.View.{table_view, view};
 ghost use Rattle.protocol.specs.Catalog.{stations_of};
 ghost use Rattle.unknown_keys.specs.Unknown.{owner_lines, station_lines, station_table, stations_from};
-ghost use Rattle.unknown_keys.specs.Unknown.{unknown_text, whose};
+ghost use Rattle.unknown_keys.specs.Unknown.{named, unknown_text, whose};
 
+use crate::first_lines::keep_first;
 use crate::lines::put_line;
 use crate::owner::Owner;
 use catalog::keys::table_of;
@@ -77,21 +78,29 @@ fn put_stations(text: &mut Vec<u8>, stations: &[Station], table: &Table) -> Resu
     Ok(())
 }
 
-/// The keys of a configuration's text that are not known, which reading it ignores, a line each: first those of the
-/// whole server, then those of each station with its number, from 1 on, and its codes; those of one table in the order
-/// of their bytes. Bytes of a key that are not visible ones of ASCII stand there as `?`. Only memory can lack.
-pub fn unknown_keys(alloc: Global, config: &Config, text: &[u8]) -> Result<Vec<u8>, AllocError>
-    ensures { IfOk result (λ lines. IsUtf8 text.now → IfSome (parse_document text.now)
-        (λ keys. lines.items ≡ unknown_text keys (stations_of config.now))) }
+/// The lines of a configuration's keys that are not known.
+fn lines_of(alloc: Global, config: &Config, table: &Table) -> Result<Vec<u8>, AllocError>
+    ensures { IfOk result (λ lines.
+        lines.items ≡ named (unknown_text (table_view table.now) (stations_of config.now))) }
 {
     let mut lines = Vec::new(alloc);
-    match table_of(alloc, text) {
-        Ok(table) => {
-            put_unknown(&mut lines, &table, Owner::Server)?;
-            put_stations(&mut lines, config.stations(), &table)?;
-        }
-        Err(ConfigFault::OutOfMemory) => return Err(AllocError),
-        Err(_) => {}
-    }
+    put_unknown(&mut lines, table, Owner::Server)?;
+    put_stations(&mut lines, config.stations(), table)?;
+    keep_first(&mut lines)?;
     Ok(lines)
+}
+
+/// The keys of a configuration's text that are not known, which reading it ignores, a line each: first those of the
+/// whole server, then those of each station with its number, from 1 on, and its codes; those of one table in the order
+/// of their bytes. Bytes of a key that are not visible ones of ASCII stand there as `?`. At most 64 keys are named; if
+/// there are more, one more line says how many. It fails only if memory can't be allocated.
+pub fn unknown_keys(alloc: Global, config: &Config, text: &[u8]) -> Result<Vec<u8>, AllocError>
+    ensures { IfOk result (λ lines. IsUtf8 text.now → IfSome (parse_document text.now)
+        (λ keys. lines.items ≡ named (unknown_text keys (stations_of config.now)))) }
+{
+    match table_of(alloc, text) {
+        Ok(table) => lines_of(alloc, config, &table),
+        Err(ConfigFault::OutOfMemory) => Err(AllocError),
+        Err(_) => Ok(Vec::new(alloc)),
+    }
 }

@@ -2,7 +2,7 @@
 use catalog::Config;
 use jobs::{list_holders, list_seen};
 use sl_io::MemorySink;
-use std::alloc::Global;
+use std::alloc::{AllocError, Global};
 use std::net::Ipv4Addr;
 use std::test::Fail;
 use test_centre::CENTRE;
@@ -102,5 +102,35 @@ fn keys_that_are_not_known_are_named(rt: HostRuntime) -> Result<(), Fail> {
     );
     let config = Config::read(rt.alloc(), CENTRE)?;
     assert!(rt; unknown_keys(rt.alloc(), &config, CENTRE)?.is_empty());
+    Ok(())
+}
+
+/// A configuration with so many keys that are not known, of one letter and two digits.
+fn with_unknown_keys(alloc: Global, count: u8) -> Result<Vec<u8>, AllocError> {
+    let mut text = Vec::new(alloc);
+    for number in 0..count {
+        text.extend_from_slice(&[
+            b'k',
+            b'0' + number / 10 % 10,
+            b'0' + number % 10,
+            b'=',
+            b'1',
+            b'\n',
+        ])?;
+    }
+    text.extend_from_slice(CENTRE)?;
+    Ok(text)
+}
+
+#[test]
+fn at_most_64_unknown_keys_are_named(rt: HostRuntime) -> Result<(), Fail> {
+    let text = with_unknown_keys(rt.alloc(), 64)?;
+    let config = Config::read(rt.alloc(), &text)?;
+    let lines = unknown_keys(rt.alloc(), &config, &text)?;
+    assert!(rt; lines.ends_with(b"seedlinkd: unknown key k62\nseedlinkd: unknown key k63\n"));
+    let text = with_unknown_keys(rt.alloc(), 99)?;
+    let config = Config::read(rt.alloc(), &text)?;
+    let lines = unknown_keys(rt.alloc(), &config, &text)?;
+    assert!(rt; lines.ends_with(b"seedlinkd: unknown key k63\nseedlinkd: more unknown keys: 35\n"));
     Ok(())
 }
