@@ -13,6 +13,7 @@ use crate::values::value_at;
 use access_list::AccessList;
 use catalog::keys::table_of;
 use catalog::{ConfigError, ConfigFault, Step};
+use shown_lines::put_line;
 use std::alloc::{AllocError, Global};
 use std::fmt::{self, Display, Formatter, Write};
 use toml::Table;
@@ -168,7 +169,8 @@ impl Display for Finding {
                     column,
                     ..
                 } = *place;
-                writeln!(f, "  line: {at}\n  column: {column}\n  reason: {reason}")?;
+                writeln!(f, "  line: {at}\n  column: {column}")?;
+                put_line(f, "reason", reason)?;
                 put_text(f, "text", line)
             }
             Finding::OtherKind { found, wanted } => {
@@ -182,7 +184,7 @@ impl Display for Finding {
 /// A line that quotes a text.
 fn put_text<W: Write>(f: &mut Formatter<W>, word: &str, text: &Vec<u8>) -> fmt::Result {
     match str::from_utf8(text.as_slice()) {
-        Ok(text) => writeln!(f, "  {word}: {text}"),
+        Ok(text) => put_line(f, word, text),
         Err(_) => Ok(()),
     }
 }

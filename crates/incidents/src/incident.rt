@@ -21,6 +21,7 @@ use catalog::{ConfigError, ConfigFault, Step};
 use config_findings::{Difference, Finding as ConfigFinding, key_of, limit_of};
 use record_listing::Finding;
 use server_core::ReloadFault;
+use shown_lines::put_line;
 use slreader::{ReaderFault, Want, WantPart, Window};
 use socket_ports::ListenError;
 use std::fmt::{self, Display, Formatter, Write};
@@ -321,21 +322,24 @@ impl Display for Site<'_> {
     fn fmt<W: Write>(&self, f: &mut Formatter<W>) -> fmt::Result {
         match self {
             Site::Unnamed => Ok(()),
-            Site::File(path) => writeln!(f, "  file: {path}"),
+            Site::File(path) => put_line(f, "file", *path),
             Site::Setting(path, error, finding) => put_setting(f, path, error, finding),
             Site::Differing(path, difference) => put_difference(f, path, difference),
             Site::Record(path, finding) => put_record(f, path, finding),
             Site::Unopened(path, reason)
             | Site::Unread(path, reason)
-            | Site::Unwritten(path, reason) => { writeln!(f, "  file: {path}\n  reason: {reason}") }
-            Site::Word(word) => writeln!(f, "  word: {word}"),
+            | Site::Unwritten(path, reason) => {
+                put_line(f, "file", *path)?;
+                put_line(f, "reason", reason)
+            }
+            Site::Word(word) => put_line(f, "word", *word),
             Site::AccessWord(word, entry) => put_access_word(f, word, entry),
             Site::Want(word, part) => put_want(f, word, part),
-            Site::Server(address) => writeln!(f, "  address: {address}"),
-            Site::Socket(address, reason) => writeln!(
-                f,
-                "  address: {address}\n  reason: {reason}"
-            ),
+            Site::Server(address) => put_line(f, "address", *address),
+            Site::Socket(address, reason) => {
+                put_line(f, "address", *address)?;
+                put_line(f, "reason", reason)
+            }
         }
     }
 }
@@ -347,7 +351,7 @@ fn put_setting<W: Write>(
     error: &ConfigError,
     finding: &ConfigFinding,
 ) -> fmt::Result {
-    writeln!(f, "  file: {path}")?;
+    put_line(f, "file", path)?;
     put_key(f, error.step, &error.network, &error.code)?;
     write!(f, "{finding}")?;
     writeln!(f, "  allowed: {}", limit_of(error.step))
@@ -359,15 +363,15 @@ fn put_difference<W: Write>(
     path: &str,
     difference: &Difference,
 ) -> fmt::Result {
-    writeln!(f, "  file: {path}")?;
+    put_line(f, "file", path)?;
     put_key(f, difference.step, &difference.network, &difference.code)?;
-    writeln!(f, "  in force: {}", difference.in_force)?;
-    writeln!(f, "  in the file: {}", difference.in_file)
+    put_line(f, "in force", &difference.in_force)?;
+    put_line(f, "in the file", &difference.in_file)
 }
 
 /// The lines of a record of a file.
 fn put_record<W: Write>(f: &mut Formatter<W>, path: &str, finding: &Finding) -> fmt::Result {
-    writeln!(f, "  file: {path}")?;
+    put_line(f, "file", path)?;
     writeln!(f, "  record: {}", finding.number)?;
     writeln!(f, "  offset: {}", finding.offset)
 }
@@ -378,14 +382,14 @@ fn put_access_word<W: Write>(
     word: &str,
     entry: &Option<&[u8]>,
 ) -> fmt::Result {
-    writeln!(f, "  word: {word}")?;
+    put_line(f, "word", word)?;
     put_entry(f, entry)?;
     writeln!(f, "  allowed: {}", limit_of(Step::Access))
 }
 
 /// The lines of a word that is no want.
 fn put_want<W: Write>(f: &mut Formatter<W>, word: &str, part: &Option<WantPart>) -> fmt::Result {
-    writeln!(f, "  word: {word}")?;
+    put_line(f, "word", word)?;
     put_part(f, part)
 }
 
@@ -415,7 +419,7 @@ fn put_key<W: Write>(
 fn put_entry<W: Write>(f: &mut Formatter<W>, entry: &Option<&[u8]>) -> fmt::Result {
     match entry {
         Some(bytes) => match str::from_utf8(bytes) {
-            Ok(text) => writeln!(f, "  entry: {text}"),
+            Ok(text) => put_line(f, "entry", text),
             Err(_) => Ok(()),
         },
         None => Ok(()),

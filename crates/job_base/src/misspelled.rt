@@ -2,6 +2,7 @@
 use crate::files::{config_in, text_at};
 use catalog::Config;
 use incidents::{Failure, Incident};
+use shown_lines::ShownText;
 use std::rt::Files;
 use unknown_keys::unknown_keys;
 
@@ -16,7 +17,7 @@ pub fn tell_unknown_keys<'a, R: Eprint + AllocGlobal>(
         return Err(Failure::OutOfMemory.in_file(path));
     };
     if let Ok(lines) = str::from_utf8(lines.as_slice()) {
-        let _ = rt.eprint(lines);
+        let _ = eprint!(rt; "{}", ShownText(lines));
     }
     Ok(())
 }

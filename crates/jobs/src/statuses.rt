@@ -8,6 +8,7 @@ use crate::work::run_job;
 use command_line::{Request, WordsFault, read_words};
 use incidents::{Failure, Incident};
 use job_base::tell_incident;
+use shown_lines::ShownText;
 use std::fs::File;
 use std::net::Net;
 use std::os::fd::AsRawFd;
@@ -50,7 +51,7 @@ pub fn told<R: Print + Eprint>(rt: &R, text: &str, is_help: bool) -> ExitCode
     ensures help { is_help ≡ true → exit_status result ≢ 2 }
 {
     if !is_help {
-        let _ = rt.eprint(text);
+        let _ = eprint!(rt; "{}", ShownText(text));
         return ExitCode::from(REFUSED);
     }
     match rt.print(text) {

@@ -32,7 +32,7 @@ struct Row {
 
 /// In each row but those with one fault, a later fault is due as well: the first one is reported. There is a
 /// configuration `centre.toml`, a file of records `two.mseed` and none that begins with `no`.
-static ROWS: [Row; 18] = [
+static ROWS: [Row; 20] = [
     // A server: the address for clients, that for feeds, the configuration, and then the ports.
     Row {
         words: "seedlinkd -v serve no.toml --listen nowhere --feed elsewhere",
@@ -63,6 +63,17 @@ static ROWS: [Row; 18] = [
         words: "seedlinkd serve centre.toml --listen 127.0.0.1:TAKEN --feed 127.0.0.1:0",
         line: "seedlinkd: 46 Listen\n",
         names: "",
+    },
+    // A name that would control a terminal, and one that is cut after 200 bytes, not inside a character.
+    Row {
+        words: "seedlinkd -v view no\x1b[2J\n\x7f.toml",
+        line: "seedlinkd: 44 File\n",
+        names: "file: no?[2J??.toml\n",
+    },
+    Row {
+        words: "seedlinkd -v view noréééééééééééééééééééééééééééééééééééééééééééééééééééééééééééééééééééééééééééééééééééééééééééééééééééé",
+        line: "seedlinkd: 44 File\n",
+        names: "file: noréééééééééééééééééééééééééééééééééééééééééééééééééééééééééééééééééééééééééééééééééééééééééééééé\n",
     },
     // A feeder: the address, the file, and then the connection.
     Row {
