@@ -4,7 +4,7 @@ ghost use Rattle.sl_io.specs.Counts.{CountsFailure};
 
 use crate::archiving::Lasting;
 use incidents::{Failure, Incident, Site, StateFault};
-use job_base::replace;
+use job_base::{place_of, replace};
 use packet_listing::{KeepFault, Keeper};
 use reader_state::{read_state, write_state};
 use sl_io::{Outer, ReadFault, Sink, read_all};
@@ -24,7 +24,10 @@ const EVERY: u64 = 1_000;
 /// A file with the state of a reader: what it said when the reader began, and what it is to say.
 #[derive(Drop)]
 pub struct StateFile<'a> {
+    /// The word that names it.
     path: &'a str,
+    /// Where it is: not a symbolic link that points to it.
+    place: String,
     /// Another name in the same folder, under which the file is written anew.
     new_path: String,
     /// The last packets that it told of when the reader began.
@@ -33,13 +36,17 @@ pub struct StateFile<'a> {
 }
 
 impl<'a> StateFile<'a> {
-    /// Reads a state. A file that is not there tells of no packet.
+    /// Reads a state. A file that is not there tells of no packet. One that is no plain file is refused, and not opened.
     pub fn open<R: Files + AllocGlobal>(
         rt: &R,
         path: &'a str,
     ) -> Result<StateFile<'a>, Incident<'a>> {
-        let before = lasts_at(rt, path)?;
-        match StateFile::of(rt.alloc(), path, before) {
+        let place = match place_of(rt, path) {
+            Ok(place) => place,
+            Err(reason) => return Err(unopened(path, reason)),
+        };
+        let before = lasts_at(rt, place.as_str(), path)?;
+        match StateFile::of(rt.alloc(), path, place, before) {
             Ok(file) => Ok(file),
             Err(_) => Err(Incident::from(Failure::OutOfMemory)),
         }
@@ -49,11 +56,13 @@ impl<'a> StateFile<'a> {
     fn of(
         alloc: Global,
         path: &'a str,
+        place: String,
         before: Vec<LastPacket>,
     ) -> Result<StateFile<'a>, AllocError> {
-        let new_path = format!(in alloc; "{path}.new")?;
+        let new_path = format!(in alloc; "{place}.new")?;
         Ok(StateFile {
             path,
+            place,
             new_path,
             before,
             text: Vec::new(alloc),
@@ -87,22 +96,36 @@ impl<'a> StateFile<'a> {
         if written.is_err() {
             return Err(io::Error::from(ErrorKind::OutOfMemory));
         }
-        replace(rt, self.new_path.as_str(), self.path, self.text.as_slice())
+        replace(
+            rt,
+            self.new_path.as_str(),
+            self.place.as_str(),
+            self.text.as_slice(),
+        )
+    }
+}
+
+/// Why a state, that a word names, was not opened.
+fn unopened<'a>(path: &'a str, reason: io::Error) -> Incident<'a> {
+    if reason.kind() == ErrorKind::OutOfMemory {
+        return Incident::from(Failure::OutOfMemory);
+    }
+    Incident {
+        failure: Failure::State(StateFault::Unread),
+        site: Site::Unopened(path, reason),
     }
 }
 
 /// The last packets that a file tells of; none if it is not there.
 fn lasts_at<'a, R: Files + AllocGlobal>(
     rt: &R,
+    place: &str,
     path: &'a str,
 ) -> Result<Vec<LastPacket>, Incident<'a>> {
-    match fs::open(rt, path) {
+    match fs::open(rt, place) {
         Ok(file) => lasts_in(rt.alloc(), file, path),
         Err(reason) if reason.kind() == ErrorKind::NotFound => Ok(Vec::new(rt.alloc())),
-        Err(reason) => Err(Incident {
-            failure: Failure::State(StateFault::Unread),
-            site: Site::Unopened(path, reason),
-        }),
+        Err(reason) => Err(unopened(path, reason)),
     }
 }
 

@@ -1,5 +1,5 @@
 //! A server over sockets.
-ghost use Rattle.std.specs.Prelude.{◌≡◌, IfOk};
+ghost use Rattle.std.specs.Prelude.{◌≡◌, ◌||◌, is_some, IfOk};
 
 use crate::admitting::admission_of;
 use crate::configured::ConfiguredRecords;
@@ -9,7 +9,7 @@ use crate::visits::{SharedLines, VisitLines};
 use catalog::Config;
 use error_lines::{Device, StandardError};
 use incidents::{Failure, Incident, Site};
-use job_base::{ServerAddress, checked_config_at, server_of};
+use job_base::{ServerAddress, checked_config_at, plain_at, server_of};
 use logged_ports::LoggedPorts;
 use serving::ServeFault;
 use socket_ports::{Admission, MioPorts};
@@ -33,8 +33,15 @@ fn listen_at<'a, R: Net + AllocGlobal>(
     }
 }
 
+/// Whether the configuration is read again while the server runs.
+fn is_read_again(options: &ServeOptions<'_>) -> bool
+    ensures { result ≡ (is_some options.now.timetable.reread || is_some options.now.reread_seconds) }
+{
+    options.timetable.reread.is_some() || options.reread_seconds.is_some()
+}
+
 /// Serves clients and feeds as the options say, and then sends what was not sent yet. The keys of the configuration that
-/// are not known are named first.
+/// are not known are named first. A configuration that is to be read again has to be a plain file.
 pub fn serve_sockets<'a, R: Files<File = File> + Eprint + Clock + Net + AllocGlobal>(
     rt: &R,
     listen: &'a str,
@@ -44,6 +51,9 @@ pub fn serve_sockets<'a, R: Files<File = File> + Eprint + Clock + Net + AllocGlo
     let clients = server_of(listen)?;
     let feeds = server_of(feed)?;
     let admission = admission_of(rt.alloc(), options.feed_from, options.per_address)?;
+    if is_read_again(&options) {
+        plain_at(rt, options.path)?;
+    }
     let config = checked_config_at(rt, options.path)?;
     serve_with(rt, clients, feeds, admission, config, options)
 }

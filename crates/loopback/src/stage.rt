@@ -9,6 +9,7 @@ use std::io;
 use std::io::{ErrorKind, Read};
 use std::net::{Net, OpenListener, OpenStream, Shutdown, SocketAddr};
 use std::os::fd::{AsRawFd, RawFd};
+use std::path::PathBuf;
 use std::rt::{Clock, Files};
 use std::time::Duration;
 
@@ -158,6 +159,10 @@ impl<'a, R: Files, A: Actor<R>> Files for Stage<'a, R, A> {
 
     fn symlink_metadata(&self, path: &str) -> io::Result<Metadata> {
         self.rt.symlink_metadata(path)
+    }
+
+    fn canonicalize<B: Allocator>(&self, alloc: B, path: &str) -> io::Result<PathBuf<B>> {
+        self.rt.canonicalize(alloc, path)
     }
 
     fn copy(&self, from: &str, to: &str) -> io::Result<u64> {

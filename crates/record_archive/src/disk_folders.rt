@@ -50,12 +50,23 @@ fn no_memory() -> io::Error {
     io::Error::from(io::ErrorKind::OutOfMemory)
 }
 
+/// Refuses a file that is there and is no plain file, before it is opened: a pipe would wait for a reader.
+fn plain_or_new<R: Files>(rt: &R, path: &str) -> io::Result<()> {
+    match fs::metadata(rt, path) {
+        Ok(found) if !found.is_file() => Err(io::Error::from(io::ErrorKind::InvalidInput)),
+        _ => Ok(()),
+    }
+}
+
 /// Locks the file below a folder that says that records are put there.
 fn locked<R: Files<File = File>>(rt: &R, alloc: Global, top: &str) -> Result<File, TopFault> {
     let path = match format!(in alloc; "{top}/{LOCK}") {
         Ok(path) => path,
         Err(_) => return Err(TopFault::Unopened(no_memory())),
     };
+    if let Err(reason) = plain_or_new(rt, path.as_str()) {
+        return Err(TopFault::Unopened(reason));
+    }
     let file = match OpenOptions::new()
         .write(true)
         .create(true)
@@ -198,6 +209,7 @@ impl<'a, R: Files<File = File>> DiskFolders<'a, R> {
             return Err(no_memory());
         };
         fs::create_dir_all(self.rt, folder.as_str())?;
+        plain_or_new(self.rt, path)?;
         OpenOptions::new()
             .append(true)
             .create(true)

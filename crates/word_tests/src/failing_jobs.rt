@@ -32,7 +32,7 @@ struct Row {
 
 /// In each row but those with one fault, a later fault is due as well: the first one is reported. There is a
 /// configuration `centre.toml`, a file of records `two.mseed` and none that begins with `no`.
-static ROWS: [Row; 20] = [
+static ROWS: [Row; 22] = [
     // A server: the address for clients, that for feeds, the configuration, and then the ports.
     Row {
         words: "seedlinkd -v serve no.toml --listen nowhere --feed elsewhere",
@@ -63,6 +63,17 @@ static ROWS: [Row; 20] = [
         words: "seedlinkd serve centre.toml --listen 127.0.0.1:TAKEN --feed 127.0.0.1:0",
         line: "seedlinkd: 46 Listen\n",
         names: "",
+    },
+    // What is read again, or replaced, and is no plain file.
+    Row {
+        words: "seedlinkd -v serve /dev/null --listen 127.0.0.1:TAKEN --feed 127.0.0.1:TAKEN --reread 9",
+        line: "seedlinkd: 44 File\n",
+        names: "file: /dev/null\n",
+    },
+    Row {
+        words: "seedlinkd -v read 127.0.0.1:FREE GE_APE --state /dev/null",
+        line: "seedlinkd: 53 State\n",
+        names: "file: /dev/null\n",
     },
     // A name that would control a terminal, and one that is cut after 200 bytes, not inside a character.
     Row {
