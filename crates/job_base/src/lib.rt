@@ -2,6 +2,7 @@
 //! among them, and what stands between a job and its device. It does not know which job does what, and when.
 #![tactic(auto)]
 
+mod descriptors;
 mod endpoint;
 mod files;
 mod misspelled;
@@ -13,6 +14,7 @@ mod standard_error;
 mod telling;
 mod times;
 
+pub use descriptors::descriptor_limit;
 pub use endpoint::Endpoint;
 pub use files::{config_at, config_in, open, replace, text_at, unopened};
 pub use misspelled::{checked_config_at, tell_unknown_keys};

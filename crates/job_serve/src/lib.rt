@@ -4,6 +4,7 @@
 
 mod admitting;
 mod configured;
+mod descriptors;
 mod numbers;
 mod operator;
 mod sockets;

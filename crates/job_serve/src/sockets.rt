@@ -3,6 +3,7 @@ ghost use Rattle.std.specs.Prelude.{◌≡◌, ◌||◌, is_some, IfOk};
 
 use crate::admitting::admission_of;
 use crate::configured::ConfiguredRecords;
+use crate::descriptors::tell_missing;
 use crate::numbers::NumberFile;
 use crate::operator::{ServeOptions, serve_by};
 use crate::visits::{SharedLines, VisitLines};
@@ -55,6 +56,7 @@ pub fn serve_sockets<'a, R: Files<File = File> + Eprint + Clock + Net + AllocGlo
         plain_at(rt, options.path)?;
     }
     let config = checked_config_at(rt, options.path)?;
+    tell_missing(rt, config.max_connections());
     serve_with(rt, clients, feeds, admission, config, options)
 }
 
