@@ -142,6 +142,24 @@ def named():
     return per(bench("named", 200, 200), bench("named", 199, 200), 200)
 
 
+# Stations that a client may not use, and some that don't exist: in the same network before and after all others and between
+# them, and in other networks.
+HIDDEN = "00003 GE"
+UNKNOWN = ("0000A GE", "00000 GA", "0003A GE", "77777 GE", "00003 AA", "00003 XX")
+
+
+def refused(stations, codes):
+    """STATION of codes, by a client to whom every second one of so many stations is hidden, and the taking of its answer."""
+    line = f"STATION {codes}"
+    return per(bench("refused", stations, 2 * ROUNDS, line), bench("refused", stations, ROUNDS, line), ROUNDS)
+
+
+def apart(stations, *all_codes):
+    """By how much the figures of codes differ at most."""
+    figures = [refused(stations, codes) for codes in all_codes]
+    return max(figures) - min(figures)
+
+
 def lone(stations, records):
     """A record that comes alone at one of so many stations, until its packet was taken and nothing more is found."""
     return lambda: per(bench("lone", stations, 2 * records), bench("lone", stations, records), stations * records)
@@ -203,24 +221,7 @@ def percent(figure, share):
     return lambda: figure() * share // 100
 
 
-def plus(figure, more):
-    """Another figure and so much more."""
-    return lambda: figure() + more
-
-
-# ---- the table
-
-
-@dataclass(frozen=True)
-class Row:
-    """A work: the most that is allowed, which may depend on another figure; what is done; the figure; what it is compared with."""
-
-    most: int | Callable[[], int]
-    what: str
-    figure: Callable[[], int]
-    compared: str | Callable[[], str] = ""
-
-    def print(self):
+def print(self):
         """Counts it and prints its line. Whether the figure is within its limit."""
         figure = self.figure()
         most = self.most() if callable(self.most) else self.most
@@ -230,7 +231,6 @@ class Row:
 
 
 small_ring = rounds("arrive", 4_096)
-unknown, hidden = rounds("refused", 0), rounds("refused", 1)
 
 ROWS = (
     # works without a server
@@ -259,9 +259,11 @@ ROWS = (
     Row(200, "Config::place_of of the last two of 1,024 stations", rounds("found")),
     # STATION, which has to take as long for a station that is hidden as for one that is not there
     Row(1_500, "STATION of the 200th of 1,024 stations that a client names, its answer taken", named),
-    Row(plus(unknown, 50), "STATION of a station that is hidden, its answer taken", hidden,
-        lambda: f"at most 50 more than of one that is not there: {unknown()}"),
-    Row(plus(hidden, 50), "STATION of a station that is not there", unknown, "at most 50 more than that"),
+    Row(1_500, "STATION of one of 1,024 that is hidden, its answer taken", lambda: refused(1_024, HIDDEN)),
+    *(Row(0, f"STATION of {stations}: hidden, or not there, in its network or another: apart",
+        functools.partial(apart, stations, HIDDEN, *UNKNOWN)) for stations in (8, 64, 1_024)),
+    *(Row(0, f"the same without a network, of {stations}",
+        functools.partial(apart, stations, "00003", "00013", "0003A", "77777", "AAAAA")) for stations in (8, 64, 1_024)),
     # a record that comes alone, and clients that wait
     Row(2_500, "a lone record at one of 255 stations that one client follows, and its packet", lone(255, 10),
         lambda: f"at one of one: {lone(1, 1_000)()}"),

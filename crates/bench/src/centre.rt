@@ -80,10 +80,10 @@ pub fn listed_config(alloc: Global, listed: u32, host: u32) -> anyhow::Result<Co
     Config::read(alloc, text.as_bytes()).map_err(|fault| told(fault.reason()))
 }
 
-/// A configuration of 1,024 stations, of which every second one is for another address alone.
-pub fn spotted_config(alloc: Global) -> anyhow::Result<Config> {
+/// A configuration of so many stations, of which every second one is for another address alone.
+pub fn spotted_config(alloc: Global, stations: u32) -> anyhow::Result<Config> {
     let mut text = format!(in alloc; "title = \"Bench\"\nmax_connections = 10000\n")?;
-    for place in 0..1024 {
+    for place in 0..stations {
         let station = format!(in alloc;
             "[[station]]\nnetwork = \"GE\"\ncode = \"{place:05}\"\ndescription = \"Bench\"\ncapacity = 1\n"
         )?;

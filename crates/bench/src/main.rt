@@ -18,10 +18,9 @@
 //! ROUNDS`: a client that waits is asked whether it is ready. `apart CLIENTS ROUNDS`: a record arrives while so many
 //! clients wait at another station. `reload CLIENTS CHANGED ROUNDS`: a new configuration comes into force, in which
 //! so many of 1,024 stations have lists that differ for no client's address. `named STATIONS CLIENTS`: so many
-//! clients name so many of 1,024 stations each. `refused KNOWN ROUNDS`: a client asks for a station that is hidden
-//! from it, or if KNOWN is 0 for one that is not there. `lone STATIONS ROUNDS`: a client follows so many stations, at
-//! which lone records arrive by turns. `sleepers CLIENTS ROUNDS`: a turn of a loop hands one client a packet while so
-//! many others wait.
+//! clients name so many of 1,024 stations each. `refused STATIONS ROUNDS LINE`: a client to whom every second one of so
+//! many stations is hidden says a line. `lone STATIONS ROUNDS`: a client follows so many stations, at which lone records
+//! arrive by turns. `sleepers CLIENTS ROUNDS`: a turn of a loop hands one client a packet while so many others wait.
 #![tactic(auto)]
 
 mod centre;
@@ -83,7 +82,12 @@ fn sum_of_reading(
 }
 
 /// Does a work with a server, in the same way.
-fn sum_of_serving(alloc: Global, work: &str, numbers: &[u32]) -> Option<anyhow::Result<u64>> {
+fn sum_of_serving(
+    alloc: Global,
+    work: &str,
+    numbers: &[u32],
+    line: &[u8],
+) -> Option<anyhow::Result<u64>> {
     let sum = match (work, numbers) {
         ("arrive", [capacity, rounds]) => serving::arrive(alloc, *capacity, *rounds),
         ("packets", [requests, capacity, rounds]) => serving::packets(
@@ -107,7 +111,7 @@ fn sum_of_serving(alloc: Global, work: &str, numbers: &[u32]) -> Option<anyhow::
             alloc, *clients, *changed, *rounds,
         ),
         ("named", [stations, clients]) => naming::named(alloc, *stations, *clients),
-        ("refused", [known, rounds]) => naming::refused(alloc, *known, *rounds),
+        ("refused", [stations, rounds]) => naming::refused(alloc, *stations, line, *rounds),
         ("lone", [stations, rounds]) => naming::lone(alloc, *stations, *rounds),
         ("sleepers", [clients, rounds]) => turns::sleepers(alloc, *clients, *rounds),
         _ => return None,
@@ -118,8 +122,9 @@ fn sum_of_serving(alloc: Global, work: &str, numbers: &[u32]) -> Option<anyhow::
 fn main(rt: HostRuntime) -> anyhow::Result<()> {
     let words = words_of(&rt)?;
     let (work, numbers) = (words.work.as_str(), words.numbers.as_slice());
-    let sum = match sum_of_reading(rt.alloc(), work, numbers, words.line.as_bytes()) {
-        None => sum_of_serving(rt.alloc(), work, numbers),
+    let line = words.line.as_bytes();
+    let sum = match sum_of_reading(rt.alloc(), work, numbers, line) {
+        None => sum_of_serving(rt.alloc(), work, numbers, line),
         sum => sum,
     };
     match sum {

@@ -46,17 +46,14 @@ fn ask_often(server: &mut Server, client: Client, line: &[u8], rounds: u32) -> u
     sum
 }
 
-/// A client asks again and again for a station that it may not use, or, where `known` is 0, for one that is not there.
-/// Every second one of 1,024 stations is hidden from it. Answers how many bytes it was answered.
-pub fn refused(alloc: Global, known: u32, rounds: u32) -> anyhow::Result<u64> {
-    let mut server = Server::new(alloc, spotted_config(alloc)?)?;
+/// A client says a line again and again, which asks for a station that it may not use or that is not there. Every second
+/// one of so many stations is hidden from it. Answers how many bytes it was answered.
+pub fn refused(alloc: Global, stations: u32, line: &[u8], rounds: u32) -> anyhow::Result<u64> {
+    let mut server = Server::new(alloc, spotted_config(alloc, stations)?)?;
     let client = server.open(alloc, Ipv4Addr::LOCALHOST)?;
-    let line: &[u8] = if known == 0 {
-        b"STATION 77777 GE\r"
-    } else {
-        b"STATION 00511 GE\r"
-    };
-    Ok(ask_often(&mut server, client, line, rounds))
+    let mut line = line.to_vec(alloc)?;
+    line.push(b'\r')?;
+    Ok(ask_often(&mut server, client, line.as_slice(), rounds))
 }
 
 /// Records arrive by turns at stations that a client follows. Each is offered to it and taken before the next one

@@ -1,22 +1,14 @@
 -- The first of some stations that has codes.
-use Rattle.std.proofs.Common.{◌≡◌, ℕ, ◌+◌, ◌<◌, ◌≤◌, zero, suc, Bool, true, false, List, [], ◌∷◌, length, drop, get_or}
-use Rattle.std.proofs.Common.{map, find, Option, Some, None, Result, Ok, Err, All, inl, inr, refl, sym, ap, ◌∙◌}
-use Rattle.std.proofs.Common.{subst, arith}
+use Rattle.std.proofs.Common.{◌≡◌, ℕ, ◌+◌, ◌<◌, zero, suc, Bool, true, false, List, [], ◌∷◌, length, drop, get_or}
+use Rattle.std.proofs.Common.{map, find, Option, Some, None, All, refl, sym, ap, ◌∙◌}
+use Rattle.std.proofs.Common.{arith}
 use Rattle.std.specs.Prelude.{cond}
-use Rattle.std.specs.List.{position, position_or_len}
-use Rattle.std.specs.List.Sorted.{IsBinarySearchResult}
-use Rattle.std.specs.Ordering.{nat_cmp}
-use Rattle.std.proofs.lemmas.Bool.Decides.{leb_tells}
-use Rattle.std.proofs.lemmas.Grind.{common_steps}
 use Rattle.std.proofs.lemmas.List.{drop_more}
 use Rattle.std.proofs.lemmas.List.Elements.{All-get_or}
-use Rattle.std.proofs.lemmas.List.Quantifiers.{position-Some}
-use Rattle.std.proofs.lemmas.List.Sorted.{searched}
-use Rattle.std.proofs.lemmas.List.Sums.{fails_before_first}
 use Rattle.protocol.specs.Catalog.{Entry, Station, View, find_station, has_codes}
-use Rattle.catalog.specs.Places.{station_at, AreRising, HasDistinctCodes}
+use Rattle.catalog.specs.Places.{station_at, HasDistinctCodes}
 use Rattle.catalog.specs.Finding.{has_code}
-use Rattle.catalog.proofs.DistinctLemmas.{at_place, nothing}
+use Rattle.catalog.proofs.DistinctLemmas.{at_place}
 use Rattle.catalog.proofs.IndexLemmas.{same_codes}
 
 -- the station that a client means is the first that has its codes
@@ -54,7 +46,7 @@ pick false s t rest same later = later
 
 module _ (p : Station → Bool) (es : List Entry) where
   -- no station of the places passes
-  nobody : (ps : List ℕ) → ((k : ℕ) → k < length ps → p (station_at es (get_or ps k 0)) ≡ false)
+  pub nobody : (ps : List ℕ) → ((k : ℕ) → k < length ps → p (station_at es (get_or ps k 0)) ≡ false)
       → find p (map (station_at es) ps) ≡ None
   nobody [] fails = refl
   nobody (x ∷ ps) fails = rw (fails 0 (omega arith)) (nobody ps (λ k h. fails (suc k) (omega (arith, h))))
@@ -72,85 +64,21 @@ module _ (p : Station → Bool) (es : List Entry) where
       (λ here. ap (station_at es) (alone 0 (omega arith) here))
       (somebody ps i n (omega (arith, h)) at holds (λ k lt passes. alone (suc k) (omega (arith, lt)) passes))
 
--- no entry passes where none is the first
-none_passes : (p : Entry → Bool) (es : List Entry) (k : ℕ) (d : Entry) → position p es ≡ None → k < length es
-    → p (get_or es k d) ≡ false
-none_passes p es k d none h =
-    let far : length es ≤ position_or_len p es = grind (arith, common_steps) in
-    fails_before_first p es k d (omega arith)
-
--- a station has the codes where its entry does
-codes_at : (es : List Entry) (k : ℕ) (d : Entry) (network code : List ℕ) → k < length es
-    → has_codes network code (station_at es k) ≡ has_codes network code (get_or es k d).station
-codes_at es k d network code h = ap (has_codes network code) (at_place es k d h)
-
-module _ (es : List Entry) (ps : List ℕ) (network code : List ℕ) (within : All (λ k. k < length es) ps) where
+module _ (es : List Entry) (ps : List ℕ) (network code : List ℕ) (within : All (λ k. k < length es) ps)
+    (distinct : HasDistinctCodes es) (n : ℕ) (has : has_codes network code (station_at es n) ≡ true) where
   below : (k : ℕ) → k < length ps → get_or ps k 0 < length es
   below k h = All-get_or (λ k. k < length es) ps k 0 h within
 
-  -- no station has the codes
-  pub nowhere_found : position (λ e. has_codes network code e.station) es ≡ None
-      → find (has_codes network code) (map (station_at es) ps) ≡ None
-  nowhere_found none = nobody (has_codes network code) es ps
-      (λ k h. codes_at es (get_or ps k 0) nothing network code (below k h)
-      ∙ none_passes (λ e. has_codes network code e.station) es (get_or ps k 0) nothing none (below k h))
+  -- a place whose station has them too
+  alone : n < length es → (k : ℕ) → k < length es → has_codes network code (station_at es k) ≡ true → k ≡ n
+  alone there k h holds =
+      let one = same_codes (station_at es k) network code holds in
+      let other = same_codes (station_at es n) network code has in
+      distinct k n h (one.0 ∙ sym other.0, one.1 ∙ sym other.1)
 
-  module _ (distinct : HasDistinctCodes es) (n : ℕ)
-      (first : position (λ e. has_codes network code e.station) es ≡ Some n) where
-    has : has_codes network code (station_at es n) ≡ true
-    has =
-        let found = position-Some (λ e. has_codes network code e.station) es n nothing first in
-        codes_at es n nothing network code found.0 ∙ found.1
-
-    -- a place whose station has them too
-    alone : (k : ℕ) → k < length es → has_codes network code (station_at es k) ≡ true → k ≡ n
-    alone k h holds =
-        let one = same_codes (station_at es k) network code holds in
-        let other = same_codes (station_at es n) network code has in
-        distinct k n h (one.0 ∙ sym other.0, one.1 ∙ sym other.1)
-
-    -- the station that has them is at one of the places
-    pub place_found : (i : ℕ) → i < length ps → get_or ps i 0 ≡ n
-        → find (has_codes network code) (map (station_at es) ps) ≡ Some (station_at es n)
-    place_found i h at =
-        somebody (has_codes network code) es ps i n h at has (λ k lt holds. alone (get_or ps k 0) (below k lt) holds)
-
-    -- it is at none of them
-    pub place_hidden : ((k : ℕ) → k < length ps → get_or ps k 0 ≡ n → ⊥)
-        → find (has_codes network code) (map (station_at es) ps) ≡ None
-    place_hidden gone = nobody (has_codes network code) es ps
-        (λ k h. by (has_codes network code (station_at es (get_or ps k 0))) k h refl)
-      where
-        by : (b : Bool) (k : ℕ) → k < length ps → has_codes network code (station_at es (get_or ps k 0)) ≡ b
-            → b ≡ false
-        by false k h is = refl
-        by true k h is = absurd (gone k h (alone (get_or ps k 0) (below k h) is))
-
--- ---- halving
-
--- places that rise never fall
-level : (ps : List ℕ) → AreRising ps → (i j : ℕ) → i ≤ j → j < length ps → get_or ps i 0 ≤ get_or ps j 0
-level ps rising i j le lt =
-    elim (leb_tells j i) [
-      | inl same ↦
-          let back : j ≤ i = same.1 in
-          let one : i ≡ j = omega arith in
-          subst (λ k. get_or ps i 0 ≤ get_or ps k 0) one (omega arith)
-      | inr less ↦ omega (arith, rising i j 0 less.1 lt)
-    ]
-
--- a place that halving finds
-pub halved : (ps : List ℕ) (x i : ℕ) (r : Result ℕ ℕ) → r ≡ Ok i → AreRising ps
-    → IsBinarySearchResult (λ y. nat_cmp y x) ps r → (i < length ps) × (get_or ps i 0 ≡ x)
-halved ps x i r is rising says =
-    rw is at (searched ps x r says (level ps rising))
-
--- a place that it doesn't
-pub unhalved : (ps : List ℕ) (x i : ℕ) (r : Result ℕ ℕ) → r ≡ Err i → AreRising ps
-    → IsBinarySearchResult (λ y. nat_cmp y x) ps r → (k : ℕ) → k < length ps → get_or ps k 0 ≡ x → ⊥
-unhalved ps x i r is rising says k lt at =
-    let found = rw is at (searched ps x r says (level ps rising)) in
-    elim (leb_tells i k) [
-      | inl after ↦ absurd (omega (arith, found.2 k after.1 lt, at))
-      | inr before ↦ absurd (omega (arith, found.1 k before.1, at))
-    ]
+  -- the station that has them is at one of the places
+  pub place_found : n < length es → (i : ℕ) → i < length ps → get_or ps i 0 ≡ n
+      → find (has_codes network code) (map (station_at es) ps) ≡ Some (station_at es n)
+  place_found there i h at =
+      somebody (has_codes network code) es ps i n h at has
+      (λ k lt holds. alone there (get_or ps k 0) (below k lt) holds)

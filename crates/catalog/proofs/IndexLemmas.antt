@@ -21,36 +21,36 @@ use Rattle.protocol.specs.Reading.{Not}
 use Rattle.catalog.specs.Indexing.{Places, codes_eq, digits, key, place_in, first_place, spelled}
 use Rattle.catalog.specs.Indexing.{AreBytes, AreCodes, AreShort, Finds, HasShortCodes}
 use Rattle.catalog.specs.Places.{station_at, HasDistinctCodes, SameCodes}
-use Rattle.catalog.specs.declared.index.Codes.{Codes}
+use Rattle.catalog.specs.declared.codes.Codes.{Codes}
 use Rattle.catalog.proofs.DistinctLemmas.{at_place, nothing}
 
 -- ---- keys
 
 -- the digits of a text are bytes
 digits_are_bytes : (t : List ℕ) → length t ≤ 7 → AreBytes t → (i : ℕ) → get_or (digits t) i 0 < 256
-digits_are_bytes t few are zero = omega (arith, few)
-digits_are_bytes t few are (suc zero) = are 0
-digits_are_bytes t few are (suc (suc zero)) = are 1
-digits_are_bytes t few are (suc (suc (suc zero))) = are 2
-digits_are_bytes t few are (suc (suc (suc (suc zero)))) = are 3
-digits_are_bytes t few are (suc (suc (suc (suc (suc zero))))) = are 4
-digits_are_bytes t few are (suc (suc (suc (suc (suc (suc zero)))))) = are 5
-digits_are_bytes t few are (suc (suc (suc (suc (suc (suc (suc zero))))))) = are 6
+digits_are_bytes t few are zero = are 0
+digits_are_bytes t few are (suc zero) = are 1
+digits_are_bytes t few are (suc (suc zero)) = are 2
+digits_are_bytes t few are (suc (suc (suc zero))) = are 3
+digits_are_bytes t few are (suc (suc (suc (suc zero)))) = are 4
+digits_are_bytes t few are (suc (suc (suc (suc (suc zero))))) = are 5
+digits_are_bytes t few are (suc (suc (suc (suc (suc (suc zero)))))) = are 6
+digits_are_bytes t few are (suc (suc (suc (suc (suc (suc (suc zero))))))) = omega (arith, few)
 digits_are_bytes t few are (suc (suc (suc (suc (suc (suc (suc (suc i)))))))) = omega arith
 
 -- A text is known by its digits.
 same_digits : (a b : List ℕ) → length a ≤ 7 → digits a ≡ digits b → a ≡ b
 same_digits a b few same =
-    same_number_lists a b (ap (λ ds. get_or ds 0 0) same) (λ k h. each k (omega (arith, few, h)))
+    same_number_lists a b (ap (λ ds. get_or ds 7 0) same) (λ k h. each k (omega (arith, few, h)))
   where
     each : (k : ℕ) → k < 7 → get_or a k 0 ≡ get_or b k 0
-    each zero h = ap (λ ds. get_or ds 1 0) same
-    each (suc zero) h = ap (λ ds. get_or ds 2 0) same
-    each (suc (suc zero)) h = ap (λ ds. get_or ds 3 0) same
-    each (suc (suc (suc zero))) h = ap (λ ds. get_or ds 4 0) same
-    each (suc (suc (suc (suc zero)))) h = ap (λ ds. get_or ds 5 0) same
-    each (suc (suc (suc (suc (suc zero))))) h = ap (λ ds. get_or ds 6 0) same
-    each (suc (suc (suc (suc (suc (suc zero)))))) h = ap (λ ds. get_or ds 7 0) same
+    each zero h = ap (λ ds. get_or ds 0 0) same
+    each (suc zero) h = ap (λ ds. get_or ds 1 0) same
+    each (suc (suc zero)) h = ap (λ ds. get_or ds 2 0) same
+    each (suc (suc (suc zero))) h = ap (λ ds. get_or ds 3 0) same
+    each (suc (suc (suc (suc zero)))) h = ap (λ ds. get_or ds 4 0) same
+    each (suc (suc (suc (suc (suc zero))))) h = ap (λ ds. get_or ds 5 0) same
+    each (suc (suc (suc (suc (suc (suc zero)))))) h = ap (λ ds. get_or ds 6 0) same
     each (suc (suc (suc (suc (suc (suc (suc k))))))) h = absurd (omega (arith, h))
 
 -- A text is known by the number that it is spelled as.
@@ -61,7 +61,7 @@ same_spelled a b a_few b_few a_are b_are same =
     ∙ be_bytes_8 (digits b) (spelled a) refl (digits_are_bytes b b_few b_are) same)
 
 -- Numbers are equal exactly where the texts are that they spell.
-equal_spelled : (a b : List ℕ) → length a ≤ 7 → length b ≤ 7 → AreBytes a → AreBytes b
+pub equal_spelled : (a b : List ℕ) → length a ≤ 7 → length b ≤ 7 → AreBytes a → AreBytes b
     → (spelled a == spelled b) ≡ bytes_eq a b
 equal_spelled a b a_few b_few a_are b_are = by (bytes_eq a b) refl
   where
@@ -75,7 +75,7 @@ equal_spelled a b a_few b_few a_are b_are = by (bytes_eq a b) refl
             (same_spelled a b a_few b_few a_are b_are (eqb-true (spelled a) (spelled b) e))))
 
 -- keys are equal where their codes are
-equal_codes : (s : Station) (network code : List ℕ) → AreCodes s.network s.code → AreCodes network code
+pub equal_codes : (s : Station) (network code : List ℕ) → AreCodes s.network s.code → AreCodes network code
     → codes_eq (key s.network s.code) (key network code) ≡ has_codes network code s
 equal_codes s network code its those =
     ap₂ (λ a b. a && b)

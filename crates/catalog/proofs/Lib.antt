@@ -3,6 +3,7 @@ mod ElementLemmas
 mod FailingLemmas
 mod FindLemmas
 mod IndexLemmas
+mod OrderLemmas
 mod ReadLemmas
 mod ViewLemmas
 mod SameLemmas

@@ -1,5 +1,5 @@
 -- The numbers and names by which the program reports why a text is no configuration.
-use Rattle.std.specs.Prelude.{Option, Some, None, codes}
+use Rattle.std.specs.Prelude.{Option, Some, None}
 use Rattle.protocol.specs.declared.reason.Reason.{Reason}
 use Rattle.protocol.specs.declared.reason.Reason.TheVariants as reason
 use Rattle.access_list.specs.declared.fault.AccessFault.{AccessFault}

@@ -5,6 +5,7 @@ pub mod Finding
 pub mod Indexing
 pub mod Keys
 pub mod Numbers
+pub mod Orders
 pub mod Places
 pub mod Reading
 pub mod Settings

@@ -11,9 +11,14 @@ nowhere = record { network = []; code = []; description = []; capacity = 0; firs
 abbrev pub station_at : List Entry → ℕ → Station
 station_at entries place = unwrap_or (option_map (λ e. e.station) (slice_get entries place)) nowhere
 
--- the view that the places are
-abbrev pub view_in : Config → List ℕ → View
-view_in config places = record { title = config.title; stations = map (station_at config.entries) places }
+-- the places of the stations that an address sees, and the same places in the order of the stations' codes
+pub record Seen : Type 0 where
+  pub places : List ℕ
+  pub by_codes : List ℕ
+
+-- the view that they are
+abbrev pub view_in : Config → Seen → View
+view_in config seen = record { title = config.title; stations = map (station_at config.entries) seen.places }
 
 -- each of the places is below those after it
 abbrev pub AreRising : List ℕ → Type 0

@@ -9,7 +9,9 @@ ghost use Rattle.toml.specs.View.{table_view};
 ghost use Rattle.protocol.specs.Catalog.{has_codes, sees, view_of, is_same_view, is_same_but_for_access};
 ghost use Rattle.catalog.specs.Failing.{FailsAt};
 ghost use Rattle.catalog.specs.Numbers.{config_by};
-ghost use Rattle.catalog.specs.Places.{view_in, HasDistinctCodes, IsPlace};
+ghost use Rattle.catalog.specs.Indexing.{HasShortCodes};
+ghost use Rattle.catalog.specs.Orders.{Fits};
+ghost use Rattle.catalog.specs.Places.{view_in, HasDistinctCodes};
 ghost use Rattle.catalog.specs.Reading.{config_of, config_read};
 ghost use Rattle.catalog.specs.declared.error.Step.TheVariants.{Text};
 
@@ -189,6 +191,13 @@ impl Config {
         let _ = &self.stations;
     }
 
+    /// The codes of its stations are as short as codes may be: a call that does nothing, for its contract.
+    pub(crate) fn codes_are_short(&self)
+        ensures { All HasShortCodes self.now.entries }
+    {
+        let _ = &self.stations;
+    }
+
     /// Whether an address may use the station at a place: the station's own list decides, without one the global list,
     /// and without either everybody may. At a place without a station nobody sees anything.
     pub fn sees(&self, place: usize, address: Ipv4Addr) -> bool
@@ -215,7 +224,7 @@ impl Config {
     #[tactic(auto, using(crate::proofs::ViewLemmas::view_lemmas))]
     pub fn view(&self, alloc: Global, address: Ipv4Addr) -> Result<View, AllocError>
         ensures view { IfOk result (λ v. view_in self.now v ≡ view_of self.now (ipv4_bits address)) }
-        ensures places { IfOk result (λ v. All (IsPlace self.now) v) }
+        ensures fits { IfOk result (λ v. Fits self.now v) }
     {
         let mut places = Vec::new(alloc);
         for (place, station) in self.stations.iter().enumerate() {
@@ -223,7 +232,8 @@ impl Config {
                 see(&mut places, place)?;
             }
         }
-        Ok(View::of(places))
+        let view = View::of(alloc, places, self.stations())?;
+        Ok(view)
     }
 
     /// Whether an address sees exactly the stations of a view, in the same order.

@@ -2,6 +2,7 @@
 #![tactic(auto)]
 
 pub mod changes;
+mod codes;
 mod comparing;
 pub mod config;
 pub mod error;

@@ -5,11 +5,13 @@ ghost use Rattle.toml.specs.View.{table_view};
 ghost use Rattle.protocol.specs.Catalog.{Entry, has_codes, is_same_station, sees};
 ghost use Rattle.catalog.specs.Changes.{is_same_list};
 ghost use Rattle.catalog.specs.Failing.{AreReadBefore, FailsAtSetting, FailsWithin};
+ghost use Rattle.catalog.specs.Indexing.{key, HasShortCodes};
 ghost use Rattle.catalog.specs.Reading.{entry_of};
 ghost use Rattle.catalog.specs.Settings.{access_of, capacity_of, code_of, description_of, first_of, network_of};
-ghost use Rattle.catalog.specs.declared.error.StationStep.TheVariants.{Codes};
+ghost use Rattle.catalog.specs.declared.error.StationStep.TheVariants.{Codes as AtCodes};
 ghost use Rattle.catalog.specs.declared.error.Step.TheVariants.{Station as StationAt};
 
+use crate::codes::Codes;
 use crate::error::{ConfigError, StationStep, Step};
 use crate::fault::ConfigFault;
 use crate::settings::{access_of, capacity_of, code_of, description_of, first_of, network_of};
@@ -26,6 +28,7 @@ use toml::Table;
 pub struct Station {
     network: Vec<u8>,
     code: Vec<u8>,
+    codes: Codes,
     description: Vec<u8>,
     capacity: usize,
     first: Seq,
@@ -33,8 +36,9 @@ pub struct Station {
 }
 
 impl Model for Station {
-    ghost use Rattle.std.specs.Prelude.{◌≤◌, length};
+    ghost use Rattle.std.specs.Prelude.{◌≡◌, ◌≤◌, length};
     ghost use Rattle.protocol.specs.Catalog.{Entry};
+    ghost use Rattle.catalog.specs.Indexing.{key, AreCodes};
 
     ghost Value = { Entry };
 
@@ -53,7 +57,8 @@ impl Model for Station {
         (1 ≤ length s.network.items) × (length s.network.items ≤ 2) ×
         (1 ≤ length s.code.items) × (length s.code.items ≤ 5) ×
         (length s.description.items ≤ 60) ×
-        (1 ≤ s.capacity) × (s.capacity ≤ 65536) };
+        (1 ≤ s.capacity) × (s.capacity ≤ 65536) ×
+        (s.codes ≡ key s.network.items s.code.items) × AreCodes s.network.items s.code.items };
 }
 
 impl Station {
@@ -62,7 +67,7 @@ impl Station {
     #[tactic(auto, unfolding(crate::specs::Reading::entry_of))]
     pub(crate) fn read(alloc: Global, table: &Table, place: usize) -> Result<Station, ConfigError>
         ensures ok { IfOk result (λ station. entry_of (table_view table.now) ≡ Ok station) }
-        ensures keys { OnOk result (AreReadBefore (Ok (table_view table.now)) Codes) }
+        ensures keys { OnOk result (AreReadBefore (Ok (table_view table.now)) AtCodes) }
         ensures network { IfOk result (λ station. network_of (table_view table.now) ≡ Ok station.station.network) }
         ensures code { IfOk result (λ station. code_of (table_view table.now) ≡ Ok station.station.code) }
         ensures fault { IfErr result (λ e. e.fault ≢ ConfigFault.OutOfMemory
@@ -81,10 +86,12 @@ impl Station {
             Ok(code) => code,
             Err(fault) => return Err(ConfigError::with_network(fault, place, network)),
         };
+        let codes = Codes::spelling(network.as_slice(), code.as_slice());
         match Settings::read(alloc, table) {
             Ok(settings) => Ok(Station {
                 network,
                 code,
+                codes,
                 description: settings.description,
                 capacity: settings.capacity,
                 first: settings.first,
@@ -102,7 +109,7 @@ impl Station {
     /// Why it is refused: an earlier station has the same codes. It is the one at that place.
     pub(crate) fn repeated(self, place: usize) -> ConfigError
         ensures fault { result.fault ≡ ConfigFault.Duplicate }
-        ensures step { result.step ≡ StationAt place Codes }
+        ensures step { result.step ≡ StationAt place AtCodes }
         ensures network { option_map (λ text. text.items) result.network ≡ Some self.station.network }
         ensures code { option_map (λ text. text.items) result.code ≡ Some self.station.code }
     {
@@ -131,6 +138,15 @@ impl Station {
         ensures short { length result.now ≤ 5 }
     {
         self.code.as_slice()
+    }
+
+    /// Both codes as numbers.
+    pub(crate) fn codes(&self) -> Codes
+        ensures value { result ≡ key self.now.station.network self.now.station.code }
+        ensures short { HasShortCodes self.now }
+    {
+        let _ = &self.network;
+        self.codes
     }
 
     /// The text that CAT shows beside its codes, of at most 60 bytes.
@@ -201,6 +217,7 @@ impl Station {
         Ok(Station {
             network,
             code,
+            codes: self.codes,
             description,
             capacity: self.capacity,
             first: self.first,

@@ -1,48 +1,56 @@
 //! What one address sees of a configuration.
-ghost use Rattle.std.specs.Prelude.{◌≡◌, ◌<◌, ◌++◌, ◌∷◌, [], true, false, All, IfOk, IfSome, None};
-ghost use Rattle.std.specs.Prelude.{option_map, map, find, length};
+ghost use Rattle.std.specs.Prelude.{◌≡◌, ◌-◌, ◌<◌, ◌++◌, ◌∷◌, [], true, false, min, nat_lt, All, IfOk, IfSome, None};
+ghost use Rattle.std.specs.Prelude.{option_map, map, find, length, List, ℕ};
+ghost use Rattle.std.specs.List.Sorted.{IsNonDecreasingBy};
 ghost use Rattle.protocol.specs.Catalog.{find_station, has_codes};
 ghost use Rattle.protocol.specs.Reading.{Not};
+ghost use Rattle.catalog.specs.Indexing.{rank, HasShortCodes, IsNumberOf};
+ghost use Rattle.catalog.specs.Orders.{rank_at, AreInOrder, Fits, HasCodesAt, IsFirstFrom, LacksCodesAt};
 ghost use Rattle.catalog.specs.Places.{station_at, view_in, AreRising, IsPlace};
 ghost use Rattle.catalog.specs.Finding.{IsWithin, has_code};
 
+use crate::codes::{Codes, code_number};
 use crate::config::Config;
 use crate::station::Station;
-use std::alloc::AllocError;
+use std::alloc::{AllocError, Global};
 use std::marker::Model;
 
-/// The stations that an address sees, by their places in the configuration, in order.
+/// The stations that an address sees, by their places in the configuration: in its order, and in the order of their
+/// codes, so that one is found by its codes without a look at a station that the address doesn't see.
 #[derive(Drop)]
 pub struct View {
     places: Vec<u16>,
+    by_codes: Vec<u16>,
 }
 
 impl Model for View {
-    ghost use Rattle.std.specs.Prelude.{List, ℕ};
-    ghost use Rattle.catalog.specs.Places.{AreRising};
+    ghost use Rattle.catalog.specs.Places.{AreRising, Seen};
 
-    ghost Value = { List ℕ };
+    ghost Value = { Seen };
 
-    ghost view = { λ v. v.places.items };
+    ghost view = { λ v. record { places = v.places.items; by_codes = v.by_codes.items } };
 
     ghost invariant = { λ v. AreRising v.places.items };
 }
 
-/// What is looked for where no station has the codes. It is no place.
-const NOWHERE: u16 = u16::MAX;
-
 impl View {
-    /// The view that has these places.
-    pub(crate) fn of(places: Vec<u16>) -> View
+    /// The view that has these places of stations.
+    pub(crate) fn of(
+        alloc: Global,
+        places: Vec<u16>,
+        stations: &[Station],
+    ) -> Result<View, AllocError>
         requires { AreRising places.items }
-        ensures { result ≡ places.items }
+        ensures places { IfOk result (λ v. v.places ≡ places.items) }
+        ensures ordered { IfOk result (λ v. AreInOrder (station_at stations.now) places.items v.by_codes) }
     {
-        View { places }
+        let by_codes = in_order(alloc, places.as_slice(), stations)?;
+        Ok(View { places, by_codes })
     }
 
     /// The places, rising.
     pub fn places(&self) -> &[u16]
-        ensures value { result.now ≡ self.now }
+        ensures value { result.now ≡ self.now.places }
         ensures rising { AreRising result.now }
     {
         self.places.as_slice()
@@ -50,13 +58,16 @@ impl View {
 
     /// The place of the first of its stations that has these codes, byte for byte (SeedLink 3, STATION). Without a
     /// network it is the first with that code. A view with places that the configuration doesn't have finds nothing.
+    ///
+    /// It looks at no station that the view doesn't have: a hidden one takes the same steps as an unknown one.
     #[tactic(auto, using(crate::proofs::FindLemmas::find_station_fits))]
     pub fn find(&self, config: &Config, code: &[u8], network: Option<&[u8]>) -> Option<usize>
-        ensures found { All (IsPlace config.now) self.now → option_map (station_at config.now.entries) result
+        ensures found { Fits config.now self.now → option_map (station_at config.now.entries) result
             ≡ find_station (view_in config.now self.now) code.now (option_map (λ n. n.now) network.entry) }
-        ensures none { Not (All (IsPlace config.now) self.now) → result ≡ None }
+        ensures none { Not (All (IsPlace config.now) self.now.places) → result ≡ None }
         ensures place { IfSome result (λ p. IsPlace config.now p) }
     {
+        config.codes_are_short();
         let stations = config.stations();
         if !are_within(stations.len(), self.places()) {
             return None;
@@ -67,24 +78,63 @@ impl View {
         }
     }
 
-    /// The place of its station with these codes, found by halving. For codes that no station has it halves as often as
-    /// for those of a station that it hasn't, so that the time doesn't tell which of the two they are.
+    /// The place of its station with these codes, found by halving.
     fn find_codes(&self, config: &Config, network: &[u8], code: &[u8]) -> Option<usize>
-        requires { All (IsPlace config.now) self.now }
-        ensures found { option_map (station_at config.now.entries) result
-            ≡ find (has_codes network.now code.now) (map (station_at config.now.entries) self.now) }
+        ensures found { Fits config.now self.now → option_map (station_at config.now.entries) result
+            ≡ find (has_codes network.now code.now) (map (station_at config.now.entries) self.now.places) }
         ensures place { IfSome result (λ p. IsPlace config.now p) }
     {
         config.codes_are_distinct();
-        let place = config.place_of(network, code);
-        let sought = match place {
-            Some(place) => place as u16,
-            None => NOWHERE,
-        };
-        match self.places().binary_search(&sought) {
-            Ok(_) => place,
-            Err(_) => None,
-        }
+        config.codes_are_short();
+        let sought = Codes::of(network, code)?;
+        let stations = config.stations();
+        let by_codes = self.by_codes.as_slice();
+        let at = first_from(stations, by_codes, sought);
+        codes_at(stations, by_codes, at, sought)
+    }
+}
+
+/// Some places, in the order of their stations' codes.
+fn in_order(alloc: Global, places: &[u16], stations: &[Station]) -> Result<Vec<u16>, AllocError>
+    ensures { IfOk result (λ order. AreInOrder (station_at stations.now) places.now order.items) }
+{
+    let mut order = places.to_vec(alloc)?;
+    order.sort_unstable_by_key(|place| rank_at(stations, *place));
+    Ok(order)
+}
+
+/// Where the station at a place stands in the order of codes.
+fn rank_at(stations: &[Station], place: u16) -> u128
+    ensures { result ≡ rank_at stations.now place }
+{
+    match stations.get(usize::from(place)) {
+        Some(station) => station.codes().rank(),
+        None => 0,
+    }
+}
+
+/// Of places in the order of codes, the first whose station doesn't come before these.
+fn first_from(stations: &[Station], by_codes: &[u16], sought: Codes) -> usize
+    ensures { IsNonDecreasingBy (rank_at stations.now) by_codes.now
+        → IsFirstFrom (λ p. nat_lt (rank_at stations.now p) (rank sought)) by_codes.now result }
+{
+    let rank = sought.rank();
+    by_codes.partition_point(|place| rank_at(stations, *place) < rank)
+}
+
+/// The place there, or the last one, if its station has these codes. It takes the same steps for all codes that it
+/// hasn't.
+fn codes_at(stations: &[Station], by_codes: &[u16], at: usize, sought: Codes) -> Option<usize>
+    ensures some { IfSome result (λ p. HasCodesAt stations.now by_codes.now sought p) }
+    ensures none { result ≡ None → LacksCodesAt stations.now by_codes.now (min at (length by_codes.now - 1)) sought }
+{
+    let last = by_codes.len().checked_sub(1)?;
+    let place = usize::from(by_codes[at.min(last)]);
+    let station = stations.get(place)?;
+    if station.codes() == sought {
+        Some(place)
+    } else {
+        None
     }
 }
 
@@ -111,23 +161,25 @@ fn are_within(count: usize, places: &[u16]) -> bool
 
 /// The first of the places whose station has this code.
 fn find_code(stations: &[Station], places: &[u16], code: &[u8]) -> Option<usize>
-    requires { All (IsWithin stations.now) places.now }
+    requires within { All (IsWithin stations.now) places.now }
+    requires short { All HasShortCodes stations.now }
     ensures found { option_map (station_at stations.now) result
         ≡ find (has_code code.now) (map (station_at stations.now) places.now) }
     ensures place { IfSome result (λ p. IsWithin stations.now p) }
 {
+    let sought = code_number(code)?;
     for place in places {
         let place = usize::from(*place);
-        if has_code(&stations[place], code) {
+        if has_code(&stations[place], sought) {
             return Some(place);
         }
     }
     None
 }
 
-/// Whether a station has this code.
-fn has_code(station: &Station, code: &[u8]) -> bool
-    ensures { result ≡ has_code code.now station.now.station }
+/// Whether a station has the code that this number is.
+fn has_code(station: &Station, number: u64) -> bool
+    ensures { (code : List ℕ) → IsNumberOf number code → result ≡ has_code code station.now.station }
 {
-    station.code() == code
+    station.codes().code == number
 }

@@ -12,7 +12,7 @@ use Rattle.protocol.specs.Catalog.{Config, listing}
 use Rattle.protocol.specs.History.{Arrival}
 use Rattle.protocol.specs.Client.{Client, is_ending, is_nothing, offered}
 use Rattle.protocol.proofs.FoundLemmas.{both}
-use Rattle.catalog.specs.Places.{view_in}
+use Rattle.catalog.specs.Places.{view_in, Seen}
 use Rattle.station_ring.specs.HeldRecords.{RingsValue}
 use Rattle.session_state.specs.NamedValues.{Choice}
 use Rattle.session_state.specs.NamedValues.{ModeValue}
@@ -551,7 +551,7 @@ pub slot-looked : (config : Config) (h : List Arrival) (old new : Slab SessionVa
     → r.places ≡ a.places → SlotGoesOn config h old new slot (λ v c. c)
 slot-looked config h old new slot a r there updates client places =
     let seat : open_client_of config h r ≡ record { view = session_view config a; client = client_in config h a } =
-    ap₂ (λ (p : List ℕ) (q : Client). let t : OpenClient =
+    ap₂ (λ (p : Seen) (q : Client). let t : OpenClient =
     record { view = view_in config p; client = q } in t) places client in
     record {
       here = ap (λ o. open_client config h (Some o)) updates.changed ∙ ap Some seat

@@ -1,7 +1,7 @@
 -- What a server stands for once a new configuration came into force.
 use Rattle.std.proofs.Common.{◌≡◌, ℕ, ◌+◌, ◌<◌, ◌≤◌, ◌==◌, true, false, if◌then◌else◌, List, [], ◌∷◌, map, drop}
 use Rattle.std.proofs.Common.{filter_map, length, slice_get, slice_index_or, Option, Some, None, option_map, unwrap_or}
-use Rattle.std.proofs.Common.{All, refl, sym, ap, ap₂, subst, ◌∙◌, arith, get_or, eqb-true}
+use Rattle.std.proofs.Common.{refl, sym, ap, ap₂, subst, ◌∙◌, arith, get_or, eqb-true}
 use Rattle.std.specs.Prelude.{IsSome}
 use Rattle.std.specs.Net.Addr.{ipv4_bits}
 use Rattle.std.proofs.lemmas.Bool.{eqb-false}
@@ -21,7 +21,8 @@ use Rattle.protocol.specs.World.Event.{Reload}
 use Rattle.protocol.proofs.Configs.{configurations_compared, reloaded_where, reloaded_not, reviewed_where, reviewed_not}
 use Rattle.protocol.proofs.Connections.{slice_get-each, length-each}
 use Rattle.protocol.proofs.FoundLemmas.{both}
-use Rattle.catalog.specs.Places.{station_at, nowhere, view_in}
+use Rattle.catalog.specs.Orders.{FitsIn}
+use Rattle.catalog.specs.Places.{station_at, nowhere, view_in, Seen}
 use Rattle.station_ring.specs.HeldRecords.{RingsValue, holdings_of, ring_of}
 use Rattle.sl_lines.specs.declared.actions.Action.{Action}
 use Rattle.session_state.specs.NamedValues.{Choice}
@@ -67,10 +68,10 @@ module _ (g new : Config) (same : is_same_but_for_access g new ≡ true) where
       λ i place. (station-in new.entries place ∙ ap (λ ss. unwrap_or (slice_get ss place) nowhere) same_stations
       ∙ sym (station-in g.entries place)) i
 
-  pub same-view : (places : List ℕ) → view_in new places ≡ view_in g places
-  same-view places =
+  pub same-view : (seen : Seen) → view_in new seen ≡ view_in g seen
+  same-view seen =
       ap₂ (λ (t : List ℕ) (st : ℕ → Station). let v : View =
-      record { title = t; stations = map st places } in v) same_titles stations-at
+      record { title = t; stations = map st seen.places } in v) same_titles stations-at
 
   same-negotiated : (mode : ModeValue) → negotiated_in new mode ≡ negotiated_in g mode
   same-negotiated (Uni patterns) = refl
@@ -90,7 +91,7 @@ module _ (g new : Config) (same : is_same_but_for_access g new ≡ true) where
   same-requests : (cs : List Choice) → filter_map (request_in new) cs ≡ filter_map (request_in g) cs
   same-requests cs = ap (λ (r : Choice → Option Request). filter_map r cs) (λ i c. same-request-with c c.action i)
 
-  same-state : (h : List Arrival) (places : List ℕ) (mode : ModeValue) (s : State)
+  same-state : (h : List Arrival) (places : Seen) (mode : ModeValue) (s : State)
       → state_in new h (view_in new places) mode s ≡ state_in g h (view_in g places) mode s
   same-state h places mode Negotiating = ap ClientNegotiating (same-negotiated mode)
   same-state h places mode (Listing made) =
@@ -131,7 +132,8 @@ module _ (g new : Config) (same : is_same_but_for_access g new ≡ true) where
   settled-under rings slots settled slot s there =
       let was = settled slot s there in
       record {
-        places = subst (λ n. All (λ p. p < n) s.places) (sym same_count) was.places;
+        places = subst (λ n. FitsIn n (station_at new.entries) s.places) (sym same_count)
+            (subst (λ st. FitsIn (length g.entries) st s.places) (sym stations-at) was.places);
         started = was.started;
         passed = was.passed;
       }

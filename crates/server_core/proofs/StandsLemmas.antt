@@ -13,7 +13,7 @@ use Rattle.station_ring.specs.HeldRecords.{holdings_of}
 use Rattle.slab.specs.Slab.{Slab, get, Updates}
 use Rattle.session_state.specs.Sessions.{SessionValue, client_in, session_view}
 use Rattle.server_core.proofs.OfferLemmas.{offered-waiting}
-use Rattle.catalog.specs.Places.{view_in}
+use Rattle.catalog.specs.Places.{view_in, Seen}
 use Rattle.protocol.specs.History.{Arrival}
 use Rattle.server_core.specs.ServerValues.{taking, ServerValue, client_of_open, open_client_of, OpenClient, open_client}
 use Rattle.server_core.specs.ServerValues.{open_client_with, open_client_at, address_with, address_at, addressed}
@@ -114,7 +114,7 @@ some-took config h old new slot n a r there updates some fits client places =
       view = session_view config a;
       client = taking h n (session_view config a) (client_in config h a);
     } =
-    ap₂ (λ (p : List ℕ) (q : Client). let t : OpenClient = record { view = view_in config p; client = q } in t) places
+    ap₂ (λ (p : Seen) (q : Client). let t : OpenClient = record { view = view_in config p; client = q } in t) places
     (taken-of config h n a r some fits client) in
     record {
       here = ap (λ o. open_client config h (Some o)) updates.changed ∙ ap Some seat
@@ -134,7 +134,7 @@ some-handed config h old new slot n a m r there updates some fits client places 
       view = session_view config a;
       client = handing h n (session_view config a) (client_in config h a);
     } =
-    ap₂ (λ (p : List ℕ) (q : Client). let t : OpenClient = record { view = view_in config p; client = q } in t)
+    ap₂ (λ (p : Seen) (q : Client). let t : OpenClient = record { view = view_in config p; client = q } in t)
     (still ∙ places) (next ∙ ap (offered h) (taken-of config h n a m some fits client)) in
     record {
       here = ap (λ o. open_client config h (Some o)) updates.changed ∙ ap Some seat

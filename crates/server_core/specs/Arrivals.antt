@@ -1,7 +1,7 @@
 -- What a record that arrives is answered.
 -- SeedLink 3, sequence numbers. Left out: where the record is kept.
 use Rattle.std.specs.Prelude.{◌≡◌, ℕ, List, ◌-◌, ◌^◌, true, is_some, length, position, Option, Some, None, Result, Ok}
-use Rattle.std.specs.Prelude.{Err, codes}
+use Rattle.std.specs.Prelude.{Err}
 use Rattle.protocol.specs.declared.record.RecordFault.{RecordFault}
 use Rattle.protocol.specs.declared.reason.Reason.{Reason}
 use Rattle.protocol.specs.declared.reason.Reason.TheVariants as reason

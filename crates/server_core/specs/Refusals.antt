@@ -1,6 +1,6 @@
 -- Why bytes are not taken, and what a server answers.
-use Rattle.std.specs.Prelude.{ℕ, nat_lt, ◌-◌, Bool, true, false, if◌then◌else◌, List, length, Option, Some, None}
-use Rattle.std.specs.Prelude.{Result, Ok, Err, codes}
+use Rattle.std.specs.Prelude.{ℕ, nat_lt, ◌-◌, Bool, true, false, if◌then◌else◌, length, Option, Some, None}
+use Rattle.std.specs.Prelude.{Result, Ok, Err}
 use Rattle.protocol.specs.declared.reason.Reason.{Reason}
 use Rattle.protocol.specs.declared.reason.Reason.TheVariants as reason
 use Rattle.protocol.specs.Client.{Client, inbox, is_nothing, is_ending}

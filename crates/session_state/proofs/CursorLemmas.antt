@@ -3,6 +3,7 @@ use Rattle.std.proofs.Common.{◌≡◌, ◌≢◌, ℕ, List, [], ◌∷◌, le
 use Rattle.std.proofs.Common.{sym, ap, subst, ◌∙◌, unwrap_or, nat_lt}
 use Rattle.protocol.specs.Catalog.{Config}
 use Rattle.protocol.proofs.FoundLemmas.{both}
+use Rattle.catalog.specs.Places.{Seen}
 use Rattle.session_state.specs.NamedValues.{Choice}
 use Rattle.session_state.specs.declared.choices.Cursor.{Cursor}
 use Rattle.session_state.specs.NamedValues.{ModeValue}
@@ -141,15 +142,15 @@ change-elsewhere m Done next state e = absurd (let t : Negotiating ≡ Transfer 
 change-elsewhere m Refused next state e = absurd (let t : Negotiating ≡ Transfer next = sym state ∙ e in cc)
 change-elsewhere m Starts next state e = absurd (let t : Starting ≡ Transfer next = e in cc)
 
-listed-kept : (places : List ℕ) (t : State) (next : ℕ) → listed_in places t ≡ Transfer next → t ≡ Transfer next
-listed-kept places Negotiating next e = e
-listed-kept places (Listing made) next e =
-    both (nat_lt (length places) made)
+listed-kept : (seen : Seen) (t : State) (next : ℕ) → listed_in seen t ≡ Transfer next → t ≡ Transfer next
+listed-kept seen Negotiating next e = e
+listed-kept seen (Listing made) next e =
+    both (nat_lt (length seen.places) made)
     (λ y. absurd (let t : Negotiating ≡ Transfer next = rw y at e in cc))
     (λ n. absurd (let t : Listing made ≡ Transfer next = rw n at e in cc))
-listed-kept places Starting next e = e
-listed-kept places (Transfer q) next e = e
-listed-kept places Ending next e = e
+listed-kept seen Starting next e = e
+listed-kept seen (Transfer q) next e = e
+listed-kept seen Ending next e = e
 
 pub listed-keeps : (a b : SessionValue) → b ≡ record a { state = listed_in a.places a.state } → KeepsTransfer a b
 listed-keeps a b ends = record {

@@ -13,6 +13,7 @@ use Rattle.protocol.specs.Client.{Client, follow, leave, read_byte, is_nothing}
 use Rattle.protocol.specs.Client.State.{Negotiating as ClientNegotiating, Transfer as ClientTransfer}
 use Rattle.protocol.specs.Client.State.{Ending as ClientEnding}
 use Rattle.protocol.proofs.FoundLemmas.{both}
+use Rattle.catalog.specs.Places.{Seen}
 use Rattle.session_state.specs.NamedValues.{ModeValue}
 use Rattle.session_state.specs.declared.modes.Change.{Change}
 use Rattle.session_state.specs.declared.modes.Change.TheVariants.{Done, Refused, Starts}
@@ -26,7 +27,7 @@ use Rattle.session_state.specs.Sessions.{SessionValue, client_in, session_view, 
 use Rattle.session_state.proofs.CursorLemmas.{change-elsewhere}
 
 -- a session that negotiates while nothing waits
-abbrev pub reading : List ℕ → ModeValue → Line → List ℕ → Option ℕ → SessionValue
+abbrev pub reading : Seen → ModeValue → Line → List ℕ → Option ℕ → SessionValue
 reading places mode l u looked = record {
   places = places;
   mode = mode;
@@ -65,7 +66,7 @@ pub leaves : (config : Config) (h : List Arrival) (a r : SessionValue) → a.sta
 leaves config h a r state none e = ap (client_in config h) e
 
 -- a session in which a change was made
-change-follows : (config : Config) (h : List Arrival) (places : List ℕ) (mode new : ModeValue) (l : Line) (u : List ℕ)
+change-follows : (config : Config) (h : List Arrival) (places : Seen) (mode new : ModeValue) (l : Line) (u : List ℕ)
     (looked : Option ℕ) (change : Change)
     → client_in config h (after_change (record (reading places mode l u looked) { mode = new }) change)
     ≡ follow (session_view config (reading places mode l u looked)) h

@@ -4,7 +4,7 @@ use Rattle.std.proofs.Common.{unwrap_or, refl, ap, ◌∙◌}
 use Rattle.protocol.specs.Catalog.{Config}
 use Rattle.protocol.specs.Session.{act, ok_line, select, wish_of}
 use Rattle.protocol.specs.Session.Outcome.{Stays, Starts}
-use Rattle.catalog.specs.Places.{view_in}
+use Rattle.catalog.specs.Places.{view_in, Seen}
 use Rattle.sl_lines.specs.declared.actions.Action.{Action}
 use Rattle.session_state.specs.NamedValues.{Choice, NamedValue, IsAlone, begun, choice_of, mode_of}
 use Rattle.session_state.specs.Choices.{action_value, choices_in, negotiated_in}
@@ -33,14 +33,15 @@ alone-cleared config b n new uni is made =
     rw (uni, none) refl
 
 -- DATA, FETCH and TIME
-pub alone-acted : (config : Config) (b : Bool) (n new : NamedValue) (places : List ℕ) (place : ℕ) (action : Action)
+alone-among : (config : Config) (b : Bool) (n new : NamedValue) (places order : List ℕ) (place : ℕ) (action : Action)
     → b ≡ false → IsAlone n → slice_get places 0 ≡ Some place
     → ((c : Choice) → slice_get n.choices 0 ≡ Some c
     → new ≡ record { choices = choice_of (begun place (Some action)) c.selectors ∷ []; current = None })
     → Starts (filter_map wish_of (choices_in config new.choices))
-    ≡ act (view_in config places) (negotiated_in config (mode_of b n)) (action_value action)
-alone-acted config b n new [] place action uni is first made = absurd cc
-alone-acted config b n new (p ∷ places) place action uni is first made =
+    ≡ act (view_in config (record { places = places; by_codes = order })) (negotiated_in config (mode_of b n))
+    (action_value action)
+alone-among config b n new [] order place action uni is first made = absurd cc
+alone-among config b n new (p ∷ places) order place action uni is first made =
     let same : p ≡ place = ap (λ o. unwrap_or o p) first in
     rw (
       uni,
@@ -49,3 +50,11 @@ alone-acted config b n new (p ∷ places) place action uni is first made =
     )
     (ap (λ (x : NamedValue). Starts (filter_map wish_of (choices_in config x.choices)))
     (made is.choice (ap (λ cs. slice_get cs 0) is.alone)))
+
+pub alone-acted : (config : Config) (b : Bool) (n new : NamedValue) (seen : Seen) (place : ℕ) (action : Action)
+    → b ≡ false → IsAlone n → slice_get seen.places 0 ≡ Some place
+    → ((c : Choice) → slice_get n.choices 0 ≡ Some c
+    → new ≡ record { choices = choice_of (begun place (Some action)) c.selectors ∷ []; current = None })
+    → Starts (filter_map wish_of (choices_in config new.choices))
+    ≡ act (view_in config seen) (negotiated_in config (mode_of b n)) (action_value action)
+alone-acted config b n new seen = alone-among config b n new seen.places seen.by_codes

@@ -9,7 +9,7 @@ use Rattle.protocol.specs.Catalog.{Config, View}
 use Rattle.protocol.specs.History.{Arrival}
 use Rattle.protocol.specs.Client.{Client, reads, read_byte, read_on}
 use Rattle.protocol.proofs.UnreadLemmas.{read_on-step, read_on-unread}
-use Rattle.catalog.specs.Places.{view_in}
+use Rattle.catalog.specs.Places.{view_in, Seen}
 use Rattle.session_state.specs.declared.session.State.{State}
 use Rattle.session_state.specs.declared.session.State.TheVariants.{Negotiating, Listing, Starting, Transfer, Ending}
 use Rattle.session_state.specs.declared.session.Settled.{Settled}
@@ -56,7 +56,7 @@ read_on-stopped config v h s e = stopped s.state s.unread e
     stopped (Transfer q) (b ∷ u) e = absurd (grind arith)
     stopped Ending (b ∷ u) e = refl
 
-three : (f : List ℕ → List ℕ → Client → Client) (p p' u u' : List ℕ) (c c' : Client) → p ≡ p' → u ≡ u' → c ≡ c'
+three : (f : Seen → List ℕ → Client → Client) (p p' : Seen) (u u' : List ℕ) (c c' : Client) → p ≡ p' → u ≡ u' → c ≡ c'
     → f p u c ≡ f p' u' c'
 three f p p' u u' c c' a b d = rw (a, b, d)
 

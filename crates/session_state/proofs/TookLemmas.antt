@@ -12,7 +12,7 @@ use Rattle.protocol.specs.Session.{Negotiated}
 use Rattle.protocol.specs.Client.{Client, read_on, is_nothing, filled_in, offered, listed, left_with, after_take}
 use Rattle.protocol.specs.Client.State.{Negotiating, Listing}
 use Rattle.protocol.proofs.FoundLemmas.{both}
-use Rattle.catalog.specs.Places.{view_in, station_at}
+use Rattle.catalog.specs.Places.{view_in, station_at, Seen}
 use Rattle.session_state.specs.NamedValues.{ModeValue}
 use Rattle.session_state.specs.declared.session.State.{State as SessionState}
 use Rattle.session_state.specs.declared.session.State.TheVariants.{Negotiating as Waits, Listing as Lists}
@@ -52,17 +52,17 @@ listed-drop (x ∷ y ∷ lines) (suc last) (suc made) n e =
     let more = listed-drop (y ∷ lines) last made n (omega (arith, e)) in
     (λ t. more.0 (grind arith), λ f. more.1 (grind arith))
 
-listed-in : (config : Config) (h : List Arrival) (places : List ℕ) (mode : ModeValue) (s : SessionState)
-    → state_in config h (view_in config places) mode (listed_in places s)
-    ≡ listed (state_in config h (view_in config places) mode s)
-listed-in config h places mode Waits = refl
-listed-in config h places mode (Lists made) =
-    let both_ways = listed-drop (listing (view_in config places)) (length places) made (negotiated_in config mode)
-    (length-listing (view_in config places) ∙ ap (λ n. n + 1) (length-map places (station_at config.entries))) in
-    both (nat_lt (length places) made) (λ t. rw t (sym (both_ways.0 t))) (λ f. rw f (sym (both_ways.1 f)))
-listed-in config h places mode Begins = refl
-listed-in config h places mode (Transfers next) = refl
-listed-in config h places mode Ends = refl
+listed-in : (config : Config) (h : List Arrival) (seen : Seen) (mode : ModeValue) (s : SessionState)
+    → state_in config h (view_in config seen) mode (listed_in seen s)
+    ≡ listed (state_in config h (view_in config seen) mode s)
+listed-in config h seen mode Waits = refl
+listed-in config h seen mode (Lists made) =
+    let both_ways = listed-drop (listing (view_in config seen)) (length seen.places) made (negotiated_in config mode)
+    (length-listing (view_in config seen) ∙ ap (λ n. n + 1) (length-map seen.places (station_at config.entries))) in
+    both (nat_lt (length seen.places) made) (λ t. rw t (sym (both_ways.0 t))) (λ f. rw f (sym (both_ways.1 f)))
+listed-in config h seen mode Begins = refl
+listed-in config h seen mode (Transfers next) = refl
+listed-in config h seen mode Ends = refl
 
 pub took-settled : (config : Config) (h : List Arrival) (a s e r : SessionValue) (n : ℕ) (settled : Settled) → 0 < n
     → n ≤ length a.waiting → s ≡ record a { waiting = drop n a.waiting } → is_nothing s.waiting ≡ true
@@ -107,14 +107,14 @@ slice_get-past [] k h = refl
 slice_get-past (x ∷ xs) zero h = absurd (omega arith)
 slice_get-past (x ∷ xs) (suc k) h = slice_get-past xs k (omega arith)
 
-pub line-end : (config : Config) (places : List ℕ) (made : ℕ) → made ≡ length places
-    → slice_get (listing (view_in config places)) made ≡ Some end_line
-line-end config places made e =
-    let long : length (map station_line (map (station_at config.entries) places))
-    ≡ made = length-map (map (station_at config.entries) places) station_line
-    ∙ length-map places (station_at config.entries) ∙ sym e in
-    subst (λ k. slice_get (listing (view_in config places)) k ≡ Some end_line) long
-    (slice_get-end (map station_line (map (station_at config.entries) places)) end_line)
+pub line-end : (config : Config) (seen : Seen) (made : ℕ) → made ≡ length seen.places
+    → slice_get (listing (view_in config seen)) made ≡ Some end_line
+line-end config seen made e =
+    let long : length (map station_line (map (station_at config.entries) seen.places))
+    ≡ made = length-map (map (station_at config.entries) seen.places) station_line
+    ∙ length-map seen.places (station_at config.entries) ∙ sym e in
+    subst (λ k. slice_get (listing (view_in config seen)) k ≡ Some end_line) long
+    (slice_get-end (map station_line (map (station_at config.entries) seen.places)) end_line)
 
 pub ruleset took_lemmas = (took-settled, took-waiting)
 
@@ -137,23 +137,23 @@ place-station entries [] made d h = absurd (omega arith)
 place-station entries (p ∷ places) zero d h = refl
 place-station entries (p ∷ places) (suc made) d h = place-station entries places made d (omega arith)
 
-pub line-station : (config : Config) (places : List ℕ) (made p d : ℕ) (x e : Entry) → made < length places
-    → p ≡ slice_index_or places made d → p < length config.entries → x ≡ slice_index_or config.entries p e
-    → slice_get (listing (view_in config places)) made ≡ Some (station_line x.station)
-line-station config places made p d x e within p_is there x_is =
-    let long : made < length (map (station_at config.entries) places) = subst (λ n. made < n)
-    (sym (length-map places (station_at config.entries))) within in
-    let same : station_at config.entries (slice_index_or places made d)
+pub line-station : (config : Config) (seen : Seen) (made p d : ℕ) (x e : Entry) → made < length seen.places
+    → p ≡ slice_index_or seen.places made d → p < length config.entries → x ≡ slice_index_or config.entries p e
+    → slice_get (listing (view_in config seen)) made ≡ Some (station_line x.station)
+line-station config seen made p d x e within p_is there x_is =
+    let long : made < length (map (station_at config.entries) seen.places) = subst (λ n. made < n)
+    (sym (length-map seen.places (station_at config.entries))) within in
+    let same : station_at config.entries (slice_index_or seen.places made d)
     ≡ x.station = ap (station_at config.entries) (sym p_is) ∙ sym (station-there config.entries p e there)
     ∙ ap (λ (y : Entry). y.station) (sym x_is) in
-    listing-line (map (station_at config.entries) places) made (station_at config.entries d) long
-    ∙ ap (λ t. Some (station_line t)) (place-station config.entries places made d within ∙ same)
+    listing-line (map (station_at config.entries) seen.places) made (station_at config.entries d) long
+    ∙ ap (λ t. Some (station_line t)) (place-station config.entries seen.places made d within ∙ same)
 
-pub line-past : (config : Config) (places : List ℕ) (made : ℕ) → length places < made
-    → slice_get (listing (view_in config places)) made ≡ None
-line-past config places made h =
-    slice_get-past (listing (view_in config places)) made
-    (omega (arith, length-listing (view_in config places), length-map places (station_at config.entries)))
+pub line-past : (config : Config) (seen : Seen) (made : ℕ) → length seen.places < made
+    → slice_get (listing (view_in config seen)) made ≡ None
+line-past config seen made h =
+    slice_get-past (listing (view_in config seen)) made
+    (omega (arith, length-listing (view_in config seen), length-map seen.places (station_at config.entries)))
 
 pub made-some : (config : Config) (made : ℕ) (s : SessionValue) (line : List ℕ)
     → slice_get (listing (view_in config s.places)) made ≡ Some line
@@ -222,17 +222,17 @@ line-there (x ∷ xs) (suc k) (suc last) e le = line-there xs k last (omega (ari
 line-lacks : (xs : List (List ℕ)) (k : ℕ) → length xs ≤ k → is_some (slice_get xs k) ≡ false
 line-lacks xs k le = ap is_some (slice_get-past xs k le)
 
-listing-long : (config : Config) (places : List ℕ) → length (listing (view_in config places)) ≡ length places + 1
-listing-long config places = length-listing (view_in config places)
-    ∙ ap (λ n. n + 1) (length-map places (station_at config.entries))
+listing-long : (config : Config) (seen : Seen) → length (listing (view_in config seen)) ≡ length seen.places + 1
+listing-long config seen = length-listing (view_in config seen)
+    ∙ ap (λ n. n + 1) (length-map seen.places (station_at config.entries))
 
 -- A line is there exactly while no more than the stations' were made.
-pub line-further : (config : Config) (places : List ℕ) (made : ℕ) (t : Bool) → (t ≡ true → made ≤ length places)
-    → (t ≡ false → length places < made) → t ≡ is_some (slice_get (listing (view_in config places)) made)
-line-further config places made true le lt =
-    sym (line-there (listing (view_in config places)) made (length places) (listing-long config places) (le refl))
-line-further config places made false le lt =
-    sym (line-lacks (listing (view_in config places)) made (omega (arith, listing-long config places, lt refl)))
+pub line-further : (config : Config) (seen : Seen) (made : ℕ) (t : Bool) → (t ≡ true → made ≤ length seen.places)
+    → (t ≡ false → length seen.places < made) → t ≡ is_some (slice_get (listing (view_in config seen)) made)
+line-further config seen made true le lt =
+    sym (line-there (listing (view_in config seen)) made (length seen.places) (listing-long config seen) (le refl))
+line-further config seen made false le lt =
+    sym (line-lacks (listing (view_in config seen)) made (omega (arith, listing-long config seen, lt refl)))
 
 -- No line is empty.
 ends-in-some : (xs : List ℕ) (y : ℕ) (ys : List ℕ) → is_nothing (xs ++ y ∷ ys) ≡ false

@@ -9,7 +9,8 @@ use Rattle.protocol.specs.Session.{choices_of, wish_of, error_line, ok_line}
 use Rattle.protocol.specs.Client.{Client, State as ClientState, read_on, request_of}
 use Rattle.protocol.specs.Client.State.{Negotiating as ClientNegotiating, Listing as ClientListing}
 use Rattle.protocol.specs.Client.State.{Transfer as ClientTransfer, Ending as ClientEnding}
-use Rattle.catalog.specs.Places.{station_at, view_in, IsPlace}
+use Rattle.catalog.specs.Orders.{Fits}
+use Rattle.catalog.specs.Places.{station_at, view_in, Seen}
 use Rattle.sl_lines.specs.declared.actions.Action.{Action}
 use Rattle.session_state.specs.NamedValues.{Choice, ModeValue}
 use Rattle.session_state.specs.declared.modes.Change.{Change}
@@ -20,9 +21,9 @@ use Rattle.session_state.specs.declared.session.Settled.{Settled}
 use Rattle.session_state.specs.declared.session.Settled.TheVariants.{Rest, Start}
 use Rattle.session_state.specs.Choices.{action_value, negotiated_in, chosen_of, request_in, all_at_start}
 
--- a client with the places of stations in place of their settings
+-- a client with the places of the stations that it sees in place of their settings
 pub record SessionValue : Type 0 where
-  pub places : List ℕ
+  pub places : Seen
   pub mode : ModeValue
   pub state : State
   pub open_line : Line
@@ -47,7 +48,7 @@ session_view config s = view_in config s.places
 
 -- its stations are there
 abbrev pub HasPlaces : Config → SessionValue → Type 0
-HasPlaces config s = All (IsPlace config) s.places
+HasPlaces config s = Fits config s.places
 
 -- the client that a session is
 abbrev pub client_in : Config → List Arrival → SessionValue → Client
@@ -79,9 +80,9 @@ kept_unread Ending bytes = []
 kept_unread _ bytes = bytes
 
 -- A listing is over once its last line, the one after those of the stations, was made to wait and taken.
-abbrev pub listed_in : List ℕ → State → State
-listed_in places (Listing made) = if nat_lt (length places) made then Negotiating else Listing made
-listed_in places state = state
+abbrev pub listed_in : Seen → State → State
+listed_in seen (Listing made) = if nat_lt (length seen.places) made then Negotiating else Listing made
+listed_in seen state = state
 
 -- the session with that line waiting
 abbrev pub with_line : ℕ → SessionValue → Option (List ℕ) → SessionValue

@@ -1,9 +1,10 @@
 //! What a line of a client asks.
-ghost use Rattle.std.specs.Prelude.{◌≡◌, All, Some, false};
+ghost use Rattle.std.specs.Prelude.{◌≡◌, Some, false};
 ghost use Rattle.protocol.specs.Catalog.{Config as ProtocolConfig, View as ProtocolView};
 ghost use Rattle.protocol.specs.Command.{command_of};
 ghost use Rattle.protocol.specs.Session.{Negotiated, outcome_of, select};
-ghost use Rattle.catalog.specs.Places.{IsPlace, view_in};
+ghost use Rattle.catalog.specs.Orders.{Fits};
+ghost use Rattle.catalog.specs.Places.{view_in};
 ghost use Rattle.sl_lines.specs.LineValues.{line_value};
 ghost use Rattle.session_state.specs.Asking.{is_bye, is_leaving, outcome_by};
 
@@ -50,7 +51,7 @@ impl Instruction {
 /// What a line asks.
 #[tactic(auto, using(crate::proofs::AskLemmas::asking_lemmas))]
 pub fn instruction_of(view: &View, config: &Config, line: Line<'_>) -> Instruction
-    requires { All (IsPlace config.now) view.now }
+    requires { Fits config.now view.now }
     ensures outcome { (n : Negotiated)
         → outcome_of (view_in config.now view.now) n (command_of (line_value line.entry))
         ≡ outcome_by config.now (view_in config.now view.now) n result }

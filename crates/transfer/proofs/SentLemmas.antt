@@ -1,9 +1,8 @@
 -- A request whose record ahead was sent.
-use Rattle.std.proofs.Common.{◌≡◌, ℕ, ◌+◌, ◌<◌, ◌≤◌, Bool, true, false, not, ◌&&◌, nat_le, Option, Some, None, ℤ}
+use Rattle.std.proofs.Common.{◌≡◌, ℕ, ◌+◌, ◌<◌, ◌≤◌, Bool, true, false, not, ◌&&◌, nat_le, Option, Some, None}
 use Rattle.std.proofs.Common.{slice_get, refl, sym, ap, subst, ◌∙◌, arith}
 use Rattle.std.specs.Prelude.{◌==◌, int_lt}
 use Rattle.std.proofs.lemmas.Bool.Decides.{nat_tests}
-use Rattle.protocol.specs.Record.{Facts}
 use Rattle.protocol.specs.Pattern.{passes}
 use Rattle.protocol.specs.History.{ends_from}
 use Rattle.protocol.proofs.FoundLemmas.{both}
@@ -19,7 +18,7 @@ use Rattle.transfer.specs.Cursors.{HasPassed, RestsAt, RestsIn, is_after_end}
 use Rattle.transfer.specs.Searches.{at_place}
 use Rattle.transfer.proofs.CursorLemmas.{held_at-high}
 use Rattle.transfer.proofs.PassedLemmas.{unwanted-later}
-use Rattle.transfer.proofs.RestLemmas.{rests-moved, rests-ring, same-ring}
+use Rattle.transfer.proofs.RestLemmas.{rests-moved, rests-ring}
 
 last-of : (a b : Bool) → (a && b) ≡ true → b ≡ true
 last-of true b e = e

@@ -1,4 +1,4 @@
-use Rattle.std.proofs.Common.{◌<◌, ◌+◌, arith, subst, sym}
+use Rattle.std.proofs.Common.{◌+◌, arith, subst, sym}
 use Rattle.session_state.specs.declared.choices.Entry.{Entry}
 use Rattle.transfer.specs.Cursors.{HasPassed}
 use Rattle.transfer.specs.Searches.{at_place}

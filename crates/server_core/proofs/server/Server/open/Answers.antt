@@ -1,7 +1,8 @@
-use Rattle.std.proofs.Common.{rules, ◌≡◌, ◌∙◌, Some, [], ◌∷◌, ◌++◌, ap, sym, refl, subst, length, List, ℕ, Bool, All}
+use Rattle.std.proofs.Common.{rules, ◌≡◌, ◌∙◌, Some, [], ◌∷◌, ◌++◌, ap, sym, refl, subst, length, List, ℕ, Bool}
 use Rattle.std.proofs.Common.{Option}
 use Rattle.std.specs.Net.Addr.{ipv4_bits}
-use Rattle.catalog.specs.Places.{view_in, IsPlace}
+use Rattle.catalog.specs.Orders.{Fits}
+use Rattle.catalog.specs.Places.{view_in, Seen}
 use Rattle.protocol.specs.Client.{Client}
 use Rattle.session_state.specs.declared.session.State.TheVariants.{Negotiating, Transfer}
 use Rattle.session_state.specs.Sessions.{SessionValue}
@@ -47,8 +48,8 @@ invariant_of-self-in_err-number c =
     let settled : IsSettled c.self.inside.config c.self.inside.rings
     c.in_ok-session.session =
     record {
-      places = subst (λ (p : List ℕ). All (IsPlace c.self.inside.config) p)
-          (sym c.in_ok-session.ensures.places) c.in_ok-view.ensures.places;
+      places = subst (λ (p : Seen). Fits c.self.inside.config p)
+          (sym c.in_ok-session.ensures.places) c.in_ok-view.ensures.fits;
       started = c.in_ok-session.ensures.settled;
       passed = none-passed c.self.inside.rings c.in_ok-session.session
           (λ next e. absurd (let t : Negotiating ≡ Transfer next = sym c.in_ok-session.ensures.negotiates ∙ e in cc));
@@ -94,8 +95,8 @@ invariant_of-self-2 c =
     let settled : IsSettled c.self.inside.config c.self.inside.rings
     c.in_ok-session.session =
     record {
-      places = subst (λ (p : List ℕ). All (IsPlace c.self.inside.config) p)
-          (sym c.in_ok-session.ensures.places) c.in_ok-view.ensures.places;
+      places = subst (λ (p : Seen). Fits c.self.inside.config p)
+          (sym c.in_ok-session.ensures.places) c.in_ok-view.ensures.fits;
       started = c.in_ok-session.ensures.settled;
       passed = none-passed c.self.inside.rings c.in_ok-session.session
           (λ next e. absurd (let t : Negotiating ≡ Transfer next = sym c.in_ok-session.ensures.negotiates ∙ e in cc));

@@ -9,8 +9,8 @@ use Rattle.session_state.proofs.session.Session.has_line.Goals as goal
 pub returns-in-Listing-clause-line : goal.returns-in-Listing-clause-line
 returns-in-Listing-clause-line c = λ config made e.
     let long : length c.places-all.result.now
-    ≡ length c.args.self.now.places =
-    ap length (c.places-all.ensures.value ∙ ap (λ (s : SessionValue). s.places) c.self.view_is) in
+    ≡ length c.args.self.now.places.places =
+    ap length (c.places-all.ensures.value ∙ ap (λ (s : SessionValue). s.places.places) c.self.view_is) in
     let same : c.in-Listing.made ≡ made = same-listing c.in-Listing.made made
     (sym (ap (λ (s : SessionValue). s.state) (sym c.self.view_is) ∙ c.in-Listing.is) ∙ e) in
     subst (λ m. nat_le c.in-Listing.made (length c.places-all.result.now)
