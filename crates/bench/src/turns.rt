@@ -1,7 +1,8 @@
 //! Turns of a loop over ports in memory.
 use crate::centre::{config_of, record_of, told};
 use event_loop::Loop;
-use ports::{Happening, MemoryPorts, PortScript, ReadAnswer, Script};
+use memory_ports::{MemoryPorts, PortScript, ReadAnswer, Script};
+use ports::Happening;
 use std::alloc::Global;
 use std::net::Ipv4Addr;
 

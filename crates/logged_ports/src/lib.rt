@@ -16,17 +16,13 @@ ghost use Rattle.logged_ports.specs.Visits.{Notes};
 mod book;
 mod feed_tally;
 mod logging;
-mod memory_journal;
 mod open_feeds;
-mod scripted_doors;
 mod visit;
 mod visitor;
 mod visitors;
 
 pub use logging::LoggedPorts;
-pub use memory_journal::MemoryJournal;
 use ports::Ports;
-pub use scripted_doors::ScriptedDoors;
 use std::net::Ipv4Addr;
 pub use visit::{Away, Reason, Visit};
 

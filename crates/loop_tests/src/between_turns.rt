@@ -1,6 +1,6 @@
 //! What a server asks and reports between its turns, over ports and answers in memory.
 use catalog::Config;
-use ports::{MemoryPorts, Script};
+use memory_ports::{MemoryPorts, Script};
 use serving::{Activity, Due, Made, MemoryBetween, Refusal, Timetable, serve_between};
 use std::alloc::Global;
 use std::test::Fail;

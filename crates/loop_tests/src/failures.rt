@@ -2,7 +2,7 @@
 use super::runs::{Row, at_loop, happenings, looped_over, pieces};
 use catalog::Config;
 use event_loop::Loop;
-use ports::{FailingPorts, MemoryPorts, PortScript, ReadAnswer, Script};
+use memory_ports::{FailingPorts, MemoryPorts, PortScript, ReadAnswer, Script};
 use scenes::{SCENES, Scene};
 use std::alloc::Global;
 use std::test::Fail;

@@ -2,7 +2,7 @@
 use super::runs::Row::{Feed, Inside, Quiet, Reads, Writes};
 use super::runs::{Row, at_loop, is_turned_away, looped, turns};
 use event_loop::Loop;
-use ports::{MemoryPorts, PortScript, ReadAnswer};
+use memory_ports::{MemoryPorts, PortScript, ReadAnswer};
 use std::alloc::Global;
 use std::test::Fail;
 

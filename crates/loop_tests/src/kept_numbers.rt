@@ -2,8 +2,8 @@
 use super::runs::Row::{Feed, Inside, Quiet};
 use super::runs::{Row, both, feed, happenings, port, record};
 use catalog::{Config, KeptNumber};
+use memory_ports::{MemoryPorts, PortScript, Script};
 use number_file::{NumberTable, read_numbers};
-use ports::{MemoryPorts, PortScript, Script};
 use serving::{Made, MemoryBetween, Timetable, serve_between};
 use std::alloc::Global;
 use std::test::Fail;

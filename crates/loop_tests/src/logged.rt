@@ -2,9 +2,9 @@
 use super::runs::Row::{Feed, Inside, Outside, Quiet, Reads};
 use super::runs::{Row, happenings, pieces, record};
 use catalog::Config;
-use logged_ports::{Away, LoggedPorts, MemoryJournal, Reason, RecordJudge, ScriptedDoors, Visit};
+use logged_ports::{Away, LoggedPorts, Reason, RecordJudge, Visit};
+use memory_ports::{MemoryJournal, MemoryPorts, PortScript, ReadAnswer, Script, ScriptedDoors};
 use mseed_header::read;
-use ports::{MemoryPorts, PortScript, ReadAnswer, Script};
 use serving::serve;
 use std::alloc::Global;
 use std::fmt::Write;

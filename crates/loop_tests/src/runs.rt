@@ -1,8 +1,9 @@
 //! Loops over ports in memory, and what their ports took.
 use catalog::Config;
 use event_loop::{Loop, Turned};
+use memory_ports::{MemoryPorts, PortScript, ReadAnswer, Script, WriteAnswer};
 use mseed_header::{ByteOrder, Fields, make};
-use ports::{Happening, MemoryPorts, PortScript, ReadAnswer, Script, WriteAnswer};
+use ports::Happening;
 use std::alloc::Global;
 use std::net::Ipv4Addr;
 use std::test::Fail;

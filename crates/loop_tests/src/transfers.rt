@@ -4,8 +4,7 @@ use super::runs::{
     Row, at_loop, both, feed, looped, looped_over, pieces, port, record, taken, turns,
 };
 use event_loop::Loop;
-use ports::memory_ports::Made;
-use ports::{MemoryPorts, PortScript, ReadAnswer, WriteAnswer};
+use memory_ports::{Made, MemoryPorts, PortScript, ReadAnswer, WriteAnswer};
 use std::alloc::Global;
 use std::test::Fail;
 use test_centre::{CENTRE, GREETING};

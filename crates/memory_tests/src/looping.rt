@@ -4,7 +4,8 @@ use crate::trial::{Fault, Trial};
 use crate::wires::{Wire, Wires};
 use catalog::Config;
 use event_loop::Loop;
-use ports::{Happening, MemoryPorts, PortScript, ReadAnswer, Script};
+use memory_ports::{MemoryPorts, PortScript, ReadAnswer, Script};
+use ports::Happening;
 use std::alloc::Global;
 use test_centre::{CENTRE, GREETING};
 

@@ -10,12 +10,8 @@ ghost use Rattle.ports.specs.Calls.{Call, Tells, given, IsGiven, IsTaken};
 ghost use Rattle.ports.specs.Calls.Call.{Next, Read, Write, Shut};
 
 mod answers;
-pub mod failing_ports;
-pub mod memory_ports;
 
 pub use answers::{Got, Happening, PortFault, Put};
-pub use failing_ports::FailingPorts;
-pub use memory_ports::{MemoryPorts, PortScript, ReadAnswer, Script, WriteAnswer};
 
 /// Where clients and feeds join, each at a port of its own number. No port joins twice. The count of failures is a
 /// number below 2^64 that goes on at 0 after 2^64 - 1: a call fails only with one failure more.

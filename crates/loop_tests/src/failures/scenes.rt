@@ -1,7 +1,7 @@
 //! Runs of a loop of whose ports one call is to fail: who joins, what the ports read, and how they take.
 use crate::runs::Row::{Feed, Inside, Outside, Quiet, Reads, Writes};
 use crate::runs::{Row, feed, pieces, port, record};
-use ports::{PortScript, ReadAnswer, WriteAnswer};
+use memory_ports::{PortScript, ReadAnswer, WriteAnswer};
 use std::alloc::Global;
 use std::test::Fail;
 

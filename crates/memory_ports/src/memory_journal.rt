@@ -2,7 +2,7 @@
 ghost use Rattle.std.specs.Prelude.{◌≡◌, [], IsFalse, Some, None, if◌then◌else◌};
 ghost use Rattle.logged_ports.specs.Visits.{Notes};
 
-use crate::{Journal, Visit};
+use logged_ports::{Journal, Visit};
 use std::alloc::Global;
 
 /// A journal in memory, that keeps all visits. Only if there was no memory to keep one does it stop telling them.

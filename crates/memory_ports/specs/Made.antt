@@ -1,10 +1,10 @@
 -- The calls that ports in memory kept.
 use Rattle.std.specs.Prelude.{if◌then◌else◌, List, map, Option, Some, None}
-use Rattle.ports.specs.declared.memory_ports.log.Gave.{Gave}
-use Rattle.ports.specs.declared.memory_ports.log.Gave.TheVariants.{Piece, Nothing, TheEnd, Failure}
-use Rattle.ports.specs.declared.memory_ports.log.Made.{Made}
-use Rattle.ports.specs.declared.memory_ports.log.Made.TheVariants.{Next, Read, Write, Shut}
-use Rattle.ports.specs.declared.memory_ports.log.Log.{Log}
+use Rattle.memory_ports.specs.declared.memory_ports.log.Gave.{Gave}
+use Rattle.memory_ports.specs.declared.memory_ports.log.Gave.TheVariants.{Piece, Nothing, TheEnd, Failure}
+use Rattle.memory_ports.specs.declared.memory_ports.log.Made.{Made}
+use Rattle.memory_ports.specs.declared.memory_ports.log.Made.TheVariants.{Next, Read, Write, Shut}
+use Rattle.memory_ports.specs.declared.memory_ports.log.Log.{Log}
 use Rattle.ports.specs.Calls.{Given, Call}
 use Rattle.ports.specs.Calls.Given.{Piece as GivenPiece, Nothing as GivenNothing, TheEnd as GivenTheEnd}
 use Rattle.ports.specs.Calls.Given.{Failure as GivenFailure}

@@ -1,9 +1,9 @@
 use Rattle.std.proofs.Common.{◌≡◌, ◌+◌, ◌<◌, ◌++◌, [], ◌∷◌, length, map, take, ap, sym, ◌∙◌, arith}
 use Rattle.std.proofs.lemmas.List.{take_more, map-append}
-use Rattle.ports.specs.Made.{made_value}
-use Rattle.ports.specs.Records.{fresh, with_call, after_calls, record_value}
-use Rattle.ports.proofs.RecordLemmas.{after_calls-append}
-use Rattle.ports.proofs.memory_ports.port_record.record_of.Goals as goal
+use Rattle.memory_ports.specs.Made.{made_value}
+use Rattle.memory_ports.specs.Records.{fresh, with_call, after_calls, record_value}
+use Rattle.memory_ports.proofs.RecordLemmas.{after_calls-append}
+use Rattle.memory_ports.proofs.memory_ports.port_record.record_of.Goals as goal
 
 pub loop-made-preserved : goal.loop-made-preserved
 loop-made-preserved c =

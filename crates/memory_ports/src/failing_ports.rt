@@ -3,11 +3,11 @@ ghost use Rattle.std.specs.Prelude.{◌≡◌, ◌<◌, ◌==◌, ◌-◌, ◌�
 ghost use Rattle.sl_io.specs.Counts.{CountsFailure};
 ghost use Rattle.ports.specs.Calls.{Call, Tells, given, IsGiven, IsTaken};
 ghost use Rattle.ports.specs.Calls.Call.{Next, Read, Write, Shut};
-ghost use Rattle.ports.specs.Made.{told};
-ghost use Rattle.ports.specs.Records.{port_record, record_value};
+ghost use Rattle.memory_ports.specs.Made.{told};
+ghost use Rattle.memory_ports.specs.Records.{port_record, record_value};
 
 use crate::memory_ports::{Log, PortRecord, record_of};
-use crate::{Got, Happening, PortFault, Ports, Put};
+use ports::{Got, Happening, PortFault, Ports, Put};
 use std::alloc::{AllocError, Global};
 
 /// Ports of which one call of `next`, `read` or `write` fails and reaches nothing. All others are passed on. They keep

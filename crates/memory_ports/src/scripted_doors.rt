@@ -4,7 +4,7 @@ ghost use Rattle.sl_io.specs.Counts.{CountsFailure};
 ghost use Rattle.ports.specs.Calls.{Tells, given, IsGiven, IsTaken};
 ghost use Rattle.ports.specs.Calls.Call.{Next, Read, Write, Shut};
 
-use crate::{Away, Doors};
+use logged_ports::{Away, Doors};
 use ports::{Got, Happening, PortFault, Ports, Put};
 use std::alloc::Global;
 use std::net::Ipv4Addr;

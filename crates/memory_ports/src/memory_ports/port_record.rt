@@ -1,10 +1,10 @@
 //! What one port gave and took.
 ghost use Rattle.std.specs.Prelude.{◌≡◌, ◌<◌, ◌≤◌, OnOk, IfOk, map, length};
-ghost use Rattle.ports.specs.Made.{gave_value, made_value};
-ghost use Rattle.ports.specs.Records.{fresh, with_read, with_write, with_call, port_record, record_value};
+ghost use Rattle.memory_ports.specs.Made.{gave_value, made_value};
+ghost use Rattle.memory_ports.specs.Records.{fresh, with_read, with_write, with_call, port_record, record_value};
 
 use crate::memory_ports::log::{Gave, Made};
-use crate::{PortFault, Put};
+use ports::{PortFault, Put};
 use std::alloc::{AllocError, Global};
 
 /// What one port gave and took so far.

@@ -3,7 +3,7 @@
 ghost use Rattle.std.specs.Prelude.{◌≡◌, length, ◌<◌, ◌≤◌};
 ghost use Rattle.ports.specs.Calls.{IsGiven, IsTaken};
 
-use crate::{Got, Happening, PortFault, Put};
+use ports::{Got, Happening, PortFault, Put};
 
 /// What a read is to answer.
 #[derive(Drop)]

@@ -7,7 +7,7 @@ use Rattle.ports.specs.declared.answers.PortFault.{PortFault}
 use Rattle.ports.specs.Calls.{Given, Call}
 use Rattle.ports.specs.Calls.Given.{Piece}
 use Rattle.ports.specs.Calls.Call.{Next, Read, Write, Shut}
-use Rattle.ports.specs.declared.memory_ports.port_record.PortRecord.{PortRecord}
+use Rattle.memory_ports.specs.declared.memory_ports.port_record.PortRecord.{PortRecord}
 
 -- the bytes that a port gave and the bytes that it took, and whether it was shut
 pub record PortValue : Type 0 where

@@ -3,10 +3,10 @@ ghost use Rattle.std.specs.Prelude.{◌≡◌, ◌<◌, List, Some, [], ◌∷�
 ghost use Rattle.sl_io.specs.Counts.{CountsFailure};
 ghost use Rattle.ports.specs.Calls.{Call, Tells, given, IsGiven, IsTaken};
 ghost use Rattle.ports.specs.Calls.Call.{Next, Read, Write};
-ghost use Rattle.ports.specs.Made.{told, made_value};
-ghost use Rattle.ports.specs.Records.{port_record, record_value};
+ghost use Rattle.memory_ports.specs.Made.{told, made_value};
+ghost use Rattle.memory_ports.specs.Records.{port_record, record_value};
 
-use crate::{Got, Happening, PortFault, Ports, Put};
+use ports::{Got, Happening, PortFault, Ports, Put};
 use std::alloc::{AllocError, Global};
 
 mod log;

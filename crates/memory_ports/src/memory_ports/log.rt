@@ -3,9 +3,9 @@ ghost use Rattle.std.specs.Prelude.{◌≡◌, IfOk, IsErr, IsSome, OnOk, Some, 
 ghost use Rattle.sl_io.specs.Counts.{CountsFailure, IsMore};
 ghost use Rattle.ports.specs.Calls.{Tells, given, IsGiven, IsTaken};
 ghost use Rattle.ports.specs.Calls.Call.{Next, Read, Write, Shut};
-ghost use Rattle.ports.specs.Made.{told, gave_value};
+ghost use Rattle.memory_ports.specs.Made.{told, gave_value};
 
-use crate::{Got, Happening, PortFault, Put};
+use ports::{Got, Happening, PortFault, Put};
 use std::alloc::{AllocError, Global};
 
 /// What a read gave.
