@@ -1,7 +1,8 @@
 //! What a server asks and reports between its turns, over ports and answers in memory.
 use catalog::Config;
+use memory_between::{Made, MemoryBetween};
 use memory_ports::{MemoryPorts, Script};
-use serving::{Activity, Due, Made, MemoryBetween, Refusal, Timetable, serve_between};
+use serving::{Activity, Due, Refusal, Timetable, serve_between};
 use std::alloc::Global;
 use std::test::Fail;
 use test_centre::{CENTRE, FOREST_CLOSED, ISLAND_LARGER};

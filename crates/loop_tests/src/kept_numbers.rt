@@ -2,9 +2,10 @@
 use super::runs::Row::{Feed, Inside, Quiet};
 use super::runs::{Row, both, feed, happenings, port, record};
 use catalog::{Config, KeptNumber};
+use memory_between::{Made, MemoryBetween};
 use memory_ports::{MemoryPorts, PortScript, Script};
 use number_file::{NumberTable, read_numbers};
-use serving::{Made, MemoryBetween, Timetable, serve_between};
+use serving::{Timetable, serve_between};
 use std::alloc::Global;
 use std::test::Fail;
 use test_centre::CENTRE;

@@ -2,7 +2,6 @@ pub mod Faults
 pub mod Timetables
 pub mod Ahead
 pub mod Asked
-pub mod Made
 pub mod Acts
 pub mod Runs
 pub mod Served

@@ -1,8 +1,8 @@
 -- The calls that answers in memory kept.
 use Rattle.std.specs.Prelude.{ℕ, if◌then◌else◌, List, map, Option, Some, None}
-use Rattle.serving.specs.declared.memory_between.Made.{Made}
-use Rattle.serving.specs.declared.memory_between.Made.TheVariants.{Looked, Configuration, Refused, Report, Keep}
-use Rattle.serving.specs.declared.memory_between.MemoryBetween.{MemoryBetween}
+use Rattle.memory_between.specs.declared.Made.{Made}
+use Rattle.memory_between.specs.declared.Made.TheVariants.{Looked, Configuration, Refused, Report, Keep}
+use Rattle.memory_between.specs.declared.MemoryBetween.{MemoryBetween}
 use Rattle.serving.specs.Asked.{Asked}
 use Rattle.serving.specs.Asked.Asked.{Configuration as AskedConfiguration, Looks, Refuses, Reports, Keeps}
 

@@ -1,14 +1,14 @@
-//! Answers between turns, in memory.
+//! What a server asks and reports between its turns, answered and kept in memory, for tests.
+#![tactic(auto)]
+
 ghost use Rattle.std.specs.Prelude.{◌≡◌, Some, [], ◌∷◌, IfOk};
-ghost use Rattle.serving.specs.Made.{told, made_value};
+ghost use Rattle.memory_between.specs.Made.{told, made_value};
 ghost use Rattle.serving.specs.Asked.{Tells};
 ghost use Rattle.serving.specs.Asked.Asked.{Configuration, Keeps, Looks, Refuses, Reports};
 ghost use Rattle.serving.specs.Ahead.{ahead_of};
 
-use crate::activity::Activity;
-use crate::ahead::Ahead;
-use crate::between::{Between, Due, Refusal};
 use catalog::Config;
+use serving::{Activity, Ahead, Between, Due, Refusal};
 use sl_packet::Seq;
 use std::alloc::{AllocError, Global};
 

@@ -1,8 +1,8 @@
 use Rattle.std.proofs.Common.{rules, ◌≡◌, ◌∙◌, ◌++◌, ◌∷◌, [], ap, sym, take, add-one, arith}
 use Rattle.serving.specs.Ahead.{ahead_of}
 use Rattle.serving.proofs.AheadLemmas.{one-more, some-there}
-use Rattle.serving.proofs.memory_between.numbers_of.Goals as goal
-use Rattle.serving.proofs.memory_between.numbers_of.Goals.{in-Some+in_ok-push-in-Some, in-None}
+use Rattle.memory_between.proofs.numbers_of.Goals as goal
+use Rattle.memory_between.proofs.numbers_of.Goals.{in-Some+in_ok-push-in-Some, in-None}
 
 pub loop-place-preserved : goal.loop-place-preserved
 loop-place-preserved c =
