@@ -18,7 +18,7 @@ pub use descriptors::descriptor_limit;
 pub use endpoint::Endpoint;
 pub use files::{config_at, config_in, open, replace, text_at, unopened};
 pub use misspelled::{checked_config_at, tell_unknown_keys};
-pub use plain_files::{place_of, plain_at};
+pub use plain_files::{place_of, plain_at, plain_config_at};
 pub use progress::{Watched, is_output_terminal, is_terminal, size_of};
 pub use reasons::ReasonKeeper;
 pub use servers::{ServerAddress, connect, connection, server_of, unconnected};

@@ -1,5 +1,6 @@
 //! Plain files: which file a path leads to, and whether it is one.
-use crate::files::unopened;
+use crate::files::{config_at, unopened};
+use catalog::Config;
 use incidents::Incident;
 use std::alloc::Global;
 use std::rt::Files;
@@ -17,6 +18,17 @@ pub fn plain_at<'a, R: Files>(rt: &R, path: &'a str) -> Result<(), Incident<'a>>
         Ok(found) if found.is_file() => Ok(()),
         Ok(_) => Err(unopened(path, not_plain())),
         Err(reason) => Err(unopened(path, reason)),
+    }
+}
+
+/// The configuration in a plain file: reading another one may wait for ever.
+pub fn plain_config_at<'a, R: Files + AllocGlobal>(
+    rt: &R,
+    path: &'a str,
+) -> Result<Config, Incident<'a>> {
+    match plain_at(rt, path) {
+        Ok(()) => config_at(rt, path),
+        Err(incident) => Err(incident),
     }
 }
 

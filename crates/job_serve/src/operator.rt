@@ -15,9 +15,10 @@ use catalog::Config;
 use config_findings::{Difference, first_difference};
 use error_lines::{Device, Line};
 use incidents::{Failure, Incident, Site, Told};
-use job_base::config_at;
+use job_base::plain_config_at;
 use ports::Ports;
 use serving::{Activity, Ahead, Between, Due, Pace, Refusal, ServeFault, Timetable, serve_between};
+use std::alloc::Global;
 use std::fmt::Write;
 use std::fs::File;
 use std::rt::{Clock, Files};
@@ -206,7 +207,7 @@ impl<'r, 'a, 'l, R: Files<File = File> + Clock + AllocGlobal, D: Device> Between
 
     fn configuration(&mut self) -> Result<Config, Incident<'a>> {
         self.spare.let_go();
-        let read = config_at(self.rt, self.path);
+        let read = plain_config_at(self.rt, self.path);
         self.spare.take(self.rt);
         let mut config = read?;
         if let Some(file) = &self.numbers {
@@ -264,11 +265,26 @@ pub fn serve_by<'a, R: Files<File = File> + Clock + AllocGlobal, P: Ports + Drop
     ensures ended { IfErr result (λ incident. incident.failure ≡ Serve Poll →
         EndedByFile options.entry.timetable config (P.calls ports)) }
 {
-    let mut operator = match Operator::new(rt, &config, options, numbers, errors) {
+    let operator = match Operator::new(rt, &config, options, numbers, errors) {
         Ok(operator) => operator,
         Err(incident) => return Err(incident),
     };
-    match serve_between(rt.alloc(), config, ports, &mut operator, options.timetable) {
+    serve_beside(rt.alloc(), config, ports, operator, options.timetable)
+}
+
+/// Runs a new server over ports beside an operator that began with its configuration, and gives the ports back.
+fn serve_beside<'a, R: Files<File = File> + Clock + AllocGlobal, P: Ports + Drop, D: Device + Drop>(
+    alloc: Global,
+    config: Config,
+    ports: P,
+    mut operator: Operator<'_, 'a, '_, R, D>,
+    timetable: Timetable,
+) -> Result<P, Incident<'a>>
+    ensures served { IfOk result (λ left. ServedByFile timetable config (P.calls ports) (P.calls left)) }
+    ensures ended { IfErr result (λ incident. incident.failure ≡ Serve Poll →
+        EndedByFile timetable config (P.calls ports)) }
+{
+    match serve_between(alloc, config, ports, &mut operator, timetable) {
         Ok(ports) => Ok(ports),
         Err(fault) => Err(operator.incident_of(fault)),
     }

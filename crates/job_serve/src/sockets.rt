@@ -71,6 +71,17 @@ fn serve_with<'a, R: Files<File = File> + Eprint + Clock + Net + AllocGlobal>(
 ) -> Result<(), Incident<'a>> {
     let numbers = numbers_for(rt, options.numbers, &mut config)?;
     let ports = listen_at(rt, clients, feeds, admission)?;
+    serve_to_the_end(rt, config, ports, options, numbers)
+}
+
+/// Serves over ports that are listened on, and then sends what was not sent yet.
+fn serve_to_the_end<'a, R: Files<File = File> + Eprint + Clock + AllocGlobal>(
+    rt: &R,
+    config: Config,
+    ports: MioPorts,
+    options: ServeOptions<'a>,
+    numbers: Option<NumberFile<'a>>,
+) -> Result<(), Incident<'a>> {
     let mut ports = serve_over(rt, config, ports, options, numbers)?;
     ports.finish();
     Ok(())

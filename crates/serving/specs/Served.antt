@@ -31,15 +31,27 @@ pub record KeptNothing {F : Type 0} (config : Config) (asked asked' : Option (Li
   pub fault : F
   pub tells : Tells asked asked' (Keeps (numbers_ahead config []) (Err fault) ∷ Refuses (Unkept fault) ∷ [])
 
+-- A server that nobody had come to made all its turns, and first kept its numbers, if they are to be kept.
+pub record RanNew {F : Type 0} (t : Timetable) (config : Config) (first : LoopValue)
+    (asked : Option (List (Asked F))) (last : LoopValue) (asked' : Option (List (Asked F))) : Type 0 where
+  pub asked_first : Option (List (Asked F))
+  pub keeps : KeepsFirst t.keep config asked asked_first
+  pub ran : Ran t config empty_world first asked_first last asked'
+
+-- The same of one that ended early.
+pub record GaveUpNew {F : Type 0} (t : Timetable) (config : Config) (first : LoopValue)
+    (asked : Option (List (Asked F))) (last : LoopValue) (asked' : Option (List (Asked F))) : Type 0 where
+  pub asked_first : Option (List (Asked F))
+  pub keeps : KeepsFirst t.keep config asked asked_first
+  pub gave_up : GaveUp t config empty_world first asked_first last asked'
+
 -- It made all its turns.
 pub record Served {F : Type 0} (t : Timetable) (config : Config) (calls calls' : Option (List Call))
     (asked asked' : Option (List (Asked F))) : Type 0 where
   pub first : LoopValue
   pub last : LoopValue
-  pub asked_first : Option (List (Asked F))
   pub begins : Begins config calls first
-  pub keeps : KeepsFirst t.keep config asked asked_first
-  pub ran : Ran t config empty_world first asked_first last asked'
+  pub ran : RanNew t config first asked last asked'
   pub calls_after : last.calls ≡ calls'
 
 -- It ended early.
@@ -47,10 +59,8 @@ pub record Ended {F : Type 0} (t : Timetable) (config : Config) (calls : Option 
     (asked asked' : Option (List (Asked F))) : Type 0 where
   pub first : LoopValue
   pub last : LoopValue
-  pub asked_first : Option (List (Asked F))
   pub begins : Begins config calls first
-  pub keeps : KeepsFirst t.keep config asked asked_first
-  pub gave_up : GaveUp t config empty_world first asked_first last asked'
+  pub gave_up : GaveUpNew t config first asked last asked'
 
 -- The same with nothing between its turns.
 abbrev pub ServedBlock : ℕ → Config → Option (List Call) → Option (List Call) → Type 0

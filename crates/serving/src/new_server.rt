@@ -1,10 +1,10 @@
 //! A new server, until its turns are over.
-ghost use Rattle.std.specs.Prelude.{◌≡◌, IfOk, IfErr, OnErr, OnOk};
+ghost use Rattle.std.specs.Prelude.{◌≡◌, ◌≢◌, IfOk, IfErr, OnErr, OnOk};
 ghost use Rattle.protocol.specs.Catalog.{Config as ProtocolConfig};
 ghost use Rattle.protocol.specs.World.{empty_world};
 ghost use Rattle.server_core.specs.ServerValues.{StandsAt};
 ghost use Rattle.serving.specs.declared.faults.ServeFault.TheVariants.{Numbers, OutOfMemory, Poll};
-ghost use Rattle.serving.specs.Served.{Served, ServedBlock, Ended, EndedBlock, KeepsFirst, KeptNothing};
+ghost use Rattle.serving.specs.Served.{Served, ServedBlock, Ended, EndedBlock, GaveUpNew, KeepsFirst, KeptNothing, RanNew};
 
 use crate::ahead::Ahead;
 use crate::between::{Between, NothingBetween, Refusal};
@@ -40,6 +40,30 @@ fn keep_first<P: Ports, B: Between>(
     }
 }
 
+/// Runs a new server as the timetable says. If numbers are to be kept, they are kept before the first turn.
+fn run_new<P: Ports, B: Between>(
+    server: &mut Loop<P>,
+    between: &mut B,
+    timetable: Timetable,
+) -> Result<(), ServeFault>
+    ensures ran { OnOk result ((config : ProtocolConfig) → StandsAt server.old.server config empty_world →
+        RanNew timetable config server.old (B.asked between.old) server.new (B.asked between.new)) }
+    ensures ended { IfErr result (λ fault. fault ≡ Poll → (config : ProtocolConfig) →
+        StandsAt server.old.server config empty_world →
+        GaveUpNew timetable config server.old (B.asked between.old) server.new (B.asked between.new)) }
+    ensures unkept { IfErr result (λ fault. fault ≡ Numbers → (config : ProtocolConfig) →
+        StandsAt server.old.server config empty_world → KeptNothing config (B.asked between.old) (B.asked between.new)) }
+    ensures memory { IfErr result (λ fault. fault ≢ OutOfMemory) }
+{
+    match keep_first(server, between, &timetable) {
+        Ok(()) => match run(server, between, timetable) {
+            Ok(()) => Ok(()),
+            Err(_) => Err(ServeFault::Poll),
+        },
+        Err(fault) => Err(fault),
+    }
+}
+
 /// Runs a new server with that configuration over ports, as the timetable says, and gives the ports back. A turn that
 /// fails is passed over; sixteen in a row end the server with 40. Without memory for the server it is 25, and nothing
 /// was asked. If numbers are to be kept, they are kept before the first turn; if they can't be, that is handed on and
@@ -62,11 +86,8 @@ pub fn serve_between<P: Ports + Drop, B: Between>(
     let Ok(mut server) = Loop::new(alloc, config, ports) else {
         return Err(ServeFault::OutOfMemory);
     };
-    match keep_first(&server, between, &timetable) {
-        Ok(()) => match run(&mut server, between, timetable) {
-            Ok(()) => Ok(server.into_ports()),
-            Err(_) => Err(ServeFault::Poll),
-        },
+    match run_new(&mut server, between, timetable) {
+        Ok(()) => Ok(server.into_ports()),
         Err(fault) => Err(fault),
     }
 }
