@@ -303,17 +303,20 @@ impl Display for Incident<'_> {
         self.failure.put_cause(f)?;
         f.write_str("\n")?;
         write!(f, "{}", self.site)?;
-        match self.failure {
-            Failure::Replay(ReplayFault::Script(line)) => writeln!(f, "  line: {line}"),
-            Failure::Address => f.write_str(
-                "  allowed: an address and a port, as 127.0.0.1:18000\n",
-            ),
-            Failure::Moment(_) => f.write_str(
-                "  allowed: a time in UTC, as 2024-02-29T00:00:00 or 2024,2,29,0,0,0\n",
-            ),
-            Failure::Client => f.write_str("  allowed: four numbers joined by dots, as 10.0.0.7\n"),
-            _ => Ok(()),
-        }
+        put_allowed(f, &self.failure)
+    }
+}
+
+/// The line of a script that failed, or what a word may be that is invalid.
+fn put_allowed<W: Write>(f: &mut Formatter<W>, failure: &Failure) -> fmt::Result {
+    match failure {
+        Failure::Replay(ReplayFault::Script(line)) => writeln!(f, "  line: {line}"),
+        Failure::Address => f.write_str("  allowed: an address and a port, as 127.0.0.1:18000\n"),
+        Failure::Moment(_) => f.write_str(
+            "  allowed: a time in UTC, as 2024-02-29T00:00:00 or 2024,2,29,0,0,0\n",
+        ),
+        Failure::Client => f.write_str("  allowed: four numbers joined by dots, as 10.0.0.7\n"),
+        _ => Ok(()),
     }
 }
 
@@ -328,20 +331,25 @@ impl Display for Site<'_> {
             Site::Record(path, finding) => put_record(f, path, finding),
             Site::Unopened(path, reason)
             | Site::Unread(path, reason)
-            | Site::Unwritten(path, reason) => {
-                put_line(f, "file", *path)?;
-                put_line(f, "reason", reason)
-            }
+            | Site::Unwritten(path, reason) => put_reasoned(f, "file", path, reason),
             Site::Word(word) => put_line(f, "word", *word),
             Site::AccessWord(word, entry) => put_access_word(f, word, entry),
             Site::Want(word, part) => put_want(f, word, part),
             Site::Server(address) => put_line(f, "address", *address),
-            Site::Socket(address, reason) => {
-                put_line(f, "address", *address)?;
-                put_line(f, "reason", reason)
-            }
+            Site::Socket(address, reason) => put_reasoned(f, "address", address, reason),
         }
     }
+}
+
+/// The lines of what could not be used, and of the system's reason.
+fn put_reasoned<W: Write>(
+    f: &mut Formatter<W>,
+    what: &str,
+    name: &str,
+    reason: &io::Error,
+) -> fmt::Result {
+    put_line(f, what, name)?;
+    put_line(f, "reason", reason)
 }
 
 /// The lines of a step that failed, and of what is found there.
