@@ -148,6 +148,18 @@ fn opened_to_add<'a, R: Files>(rt: &R, path: &'a str) -> Result<R::File, Inciden
     }
 }
 
+/// The same, and once more the same open file, to put what was added on the disk.
+fn opened_twice<'a, R: Files<File = File>>(
+    rt: &R,
+    path: &'a str,
+) -> Result<(File, File), Incident<'a>> {
+    let file = opened_to_add(rt, path)?;
+    match file.try_clone() {
+        Ok(same) => Ok((file, same)),
+        Err(reason) => Err(unopened(path, reason)),
+    }
+}
+
 /// Whether another connection may mend a failure: none could be made, or it ended before the end of the transfer.
 fn is_mendable(failure: Failure) -> bool
     ensures { result ≡ is_mendable failure }
@@ -296,12 +308,8 @@ fn list_and_add<'a, R: Files<File = File> + Print + Eprint + Clock + Net + Alloc
     state: Option<StateFile<'a>>,
     path: &'a str,
 ) -> Result<(), Incident<'a>> {
+    let (file, same) = opened_twice(rt, path)?;
     let mut lines = Outer::new(io::writer(rt));
-    let file = opened_to_add(rt, path)?;
-    let same = match file.try_clone() {
-        Ok(same) => same,
-        Err(reason) => return Err(unopened(path, reason)),
-    };
     let mut records = Outer::new(ReasonKeeper::new(file));
     match list_on(rt, reading, state, Some(same), &mut lines, &mut records) {
         Ok(()) => Ok(()),
@@ -316,8 +324,8 @@ fn list_and_archive<'a, R: Files<File = File> + Print + Eprint + Clock + Net + A
     state: Option<StateFile<'a>>,
     top: &'a str,
 ) -> Result<(), Incident<'a>> {
-    let mut lines = Outer::new(io::writer(rt));
     let mut archive = archive_at(rt, top, state.is_some())?;
+    let mut lines = Outer::new(io::writer(rt));
     let read = list_on(rt, reading, state, None, &mut lines, &mut archive);
     tell_unplaced(rt, &archive);
     match read {
