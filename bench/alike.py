@@ -4,10 +4,11 @@
     bench/alike.py [ROUNDS]
 
 A client asks for 64 stations, of which 32 are hidden from it and 32 don't exist, in batches of 60 lines: 2,000 batches for each, in
-an order by chance, which are 120,000 questions. A station's time is the mean of its fastest half. The threshold that parts the two
-kinds best is right for so many of 100 stations, and that is printed for each round. Beside it stands the same for 64 stations none
-of which exists, 32 of which are taken for the others: what chance alone is good for. It fails if the median of the rounds, 5 of them
-by default, is above 60 and above that of chance.
+an order by chance, which are 120,000 questions. A code that doesn't exist follows each hidden one, so that both stand at the same place
+among those of the stations that the client sees: where a code stands among these shows in the time, and tells nothing that the client
+doesn't know. A station's time is the mean of its fastest half. The threshold that parts the two kinds best is right for so many of 100
+stations, and that is printed for each round. Beside it stands the same for 64 codes none of which exists, in pairs too: what chance
+alone is good for. It fails if the median of the rounds, 5 of them by default, is above 60 and above that of chance.
 """
 
 import random
@@ -23,14 +24,14 @@ LINES = 60
 BATCHES = 2_000
 MOST = 60
 
+# By fours: a station that the client sees, one that is hidden, and two codes that don't exist.
 CONFIG = 'title = "Alike"\n' + "".join(
     f'[[station]]\nnetwork = "GE"\ncode = "H{place:04}"\ndescription = "Alike"\ncapacity = 1\n'
-    + ('access = "192.168.0.1"\n' if place % 2 else "")
-    for place in range(2 * CODES)
+    + ('access = "192.168.0.1"\n' if place % 4 else "")
+    for place in range(4 * CODES)
+    if place % 4 < 2
 )
-HIDDEN = [f"H{place:04}" for place in range(1, 2 * CODES, 2)]
-UNKNOWN = [f"H{place:03}A" for place in range(CODES)]
-OTHERS = [f"H{place:03}B" for place in range(2 * CODES)]
+HIDDEN, UNKNOWN, OTHERS = ([f"H{place:04}" for place in range(kind, 4 * CODES, 4)] for kind in (1, 2, 3))
 
 
 def batch(client, code):
@@ -72,7 +73,7 @@ def main():
         for _ in range(rounds):
             times = times_of(client, HIDDEN + UNKNOWN)
             hidden.append(told_apart(times[:CODES], times[CODES:]))
-            times = times_of(client, OTHERS)
+            times = times_of(client, UNKNOWN + OTHERS)
             chance.append(told_apart(times[:CODES], times[CODES:]))
             print(f"{hidden[-1]:5.1f} of 100 are told apart, by chance {chance[-1]:5.1f}", flush=True)
     told, by_chance = statistics.median(hidden), statistics.median(chance)
