@@ -221,7 +221,19 @@ def percent(figure, share):
     return lambda: figure() * share // 100
 
 
-def print(self):
+# ---- the table
+
+
+@dataclass(frozen=True)
+class Row:
+    """A work: the most that is allowed, which may depend on another figure; what is done; the figure; what it is compared with."""
+
+    most: int | Callable[[], int]
+    what: str
+    figure: Callable[[], int]
+    compared: str | Callable[[], str] = ""
+
+    def print(self):
         """Counts it and prints its line. Whether the figure is within its limit."""
         figure = self.figure()
         most = self.most() if callable(self.most) else self.most
