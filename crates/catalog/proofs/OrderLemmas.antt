@@ -11,7 +11,9 @@ use Rattle.std.proofs.lemmas.Slice.Eq.{bytes_eq-Decides}
 use Rattle.protocol.specs.Catalog.{Entry, Station, has_codes}
 use Rattle.protocol.specs.Reading.{Not}
 use Rattle.catalog.specs.Finding.{has_code}
-use Rattle.catalog.specs.Indexing.{codes_eq, key, rank, spelled, AreBytes, AreCodes, AreShort, HasShortCodes}
+use Rattle.code_numbers.specs.Spelling.{spelled}
+use Rattle.code_numbers.proofs.SpellingLemmas.{spelled_small}
+use Rattle.catalog.specs.Indexing.{codes_eq, key, rank, AreCodes, AreShort, HasShortCodes}
 use Rattle.catalog.specs.Orders.{key_at, rank_at, rank_of, AreAmong, AreInOrder, HasCodesAt, IsFirstFrom, LacksCodesAt}
 use Rattle.catalog.specs.Places.{station_at, HasDistinctCodes}
 use Rattle.catalog.specs.declared.codes.Codes.{Codes}
@@ -62,18 +64,6 @@ in_order_sorted station ps os same rises = record {
 }
 
 -- ---- codes by their rank
-
--- a text's number takes eight bytes
-spelled_small : (t : List ℕ) → length t ≤ 7 → AreBytes t → spelled t < 2 ^ 64
-spelled_small t few are =
-    let a = are 0 in
-    let b = are 1 in
-    let c = are 2 in
-    let d = are 3 in
-    let e = are 4 in
-    let f = are 5 in
-    let g = are 6 in
-    omega (arith, few)
 
 -- Codes of one rank are the same.
 same_rank : (s : Station) (network code : List ℕ) → AreCodes s.network s.code → AreCodes network code

@@ -1,11 +1,11 @@
 -- Where stations stand, found by their codes. The index is this project's own.
-use Rattle.std.specs.Prelude.{◌≡◌, ℕ, ◌+◌, ◌*◌, ◌^◌, ◌<◌, ◌≤◌, ◌==◌, Bool, ◌&&◌, List, [], ◌∷◌, length, Option}
-use Rattle.std.specs.Int.{from_be_bytes, w64}
-use Rattle.std.specs.List.{position, slice_index}
+use Rattle.std.specs.Prelude.{◌≡◌, ℕ, ◌+◌, ◌*◌, ◌^◌, ◌≤◌, ◌==◌, Bool, ◌&&◌, List, length, Option}
+use Rattle.std.specs.List.{position}
 use Rattle.std.specs.declared.hash.FoldHasher.{FoldHasher}
 use Rattle.std.specs.declared.hash.BuildHasherDefault.{BuildHasherDefault}
 use Rattle.std.specs.HashMap.{HashMap, get}
 use Rattle.protocol.specs.Catalog.{Entry, has_codes}
+use Rattle.code_numbers.specs.Spelling.{spelled, AreBytes}
 use Rattle.catalog.specs.declared.codes.Codes.{Codes}
 
 -- places by codes
@@ -16,16 +16,6 @@ Places = HashMap Codes ℕ (BuildHasherDefault FoldHasher)
 abbrev pub codes_eq : Codes → Codes → Bool
 codes_eq x y = (x.network == y.network) && (x.code == y.code)
 
--- the bytes of a text of up to seven bytes, filled up with zeros, and its length
-abbrev pub digits : List ℕ → List ℕ
-digits text =
-    slice_index text 0 ∷ slice_index text 1 ∷ slice_index text 2 ∷ slice_index text 3 ∷ slice_index text 4
-    ∷ slice_index text 5 ∷ slice_index text 6 ∷ length text ∷ []
-
--- the number that has these digits to the base 256
-abbrev pub spelled : List ℕ → ℕ
-spelled text = from_be_bytes w64 (digits text)
-
 -- the key that these codes are
 abbrev pub key : List ℕ → List ℕ → Codes
 key network code = record { network = spelled network; code = spelled code }
@@ -33,10 +23,6 @@ key network code = record { network = spelled network; code = spelled code }
 -- both codes as one number
 abbrev pub rank : Codes → ℕ
 rank codes = codes.network * 2 ^ 64 + codes.code
-
--- All are bytes.
-abbrev pub AreBytes : List ℕ → Type 0
-AreBytes text = (i : ℕ) → slice_index text i < 256
 
 -- a number is that of a station's code
 pub record IsNumberOf (number : ℕ) (code : List ℕ) : Type 0 where

@@ -1,34 +1,9 @@
 //! The codes of stations as numbers.
 ghost use Rattle.std.specs.Prelude.{◌≡◌, ◌≤◌, IfNone, IfSome, length};
-ghost use Rattle.std.specs.List.{slice_index};
 ghost use Rattle.protocol.specs.Reading.{Not};
-ghost use Rattle.catalog.specs.Indexing.{key, rank, spelled, AreBytes, AreCodes, AreShort, IsNumberOf};
+ghost use Rattle.catalog.specs.Indexing.{key, rank, AreCodes, AreShort, IsNumberOf};
 
-/// A byte of a text, or 0 after the last.
-fn byte_at(text: &[u8], at: usize) -> u8
-    ensures { result ≡ slice_index text.now at }
-{
-    text.get(at).copied().unwrap_or(0)
-}
-
-/// A text of up to seven bytes as one number, whose digits are its bytes and its length. So two texts are compared, and
-/// hashed, in one step, and numbers are in the order of the alphabet.
-fn spelled(text: &[u8]) -> u64
-    requires { length text.now ≤ 7 }
-    ensures number { result ≡ spelled text.now }
-    ensures bytes { AreBytes text.now }
-{
-    u64::from_be_bytes([
-        byte_at(text, 0),
-        byte_at(text, 1),
-        byte_at(text, 2),
-        byte_at(text, 3),
-        byte_at(text, 4),
-        byte_at(text, 5),
-        byte_at(text, 6),
-        text.len() as u8,
-    ])
-}
+use code_numbers::spelled;
 
 /// The code of a station as a number, if it is no longer than such a code may be.
 pub(crate) fn code_number(code: &[u8]) -> Option<u64>

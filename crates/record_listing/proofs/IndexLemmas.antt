@@ -1,7 +1,8 @@
 -- An index of streams by their names, one record after the other.
-use Rattle.std.proofs.Common.{◌≡◌, ℕ, zero, ◌+◌, ◌<◌, ◌≤◌, suc, Bool, ◌&&◌, true, false, List, [], ◌∷◌, ◌++◌}
-use Rattle.std.proofs.Common.{length, get_or, map, set, Option, Some, None, IfSome, refl, sym, ap, ap₂, ◌∙◌, subst, arith}
-use Rattle.std.proofs.Common.{◌==◌, eq-eqb, eqb-true}
+use Rattle.std.proofs.Common.{◌≡◌, ℕ, zero, ◌+◌, ◌<◌, suc, Bool, ◌&&◌, true, false, List, [], ◌∷◌, ◌++◌}
+use Rattle.std.proofs.Common.{length, get_or, map, set, Option, Some, None, IfSome, refl, sym, ap, ap₂, ◌∙◌, subst}
+use Rattle.std.proofs.Common.{arith}
+use Rattle.std.proofs.Common.{◌==◌, eqb-true}
 use Rattle.std.proofs.Common.{inl, inr, length-append}
 use Rattle.std.specs.Prelude.{cond, if◌then◌else◌, ⊤}
 use Rattle.std.proofs.lemmas.Bool.Decides.{leb_tells}
@@ -9,14 +10,14 @@ use Rattle.std.specs.Str.{bytes_eq}
 use Rattle.std.specs.HashMap.{IsEmpty, IsUnchanged, Updates}
 use Rattle.std.specs.Map.{lookup}
 use Rattle.std.proofs.lemmas.Bool.{false≢true}
-use Rattle.std.proofs.lemmas.Grind.{same_number_lists}
-use Rattle.std.proofs.lemmas.Nat.{be_bytes_8}
 use Rattle.std.proofs.lemmas.List.{get_or_append_left, length-map}
 use Rattle.std.proofs.lemmas.List.Folds.{list_any_at}
 use Rattle.std.proofs.Math.Seq.{get_or-append_seam}
 use Rattle.std.proofs.lemmas.Slice.Eq.{bytes_eq-Decides}
 use Rattle.protocol.specs.Record.{Facts}
-use Rattle.record_listing.specs.Index.{StreamPlaces, digits, name_of, names_eq, place_in, spelled}
+use Rattle.code_numbers.specs.Spelling.{spelled}
+use Rattle.code_numbers.proofs.SpellingLemmas.{equal_spelled}
+use Rattle.record_listing.specs.Index.{StreamPlaces, name_of, names_eq, place_in}
 use Rattle.record_listing.specs.Index.{AreCodes, Finds, IsAt, IsCode}
 use Rattle.record_listing.specs.Streams.{StreamValue, begun, gone_on, is_known, is_of, on_if, streams_with}
 use Rattle.record_listing.specs.Words.{kind_letter}
@@ -24,52 +25,9 @@ use Rattle.record_listing.specs.declared.stream_name.StreamName.{StreamName}
 
 -- ---- names
 
--- the digits of a code are bytes
-digits_are_bytes : (t : List ℕ) → IsCode t → (i : ℕ) → get_or (digits t) i 0 < 256
-digits_are_bytes t is zero = omega (arith, is.short)
-digits_are_bytes t is (suc zero) = is.bytes 0
-digits_are_bytes t is (suc (suc zero)) = is.bytes 1
-digits_are_bytes t is (suc (suc (suc zero))) = is.bytes 2
-digits_are_bytes t is (suc (suc (suc (suc zero)))) = is.bytes 3
-digits_are_bytes t is (suc (suc (suc (suc (suc zero))))) = is.bytes 4
-digits_are_bytes t is (suc (suc (suc (suc (suc (suc zero)))))) = is.bytes 5
-digits_are_bytes t is (suc (suc (suc (suc (suc (suc (suc zero))))))) = is.bytes 6
-digits_are_bytes t is (suc (suc (suc (suc (suc (suc (suc (suc i)))))))) = omega arith
-
--- A code is known by its digits.
-same_digits : (a b : List ℕ) → length a ≤ 7 → digits a ≡ digits b → a ≡ b
-same_digits a b few same =
-    same_number_lists a b (ap (λ ds. get_or ds 0 0) same) (λ k h. each k (omega (arith, few, h)))
-  where
-    each : (k : ℕ) → k < 7 → get_or a k 0 ≡ get_or b k 0
-    each zero h = ap (λ ds. get_or ds 1 0) same
-    each (suc zero) h = ap (λ ds. get_or ds 2 0) same
-    each (suc (suc zero)) h = ap (λ ds. get_or ds 3 0) same
-    each (suc (suc (suc zero))) h = ap (λ ds. get_or ds 4 0) same
-    each (suc (suc (suc (suc zero)))) h = ap (λ ds. get_or ds 5 0) same
-    each (suc (suc (suc (suc (suc zero))))) h = ap (λ ds. get_or ds 6 0) same
-    each (suc (suc (suc (suc (suc (suc zero)))))) h = ap (λ ds. get_or ds 7 0) same
-    each (suc (suc (suc (suc (suc (suc (suc k))))))) h = absurd (omega (arith, h))
-
--- A code is known by the number that it is spelled as.
-same_spelled : (a b : List ℕ) → IsCode a → IsCode b → spelled a ≡ spelled b → a ≡ b
-same_spelled a b of_a of_b same =
-    same_digits a b of_a.short
-    (sym (be_bytes_8 (digits a) (spelled a) refl (digits_are_bytes a of_a) refl)
-    ∙ be_bytes_8 (digits b) (spelled a) refl (digits_are_bytes b of_b) same)
-
 -- Numbers are equal exactly if the codes are that they spell.
-equal_spelled : (a b : List ℕ) → IsCode a → IsCode b → (spelled a == spelled b) ≡ bytes_eq a b
-equal_spelled a b of_a of_b = by (bytes_eq a b) refl
-  where
-    by : (r : Bool) → bytes_eq a b ≡ r → (spelled a == spelled b) ≡ r
-    by true is = eq-eqb (spelled a) (spelled b) (ap spelled ((bytes_eq-Decides a b).0 is))
-    by false is = other (spelled a == spelled b) refl
-      where
-        other : (r : Bool) → (spelled a == spelled b) ≡ r → r ≡ false
-        other false e = refl
-        other true e = absurd (false≢true (sym is ∙ (bytes_eq-Decides a b).1
-            (same_spelled a b of_a of_b (eqb-true (spelled a) (spelled b) e))))
+equal_codes : (a b : List ℕ) → IsCode a → IsCode b → (spelled a == spelled b) ≡ bytes_eq a b
+equal_codes a b of_a of_b = equal_spelled a b of_a.short of_b.short of_a.bytes of_b.bytes
 
 -- five tests, one after the other
 five_tests : (a b c d e : Bool) → (a && (b && (c && (d && e)))) ≡ (a && b && c && d && e)
@@ -88,10 +46,10 @@ equal_names a x its those =
     ∙ ap (λ p. p && (kind_letter a.kind == kind_letter x.kind))
     (ap₂ (λ p q. p && q)
     (ap₂ (λ p q. p && q)
-    (ap₂ (λ p q. p && q) (equal_spelled a.network x.network its.network those.network)
-    (equal_spelled a.station x.station its.station those.station))
-    (equal_spelled a.location x.location its.location those.location))
-    (equal_spelled a.channel x.channel its.channel those.channel))
+    (ap₂ (λ p q. p && q) (equal_codes a.network x.network its.network those.network)
+    (equal_codes a.station x.station its.station those.station))
+    (equal_codes a.location x.location its.location those.location))
+    (equal_codes a.channel x.channel its.channel those.channel))
 
 -- ---- records of one stream
 
@@ -158,7 +116,8 @@ map_one : (x : Facts) (ss : List StreamValue) (k : ℕ) (d : StreamValue) → k 
 map_one x [] k d within has one = absurd (omega (arith, within))
 map_one x (s ∷ ss) zero d within has one =
     ap₂ {A = StreamValue} (λ t ts. t ∷ ts) (sym (ap (λ b. if b then gone_on x s else s) has))
-    (sym (map_none x ss (λ j e h. if_false _ (λ is. let no = one (suc j) e (omega (arith, h)) is in absurd (omega (arith, no))))))
+    (sym (map_none x ss
+    (λ j e h. if_false _ (λ is. let no = one (suc j) e (omega (arith, h)) is in absurd (omega (arith, no))))))
 map_one x (s ∷ ss) (suc k) d within has one =
     ap₂ {A = StreamValue} (λ t ts. t ∷ ts)
     (sym (ap (λ b. if b then gone_on x s else s)

@@ -1,12 +1,11 @@
 -- Where streams stand, found by their codes and their type. The index is this project's own.
-use Rattle.std.specs.Prelude.{◌≡◌, ℕ, ◌<◌, ◌≤◌, ◌==◌, Bool, true, ◌&&◌, List, [], ◌∷◌, length, get_or, IfSome}
+use Rattle.std.specs.Prelude.{◌≡◌, ℕ, ◌<◌, ◌≤◌, ◌==◌, Bool, true, ◌&&◌, List, length, get_or, IfSome}
 use Rattle.std.specs.Prelude.{Option, Some}
-use Rattle.std.specs.Int.{from_be_bytes, w64}
-use Rattle.std.specs.List.{slice_index}
 use Rattle.std.specs.declared.hash.FoldHasher.{FoldHasher}
 use Rattle.std.specs.declared.hash.BuildHasherDefault.{BuildHasherDefault}
 use Rattle.std.specs.HashMap.{HashMap, get}
 use Rattle.protocol.specs.Record.{Facts}
+use Rattle.code_numbers.specs.Spelling.{spelled, AreBytes}
 use Rattle.record_listing.specs.declared.stream_name.StreamName.{StreamName}
 use Rattle.record_listing.specs.Streams.{StreamValue, is_of}
 use Rattle.record_listing.specs.Words.{kind_letter}
@@ -21,16 +20,6 @@ names_eq x y =
     (x.network == y.network) && ((x.station == y.station) && ((x.location == y.location)
     && ((x.channel == y.channel) && (x.letter == y.letter))))
 
--- the length of a text of up to seven bytes, and its bytes, filled up with zeros
-abbrev pub digits : List ℕ → List ℕ
-digits text =
-    length text ∷ slice_index text 0 ∷ slice_index text 1 ∷ slice_index text 2 ∷ slice_index text 3 ∷ slice_index text 4
-    ∷ slice_index text 5 ∷ slice_index text 6 ∷ []
-
--- the number that has these digits to the base 256
-abbrev pub spelled : List ℕ → ℕ
-spelled text = from_be_bytes w64 (digits text)
-
 -- the name of the stream to which a record belongs
 abbrev pub name_of : Facts → StreamName
 name_of x =
@@ -41,10 +30,6 @@ name_of x =
       channel = spelled x.channel;
       letter = kind_letter x.kind;
     }
-
--- All are bytes.
-abbrev pub AreBytes : List ℕ → Type 0
-AreBytes text = (i : ℕ) → slice_index text i < 256
 
 -- a code that can be spelled as a number
 pub record IsCode (text : List ℕ) : Type 0 where

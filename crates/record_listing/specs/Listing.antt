@@ -46,7 +46,8 @@ file_reason Partial = reason.Partial
 
 -- why a record is refused
 abbrev pub refusal_text : FileFault → List ℕ
-refusal_text fault = codes "refused " ++ word_text (decimal (number_of (file_reason fault))) ++ name_of (file_reason fault)
+refusal_text fault =
+    codes "refused " ++ word_text (decimal (number_of (file_reason fault))) ++ name_of (file_reason fault)
 
 -- what a record says, or why it is refused
 abbrev pub record_text : Times → Result Facts FileFault → List ℕ
