@@ -146,9 +146,9 @@ def named():
 UNKNOWN = ("00000 GA", "0000A GE", "0003A GE", "77777 GE", "00003 AA", "00003 XX")
 
 
-def last_hidden(stations):
-    """The code of the last station, which is hidden: no code that the client may ask for stands between it and one after all."""
-    return f"{stations - 1:05}"
+def hidden(stations):
+    """Codes of hidden stations: of the first, of one in the middle and of the last."""
+    return tuple(f"{station:05} GE" for station in (1, stations // 2 - 1, stations - 1))
 
 
 def refused(stations, codes):
@@ -275,12 +275,10 @@ ROWS = (
     # STATION, which has to take as long for a station that is hidden as for one that is not there
     Row(1_500, "STATION of the 200th of 1,024 stations that a client names, its answer taken", named),
     Row(1_500, "STATION of one of 1,024 that is hidden, its answer taken", lambda: refused(1_024, "00003 GE")),
-    *(Row(0, f"STATION of {stations} with a network: hidden, or not there, at one place: apart",
-        functools.partial(apart, stations, f"{last_hidden(stations)} GE", "77777 GE", "0ZZZZ GE")) for stations in (8, 64, 1_024)),
-    *(Row(0, f"the same without a network, of {stations}, at any place",
+    *(Row(0, f"STATION of {stations} with a network, hidden, not there, or in another network: apart",
+        functools.partial(apart, stations, *hidden(stations), *UNKNOWN)) for stations in (8, 64, 1_024)),
+    *(Row(0, f"the same without a network, of {stations}",
         functools.partial(apart, stations, "00003", "00001", "0003A", "77777", "AAAAA")) for stations in (8, 64, 1_024)),
-    Row(40, "STATION of 1,024 with a network, not there: apart by where the codes stand",
-        functools.partial(apart, 1_024, *UNKNOWN)),
     # a record that comes alone, and clients that wait
     Row(2_500, "a lone record at one of 255 stations that one client follows, and its packet", lone(255, 10),
         lambda: f"at one of one: {lone(1, 1_000)()}"),

@@ -1,5 +1,5 @@
 -- Stations in the order of their codes.
-use Rattle.std.specs.Prelude.{◌≡◌, ℕ, ◌<◌, ◌≤◌, Bool, true, false, List, length, All}
+use Rattle.std.specs.Prelude.{◌≡◌, ℕ, ◌+◌, ◌<◌, ◌≤◌, Bool, true, false, List, length, All}
 use Rattle.std.specs.List.{slice_index}
 use Rattle.std.specs.List.Sorted.{IsNonDecreasingBy}
 use Rattle.protocol.specs.Catalog.{Config, Entry, Station}
@@ -41,6 +41,11 @@ pub record IsFirstFrom (p : ℕ → Bool) (xs : List ℕ) (at : ℕ) : Type 0 wh
   pub inside : at ≤ length xs
   pub before : (i : ℕ) → i < at → p (slice_index xs i) ≡ true
   pub after : (i : ℕ) → at ≤ i → i < length xs → p (slice_index xs i) ≡ false
+
+-- A test holds of all that is before some places of a list, and of nothing after them.
+pub record IsAround (p : ℕ → Bool) (xs : List ℕ) (at count : ℕ) : Type 0 where
+  pub before : (i : ℕ) → i < at → p (slice_index xs i) ≡ true
+  pub after : (i : ℕ) → at + count ≤ i → i < length xs → p (slice_index xs i) ≡ false
 
 -- the codes of the station at a place
 abbrev pub key_at : List Entry → ℕ → Codes

@@ -1,7 +1,7 @@
 //! The codes of stations as numbers.
 ghost use Rattle.std.specs.Prelude.{◌≡◌, ◌≤◌, IfNone, IfSome, length};
 ghost use Rattle.protocol.specs.Reading.{Not};
-ghost use Rattle.catalog.specs.Indexing.{key, rank, AreCodes, AreShort, IsNumberOf};
+ghost use Rattle.catalog.specs.Indexing.{codes_eq, key, rank, AreCodes, AreShort, IsNumberOf};
 
 use code_numbers::spelled;
 
@@ -46,6 +46,13 @@ impl Codes {
             return None;
         }
         Some(Codes::spelling(network, code))
+    }
+
+    /// Whether both are the same as those, by one comparison: it takes the same instructions wherever they differ.
+    pub fn are_same(self, others: Codes) -> bool
+        ensures { result ≡ codes_eq self others }
+    {
+        self.rank() == others.rank()
     }
 
     /// Both as one number, by which stations are ordered.

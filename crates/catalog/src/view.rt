@@ -1,11 +1,11 @@
 //! What one address sees of a configuration.
-ghost use Rattle.std.specs.Prelude.{◌≡◌, ◌-◌, ◌<◌, ◌++◌, ◌∷◌, [], true, false, min, nat_lt, All, IfOk, IfSome, None};
+ghost use Rattle.std.specs.Prelude.{◌≡◌, ◌-◌, ◌<◌, ◌≤◌, ◌++◌, ◌∷◌, [], true, false, min, nat_lt, All, IfOk, IfSome, None};
 ghost use Rattle.std.specs.Prelude.{option_map, map, find, length, List, ℕ};
 ghost use Rattle.std.specs.List.Sorted.{IsNonDecreasingBy};
 ghost use Rattle.protocol.specs.Catalog.{find_station, has_codes};
 ghost use Rattle.protocol.specs.Reading.{Not};
 ghost use Rattle.catalog.specs.Indexing.{rank, HasShortCodes, IsNumberOf};
-ghost use Rattle.catalog.specs.Orders.{rank_at, AreInOrder, Fits, HasCodesAt, IsFirstFrom, LacksCodesAt};
+ghost use Rattle.catalog.specs.Orders.{rank_at, AreInOrder, Fits, HasCodesAt, IsAround, IsFirstFrom, LacksCodesAt};
 ghost use Rattle.catalog.specs.Places.{station_at, view_in, AreRising, IsPlace};
 ghost use Rattle.catalog.specs.Finding.{IsWithin, has_code};
 
@@ -119,7 +119,40 @@ fn first_from(stations: &[Station], by_codes: &[u16], sought: Codes) -> usize
         → IsFirstFrom (λ p. nat_lt (rank_at stations.now p) (rank sought)) by_codes.now result }
 {
     let rank = sought.rank();
-    by_codes.partition_point(|place| rank_at(stations, *place) < rank)
+    let at = border(stations, by_codes, rank);
+    match by_codes.get(at) {
+        Some(place) => at + step(1, rank_at(stations, *place) < rank),
+        None => at,
+    }
+}
+
+/// Of places in the order of codes, one before which all stations come before a rank, and after which none does.
+///
+/// What is left is halved as often as their count asks for, without a branch by what is found, so that it takes the
+/// same instructions wherever it ends.
+fn border(stations: &[Station], by_codes: &[u16], rank: u128) -> usize
+    ensures border { IsNonDecreasingBy (rank_at stations.now) by_codes.now
+        → IsAround (λ p. nat_lt (rank_at stations.now p) rank) by_codes.now result 1 }
+    ensures inside { result ≤ length by_codes.now - 1 }
+{
+    let mut at = 0;
+    let mut left = by_codes.len();
+    while left > 1 {
+        let half = left / 2;
+        let is_before = rank_at(stations, by_codes[at + half - 1]) < rank;
+        at += step(half, is_before);
+        left -= half;
+    }
+    at
+}
+
+/// How far to go: over so many places or not. A call of its own, since the compiler makes a branch of it in a loop.
+#[inline(never)]
+fn step(places: usize, is_before: bool) -> usize
+    ensures yes { is_before ≡ true → result ≡ places }
+    ensures no { is_before ≡ false → result ≡ 0 }
+{
+    if is_before { places } else { 0 }
 }
 
 /// The place there, or the last one, if its station has these codes. It takes the same steps for all codes that it
@@ -131,7 +164,7 @@ fn codes_at(stations: &[Station], by_codes: &[u16], at: usize, sought: Codes) ->
     let last = by_codes.len().checked_sub(1)?;
     let place = usize::from(by_codes[at.min(last)]);
     let station = stations.get(place)?;
-    if station.codes() == sought {
+    if station.codes().are_same(sought) {
         Some(place)
     } else {
         None

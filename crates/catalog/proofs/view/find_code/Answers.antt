@@ -16,7 +16,8 @@ returns-then-has_code-clause-found c =
     ap (λ k. Some (station_at c.args.stations.now k)) same
     ∙ sym
     (found-here p c.args.stations.now c.args.places.now c.loop-place.place-index c.index-stations-place.result
-    c.loop-place-test.true within is (sym (c.has_code.ensures c.args.code.now c.in_ok-sought.ensures.number) ∙ c.if-has_code.true))
+    c.loop-place-test.true within is
+    (sym (c.has_code.ensures c.args.code.now c.in_ok-sought.ensures.number) ∙ c.if-has_code.true))
     ∙ c.loop-place.invariant
 
 pub loop-place-preserved : goal.loop-place-preserved
@@ -29,7 +30,8 @@ loop-place-preserved c =
     c.index-stations-place.is ∙ ap (λ k. get_or c.args.stations.now k c.index-stations-place.result) same in
     sym
     (passed-by p c.args.stations.now c.args.places.now c.loop-place.place-index c.index-stations-place.result
-    c.loop-place-test.true within is (sym (c.has_code.ensures c.args.code.now c.in_ok-sought.ensures.number) ∙ c.if-has_code.false))
+    c.loop-place-test.true within is
+    (sym (c.has_code.ensures c.args.code.now c.in_ok-sought.ensures.number) ∙ c.if-has_code.false))
     ∙ c.loop-place.invariant
 
 pub returns-in_err-sought-clause-found : goal.returns-in_err-sought-clause-found
