@@ -4,7 +4,8 @@ ghost use Rattle.protocol.specs.Catalog.{Config as ProtocolConfig};
 ghost use Rattle.protocol.specs.World.{empty_world};
 ghost use Rattle.server_core.specs.ServerValues.{StandsAt};
 ghost use Rattle.serving.specs.declared.faults.ServeFault.TheVariants.{Numbers, OutOfMemory, Poll};
-ghost use Rattle.serving.specs.Served.{Served, ServedBlock, Ended, EndedBlock, GaveUpNew, KeepsFirst, KeptNothing, RanNew};
+ghost use Rattle.serving.specs.Served.{Served, ServedBlock, Ended, EndedBlock, GaveUpNew, KeepsFirst, KeptNothing};
+ghost use Rattle.serving.specs.Served.{RanNew};
 
 use crate::ahead::Ahead;
 use crate::between::{Between, NothingBetween, Refusal};
@@ -52,7 +53,8 @@ fn run_new<P: Ports, B: Between>(
         StandsAt server.old.server config empty_world →
         GaveUpNew timetable config server.old (B.asked between.old) server.new (B.asked between.new)) }
     ensures unkept { IfErr result (λ fault. fault ≡ Numbers → (config : ProtocolConfig) →
-        StandsAt server.old.server config empty_world → KeptNothing config (B.asked between.old) (B.asked between.new)) }
+        StandsAt server.old.server config empty_world →
+        KeptNothing config (B.asked between.old) (B.asked between.new)) }
     ensures memory { IfErr result (λ fault. fault ≢ OutOfMemory) }
 {
     match keep_first(server, between, &timetable) {

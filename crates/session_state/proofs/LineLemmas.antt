@@ -207,8 +207,8 @@ pub asked_none : (config : Config) (v : View) (n : Negotiated) (lines : List Lin
     → outcome_of_lines v n lines ≡ outcome_by config v n Nothing
 asked_none config v n lines e = ap (outcome_of_lines v n) (sym e)
 
-pub asked_line : (config : Config) (v : View) (n : Negotiated) (lines : List Line) (line : Line) (instruction : Instruction)
-    → line ∷ [] ≡ lines → outcome_of v n (command_of line) ≡ outcome_by config v n instruction
+pub asked_line : (config : Config) (v : View) (n : Negotiated) (lines : List Line) (line : Line)
+    (instruction : Instruction) → line ∷ [] ≡ lines → outcome_of v n (command_of line) ≡ outcome_by config v n instruction
     → outcome_of_lines v n lines ≡ outcome_by config v n instruction
 asked_line config v n lines line instruction e same = ap (outcome_of_lines v n) (sym e) ∙ same
 

@@ -12,7 +12,8 @@ ends_more (x ∷ xs) b = by (x == 10) (b == 10) (ends_more xs b)
   where
     by : (p q : Bool) → line_ends (xs ++ b ∷ []) ≡ (if q then line_ends xs + 1 else line_ends xs)
         → (if p then line_ends (xs ++ b ∷ []) + 1 else line_ends (xs ++ b ∷ []))
-        ≡ (if q then (if p then line_ends xs + 1 else line_ends xs) + 1 else (if p then line_ends xs + 1 else line_ends xs))
+        ≡ (if q then (if p then line_ends xs + 1 else line_ends xs) + 1
+        else (if p then line_ends xs + 1 else line_ends xs))
     by true true e = ap (λ n. n + 1) e
     by true false e = ap (λ n. n + 1) e
     by false true e = e
@@ -27,7 +28,8 @@ open_more (suc n) (x ∷ xs) b h = by (x == 10) (open_more n xs b) (open_more (s
     by : (p : Bool) → (line_ends xs < n → first_lines n (xs ++ b ∷ []) ≡ first_lines n xs ++ b ∷ [])
         → (line_ends xs < suc n → first_lines (suc n) (xs ++ b ∷ []) ≡ first_lines (suc n) xs ++ b ∷ [])
         → (if p then line_ends xs + 1 else line_ends xs) < suc n
-        → x ∷ first_lines (if p then n else suc n) (xs ++ b ∷ []) ≡ x ∷ (first_lines (if p then n else suc n) xs ++ b ∷ [])
+        → x ∷ first_lines (if p then n else suc n) (xs ++ b ∷ [])
+        ≡ x ∷ (first_lines (if p then n else suc n) xs ++ b ∷ [])
     by true fewer same h = ap (λ l. x ∷ l) (fewer (omega (arith, h)))
     by false fewer same h = ap (λ l. x ∷ l) (same h)
 

@@ -42,7 +42,8 @@ loop-at-preserved c =
     let more : line_ends (take (k + 1) text) ≡ (if get_or text k 0 == 10 then c.loop-at.ends + 1 else c.loop-at.ends) =
     ends_next text k 0 within
     ∙ ap (λ n. if get_or text k 0 == 10 then n + 1 else n) (sym h.ends) in
-    let grows : c.loop-at.ends ≤ c.ends_with-ends.result = rw c.ends_with-ends.ensures (no_fewer (get_or text k 0 == 10) _) in
+    let grows : c.loop-at.ends ≤ c.ends_with-ends.result =
+    rw c.ends_with-ends.ensures (no_fewer (get_or text k 0 == 10) _) in
     let few : c.ends_with-ends.result ≤ c.loop-at.ends + 1 =
     rw c.ends_with-ends.ensures (one_more (get_or text k 0 == 10) _) in
     record {

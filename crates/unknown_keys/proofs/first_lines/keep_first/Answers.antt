@@ -12,5 +12,6 @@ returns c =
     subst (λ (l : List ℕ). OnOk c.put_more.result (c.put_more.new.text.items ≡ l))
     (named_more text c.truncate.new.self.items first.result.length first.result.more
     (subst (λ (l : List ℕ). take first.result.length l ≡ first_lines 64 l) same first.ensures.lines)
-    (first.ensures.more ∙ ap (λ (l : List ℕ). line_ends l - 64) same) (λ e. omega (arith, e, c.if-more-eq0.false)) c.truncate.ensures.items)
+    (first.ensures.more ∙ ap (λ (l : List ℕ). line_ends l - 64) same)
+    (λ e. omega (arith, e, c.if-more-eq0.false)) c.truncate.ensures.items)
     c.put_more.ensures

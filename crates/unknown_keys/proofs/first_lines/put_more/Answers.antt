@@ -5,7 +5,8 @@ use Rattle.unknown_keys.specs.Unknown.{more_line}
 use Rattle.unknown_keys.proofs.first_lines.put_more.Goals as goal
 
 chain : (t a b c : List ℕ) → ((t ++ a) ++ b) ++ c ≡ t ++ (a ++ (b ++ c))
-chain t a b c = ap (λ l. l ++ c) (append_assoc t a b) ∙ append_assoc t (a ++ b) c ∙ ap (λ l. t ++ l) (append_assoc a b c)
+chain t a b c =
+    ap (λ l. l ++ c) (append_assoc t a b) ∙ append_assoc t (a ++ b) c ∙ ap (λ l. t ++ l) (append_assoc a b c)
 
 pub returns : goal.returns
 returns c =

@@ -9,7 +9,8 @@ use Rattle.session_state.proofs.modes.Mode.act.Goals as goal
 pub returns-in-Some : goal.returns-in-Some
 returns-in-Some c = λ config.
     let place : slice_get c.args.view.now.places 0 ≡ Some c.in-Some.place.now = search rules in
-    let first : slice_get c.args.view.now.places 0 ≡ Some c.from.result = place ∙ ap (λ p. Some p) (sym c.from.ensures) in
+    let first : slice_get c.args.view.now.places 0 ≡ Some c.from.result =
+    place ∙ ap (λ p. Some p) (sym c.from.ensures) in
     alone-acted config c.self.inside.is_multi c.self.inside.named _ c.args.view.now c.from.result c.args.action
     c.if-self.false (c.self.invariant c.if-self.false) first c.ask_alone.ensures
     ∙ ap (λ m. act (view_in config c.args.view.now) (negotiated_in config m) (action_value c.args.action))
