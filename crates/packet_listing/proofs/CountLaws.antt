@@ -7,8 +7,9 @@ use Rattle.slreader.specs.Dialogue.{ReaderValue}
 use Rattle.slreader.specs.Tallies.{TallyValue}
 use Rattle.packet_listing.specs.Lines.{OutputValue}
 use Rattle.packet_listing.specs.Pieces.{Takes, FailsIn}
+use Rattle.packet_listing.specs.Rounds.{ListedTo}
 use Rattle.packet_listing.specs.Whole.{CountsWritten}
-use Rattle.packet_listing.proofs.ReadLaws.{ListedTo, listed-on, put-back}
+use Rattle.packet_listing.proofs.ReadLaws.{listed-on, put-back}
 
 -- ---- all that came is told
 

@@ -2,6 +2,8 @@
 use Rattle.std.proofs.Common.{◌≡◌, ◌∙◌, ℕ, List, Bool, true, false, Ok, Err, refl, sym, subst}
 use Rattle.std.specs.Prelude.{IfErr, OnOk, Option, Result, if◌then◌else◌}
 use Rattle.slreader.specs.Dialogue.{ReaderValue}
+use Rattle.slreader.specs.declared.fault.ReaderFault.{ReaderFault}
+use Rattle.slreader.specs.Comings.{IsNotBegun}
 use Rattle.slreader.specs.declared.fault.ReaderFault.TheVariants.{Limit, OutOfMemory, NotAPacket, AllRefused, BadReply}
 use Rattle.slreader.specs.Tallies.{TallyValue}
 use Rattle.slreader.specs.Wants.{PlanValue, is_plan}
@@ -9,6 +11,14 @@ use Rattle.packet_listing.specs.declared.fault.ListingFault.{ListingFault}
 use Rattle.packet_listing.specs.declared.fault.ListingFault.TheVariants.{Reader, Read, Write, State}
 use Rattle.packet_listing.specs.Stops.{StopsListing}
 use Rattle.packet_listing.specs.Whole.{CountsWritten, IsNotBegunBy, is_told_before}
+
+-- a plan that the reader does not begin
+pub not-begun : (fault : ReaderFault) (plan : PlanValue) → IsNotBegun fault plan → IsNotBegunBy (Reader fault) plan
+not-begun Limit plan h = h
+not-begun OutOfMemory plan h = tt
+not-begun NotAPacket plan h = h
+not-begun AllRefused plan h = h
+not-begun BadReply plan h = h
 
 -- A plan that is not begun tells nothing.
 pub untold : (fault : ListingFault) (plan : PlanValue) → IsNotBegunBy fault plan → is_told_before fault ≡ false

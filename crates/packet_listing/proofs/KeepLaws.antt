@@ -14,8 +14,8 @@ use Rattle.packet_listing.specs.Keeping.{Steps, Tells}
 use Rattle.packet_listing.specs.Keeping.AreBehind.{Nothing, Last, Keep}
 use Rattle.packet_listing.specs.Keeping.Deed.{Flushed, Kept}
 use Rattle.packet_listing.specs.Keeping.IsStep.{Stays, Flushes, Keeps}
+use Rattle.packet_listing.specs.Rounds.{ListedTo}
 use Rattle.packet_listing.proofs.CountLaws.{counts-listed}
-use Rattle.packet_listing.proofs.ReadLaws.{ListedTo}
 
 -- ---- deeds, one after the other
 

@@ -4,4 +4,5 @@ pub mod OrderLaws
 pub mod CountLaws
 pub mod FurtherLaws
 pub mod KeepLaws
+pub mod RoundLaws
 pub mod FollowLaws

@@ -8,9 +8,10 @@ use Rattle.slreader.proofs.ReadingLaws.{given_from-append}
 use Rattle.slreader.proofs.SentLaws.{given_from-sent}
 use Rattle.packet_listing.specs.Lines.{LineStyle, OutputValue, with_all}
 use Rattle.packet_listing.specs.Pieces.{TellsFirst, WritesRecordsFirst}
+use Rattle.packet_listing.specs.Rounds.{ListedTo}
 use Rattle.packet_listing.specs.Whole.{RecordsFirst, lines_given, records_given}
 use Rattle.packet_listing.proofs.PieceLaws.{TakenTo}
-use Rattle.packet_listing.proofs.ReadLaws.{ListedTo, all-adds, lines-append, records-append}
+use Rattle.packet_listing.proofs.ReadLaws.{all-adds, lines-append, records-append}
 
 -- ---- one piece
 

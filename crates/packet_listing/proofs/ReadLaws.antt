@@ -18,6 +18,7 @@ use Rattle.packet_listing.specs.declared.fault.ListingFault.{ListingFault}
 use Rattle.packet_listing.specs.declared.fault.ListingFault.TheVariants.{Reader}
 use Rattle.packet_listing.specs.Lines.{LineStyle, OutputValue, refusal_at, with_given, with_all}
 use Rattle.packet_listing.specs.Pieces.{GoesOver, Takes, FailsIn}
+use Rattle.packet_listing.specs.Rounds.{ListedTo}
 use Rattle.packet_listing.specs.Whole.{Ends, IsWhy, StopsAt, is_told_before, line_given, lines_given, record_given}
 use Rattle.packet_listing.specs.Whole.{records_given}
 
@@ -72,20 +73,6 @@ join from s asked h k =
     let size : length (take s asked) ≡ s = length-take-le s asked k in
     sym (drop-append-le from (take s asked) (drop s asked) (omega (arith, size)))
     ∙ ap (drop from) (take-append-drop s asked)
-
--- Nothing was read beyond what came, the reader is where it leads, a beginning of what it asks was sent, and what it
--- gave is told.
-pub record ListedTo (r r1 : ReaderValue) (o o1 : OutputValue)
-    (left left1 sent sent1 lines lines1 records records1 : Option (List ℕ)) : Type 0 where
-  pub came : List ℕ
-  pub read : Consumes left left1 came
-  pub reader : r1 ≡ with_sent (read_on r came) r1.sent
-  pub from : r.sent ≤ r1.sent
-  pub within : r1.sent ≤ length (read_on r came).asked
-  pub asked : Appends sent sent1 (drop r.sent (take r1.sent (read_on r came).asked))
-  pub told : Appends lines lines1 (lines_given o.style (given_from r came))
-  pub kept : Appends records records1 (records_given (given_from r came))
-  pub output : o1 ≡ record { style = o.style; lines = []; records = [] }
 
 -- at the beginning
 pub listed-none : (r : ReaderValue) (o : OutputValue) (left sent lines records : Option (List ℕ))

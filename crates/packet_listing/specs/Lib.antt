@@ -1,6 +1,7 @@
 pub mod Faults
 pub mod Lines
 pub mod Pieces
+pub mod Rounds
 pub mod Stops
 pub mod Whole
 pub mod Keeping

@@ -7,6 +7,7 @@ mod keeping;
 mod memory_keeper;
 mod nowhere;
 mod output;
+mod pieces;
 mod reading;
 mod texts;
 

@@ -1,9 +1,6 @@
 //! A reader over a connection.
-ghost use Rattle.std.specs.Prelude.{◌≡◌, ◌≢◌, ◌⊎◌, ◌+◌, ◌<◌, ◌≤◌, [], drop, length, IfOk, OnOk, OnErr, IfErr};
-ghost use Rattle.std.specs.Prelude.{IfSome, if◌then◌else◌};
-ghost use Rattle.std.specs.Prelude.{IfNone, MatchOption, take, true, false, Err, ℕ, ◌∷◌};
-ghost use Rattle.std.specs.Io.KnownBytes.{Appends, Consumes, Keeps};
-ghost use Rattle.sl_io.specs.Counts.{IsMore, StopsWriting};
+ghost use Rattle.std.specs.Prelude.{◌≡◌, ◌≢◌, ◌⊎◌, ◌≤◌, ◌∷◌, [], false, length, true, vec_len, Err, IfErr, IfOk, OnErr, OnOk, ℕ};
+ghost use Rattle.std.specs.Prelude.{if◌then◌else◌};
 ghost use Rattle.slreader.specs.declared.fault.ReaderFault.TheVariants.{Limit, OutOfMemory};
 ghost use Rattle.slreader.specs.Dialogue.{begun};
 ghost use Rattle.slreader.specs.Dialogue.Stage.{Failed};
@@ -11,142 +8,24 @@ ghost use Rattle.slreader.specs.Views.{plan_value};
 ghost use Rattle.slreader.specs.Wants.{is_plan};
 ghost use Rattle.packet_listing.specs.declared.fault.ListingFault.TheVariants.{Reader, State};
 ghost use Rattle.packet_listing.specs.Lines.{nothing_told, style_of};
-ghost use Rattle.packet_listing.specs.Pieces.{FailsIn, Takes, TellsFirst, WritesRecordsFirst};
 ghost use Rattle.slreader.specs.GoingOn.{begun_at, plan_on};
 ghost use Rattle.packet_listing.specs.Whole.{IsNotBegunBy};
 ghost use Rattle.packet_listing.specs.Whole.{CountsWritten, Ends, RecordsFirst, StopsAt, is_told_before};
 ghost use Rattle.packet_listing.specs.Keeping.{CountsKeeping, EndsKept, KeepsCounted, Steps, Tells};
 ghost use Rattle.packet_listing.specs.Keeping.Deed.{Flushed, Kept};
-ghost use Rattle.packet_listing.specs.Stops.{AreBothQuiet, EndsReading, EndsReads, IsQuiet, OneStops, StopsOver};
-ghost use Rattle.packet_listing.specs.Stops.{writes};
+ghost use Rattle.packet_listing.specs.Stops.{EndsReads, StopsOver, writes};
 
 use crate::fault::ListingFault;
 use crate::keeping::{Keeper, NothingKept, keep_behind, keep_if_due};
 use crate::output::Output;
+use crate::pieces::read_once;
 use record_listing::Times;
-use sl_io::{Sink, Source, WriteFault, write_all};
-use slreader::{Plan, ReaderCore, ReaderFault, Tally, Want, What};
-use std::alloc::{AllocError, Global};
+use sl_io::{Sink, Source};
+use slreader::{Plan, ReaderCore, ReaderFault, Tally, Want};
+use std::alloc::Global;
 
 /// How many bytes are read at most by one call.
 const BLOCK: usize = 65_536;
-
-/// Writes all that is asked and was not sent.
-fn send<W: Sink>(core: &mut ReaderCore, writer: &mut W) -> Result<(), WriteFault>
-    ensures written { OnOk result (Appends (W.written writer.old) (W.written writer.new)
-        (drop core.old.sent core.old.asked)) }
-    ensures sent { OnOk result
-        (core.new ≡ record core.old { sent = core.old.sent + length (drop core.old.sent core.old.asked) }) }
-    ensures quiet { OnOk result (IsQuiet (W.failures writer.old) (W.failures writer.new)
-        (W.empty_writes writer.old) (W.empty_writes writer.new)) }
-    ensures stopped { OnErr result (StopsWriting (W.failures writer.old) (W.failures writer.new)
-        (W.empty_writes writer.old) (W.empty_writes writer.new)) }
-{
-    let outgoing = core.outgoing();
-    match write_all(writer, outgoing) {
-        Ok(()) => {
-            let count = outgoing.len();
-            core.sent(count);
-            Ok(())
-        }
-        Err(fault) => Err(fault),
-    }
-}
-
-/// Writes what is told: the records, and their lines only once the writer has taken all of the records.
-fn write_output<O: Sink, P: Sink>(
-    output: &mut Output,
-    out: &mut O,
-    records: &mut P,
-) -> Result<(), WriteFault>
-    ensures lines { OnOk result (Appends (O.written out.old) (O.written out.new) output.old.lines) }
-    ensures records { OnOk result (Appends (P.written records.old) (P.written records.new) output.old.records) }
-    ensures cleared { OnOk result (output.new ≡ record output.old { lines = []; records = [] }) }
-    ensures quiet { OnOk result (AreBothQuiet
-        (writes (O.failures out.old) (O.empty_writes out.old)) (writes (O.failures out.new) (O.empty_writes out.new))
-        (writes (P.failures records.old) (P.empty_writes records.old))
-        (writes (P.failures records.new) (P.empty_writes records.new))) }
-    ensures stopped { OnErr result (OneStops
-        (writes (O.failures out.old) (O.empty_writes out.old)) (writes (O.failures out.new) (O.empty_writes out.new))
-        (writes (P.failures records.old) (P.empty_writes records.old))
-        (writes (P.failures records.new) (P.empty_writes records.new))) }
-    ensures order { OnErr result (WritesRecordsFirst output.old
-        (O.written out.old) (O.written out.new) (P.written records.old) (P.written records.new)) }
-{
-    match write_all(records, output.records()) {
-        Ok(()) => {}
-        Err(fault) => return Err(fault),
-    }
-    match write_all(out, output.lines()) {
-        Ok(()) => {}
-        Err(fault) => return Err(fault),
-    }
-    output.clear();
-    Ok(())
-}
-
-/// Reads a piece, and tells what it gives. Answers whether the transfer is over.
-fn take_piece(core: &mut ReaderCore, output: &mut Output, piece: &[u8]) -> Result<bool, ReaderFault>
-    requires plan { core.old.stage ≢ Failed Limit }
-    ensures taken { IfOk result (λ is_over. Takes core.old core.new output.old output.new piece.now is_over) }
-    ensures failed { IfErr result (λ fault. fault ≢ OutOfMemory
-        → FailsIn core.old core.new output.old output.new piece.now fault) }
-    ensures plan { IfErr result (λ fault. fault ≢ Limit) }
-    ensures first { TellsFirst core.old output.old output.new piece.now }
-{
-    let mut left = piece;
-    'given: loop {
-        let came = match core.incoming(left) {
-            Ok(came) => came,
-            Err(fault) => return Err(fault),
-        };
-        match came.what {
-            What::Nothing => return Ok(false),
-            What::End => return Ok(true),
-            what => match output.put(what) {
-                Ok(()) => {}
-                Err(_) => return Err(ReaderFault::OutOfMemory),
-            },
-        }
-        left = &left[came.used..];
-    }
-}
-
-/// One read. Answers how many bytes it gave; None where it failed, or gave none.
-fn read_block<R: Source>(reader: &mut R, block: &mut [u8]) -> Option<usize>
-    requires { 0 < length block.old }
-    ensures bound { IfSome result (λ count. count ≤ length block.new) }
-    ensures consumed { IfSome result
-        (λ count. Consumes (R.left reader.old) (R.left reader.new) (take count block.new)) }
-    ensures kept { IfNone result (Keeps (R.left reader.old) (R.left reader.new)) }
-    ensures call { IsMore (R.calls reader.old) (R.calls reader.new) 1 }
-    ensures ended { MatchOption result
-        (EndsReading (R.failures reader.old) (R.failures reader.new) (R.left reader.new))
-        (λ _. R.failures reader.new ≡ R.failures reader.old) }
-{
-    match reader.read(block) {
-        Ok(0) => None,
-        Ok(count) => Some(count),
-        Err(_) => None,
-    }
-}
-
-/// Sends what was asked last: an answer may come before its command was sent.
-fn finish<W: Sink>(core: &mut ReaderCore, writer: &mut W) -> Result<(), ListingFault>
-    ensures counted { OnOk result (core.new.tally ≡ core.old.tally) }
-    ensures written { OnOk result (Appends (W.written writer.old) (W.written writer.new)
-        (drop core.old.sent core.old.asked)) }
-    ensures quiet { OnOk result (IsQuiet (W.failures writer.old) (W.failures writer.new)
-        (W.empty_writes writer.old) (W.empty_writes writer.new)) }
-    ensures fault { IfErr result (λ fault. fault ≡ ListingFault.Write) }
-    ensures stopped { OnErr result (StopsWriting (W.failures writer.old) (W.failures writer.new)
-        (W.empty_writes writer.old) (W.empty_writes writer.new)) }
-{
-    match send(core, writer) {
-        Ok(()) => Ok(()),
-        Err(_) => Err(ListingFault::Write),
-    }
-}
 
 /// Sends, writes and reads until the transfer is over. Meanwhile what was counted is kept whenever that is due.
 fn read_blocks<R: Source, W: Sink, O: Sink, P: Sink, K: Keeper<P>>(
@@ -190,23 +69,10 @@ fn read_blocks<R: Source, W: Sink, O: Sink, P: Sink, K: Keeper<P>>(
 {
     let mut kept = core.records();
     'reads: for _ in 0..u64::MAX {
-        match send(core, writer) {
-            Ok(()) => {}
-            Err(_) => return Err(ListingFault::Write),
-        }
-        let count = match read_block(reader, block) {
-            Some(count) => count,
-            None => return Err(ListingFault::Read),
-        };
-        let taken = take_piece(core, output, &block[..count]);
-        match write_output(output, out, records) {
-            Ok(()) => {}
-            Err(_) => return Err(ListingFault::Write),
-        }
-        match taken {
-            Ok(true) => return finish(core, writer),
+        match read_once(core, output, block, reader, writer, out, records) {
+            Ok(true) => return Ok(()),
             Ok(false) => {}
-            Err(fault) => return Err(ListingFault::Reader(fault)),
+            Err(fault) => return Err(fault),
         }
         match keep_if_due(core, records, keeper, &mut kept) {
             Ok(()) => {}
@@ -214,6 +80,55 @@ fn read_blocks<R: Source, W: Sink, O: Sink, P: Sink, K: Keeper<P>>(
         }
     }
     Err(ListingFault::Read)
+}
+
+/// What a reading begins with: a reader, its output, and a block to read into.
+#[derive(Drop)]
+struct Begun {
+    core: ReaderCore,
+    output: Output,
+    block: Vec<u8>,
+}
+
+/// An output in which nothing is told, and a block to read into.
+fn output_for(
+    alloc: Global,
+    times: Times,
+    plan: &Plan<'_>,
+) -> Result<(Output, Vec<u8>), ListingFault>
+    ensures output { IfOk result (λ made. made.0 ≡ nothing_told times (plan_value plan.now)) }
+    ensures block { IfOk result (λ made. vec_len made.1 ≡ 65536) }
+    ensures memory { IfErr result (λ fault. fault ≡ Reader OutOfMemory) }
+{
+    let Ok(output) = Output::new(alloc, times, plan) else {
+        return Err(ListingFault::Reader(ReaderFault::OutOfMemory));
+    };
+    match vec![in alloc; 0; BLOCK] {
+        Ok(block) => Ok((output, block)),
+        Err(_) => Err(ListingFault::Reader(ReaderFault::OutOfMemory)),
+    }
+}
+
+/// What a reading by a plan begins with.
+fn begin(alloc: Global, times: Times, plan: Plan<'_>) -> Result<Begun, ListingFault>
+    ensures core { IfOk result (λ b. b.core ≡ begun (plan_value plan.entry)) }
+    ensures output { IfOk result (λ b. b.output ≡ nothing_told times (plan_value plan.entry)) }
+    ensures block { IfOk result (λ b. vec_len b.block ≡ 65536) }
+    ensures plan { OnOk result (is_plan (plan_value plan.entry) ≡ true) }
+    ensures fault { IfErr result (λ fault. IsNotBegunBy fault (plan_value plan.entry)) }
+{
+    let (output, block) = match output_for(alloc, times, &plan) {
+        Ok(made) => made,
+        Err(fault) => return Err(fault),
+    };
+    match ReaderCore::new(alloc, plan) {
+        Ok(core) => Ok(Begun {
+            core,
+            output,
+            block,
+        }),
+        Err(fault) => Err(ListingFault::Reader(fault)),
+    }
 }
 
 /// Asks a server for what a plan wants, and lists what it sends (SeedLink 3), a line a packet: `SEQ NET STA LOC CHA
@@ -266,25 +181,20 @@ pub fn read_over<R: Source, W: Sink, O: Sink, P: Sink>(
         (writes (P.failures records.old) (P.empty_writes records.old))
         (writes (P.failures records.new) (P.empty_writes records.new))) }
 {
-    let Ok(mut output) = Output::new(alloc, times, &plan) else {
-        return Err(ListingFault::Reader(ReaderFault::OutOfMemory));
+    let mut begun = match begin(alloc, times, plan) {
+        Ok(begun) => begun,
+        Err(refused) => return Err(refused),
     };
-    let Ok(mut block) = vec![in alloc; 0; BLOCK] else {
-        return Err(ListingFault::Reader(ReaderFault::OutOfMemory));
-    };
-    match ReaderCore::new(alloc, plan) {
-        Ok(mut core) => read_blocks(
-            &mut core,
-            &mut output,
-            &mut block,
-            reader,
-            writer,
-            out,
-            records,
-            &mut NothingKept,
-        ),
-        Err(fault) => Err(ListingFault::Reader(fault)),
-    }
+    read_blocks(
+        &mut begun.core,
+        &mut begun.output,
+        &mut begun.block,
+        reader,
+        writer,
+        out,
+        records,
+        &mut NothingKept,
+    )
 }
 
 /// Whether all of what was given is told at a fault: it is none of the plan, of memory, of a write or of what is kept.
@@ -312,15 +222,16 @@ fn is_told(outcome: &Result<(), ListingFault>) -> bool
     }
 }
 
-/// A reader by the plan by which wants go on, which counts on, and its output.
-fn begin(
+/// What a reading begins with that goes on: a reader by the plan by which wants go on, which counts on.
+fn begin_further(
     alloc: Global,
     times: Times,
     wants: &[Want<'_>],
     tally: &Tally,
-) -> Result<(ReaderCore, Output), ListingFault>
-    ensures core { IfOk result (λ begun. begun.0 ≡ begun_at (plan_on tally.now wants.now) tally.now) }
-    ensures output { IfOk result (λ begun. begun.1 ≡ nothing_told times (plan_on tally.now wants.now)) }
+) -> Result<Begun, ListingFault>
+    ensures core { IfOk result (λ b. b.core ≡ begun_at (plan_on tally.now wants.now) tally.now) }
+    ensures output { IfOk result (λ b. b.output ≡ nothing_told times (plan_on tally.now wants.now)) }
+    ensures block { IfOk result (λ b. vec_len b.block ≡ 65536) }
     ensures fault { IfErr result (λ fault. IsNotBegunBy fault (plan_on tally.now wants.now)) }
 {
     let Ok(plan) = Plan::going_on(alloc, wants, tally) else {
@@ -329,11 +240,16 @@ fn begin(
     let Ok(counted) = tally.copy(alloc) else {
         return Err(ListingFault::Reader(ReaderFault::OutOfMemory));
     };
-    let Ok(output) = Output::new(alloc, times, &plan) else {
-        return Err(ListingFault::Reader(ReaderFault::OutOfMemory));
+    let (output, block) = match output_for(alloc, times, &plan) {
+        Ok(made) => made,
+        Err(fault) => return Err(fault),
     };
     match ReaderCore::going_on(alloc, plan, counted) {
-        Ok(core) => Ok((core, output)),
+        Ok(core) => Ok(Begun {
+            core,
+            output,
+            block,
+        }),
         Err(ReaderFault::Limit) => Err(ListingFault::Reader(ReaderFault::Limit)),
         Err(_) => Err(ListingFault::Reader(ReaderFault::OutOfMemory)),
     }
@@ -369,10 +285,15 @@ fn keep_at<P: Sink, K: Keeper<P>>(
 }
 
 /// What a reader counted takes a tally's place, if all of what was given is told.
-fn count(tally: &mut Tally, core: ReaderCore, is_told: bool)
-    ensures { tally.new ≡ (if is_told then core.tally else tally.old) }
+fn count(tally: &mut Tally, begun: Begun, is_told: bool)
+    ensures { tally.new ≡ (if is_told then begun.core.tally else tally.old) }
 {
     if is_told {
+        let Begun {
+            core,
+            output: _,
+            block: _,
+        } = begun;
         *tally = core.into_tally();
     }
 }
@@ -432,24 +353,21 @@ pub fn read_further<R: Source, W: Sink, O: Sink, P: Sink, K: Keeper<P>>(
         (writes (P.failures records.old) (P.empty_writes records.old))
         (writes (P.failures records.new) (P.empty_writes records.new))) }
 {
-    let Ok(mut block) = vec![in alloc; 0; BLOCK] else {
-        return Err(ListingFault::Reader(ReaderFault::OutOfMemory));
-    };
-    let (mut core, mut output) = match begin(alloc, times, wants, tally) {
+    let mut begun = match begin_further(alloc, times, wants, tally) {
         Ok(begun) => begun,
         Err(fault) => return Err(fault),
     };
     let read = read_blocks(
-        &mut core,
-        &mut output,
-        &mut block,
+        &mut begun.core,
+        &mut begun.output,
+        &mut begun.block,
         reader,
         writer,
         out,
         records,
         keeper,
     );
-    let outcome = keep_at(read, &core, records, keeper);
-    count(tally, core, is_told(&outcome));
+    let outcome = keep_at(read, &begun.core, records, keeper);
+    count(tally, begun, is_told(&outcome));
     outcome
 }

@@ -2,7 +2,7 @@
 use Rattle.std.proofs.Common.{◌≡◌}
 use Rattle.sl_io.proofs.TotalLemmas.{Made}
 use Rattle.packet_listing.specs.Keeping.{KeepsCounted}
-use Rattle.packet_listing.proofs.ReadLaws.{ListedTo}
+use Rattle.packet_listing.specs.Rounds.{ListedTo}
 use Rattle.packet_listing.proofs.reading.read_blocks.Given as goal
 
 abbrev pub invariant-reads : goal.invariant-reads

@@ -16,9 +16,6 @@ on-ok : {T E : Type 0} → (P Q : Type 0) → (r : Result T E) → OnOk r P → 
 on-ok P Q (Ok x) h f = f h
 on-ok P Q (Err e) h f = tt
 
-pub returns-in_default-clause-order : goal.returns-in_default-clause-order
-returns-in_default-clause-order g c = nothing-written _ _ _ _ _
-
 pub returns-in-Err-clause-told : goal.returns-in-Err-clause-told
 returns-in-Err-clause-told g c = λ told. never _ (untold c.in-Err.fault _ c.in-Err.ensures.fault) told
 
@@ -42,9 +39,6 @@ returns-in-Err-clause-stopped g c =
 pub returns-in-Err-clause-behind : goal.returns-in-Err-clause-behind
 returns-in-Err-clause-behind g c = keeps-none _ _
 
-pub returns-in_default-clause-behind : goal.returns-in_default-clause-behind
-returns-in_default-clause-behind g c = keeps-none _ _
-
 pub returns-in-Err-clause-last_at : goal.returns-in-Err-clause-last_at
 returns-in-Err-clause-last_at g c = λ told. never _ (untold c.in-Err.fault _ c.in-Err.ensures.fault) told
 
@@ -55,27 +49,27 @@ pub returns-clause-ends : goal.returns-clause-ends
 returns-clause-ends g c =
     same-ok _ c.read_blocks-read.result c.keep_at-outcome.result c.keep_at-outcome.ensures.outcome
     (on-ok _ _ c.read_blocks-read.result c.read_blocks-read.ensures.ends (λ h.
-    ends-as _ _ _ _ _ _ _ _ _ _ _ _ c.in-Ok-begin.ensures.core
-    (ap (λ (o : OutputValue). o.style) c.in-Ok-begin.ensures.output) h))
+    ends-as _ _ _ _ _ _ _ _ _ _ _ _ c.in-Ok.ensures.core
+    (ap (λ (o : OutputValue). o.style) c.in-Ok.ensures.output) h))
 
 pub returns-clause-told : goal.returns-clause-told
 returns-clause-told g c =
     same-err _ c.read_blocks-read.result c.keep_at-outcome.result c.keep_at-outcome.ensures.outcome
     (λ told. never false refl told)
     (on-err _ _ c.read_blocks-read.result c.read_blocks-read.ensures.told (λ fault h told.
-    stops-as fault _ _ _ _ _ _ _ _ _ _ _ _ c.in-Ok-begin.ensures.core
-    (ap (λ (o : OutputValue). o.style) c.in-Ok-begin.ensures.output) (h told)))
+    stops-as fault _ _ _ _ _ _ _ _ _ _ _ _ c.in-Ok.ensures.core
+    (ap (λ (o : OutputValue). o.style) c.in-Ok.ensures.output) (h told)))
 
 pub returns-clause-counted : goal.returns-clause-counted
 returns-clause-counted g c =
-    counted-ok _ _ _ _ c.keep_at-outcome.result _ _ _ _ c.in-Ok-begin.ensures.core c.is_told.ensures.ok
+    counted-ok _ _ _ _ c.keep_at-outcome.result _ _ _ _ c.in-Ok.ensures.core c.is_told.ensures.ok
     c.count.ensures
     (same-ok _ c.read_blocks-read.result c.keep_at-outcome.result c.keep_at-outcome.ensures.outcome
     c.read_blocks-read.ensures.counted)
 
 pub returns-clause-counts : goal.returns-clause-counts
 returns-clause-counts g c =
-    counted-err _ _ _ _ c.keep_at-outcome.result _ _ _ _ c.in-Ok-begin.ensures.core c.is_told.ensures.fault
+    counted-err _ _ _ _ c.keep_at-outcome.result _ _ _ _ c.in-Ok.ensures.core c.is_told.ensures.fault
     c.count.ensures
     (same-err _ c.read_blocks-read.result c.keep_at-outcome.result c.keep_at-outcome.ensures.outcome
     (λ told. never false refl told) c.read_blocks-read.ensures.counts)
@@ -95,7 +89,7 @@ returns-clause-stopped g c =
 
 pub returns-clause-behind : goal.returns-clause-behind
 returns-clause-behind g c =
-    keeps-at _ _ c.read_blocks-read.result _ _ _ _ _ _ c.in-Ok-begin.ensures.core c.read_blocks-read.ensures.counted
+    keeps-at _ _ c.read_blocks-read.result _ _ _ _ _ _ c.in-Ok.ensures.core c.read_blocks-read.ensures.counted
     c.read_blocks-read.ensures.counts c.keep_at-outcome.ensures.ok c.keep_at-outcome.ensures.told
     c.keep_at-outcome.ensures.untold c.read_blocks-read.ensures.behind
 
@@ -114,6 +108,6 @@ returns-clause-keeper g c = c.keep_at-outcome.ensures.keeper _ c.read_blocks-rea
 
 pub returns-clause-order : goal.returns-clause-order
 returns-clause-order g c =
-    first-as _ _ _ _ _ _ _ _ _ _ c.in-Ok-begin.ensures.core
-    (ap (λ (o : OutputValue). o.style) c.in-Ok-begin.ensures.output)
+    first-as _ _ _ _ _ _ _ _ _ _ c.in-Ok.ensures.core
+    (ap (λ (o : OutputValue). o.style) c.in-Ok.ensures.output)
     c.read_blocks-read.ensures.order

@@ -4,7 +4,7 @@ use Rattle.slreader.specs.Dialogue.Outcome.{Gave}
 use Rattle.slreader.specs.Whats.{what_value}
 use Rattle.packet_listing.proofs.PieceLaws.{takes-nothing, takes-end, taken-on, fails-in, taken-no-limit}
 use Rattle.packet_listing.proofs.OrderLaws.{tells-first, tells-as-before}
-use Rattle.packet_listing.proofs.reading.take_piece.Goals as goal
+use Rattle.packet_listing.proofs.pieces.take_piece.Goals as goal
 
 pub returns-in-Err-clause-failed : goal.returns-in-Err-clause-failed
 returns-in-Err-clause-failed c =

@@ -1,6 +1,6 @@
 use Rattle.std.proofs.Common.{length}
 use Rattle.packet_listing.proofs.PieceLaws.{TakenTo}
-use Rattle.packet_listing.proofs.reading.take_piece.Given as goal
+use Rattle.packet_listing.proofs.pieces.take_piece.Given as goal
 
 -- The dialogue went on over what came before the rest of the piece.
 abbrev pub invariant-given : goal.invariant-given
