@@ -34,35 +34,54 @@ pub fn check_file<'a, R: Files<File = File> + Print + Eprint + Clock + AllocGlob
     options: CheckOptions<'a>,
 ) -> Result<(), Incident<'a>> {
     match options.config {
-        Some(config) => {
-            let config = config_at(rt, config)?;
-            check_at(rt, path, options, &ConfiguredStations::new(&config))
-        }
+        Some(config) => check_by(rt, path, options, config),
         None => check_at(rt, path, options, &AllStations),
     }
 }
 
-/// The same, of a file that may have records of these stations. How far it is is shown at a terminal, unless lines of
-/// records show it there.
+/// The same, of a file that may have records of the stations of the configuration in another one.
+fn check_by<'a, R: Files<File = File> + Print + Eprint + Clock + AllocGlobal>(
+    rt: &R,
+    path: &'a str,
+    options: CheckOptions<'a>,
+    config: &'a str,
+) -> Result<(), Incident<'a>> {
+    match config_at(rt, config) {
+        Ok(config) => check_at(rt, path, options, &ConfiguredStations::new(&config)),
+        Err(incident) => Err(incident),
+    }
+}
+
+/// The same, of a file that may have records of these stations.
 fn check_at<'a, R: Files<File = File> + Print + Eprint + Clock + AllocGlobal, S: Stations>(
     rt: &R,
     path: &'a str,
     options: CheckOptions<'a>,
     stations: &S,
 ) -> Result<(), Incident<'a>> {
-    let file = open(rt, path)?;
+    match open(rt, path) {
+        Ok(file) => check_open(rt, path, options, stations, file),
+        Err(incident) => Err(incident),
+    }
+}
+
+/// The same, of a file that is open. How far it is is shown at a terminal, unless lines of records show it there.
+fn check_open<'a, R: Print + Eprint + Clock + AllocGlobal, S: Stations>(
+    rt: &R,
+    path: &'a str,
+    options: CheckOptions<'a>,
+    stations: &S,
+    file: File,
+) -> Result<(), Incident<'a>> {
     let size = size_of(&file);
     let is_shown = is_terminal() && (options.is_quiet || !is_output_terminal());
     let mut watched = Watched::new(rt, ReasonKeeper::new(file), size, is_shown);
     let checked = list(rt, listing_options(options), stations, &mut watched);
-    let file = watched.end();
+    let reason = watched.end().into_reason();
     match checked {
         Ok(None) => Ok(()),
         Ok(Some(finding)) => Err(Incident::of_records(path, finding)),
-        Err(fault) => {
-            let incident = Failure::Check(fault).in_file(path);
-            Err(incident.at_input(path, file.into_reason()))
-        }
+        Err(fault) => Err(Failure::Check(fault).in_file(path).at_input(path, reason)),
     }
 }
 

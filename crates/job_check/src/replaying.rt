@@ -17,7 +17,7 @@ use job_base::{ReasonKeeper, config_at, open};
 use server_core::{Event, Handed, run};
 use sl_io::{Outer, Sink, Source, StreamFault, read_all, write_all};
 use std::alloc::{AllocError, Global};
-use std::io;
+use std::io::{self, Read};
 use std::rt::Files;
 
 /// How a replay writes what happens.
@@ -144,6 +144,35 @@ pub fn replay<R: Source, W: Sink>(
     }
 }
 
+/// Replays a script, and writes its output to the standard output.
+fn write_output<R: Print + AllocGlobal, S: Source>(
+    rt: &R,
+    style: ReplayStyle,
+    config: Config,
+    script: &mut S,
+) -> Result<(), ReplayFault> {
+    let mut out = Outer::new(io::writer(rt));
+    replay(rt.alloc(), style, config, script, &mut out)
+}
+
+/// The same of a script in a file that is open.
+fn replay_open<'a, R: Print + AllocGlobal, F: Read + Drop>(
+    rt: &R,
+    style: ReplayStyle,
+    config: Config,
+    script: &'a str,
+    file: F,
+) -> Result<(), Incident<'a>> {
+    let mut file = Outer::new(ReasonKeeper::new(file));
+    match write_output(rt, style, config, &mut file) {
+        Ok(()) => Ok(()),
+        Err(fault) => {
+            let incident = Failure::Replay(fault).in_file(script);
+            Err(incident.at_input(script, file.into_inner().into_reason()))
+        }
+    }
+}
+
 /// Writes the output of a script. The configuration is judged before the script is opened.
 pub fn replay_files<'a, R: Files + Print + AllocGlobal>(
     rt: &R,
@@ -151,14 +180,12 @@ pub fn replay_files<'a, R: Files + Print + AllocGlobal>(
     config: &'a str,
     script: &'a str,
 ) -> Result<(), Incident<'a>> {
-    let config = config_at(rt, config)?;
-    let mut file = Outer::new(ReasonKeeper::new(open(rt, script)?));
-    let mut out = Outer::new(io::writer(rt));
-    match replay(rt.alloc(), style, config, &mut file, &mut out) {
-        Ok(()) => Ok(()),
-        Err(fault) => {
-            let incident = Failure::Replay(fault).in_file(script);
-            Err(incident.at_input(script, file.into_inner().into_reason()))
-        }
+    let config = match config_at(rt, config) {
+        Ok(config) => config,
+        Err(incident) => return Err(incident),
+    };
+    match open(rt, script) {
+        Ok(file) => replay_open(rt, style, config, script, file),
+        Err(incident) => Err(incident),
     }
 }

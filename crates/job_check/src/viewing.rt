@@ -84,24 +84,46 @@ fn write_view<R: Print + AllocGlobal>(
     }
 }
 
-/// The same of the configuration in a file, whose unknown keys are named before.
+/// Names the keys of a configuration that are not known, and writes the view of it.
+fn view_config<'a, R: Print + Eprint + AllocGlobal>(
+    rt: &R,
+    path: &'a str,
+    config: &Config,
+    text: &[u8],
+    address: Option<Ipv4Addr>,
+) -> Result<(), Incident<'a>> {
+    match tell_unknown_keys(rt, path, config, text) {
+        Ok(()) => {}
+        Err(incident) => return Err(incident),
+    }
+    match write_view(rt, config, text, address) {
+        Ok(()) => Ok(()),
+        Err(fault) => Err(Failure::Check(fault).in_file(path)),
+    }
+}
+
+/// The same of the configuration that the text of a file spells.
+fn view_text<'a, R: Print + Eprint + AllocGlobal>(
+    rt: &R,
+    path: &'a str,
+    text: &[u8],
+    address: Option<Ipv4Addr>,
+) -> Result<(), Incident<'a>> {
+    match config_in(rt.alloc(), path, text) {
+        Ok(config) => view_config(rt, path, &config, text, address),
+        Err(incident) => Err(incident),
+    }
+}
+
+/// The same of the configuration in a file.
 fn view_at<'a, R: Files + Print + Eprint + AllocGlobal>(
     rt: &R,
     path: &'a str,
     address: Option<Ipv4Addr>,
 ) -> Result<(), Incident<'a>> {
-    let text = match text_at(rt, path) {
-        Ok(text) => text,
-        Err(incident) => return Err(incident),
-    };
-    let config = match config_in(rt.alloc(), path, text.as_slice()) {
-        Ok(config) => config,
-        Err(incident) => return Err(incident),
-    };
-    tell_unknown_keys(rt, path, &config, text.as_slice())?;
-    match write_view(rt, &config, text.as_slice(), address) {
-        Ok(()) => Ok(()),
-        Err(fault) => Err(Failure::Check(fault).in_file(path)),
+    match text_at(rt, path) {
+        Ok(text) => view_text(rt, path, text.as_slice(), address),
+        Err(incident) => Err(incident),
     }
 }
 
