@@ -1,7 +1,9 @@
 //! Files of records go to a server.
 use crate::feeding::{Feed, SentFeed};
 use incidents::{Failure, Incident, Site};
-use job_base::{ReasonKeeper, Watched, connection, is_terminal, open, server_of, size_of};
+use job_base::{
+    ReasonKeeper, ServerAddress, Watched, connection, is_terminal, open, server_of, size_of,
+};
 use record_listing::FeedTally;
 use sl_io::Outer;
 use std::fs::File;
@@ -90,6 +92,39 @@ fn send_over<'a, R: Files<File = File> + Eprint + Clock, T: OpenStream + io::Wri
     }
 }
 
+/// Connects to a server, sends it the records of files, of which the first is open, and shuts the sending half of the
+/// connection.
+fn send_open<'a, R: Files<File = File> + Eprint + Clock + Net>(
+    rt: &R,
+    server: ServerAddress<'a>,
+    file: File,
+    first: &'a str,
+    others: &[&'a str],
+    tally: &mut FeedTally,
+) -> Result<SentFeed<R::Stream>, Incident<'a>> {
+    match connection(rt, server) {
+        Ok(stream) => {
+            let feed = Feed::new(stream);
+            send_over(rt, feed, tally, file, first, others, server.word)
+        }
+        Err(incident) => Err(incident),
+    }
+}
+
+/// The same of files of which none is open yet.
+fn send_from<'a, R: Files<File = File> + Eprint + Clock + Net>(
+    rt: &R,
+    server: ServerAddress<'a>,
+    first: &'a str,
+    others: &[&'a str],
+    tally: &mut FeedTally,
+) -> Result<SentFeed<R::Stream>, Incident<'a>> {
+    match input(rt, first) {
+        Ok(file) => send_open(rt, server, file, first, others, tally),
+        Err(incident) => Err(incident),
+    }
+}
+
 /// Sends the records of files to a server, one file after the other, and shuts the sending half of the connection. The
 /// first file is opened before the connection is made.
 pub fn send_files<'a, R: Files<File = File> + Eprint + Clock + Net>(
@@ -98,13 +133,11 @@ pub fn send_files<'a, R: Files<File = File> + Eprint + Clock + Net>(
     files: &[&'a str],
     tally: &mut FeedTally,
 ) -> Result<Option<SentFeed<R::Stream>>, Incident<'a>> {
-    let endpoint = server_of(server)?;
+    let server = server_of(server)?;
     let Some((first, others)) = files.split_first() else {
         return Ok(None);
     };
-    let file = input(rt, first)?;
-    let feed = Feed::new(connection(rt, endpoint)?);
-    match send_over(rt, feed, tally, file, first, others, server) {
+    match send_from(rt, server, first, others, tally) {
         Ok(sent) => Ok(Some(sent)),
         Err(incident) => Err(incident),
     }
