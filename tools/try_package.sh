@@ -184,7 +184,7 @@ find "$group" -depth -type d -exec rmdir {} + 2>/dev/null || true
 EOF
 unshare --mount --propagation private sh "$bare/root/enter" "$bare" || fail "systemd was not started"
 cat "$bare/root/said"
-for it in "after a feed: seedlinkd active, restarts 0" "after a feed: seedlinkd-archive@127.0.0.1:18000 active, restarts 0" "refused CH DAVOX" \
+for it in "after a feed: seedlinkd active, restarts 0" "after a feed: seedlinkd-archive@127.0.0.1:18000 active, restarts 0" "seedlinkd: refused CH DAVOX" \
     "GE APE -- BHZ D 15 " "after an upgrade: seedlinkd active" "after an upgrade: seedlinkd-archive@127.0.0.1:18000 active" "after a removal: no program"; do
     grep -q "^$it" "$bare/root/said" || fail "under systemd: no line '$it'"
 done

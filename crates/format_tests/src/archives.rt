@@ -1,9 +1,9 @@
 //! Where records are put in an archive, and the day in which a moment lies.
 use crate::worked::{Changes, HEAD, record_of};
-use record_archive::{Archive, MemoryFolders, Stored};
+use record_archive::{Archive, MemoryFolders, StationCodes, Stored};
 use sl_io::write_all;
 use sl_time::{DayOfYear, Tick, day_of};
-use std::alloc::Global;
+use std::alloc::{AllocError, Global};
 
 /// The folder and the file of a record.
 type Place = (&'static [u8], &'static [u8]);
@@ -61,19 +61,31 @@ static PLACES: [(Changes<'static>, Place); 6] = [
     ),
 ];
 
-/// Changes with which it has no place: its codes, a `/`, a NUL, nothing, and no record.
-static UNPLACED: [Changes<'static>; 6] = [
+/// Changes with which it has no place: its codes, a `/`, a NUL, nothing, no record, and a station and a network that
+/// nobody wants.
+static UNPLACED: [Changes<'static>; 8] = [
     &[(8, b'.'), (9, b'.'), (10, b' ')],
     &[(18, b'.'), (19, b' ')],
     &[(14, b'/')],
     &[(15, 0)],
     &[(15, b' '), (16, b' '), (17, b' ')],
     &[(0, b'x')],
+    &[(9, b'Q')],
+    &[(19, b'F')],
 ];
+
+/// The stations whose records are put.
+fn stations(alloc: Global) -> Result<Vec<StationCodes>, AllocError> {
+    let mut stations = Vec::new(alloc);
+    stations.push(StationCodes::new(alloc, b"X", b"APE")?)?;
+    stations.push(StationCodes::new(alloc, b"GE", b"APE")?)?;
+    Ok(stations)
+}
 
 /// An archive in memory to which one record was written, in pieces of 100 bytes; None if that failed.
 fn archive_of(alloc: Global, record: &[u8; 512]) -> Option<Archive<MemoryFolders>> {
-    let mut archive = Archive::new(alloc, MemoryFolders::new(alloc));
+    let stations = stations(alloc).ok()?;
+    let mut archive = Archive::new(alloc, MemoryFolders::new(alloc), stations);
     for piece in record.chunks(100) {
         write_all(&mut archive, piece).ok()?;
     }

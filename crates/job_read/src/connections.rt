@@ -1,4 +1,5 @@
 //! Connections to servers that are asked one after the other.
+use crate::asking::{Renewal, RenewedReader};
 use crate::reading::{Places, Reading, unlisted};
 use crate::sides::{AnswerCounter, CommandWriter};
 use incidents::{Failure, Incident};
@@ -54,8 +55,11 @@ impl<'r, 'a, 'w, R: Eprint + Clock + Net> Connections<'r, 'a, 'w, R> {
     }
 }
 
+/// What comes over a connection, as it is read.
+type ConnectionReader<'r, R, S> = Outer<AnswerCounter<RenewedReader<'r, R, S>>>;
+
 /// What comes over a connection, and where commands go.
-type Connected<S> = (Outer<AnswerCounter<S>>, Outer<CommandWriter<S>>);
+type Connected<'r, R, S> = (ConnectionReader<'r, R, S>, Outer<CommandWriter<S>>);
 
 /// Keeps a connection as the one that is read. `None` is kept when it is over.
 fn hold<S: Drop>(present: &RefCell<Option<S>>, stream: Option<S>) {
@@ -65,42 +69,46 @@ fn hold<S: Drop>(present: &RefCell<Option<S>>, stream: Option<S>) {
 }
 
 /// Both sides of a connection, which ends if the server's machine is gone.
-fn sides<S: OpenStream + AsRawFd + Drop>(
+fn sides<'r, R, S: OpenStream + AsRawFd + Drop>(
     stream: S,
     present: &RefCell<Option<S>>,
-) -> io::Result<Connected<S>> {
+    rt: &'r R,
+    renewal: &'r Renewal,
+) -> io::Result<Connected<'r, R, S>> {
     notice_silence(&stream)?;
     let writer = stream.try_clone()?;
     hold(present, Some(stream.try_clone()?));
     Ok((
-        Outer::new(AnswerCounter::new(stream)),
+        Outer::new(AnswerCounter::new(RenewedReader::new(stream, rt, renewal))),
         Outer::new(CommandWriter::new(writer)),
     ))
 }
 
 /// A connection to a server.
-fn connected<'a, R: Net>(
-    rt: &R,
+fn connected<'r, 'a, R: Net>(
+    rt: &'r R,
     server: ServerAddress<'a>,
     present: &RefCell<Option<R::Stream>>,
-) -> Result<Connected<R::Stream>, Incident<'a>> {
-    match sides(connection(rt, server)?, present) {
+    renewal: &'r Renewal,
+) -> Result<Connected<'r, R, R::Stream>, Incident<'a>> {
+    match sides(connection(rt, server)?, present, rt, renewal) {
         Ok(sides) => Ok(sides),
         Err(reason) => Err(unconnected(server, reason)),
     }
 }
 
 impl<'r, 'a, 'w, R: Eprint + Clock + Net> Servers for Connections<'r, 'a, 'w, R> {
-    type Reader = Outer<AnswerCounter<R::Stream>>;
+    type Reader = ConnectionReader<'r, R, R::Stream>;
 
     type Writer = Outer<CommandWriter<R::Stream>>;
 
     type Fault = Incident<'a>;
 
-    fn connect(&mut self) -> Result<Connected<R::Stream>, Incident<'a>> {
+    fn connect(&mut self) -> Result<Connected<'r, R, R::Stream>, Incident<'a>> {
+        self.reading.renewal.begin();
         for _ in 0..u64::MAX {
             let server = self.server()?;
-            match connected(self.rt, server, self.present) {
+            match connected(self.rt, server, self.present, &self.reading.renewal) {
                 Ok(sides) => return Ok(sides),
                 Err(incident) => self.pass(incident)?,
             }
@@ -111,10 +119,14 @@ impl<'r, 'a, 'w, R: Eprint + Clock + Net> Servers for Connections<'r, 'a, 'w, R>
     fn pass_over(
         &mut self,
         fault: ListingFault,
-        reader: Outer<AnswerCounter<R::Stream>>,
+        reader: ConnectionReader<'r, R, R::Stream>,
         _writer: Outer<CommandWriter<R::Stream>>,
     ) -> Result<(), Incident<'a>> {
         hold(self.present, None);
+        if fault == ListingFault::Read && self.reading.renewal.is_over(self.rt) {
+            // The same server is asked again, for what was refused too.
+            return Ok(());
+        }
         let failure = unlisted(fault, reader.into_inner().is_answered());
         let server = self.server()?;
         self.pass(failure.at_server(server.word))

@@ -3,10 +3,16 @@
 #![tactic(auto)]
 
 mod archiving;
+mod asking;
+mod clock;
 mod connections;
+mod hearing;
+mod line;
+mod notices;
 mod reading;
 mod sides;
 mod states;
+mod unplaced;
 mod windows;
 
 pub use reading::read_servers;

@@ -1,10 +1,15 @@
 //! Reads records from a server.
 ghost use Rattle.std.specs.Prelude.{◌≡◌};
+ghost use Rattle.std.specs.Prelude.{is_some};
+ghost use Rattle.job_read.specs.Asking.{is_told};
 ghost use Rattle.job_read.specs.Endings.{goes_on, is_mendable, lost, unlisted};
 ghost use Rattle.job_read.specs.Places.{is_last_place, place_after};
 
-use crate::archiving::{Lasting, archive_at, at_archive, tell_unplaced};
+use crate::archiving::{Lasting, archive_at, at_archive};
+use crate::asking::Renewal;
 use crate::connections::Connections;
+use crate::hearing::{HeardLines, Listener};
+use crate::notices::{ErrorTeller, RefusalTeller};
 use crate::states::{StateFile, StateKeeper};
 use crate::windows::Moments;
 use command_line::ReadOptions;
@@ -13,10 +18,10 @@ use job_base::{
     ReasonKeeper, ServerAddress, StandardError as Eprinted, server_of, tell_incident, times_of,
     unopened,
 };
-use packet_listing::{Break, ListingFault, Nowhere, follow};
+use packet_listing::{Break, Keeper, ListingFault, Nowhere, Servers, follow};
 use record_listing::Times;
 use sl_io::{Outer, Sink};
-use slreader::{Tally, Want, Window};
+use slreader::{ReaderFault, Tally, Want, Window};
 use std::alloc::{AllocError, Global};
 use std::cell::RefCell;
 use std::fs::{File, OpenOptions};
@@ -45,6 +50,10 @@ pub struct Reading<'a, 'w> {
     /// After how long the next server is asked, or the first one again, if none is to be left out for good.
     pause: Option<Duration>,
     is_verbose: bool,
+    /// Whether it is told what is met.
+    is_told: bool,
+    /// When wants that are refused are asked again.
+    pub renewal: Renewal,
     /// How times are written.
     times: Times,
 }
@@ -180,12 +189,12 @@ fn goes_on(failure: Failure, is_last: bool, is_retried: bool) -> bool
 /// Asks one server after the other, and the first one again after a pause if there is one, each of them for what comes
 /// after the packets that were written. With a state it begins after what that tells of, and keeps there how far it is.
 /// A failure after which it goes on is told.
-fn list_on<'a, R, O: Sink, P: Sink + Lasting>(
+fn list_on<'a, R, O: Sink + Drop, P: Sink + Lasting>(
     rt: &R,
     reading: &Reading<'a, '_>,
     state: Option<StateFile<'a>>,
     output: Option<File>,
-    out: &mut O,
+    out: O,
     records: &mut P,
 ) -> Result<(), Incident<'a>>
 where
@@ -198,13 +207,13 @@ where
 }
 
 /// The same, after the packets that were counted.
-fn list_after<'a, R, O: Sink, P: Sink + Lasting>(
+fn list_after<'a, R, O: Sink + Drop, P: Sink + Lasting>(
     rt: &R,
     reading: &Reading<'a, '_>,
     tally: &mut Tally,
     state: Option<StateFile<'a>>,
     output: Option<File>,
-    out: &mut O,
+    out: O,
     records: &mut P,
 ) -> Result<(), Incident<'a>>
 where
@@ -213,20 +222,92 @@ where
     let present = RefCell::new(None);
     let mut servers = Connections::new(rt, reading, &present);
     let mut keeper = StateKeeper::new(rt, state, &reading.wants, output, &present);
-    let read = follow(
-        rt.alloc(),
-        reading.times,
-        &reading.wants,
-        tally,
-        &mut servers,
-        out,
-        records,
-        &mut keeper,
-    );
+    let read = follow_any(rt, reading, tally, &mut servers, out, records, &mut keeper);
     match read {
         Ok(()) => Ok(()),
         Err(end) => Err(ended_by(end, servers.server(), keeper.site())),
     }
+}
+
+/// Asks servers for what a reading wants. What is met is told, if it is to be.
+fn follow_any<R: Eprint + Clock + AllocGlobal, S: Servers, O: Sink + Drop, P: Sink, K: Keeper<P>>(
+    rt: &R,
+    reading: &Reading<'_, '_>,
+    tally: &mut Tally,
+    servers: &mut S,
+    out: O,
+    records: &mut P,
+    keeper: &mut K,
+) -> Result<(), Break<S::Fault>> {
+    if reading.is_told {
+        follow_told(rt, reading, tally, servers, out, records, keeper)
+    } else {
+        let mut out = out;
+        follow_with(
+            rt.alloc(),
+            reading,
+            tally,
+            servers,
+            &mut out,
+            records,
+            keeper,
+        )
+    }
+}
+
+/// Asks servers for what a reading wants.
+fn follow_with<S: Servers, O: Sink, P: Sink, K: Keeper<P>>(
+    alloc: Global,
+    reading: &Reading<'_, '_>,
+    tally: &mut Tally,
+    servers: &mut S,
+    out: &mut O,
+    records: &mut P,
+    keeper: &mut K,
+) -> Result<(), Break<S::Fault>> {
+    follow(
+        alloc,
+        reading.times,
+        &reading.wants,
+        tally,
+        servers,
+        out,
+        records,
+        keeper,
+    )
+}
+
+/// The same, and what is met is told.
+fn follow_told<
+    'r,
+    R: Eprint + Clock + AllocGlobal,
+    S: Servers,
+    O: Sink + Drop,
+    P: Sink,
+    K: Keeper<P>,
+>(
+    rt: &'r R,
+    reading: &'r Reading<'_, '_>,
+    tally: &mut Tally,
+    servers: &mut S,
+    out: O,
+    records: &mut P,
+    keeper: &mut K,
+) -> Result<(), Break<S::Fault>> {
+    let Ok(listener) = Listener::new(rt.alloc(), &reading.wants, tally) else {
+        return Err(Break::Listing(ListingFault::Reader(ReaderFault::OutOfMemory)));
+    };
+    let teller = RefusalTeller::new(ErrorTeller::new(rt), rt, &reading.renewal);
+    let mut out = HeardLines::new(out, listener, teller);
+    follow_with(
+        rt.alloc(),
+        reading,
+        tally,
+        servers,
+        &mut out,
+        records,
+        keeper,
+    )
 }
 
 /// Why a reading ended before its end: what no server mended, or what a listing met at a server, or where the state
@@ -286,8 +367,8 @@ fn list_lines<'a, R: Files + Print + Eprint + Clock + Net + AllocGlobal>(
     reading: &Reading<'a, '_>,
     state: Option<StateFile<'a>>,
 ) -> Result<(), Incident<'a>> {
-    let mut lines = Outer::new(io::writer(rt));
-    list_on(rt, reading, state, None, &mut lines, &mut Nowhere::new())
+    let lines = Outer::new(io::writer(rt));
+    list_on(rt, reading, state, None, lines, &mut Nowhere::new())
 }
 
 /// Lists packets on the standard error, and writes their records to the standard output.
@@ -296,9 +377,9 @@ fn list_records<'a, R: Files + Print + Eprint + Clock + Net + AllocGlobal>(
     reading: &Reading<'a, '_>,
     state: Option<StateFile<'a>>,
 ) -> Result<(), Incident<'a>> {
-    let mut lines = Outer::new(Eprinted::new(rt));
+    let lines = Outer::new(Eprinted::new(rt));
     let mut records = Outer::new(io::writer(rt));
-    list_on(rt, reading, state, None, &mut lines, &mut records)
+    list_on(rt, reading, state, None, lines, &mut records)
 }
 
 /// Lists packets on the standard output, and adds their records to a file.
@@ -309,9 +390,9 @@ fn list_and_add<'a, R: Files<File = File> + Print + Eprint + Clock + Net + Alloc
     path: &'a str,
 ) -> Result<(), Incident<'a>> {
     let (file, same) = opened_twice(rt, path)?;
-    let mut lines = Outer::new(io::writer(rt));
+    let lines = Outer::new(io::writer(rt));
     let mut records = Outer::new(ReasonKeeper::new(file));
-    match list_on(rt, reading, state, Some(same), &mut lines, &mut records) {
+    match list_on(rt, reading, state, Some(same), lines, &mut records) {
         Ok(()) => Ok(()),
         Err(incident) => Err(incident.at_output(path, records.into_inner().into_reason())),
     }
@@ -324,14 +405,22 @@ fn list_and_archive<'a, R: Files<File = File> + Print + Eprint + Clock + Net + A
     state: Option<StateFile<'a>>,
     top: &'a str,
 ) -> Result<(), Incident<'a>> {
-    let mut archive = archive_at(rt, top, state.is_some())?;
-    let mut lines = Outer::new(io::writer(rt));
-    let read = list_on(rt, reading, state, None, &mut lines, &mut archive);
-    tell_unplaced(rt, &archive);
+    let mut archive = archive_at(rt, top, state.is_some(), &reading.wants)?;
+    let lines = Outer::new(io::writer(rt));
+    let read = list_on(rt, reading, state, None, lines, &mut archive);
+    let archive = archive.end();
     match read {
         Ok(()) => Ok(()),
         Err(incident) => Err(at_archive(incident, archive, top)),
     }
+}
+
+/// Whether it is told what is met: an archive, a state, another try or explanations are asked for.
+fn is_told(options: ReadOptions<'_>, is_verbose: bool) -> bool
+    ensures { result ≡ is_told (is_some options.entry.archive) (is_some options.entry.state)
+        (is_some options.entry.retry) is_verbose }
+{
+    options.archive.is_some() || options.state.is_some() || options.retry.is_some() || is_verbose
 }
 
 /// The state in a file, if one is named.
@@ -363,6 +452,8 @@ pub fn read_servers<'a, R: Files<File = File> + Print + Eprint + Clock + Net + A
         wants: wants_of(rt.alloc(), wants, moments.window())?,
         pause: options.retry.map(|count| Duration::from_secs(count as u64)),
         is_verbose,
+        is_told: is_told(options, is_verbose),
+        renewal: Renewal::new(options.retry.is_some()),
         times: times_of(options.is_iso),
     };
     read_to(rt, &reading, options)

@@ -3,6 +3,7 @@ ghost use Rattle.std.specs.Prelude.{◌≡◌, None};
 ghost use Rattle.sl_io.specs.Counts.{CountsFailure};
 
 use crate::archiving::Lasting;
+use crate::clock::milliseconds;
 use incidents::{Failure, Incident, Site, StateFault};
 use job_base::{place_of, replace};
 use packet_listing::{KeepFault, Keeper};
@@ -229,12 +230,9 @@ fn is_silent<S: OpenStream>(stream: &S, time: Duration) -> bool {
 }
 
 impl<'r, 'a, 'w, R: Clock + Net> StateKeeper<'r, 'a, 'w, R> {
-    /// Milliseconds of the system's clock; 0 where it can't be read.
+    /// Milliseconds of the system's clock.
     fn now(&self) -> u64 {
-        match self.rt.monotonic() {
-            Ok(now) => u64::try_from(now.as_millis()).unwrap_or(u64::MAX),
-            Err(_) => 0,
-        }
+        milliseconds(self.rt)
     }
 }
 

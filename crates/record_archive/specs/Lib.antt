@@ -1,3 +1,4 @@
 pub mod Paths
+pub mod Stations
 pub mod Archives
 pub mod Stores

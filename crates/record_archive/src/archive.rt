@@ -7,15 +7,18 @@ ghost use Rattle.record_archive.specs.Archives.{CountsAll, CountsUnplaced, Holds
 
 use crate::folders::Folders;
 use crate::placing::{ArchiveFault, Place, Placed, put_record};
+use crate::stations::StationCodes;
 use sl_io::{DeviceFault, Sink};
 use std::alloc::Global;
 use unfinished::Unfinished;
 
-/// An archive in folders, to which the bytes of records are written, in whatever pieces. A record is put into its file
-/// once its last byte came. Memory is taken only for the texts of places.
+/// An archive of some stations in folders, to which the bytes of records are written, in whatever pieces. A record is
+/// put into its file once its last byte came, if it is of one of the stations. Memory is taken only for the texts of
+/// places.
 #[derive(Drop)]
 pub struct Archive<F: Folders> {
     folders: F,
+    stations: Vec<StationCodes>,
     place: Place,
     unfinished: Unfinished<512>,
     unplaced: u64,
@@ -25,13 +28,14 @@ pub struct Archive<F: Folders> {
 }
 
 impl<F: Folders> Archive<F> {
-    /// An archive in these folders.
-    pub fn new(alloc: Global, folders: F) -> Archive<F>
-        ensures folders { result.folders ≡ folders }
+    /// An archive of these stations in these folders.
+    pub fn new(alloc: Global, folders: F, stations: Vec<StationCodes>) -> Archive<F>
+        ensures folders { (result.folders ≡ folders) × (result.stations ≡ stations) }
         ensures nothing { (result.unfinished.held ≡ []) × (result.unplaced ≡ 0) × (result.fault ≡ None) }
     {
         Archive {
             folders,
+            stations,
             place: Place {
                 folder: Vec::new(alloc),
                 file: Vec::new(alloc),
@@ -74,19 +78,25 @@ impl<F: Folders> Archive<F> {
 
     /// The record whose last byte came is put.
     fn put_whole(&mut self) -> Result<(), DeviceFault>
-        ensures put { IfOk result (λ done. HoldsMore (F.puts self.old.folders) (F.puts self.new.folders)
-            (self.old.unfinished.whole ∷ [])) }
+        ensures put { IfOk result (λ done. HoldsMore self.old.stations.items (F.puts self.old.folders)
+            (F.puts self.new.folders) (self.old.unfinished.whole ∷ [])) }
         ensures refused { OnErr result (F.puts self.new.folders ≡ F.puts self.old.folders) }
         ensures failure { CountsFailure self.old.failures self.new.failures result }
         ensures counted { OnOk result
-            (CountsUnplaced self.old.unplaced self.new.unplaced self.old.unfinished.whole) }
+            (CountsUnplaced self.old.stations.items self.old.unplaced self.new.unplaced self.old.unfinished.whole) }
         ensures uncounted { OnErr result (self.new.unplaced ≡ self.old.unplaced) }
         ensures why { OnErr result
             (IsWhy self.new.fault (F.failures self.old.folders) (F.failures self.new.folders)) }
         ensures calm { OnOk result (self.new.fault ≡ self.old.fault) }
-        ensures rest { (self.new.unfinished ≡ self.old.unfinished) × (self.new.calls ≡ self.old.calls) }
+        ensures rest { (self.new.unfinished ≡ self.old.unfinished) × (self.new.calls ≡ self.old.calls)
+            × (self.new.stations ≡ self.old.stations) }
     {
-        match put_record(&mut self.folders, &mut self.place, self.unfinished.whole()) {
+        match put_record(
+            &mut self.folders,
+            &mut self.place,
+            self.stations.as_slice(),
+            self.unfinished.whole(),
+        ) {
             Ok(Placed::InFile) => Ok(()),
             Ok(Placed::Unplaced) => {
                 self.unplaced = self.unplaced.saturating_add(1);
@@ -118,15 +128,16 @@ impl<F: Folders> Sink for Archive<F> {
         ensures empty { CountsEmptyWrite 0 0 result bytes.now }
         ensures held { IfOk result (λ n.
             self.new.unfinished.held ≡ held_with self.old.unfinished.held (take n bytes.now)) }
-        ensures put { IfOk result (λ n. HoldsMore (F.puts self.old.folders) (F.puts self.new.folders)
-            (whole_with self.old.unfinished.held (take n bytes.now))) }
+        ensures put { IfOk result (λ n. HoldsMore self.old.stations.items (F.puts self.old.folders)
+            (F.puts self.new.folders) (whole_with self.old.unfinished.held (take n bytes.now))) }
         ensures refused { OnErr result (F.puts self.new.folders ≡ F.puts self.old.folders) }
-        ensures counted { IfOk result (λ n. CountsAll self.old.unplaced self.new.unplaced
+        ensures counted { IfOk result (λ n. CountsAll self.old.stations.items self.old.unplaced self.new.unplaced
             (whole_with self.old.unfinished.held (take n bytes.now))) }
         ensures uncounted { OnErr result (self.new.unplaced ≡ self.old.unplaced) }
         ensures why { OnErr result
             (IsWhy self.new.fault (F.failures self.old.folders) (F.failures self.new.folders)) }
         ensures calm { OnOk result (self.new.fault ≡ self.old.fault) }
+        ensures stations { self.new.stations ≡ self.old.stations }
     {
         self.calls = self.calls.wrapping_add(1);
         let count = bytes.len().min(512 - self.unfinished.count());

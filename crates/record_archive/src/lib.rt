@@ -8,9 +8,11 @@ mod folders;
 mod memory_folders;
 mod path;
 mod placing;
+mod stations;
 
 pub use archive::Archive;
 pub use disk_folders::{DiskFolders, TopFault};
 pub use folders::{FolderFault, Folders};
 pub use memory_folders::{MemoryFolders, Stored};
 pub use placing::{ArchiveFault, Placed};
+pub use stations::StationCodes;

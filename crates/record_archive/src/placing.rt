@@ -6,6 +6,7 @@ ghost use Rattle.record_archive.specs.declared.placing.Placed.TheVariants.{InFil
 
 use crate::folders::Folders;
 use crate::path::{has_place, put_file, put_folder};
+use crate::stations::{StationCodes, is_wanted};
 use mseed_header::{Header, read};
 use sl_time::{DayOfYear, day_of};
 use std::alloc::AllocError;
@@ -15,7 +16,7 @@ use std::alloc::AllocError;
 pub enum Placed {
     /// It stands at the end of its file.
     InFile,
-    /// It stands nowhere: it is not valid, or its codes name no place.
+    /// It stands nowhere: it is not valid, its codes name no place, or it is of a station that is not wanted.
     Unplaced,
 }
 
@@ -48,16 +49,17 @@ impl Place {
     }
 }
 
-/// Puts a record at the end of the file of its stream and of the day in which it starts, if it is valid and its codes
-/// name a place.
+/// Puts a record at the end of the file of its stream and of the day in which it starts, if it is valid, its codes name
+/// a place, and it is of one of the stations.
 pub(crate) fn put_record<F: Folders>(
     folders: &mut F,
     place: &mut Place,
+    stations: &[StationCodes],
     bytes: &[u8; 512],
 ) -> Result<Placed, ArchiveFault>
-    ensures put { OnOk result (HoldsMore (F.puts folders.old) (F.puts folders.new) (bytes.now ∷ [])) }
-    ensures placed { result ≡ Ok InFile → IsPlaced bytes.now }
-    ensures unplaced { result ≡ Ok Unplaced → IsUnplaced bytes.now }
+    ensures put { OnOk result (HoldsMore stations.now (F.puts folders.old) (F.puts folders.new) (bytes.now ∷ [])) }
+    ensures placed { result ≡ Ok InFile → IsPlaced stations.now bytes.now }
+    ensures unplaced { result ≡ Ok Unplaced → IsUnplaced stations.now bytes.now }
     ensures refused { OnErr result (F.puts folders.new ≡ F.puts folders.old) }
     ensures fault { Fails (F.failures folders.old) (F.failures folders.new) result }
 {
@@ -66,6 +68,9 @@ pub(crate) fn put_record<F: Folders>(
         Err(_) => return Ok(Placed::Unplaced),
     };
     if !has_place(&header) {
+        return Ok(Placed::Unplaced);
+    }
+    if !is_wanted(stations, &header) {
         return Ok(Placed::Unplaced);
     }
     let Some(day) = day_of(header.start()) else {

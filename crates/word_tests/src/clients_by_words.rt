@@ -73,7 +73,7 @@ where
 }
 
 /// Does a reader's job, in which PORT is the server's port for clients.
-fn read_of<R>(rt: &R, centre: &mut Centre, line: &str) -> Result<Outcome, Fail>
+pub fn read_of<R>(rt: &R, centre: &mut Centre, line: &str) -> Result<Outcome, Fail>
 where
     R: Files<File = File> + Net + AllocGlobal,
     R::File: AsRawFd,
@@ -83,7 +83,7 @@ where
 }
 
 /// The same at a server that was fed two records by the job `feed`.
-fn read_of_two<R>(rt: &R, centre: &mut Centre, line: &str) -> Result<Outcome, Fail>
+pub fn read_of_two<R>(rt: &R, centre: &mut Centre, line: &str) -> Result<Outcome, Fail>
 where
     R: Files<File = File> + Net + AllocGlobal,
     R::File: AsRawFd,
@@ -95,7 +95,7 @@ where
 }
 
 /// The same at a server of its own, on the runtime of a test.
-fn read(rt: &HostRuntime, line: &str) -> Result<Outcome, Fail> {
+pub fn read(rt: &HostRuntime, line: &str) -> Result<Outcome, Fail> {
     at_centre(rt, |rt, centre| read_of_two(rt, centre, line))
 }
 

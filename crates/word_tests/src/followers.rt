@@ -35,7 +35,8 @@ static LINES: &str = "000000 GE APE -- BHZ D 17091648000000 17091648000100 1\n\
     refused GE APE\n";
 
 /// What a reader that follows them writes to the standard error: two servers end, and the last refuses all.
-static ERRORS: &str = "seedlinkd: 42 Read\nseedlinkd: 42 Read\nseedlinkd: 51 AllRefused\n";
+static ERRORS: &str = "seedlinkd: 42 Read\nseedlinkd: 42 Read\nseedlinkd: refused GE APE\n\
+    seedlinkd: 51 AllRefused\n";
 
 /// Servers of which one after the other ends while a reader waits: the one that ends next stands last.
 #[derive(Drop)]

@@ -12,4 +12,6 @@ mod followers;
 #[cfg(test)]
 mod outcome;
 #[cfg(test)]
+mod told;
+#[cfg(test)]
 mod words;

@@ -34,10 +34,12 @@ returns-clause-held g c = ap (λ (u : UnfinishedValue). u.held) (c.put_whole.ens
 
 pub returns-clause-put : goal.returns-clause-put
 returns-clause-put g c =
-    subst (λ (more : List (List ℕ)). HoldsMore (g.F.Folders.puts c.args.self.now.folders)
-    (g.F.Folders.puts c.put_whole.new.self.folders) more) (whole_of g c) c.in_ok-put_whole.ensures.put
+    subst (λ (more : List (List ℕ)). HoldsMore c.args.self.now.stations.items
+    (g.F.Folders.puts c.args.self.now.folders) (g.F.Folders.puts c.put_whole.new.self.folders) more)
+    (whole_of g c) c.in_ok-put_whole.ensures.put
 
 pub returns-clause-counted : goal.returns-clause-counted
 returns-clause-counted g c =
-    subst (λ (more : List (List ℕ)). CountsAll c.args.self.now.unplaced c.put_whole.new.self.unplaced more)
+    subst (λ (more : List (List ℕ)). CountsAll c.args.self.now.stations.items c.args.self.now.unplaced
+    c.put_whole.new.self.unplaced more)
     (whole_of g c) (c.put_whole.new.self.unplaced, c.in_ok-put_whole.ensures.counted, refl)

@@ -1,0 +1,22 @@
+-- What a reader tells on the standard error of what it meets, and to whom.
+use Rattle.std.specs.Prelude.{◌≡◌, ℕ, List, ◌++◌, Option, Some, None}
+use Rattle.job_read.specs.declared.notices.Notice.{Notice}
+use Rattle.job_read.specs.declared.notices.Notice.TheVariants as notice
+
+-- What is told: a want that a server refuses; two numbers of a station, one right after the other, between which some
+-- are missing; and how many records in all have no place in an archive.
+pub data NoticeValue : Type 0 where
+  Refused : (network station : List ℕ) → NoticeValue
+  Gap : (network station : List ℕ) → (last next : ℕ) → NoticeValue
+  Unplaced : (count : ℕ) → NoticeValue
+
+abbrev pub notice_value : Notice → NoticeValue
+notice_value (notice.Refused network station) = Refused network.now station.now
+notice_value (notice.Gap network station last next) = Gap network.now station.now last next
+notice_value (notice.Unplaced count) = Unplaced count
+
+-- What was told is these more, as far as it is known.
+abbrev pub Tells : Option (List NoticeValue) → Option (List NoticeValue) → List NoticeValue → Type 0
+Tells old None more = Unit {0}
+Tells (Some before) (Some after) more = after ≡ before ++ more
+Tells None (Some after) more = ⊥

@@ -1,0 +1,110 @@
+//! When wants that a server refused are asked again: a connection on which one was refused ends after an hour, so that
+//! the next one asks for it once more.
+ghost use Rattle.std.specs.Prelude.{◌≡◌};
+ghost use Rattle.std.specs.Io.{ReadsAtMost};
+ghost use Rattle.job_read.specs.Asking.{left_after};
+
+use crate::clock::milliseconds;
+use std::cell::Cell;
+use std::io::{self, ErrorKind, Read};
+use std::net::OpenStream;
+use std::rt::Clock;
+use std::time::Duration;
+
+/// How many milliseconds a connection lasts on which a want was refused.
+const HOUR: u64 = 3_600_000;
+
+/// How many of them are left, if that was at a moment.
+fn left_after(refused: u64, now: u64) -> u64
+    ensures { result ≡ left_after refused now }
+{
+    HOUR.saturating_sub(now.saturating_sub(refused))
+}
+
+/// When the wants are asked again that are refused on the connection that is read.
+#[derive(Drop)]
+pub struct Renewal {
+    is_retried: bool,
+    /// When the first of them was refused, in milliseconds.
+    refused: Cell<Option<u64>>,
+}
+
+impl Renewal {
+    /// Before the first connection. If connections are not made again, nothing is asked again.
+    pub fn new(is_retried: bool) -> Renewal {
+        Renewal {
+            is_retried,
+            refused: Cell::new(None),
+        }
+    }
+
+    /// Another connection is made, on which nothing was refused yet.
+    pub fn begin(&self) {
+        self.refused.set(None);
+    }
+
+    /// A want is refused.
+    pub fn refuse<R: Clock>(&self, rt: &R) {
+        if self.is_retried && self.refused.get().is_none() {
+            self.refused.set(Some(milliseconds(rt)));
+        }
+    }
+
+    /// How many milliseconds the connection still lasts, if it ends so that wants are asked again.
+    fn left<R: Clock>(&self, rt: &R) -> Option<u64> {
+        let refused = self.refused.get()?;
+        Some(left_after(refused, milliseconds(rt)))
+    }
+
+    /// Whether it is over by that.
+    pub fn is_over<R: Clock>(&self, rt: &R) -> bool {
+        self.left(rt) == Some(0)
+    }
+}
+
+/// Reads what comes at a connection until it is over.
+#[derive(Drop)]
+pub struct RenewedReader<'r, R, S> {
+    inner: S,
+    rt: &'r R,
+    renewal: &'r Renewal,
+}
+
+impl<'r, R, S> RenewedReader<'r, R, S> {
+    /// What is read from `inner`.
+    pub fn new(inner: S, rt: &'r R, renewal: &'r Renewal) -> RenewedReader<'r, R, S> {
+        RenewedReader { inner, rt, renewal }
+    }
+}
+
+/// Reads what comes at a connection within so many milliseconds.
+fn read_within<S: Read + OpenStream>(
+    stream: &mut S,
+    block: &mut [u8],
+    left: u64,
+) -> io::Result<usize>
+    ensures { ReadsAtMost result block.new }
+{
+    // Where the time can't be set the read waits on.
+    let _ = stream.set_read_timeout(Some(Duration::from_millis(left)));
+    let read = stream.read(block);
+    let _ = stream.set_read_timeout(None);
+    read
+}
+
+impl<'r, R: Clock, S: Read + OpenStream> Read for RenewedReader<'r, R, S> {
+    fn read(&mut self, block: &mut [u8]) -> io::Result<usize> {
+        for _ in 0..u64::MAX {
+            let left = match self.renewal.left(self.rt) {
+                None => return self.inner.read(block),
+                Some(0) => break,
+                Some(left) => left,
+            };
+            match read_within(&mut self.inner, block, left) {
+                Err(reason) if reason.kind() == ErrorKind::WouldBlock => {}
+                read => return read,
+            }
+        }
+        Err(io::Error::from(ErrorKind::TimedOut))
+    }
+}
