@@ -11,8 +11,8 @@ use Rattle.socket_ports.specs.declared.admission.Admission.{Admission}
 use Rattle.socket_ports.specs.declared.listeners.Kind.{Kind}
 use Rattle.socket_ports.specs.declared.listeners.Kind.TheVariants.{Client, Feed}
 use Rattle.socket_ports.specs.declared.peer.Peer.{Peer}
-use Rattle.socket_ports.specs.declared.sockets.Taken.{Taken}
-use Rattle.socket_ports.specs.declared.sockets.Taken.TheVariants as taken
+use Rattle.socket_ports.specs.declared.sockets.joining.Taken.{Taken}
+use Rattle.socket_ports.specs.declared.sockets.joining.Taken.TheVariants as taken
 use Rattle.socket_ports.specs.Admissions.{HasPlace, IsFeeder}
 
 -- why a connection of a kind is turned away

@@ -12,8 +12,8 @@ use Rattle.socket_ports.specs.declared.admission.Admission.{Admission}
 use Rattle.socket_ports.specs.declared.listeners.Kind.{Kind}
 use Rattle.socket_ports.specs.declared.listeners.Kind.TheVariants.{Client, Feed}
 use Rattle.socket_ports.specs.declared.peer.Peer.{Peer}
-use Rattle.socket_ports.specs.declared.sockets.Taken.{Taken}
-use Rattle.socket_ports.specs.declared.sockets.Taken.TheVariants as taken
+use Rattle.socket_ports.specs.declared.sockets.joining.Taken.{Taken}
+use Rattle.socket_ports.specs.declared.sockets.joining.Taken.TheVariants as taken
 
 -- whose connections are taken, how many ports joined, and whose the open ones are
 pub record PeersValue : Type 0 where

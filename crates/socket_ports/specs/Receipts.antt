@@ -1,9 +1,9 @@
 -- What a read from the system gives, and what a write to it takes.
 use Rattle.std.specs.Prelude.{ℕ, ◌≤◌}
-use Rattle.socket_ports.specs.declared.connection.Receipt.{Receipt}
-use Rattle.socket_ports.specs.declared.connection.Receipt.TheVariants.{Bytes}
-use Rattle.socket_ports.specs.declared.connection.Sent.{Sent}
-use Rattle.socket_ports.specs.declared.connection.Sent.TheVariants.{Took}
+use Rattle.socket_ports.specs.declared.socket_io.Receipt.{Receipt}
+use Rattle.socket_ports.specs.declared.socket_io.Receipt.TheVariants.{Bytes}
+use Rattle.socket_ports.specs.declared.socket_io.Sent.{Sent}
+use Rattle.socket_ports.specs.declared.socket_io.Sent.TheVariants.{Took}
 
 -- 1 to so many bytes, or none
 abbrev pub IsReceived : Receipt → ℕ → Type 0

@@ -3,7 +3,7 @@ ghost use Rattle.std.specs.Prelude.{◌≡◌, ◌<◌, ◌≤◌, ◌↔◌, �
 ghost use Rattle.ports.specs.Calls.{IsGiven, IsTaken};
 ghost use Rattle.socket_ports.specs.Ends.{IsNoted};
 ghost use Rattle.socket_ports.specs.Reads.{IsOver, ReadsBy};
-ghost use Rattle.socket_ports.specs.Receipts.{IsReceived, IsSent};
+ghost use Rattle.socket_ports.specs.Receipts.{IsReceived};
 ghost use Rattle.socket_ports.specs.Waiting.{HaveGone, IsSettled, TakesInOrder, waiting_in};
 ghost use Rattle.socket_ports.specs.declared.listeners.Kind.TheVariants.{Client};
 
@@ -12,29 +12,9 @@ use crate::listeners::Kind;
 use crate::peer_end::PeerEnd;
 use crate::pool::{Pool, ROOM, remove_front};
 use crate::ration::Ration;
+use crate::socket_io::{Receipt, Sent, is_short, receive, send};
 use mio::net::TcpStream;
 use ports::{Got, PortFault, Put};
-use std::io::{ErrorKind, Read, Write};
-
-/// How often a call that a signal interrupted is made again.
-const TRIES: u8 = 8;
-
-/// What the system gave.
-#[derive(Clone, Copy, Drop)]
-pub enum Receipt {
-    Bytes(usize),
-    WouldBlock,
-    Closed,
-    Failed,
-}
-
-/// What the system took.
-#[derive(Clone, Copy, Drop)]
-enum Sent {
-    Took(usize),
-    WouldBlock,
-    Failed,
-}
 
 /// What happened to a connection.
 #[derive(Clone, Copy, Drop)]
@@ -76,44 +56,6 @@ pub struct Connection {
     pub has_failed: bool,
     /// It is told after the next poll.
     is_listed: bool,
-}
-
-/// Reads once.
-pub fn receive(stream: &TcpStream, buffer: &mut [u8]) -> Receipt
-    requires { 0 < length buffer.old }
-    ensures { IsReceived result (length buffer.new) }
-{
-    for _ in 0..TRIES {
-        let mut from = stream;
-        match from.read(buffer) {
-            Ok(0) => return Receipt::Closed,
-            Ok(count) => return Receipt::Bytes(count),
-            Err(error) => match error.kind() {
-                ErrorKind::WouldBlock => return Receipt::WouldBlock,
-                ErrorKind::Interrupted => {}
-                _ => return Receipt::Failed,
-            },
-        }
-    }
-    Receipt::WouldBlock
-}
-
-/// Writes once.
-fn send(stream: &TcpStream, bytes: &[u8]) -> Sent
-    ensures { IsSent result (length bytes.now) }
-{
-    for _ in 0..TRIES {
-        let mut to = stream;
-        match to.write(bytes) {
-            Ok(count) => return Sent::Took(count),
-            Err(error) => match error.kind() {
-                ErrorKind::WouldBlock => return Sent::WouldBlock,
-                ErrorKind::Interrupted => {}
-                _ => return Sent::Failed,
-            },
-        }
-    }
-    Sent::WouldBlock
 }
 
 impl Connection {
@@ -469,15 +411,5 @@ impl Connection {
 
     pub fn has_taken(&self) -> bool {
         self.end.has_moved()
-    }
-}
-
-/// Whether a read shows that the system has no more bytes for now.
-fn is_short(receipt: Receipt, asked: usize) -> bool {
-    match receipt {
-        Receipt::Bytes(count) => count < asked,
-        Receipt::WouldBlock => true,
-        Receipt::Closed => false,
-        Receipt::Failed => false,
     }
 }

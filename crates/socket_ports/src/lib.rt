@@ -23,6 +23,7 @@ mod peers;
 mod polling;
 mod pool;
 mod ration;
+mod socket_io;
 mod sockets;
 
 pub use admission::Admission;

@@ -1,6 +1,7 @@
 //! Connections that the loop has shut, and that stay until their last bytes have gone to the peer.
-use crate::connection::{Connection, Receipt, receive};
+use crate::connection::Connection;
 use crate::pool::Pool;
+use crate::socket_io::{Receipt, receive};
 use std::alloc::Global;
 use std::net::Shutdown;
 

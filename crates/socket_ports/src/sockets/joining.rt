@@ -1,0 +1,186 @@
+//! Which connections are taken, and how they join.
+ghost use Rattle.std.specs.Prelude.{◌≡◌, ◌<◌, ◌+◌, ◌^◌, [], IfNone, IfSome, Ok, length, true};
+ghost use Rattle.socket_ports.specs.Admissions.{IsAdmitted};
+ghost use Rattle.socket_ports.specs.Departures.{HaveReasons, IfAway, IsReason, away_of};
+ghost use Rattle.socket_ports.specs.Doors.{joins_by};
+ghost use Rattle.socket_ports.specs.Numbers.{TellsOpenPorts, numbers};
+ghost use Rattle.socket_ports.specs.Peers.{Admits, IfJoined, IfNotJoined, IsJoined, happening_of};
+
+use super::Sockets;
+use crate::connection::Connection;
+use crate::departures::Departures;
+use crate::listeners::{Accepted, Kind, LAST, token_of};
+use logged_ports::{Away, Reason};
+use mio::net::TcpStream;
+use ports::Happening;
+use std::net::{Ipv4Addr, SocketAddr};
+
+/// How many connections are taken at most between two polls.
+const CONNECTIONS: u8 = 16;
+
+/// What came of taking a connection.
+#[derive(Drop)]
+enum Taken {
+    /// It joined.
+    Joined(Happening),
+    /// It may not join, and is closed.
+    Away(Away),
+    /// None waits, or there is nothing by which it could be held.
+    Nothing,
+}
+
+/// How it is told that a port of a kind joined.
+fn joined(kind: Kind, number: u64, address: Ipv4Addr) -> Happening
+    ensures { result ≡ happening_of kind number address }
+{
+    match kind {
+        Kind::Client => Happening::Joined(number, address),
+        Kind::Feed => Happening::JoinedFeed(number),
+    }
+}
+
+/// Why a connection of a kind may not join.
+fn away_of(kind: Kind, address: Ipv4Addr) -> Away
+    ensures { result ≡ away_of kind address }
+{
+    let reason = match kind {
+        Kind::Client => Reason::PerAddress,
+        Kind::Feed => Reason::FeedFrom,
+    };
+    Away { address, reason }
+}
+
+fn address_of(peer: SocketAddr) -> Option<Ipv4Addr> {
+    match peer {
+        SocketAddr::V4(peer) => Some(*peer.ip()),
+        SocketAddr::V6(_) => None,
+    }
+}
+
+impl Sockets {
+    /// The next connection that waits. If the system has no descriptor left, the connection that lingers longest makes
+    /// room.
+    fn accept(&mut self) -> Option<(Kind, TcpStream, SocketAddr)>
+        ensures peers { self.new.peers ≡ self.old.peers }
+        ensures polls { self.new.polls ≡ self.old.polls }
+        ensures joins { self.new.joins ≡ self.old.joins }
+    {
+        match self.listeners.accept() {
+            Accepted::Connection(kind, stream, peer) => {
+                self.is_busy = true;
+                Some((kind, stream, peer))
+            }
+            Accepted::Nothing => None,
+            Accepted::Refused => {
+                self.lingering.drop_oldest();
+                None
+            }
+        }
+    }
+
+    /// A new port, of a client or of a feed, unless sixteen connections were taken since the last poll. A connection of
+    /// somebody who may not join is closed with no byte, and told.
+    pub(super) fn join(&mut self, away: &mut Departures) -> Option<Happening>
+        requires { away.old ≡ [] }
+        ensures reasons { HaveReasons self.old.peers.admission self.old.peers.opened away.new }
+        ensures all_told { self.new.joins.away ≡ self.old.joins.away + length away.new }
+        ensures some { IfSome result (λ h. TellsOpenPorts self.old.peers.joined self.new.peers.joined
+            (numbers self.new.connections.items) (Ok h)) }
+        ensures admits { IfSome result (λ h. Admits self.old.peers self.new.peers (Ok h)) }
+        ensures none { IfNone result (self.new.peers ≡ self.old.peers) }
+        ensures polls { self.new.polls ≡ self.old.polls }
+        ensures counts { IfSome result (λ h. self.new.joins.count ≡ self.old.joins.count + joins_by (Ok h)) }
+        ensures no_count { IfNone result (self.new.joins.count ≡ self.old.joins.count) }
+    {
+        'waiting: for _ in 0..CONNECTIONS {
+            if self.joins.is_full() {
+                return None;
+            }
+            match self.take() {
+                Taken::Joined(happening) => return Some(happening),
+                Taken::Away(one) => {
+                    self.joins.turn_away();
+                    away.push(one);
+                }
+                Taken::Nothing => return None,
+            }
+        }
+        None
+    }
+
+    /// Takes the next connection that waits.
+    fn take(&mut self) -> Taken
+        requires { self.old.joins.count + self.old.joins.away < 16 }
+        ensures joined { IfJoined result (λ h. TellsOpenPorts self.old.peers.joined self.new.peers.joined
+            (numbers self.new.connections.items) (Ok h)) }
+        ensures admits { IfJoined result (λ h. Admits self.old.peers self.new.peers (Ok h)) }
+        ensures counts { IfJoined result (λ h. self.new.joins.count ≡ self.old.joins.count + joins_by (Ok h)) }
+        ensures others { IfNotJoined result ((self.new.peers ≡ self.old.peers) × (self.new.joins ≡ self.old.joins)) }
+        ensures joins_away { self.new.joins.away ≡ self.old.joins.away }
+        ensures away { IfAway result (λ one.
+            IsReason self.old.peers.admission self.old.peers.opened one.address one.reason) }
+        ensures polls { self.new.polls ≡ self.old.polls }
+    {
+        let Some((kind, stream, peer)) = self.accept() else {
+            return Taken::Nothing;
+        };
+        let Some(address) = address_of(peer) else {
+            return Taken::Nothing;
+        };
+        if !self.peers.admits(kind, address) {
+            return Taken::Away(away_of(kind, address));
+        }
+        match self.hold(kind, address, stream) {
+            Some(number) => Taken::Joined(joined(kind, number, address)),
+            None => Taken::Nothing,
+        }
+    }
+
+    /// Makes ready for a new connection under a number: the system will report what happens at it, and there is room to
+    /// list it. Whether that is done.
+    fn prepare(&mut self, number: u64, kind: Kind, stream: &mut TcpStream) -> bool
+        ensures number { result ≡ true → number < 2 ^ 63 }
+        ensures peers { self.new.peers ≡ self.old.peers }
+        ensures polls { self.new.polls ≡ self.old.polls }
+        ensures joins { self.new.joins ≡ self.old.joins }
+    {
+        if number >= LAST || stream.set_nodelay(true).is_err() {
+            return false;
+        }
+        if !self.polling.watch(stream, token_of(number, kind)) {
+            return false;
+        }
+        let open = self.connections.len().saturating_add(1);
+        self.listing.reserve(open).is_ok()
+    }
+
+    /// Holds a new connection under the next number.
+    fn hold(&mut self, kind: Kind, address: Ipv4Addr, mut stream: TcpStream) -> Option<u64>
+        requires room { self.old.joins.count + self.old.joins.away < 16 }
+        requires admitted { IsAdmitted self.old.peers.admission self.old.peers.opened kind address }
+        ensures some { IfSome result (λ n. IsJoined kind n address self.old.peers self.new.peers
+            × (self.new.joins.count ≡ self.old.joins.count + 1)) }
+        ensures away { self.new.joins.away ≡ self.old.joins.away }
+        ensures none { IfNone result ((self.new.peers ≡ self.old.peers) × (self.new.joins ≡ self.old.joins)) }
+        ensures polls { self.new.polls ≡ self.old.polls }
+    {
+        let number = self.peers.joined();
+        if !self.prepare(number, kind, &mut stream) {
+            return None;
+        }
+        let connection = Connection::new(number, kind, stream);
+        if self.connections.push(connection).is_err() {
+            return None;
+        }
+        match self.peers.add(kind, address) {
+            Ok(number) => {
+                self.joins.add();
+                Some(number)
+            }
+            Err(_) => {
+                let _dropped = self.connections.pop();
+                None
+            }
+        }
+    }
+}
