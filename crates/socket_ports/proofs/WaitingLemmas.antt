@@ -1,5 +1,5 @@
 -- Bytes that wait, from one step of a write to the next.
-use Rattle.std.proofs.Common.{◌≡◌, ℕ, ◌+◌, ◌-◌, ◌≤◌, ◌++◌, List, length, take, drop, ap, sym, ◌∙◌, arith, length-append, length-drop}
+use Rattle.std.proofs.Common.{◌≡◌, ℕ, ◌+◌, ◌-◌, ◌++◌, List, length, take, drop, ap, sym, ◌∙◌, arith, length-append, length-drop}
 use Rattle.std.proofs.Common.{Result, Ok, Err}
 use Rattle.std.proofs.lemmas.List.{drop-append-le, drop-drop}
 use Rattle.ports.specs.declared.answers.Put.{Put}
@@ -7,7 +7,12 @@ use Rattle.ports.specs.declared.answers.Put.TheVariants.{Took, Later}
 use Rattle.ports.specs.declared.answers.PortFault.{PortFault}
 use Rattle.socket_ports.specs.Waiting.{HaveGone, TakesInOrder}
 
-gone_over : (before mid after : List ℕ) → HaveGone before mid → HaveGone mid after → HaveGone before after
+-- None are gone.
+pub gone_none : (before after : List ℕ) → after ≡ before → HaveGone before after
+gone_none before after same = record { count = 0; some = omega arith; others_wait = same }
+
+-- The first ones are gone, and then the first of those that were left.
+pub gone_over : (before mid after : List ℕ) → HaveGone before mid → HaveGone mid after → HaveGone before after
 gone_over before mid after first second = record {
   count = first.count + second.count;
   some =

@@ -1,5 +1,4 @@
 -- The numbers and names by which the program reports that it can't listen.
-use Rattle.std.specs.Prelude.{codes}
 use Rattle.protocol.specs.declared.reason.Reason.{Reason}
 use Rattle.protocol.specs.declared.reason.Reason.TheVariants as reason
 use Rattle.socket_ports.specs.declared.fault.ListenFault.{ListenFault}

@@ -1,4 +1,5 @@
 pub mod Admissions
+pub mod Connections
 pub mod Departures
 pub mod Doors
 pub mod Ends

@@ -1,15 +1,10 @@
 -- Which numbers the ports have that are told of.
 -- Ports are this project's own. Left out: whether the system reports what happened.
-use Rattle.std.specs.Prelude.{◌≡◌, ℕ, ◌+◌, List, map, Result, Ok, Err}
+use Rattle.std.specs.Prelude.{◌≡◌, ℕ, ◌+◌, List, Result, Ok, Err}
 use Rattle.std.specs.List.{Contains}
 use Rattle.ports.specs.declared.answers.Happening.{Happening}
 use Rattle.ports.specs.declared.answers.Happening.TheVariants.{Joined, JoinedFeed, Readable, Writable, Quiet}
 use Rattle.ports.specs.declared.answers.PortFault.{PortFault}
-use Rattle.socket_ports.specs.declared.connection.Connection.{Connection}
-
--- the numbers of connections
-abbrev pub numbers : List Connection → List ℕ
-numbers connections = map (λ c. c.number) connections
 
 -- A new port has the next number, which counts the ports that joined before; so no number is given twice. Readable and
 -- Writable are told of open ports alone. Before the call `before` ports had joined and after it `after` have, and the

@@ -1,5 +1,5 @@
 -- What a read from the system gives, and what a write to it takes.
-use Rattle.std.specs.Prelude.{ℕ, ◌≤◌}
+use Rattle.std.specs.Prelude.{◌≡◌, ℕ, ◌≤◌, List, [], length}
 use Rattle.socket_ports.specs.declared.socket_io.Receipt.{Receipt}
 use Rattle.socket_ports.specs.declared.socket_io.Receipt.TheVariants.{Bytes}
 use Rattle.socket_ports.specs.declared.socket_io.Sent.{Sent}
@@ -9,6 +9,11 @@ use Rattle.socket_ports.specs.declared.socket_io.Sent.TheVariants.{Took}
 abbrev pub IsReceived : Receipt → ℕ → Type 0
 IsReceived (Bytes count) most = (1 ≤ count) × (count ≤ most)
 IsReceived _ most = Unit {0}
+
+-- All bytes that were read are there.
+abbrev pub IsFilled : Receipt → List ℕ → Type 0
+IsFilled (Bytes count) bytes = length bytes ≡ count
+IsFilled _ bytes = bytes ≡ []
 
 -- at most so many bytes, or none
 abbrev pub IsSent : Sent → ℕ → Type 0

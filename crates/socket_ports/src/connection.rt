@@ -1,13 +1,13 @@
 //! A connection with the bytes that it took and has not sent, and those of a feed that were read ahead.
-ghost use Rattle.std.specs.Prelude.{◌≡◌, ◌<◌, ◌≤◌, ◌↔◌, ◌||◌, IsTrue, None, Ok, drop, length, true};
+ghost use Rattle.std.specs.Prelude.{◌≡◌, ◌<◌, ◌≤◌, ◌↔◌, ◌||◌, [], IsTrue, None, Ok, drop, is_none, length};
+ghost use Rattle.std.specs.Prelude.{take, true};
 ghost use Rattle.ports.specs.Calls.{IsGiven, IsTaken};
+ghost use Rattle.socket_ports.specs.Admissions.{is_client};
 ghost use Rattle.socket_ports.specs.Ends.{IsNoted};
-ghost use Rattle.socket_ports.specs.Reads.{IsOver, ReadsBy};
 ghost use Rattle.socket_ports.specs.Receipts.{IsReceived};
-ghost use Rattle.socket_ports.specs.Waiting.{HaveGone, IsSettled, TakesInOrder, waiting_in};
-ghost use Rattle.socket_ports.specs.declared.listeners.Kind.TheVariants.{Client};
+ghost use Rattle.socket_ports.specs.declared.listeners.Kind.TheVariants.{Client, Feed};
 
-use crate::ahead::{Ahead, AheadPool};
+use crate::ahead::{Ahead, AheadPool, BLOCK};
 use crate::listeners::Kind;
 use crate::peer_end::PeerEnd;
 use crate::pool::{Pool, ROOM, remove_front};
@@ -36,11 +36,11 @@ pub struct Told {
 pub struct Connection {
     pub number: u64,
     pub kind: Kind,
-    stream: TcpStream,
+    pub stream: TcpStream,
     /// Bytes that were taken and are not sent yet; a buffer is here only while there are some.
     pub unsent: Option<Vec<u8>>,
     /// Bytes of a feed that were read ahead.
-    ahead: Option<Ahead>,
+    pub ahead: Option<Ahead>,
     /// How much of a client's bytes was given since the last poll.
     pub ration: Ration,
     /// The end of what a client sends.
@@ -56,11 +56,17 @@ pub struct Connection {
     pub has_failed: bool,
     /// It is told after the next poll.
     is_listed: bool,
+    ghost of_feeds: { is_client kind ≡ true → is_none ahead ≡ true },
 }
 
 impl Connection {
+    ghost use Rattle.socket_ports.specs.Connections.{ahead_in, socket_of, value_of};
+    ghost use Rattle.socket_ports.specs.Reads.{GivesInOrder, IsOver, ReadsBy, given_bytes, received_bytes};
+    ghost use Rattle.socket_ports.specs.Waiting.{HaveGone, IsSettled, TakesInOrder, waiting_in};
+
+    /// Nothing waits, and nothing was read ahead.
     pub fn new(number: u64, kind: Kind, stream: TcpStream) -> Connection
-        ensures { result.number ≡ number }
+        ensures { value_of result ≡ record { number = number; stream = stream; waiting = []; ahead = [] } }
     {
         Connection {
             number,
@@ -79,13 +85,11 @@ impl Connection {
         }
     }
 
-    pub fn stream(&self) -> &TcpStream {
-        &self.stream
-    }
-
     /// An event came, after so many polls. What waits is sent as far as the system takes it.
     pub fn mark(&mut self, event: Readiness, polls: u64, pool: &mut Pool) -> Told
-        ensures { self.new.number ≡ self.old.number }
+        ensures gone { HaveGone (waiting_in self.old.unsent) (waiting_in self.new.unsent) }
+        ensures socket { socket_of self.new ≡ socket_of self.old }
+        ensures ahead { self.new.ahead ≡ self.old.ahead }
     {
         let comes = event.is_readable || event.is_over;
         if comes {
@@ -105,8 +109,9 @@ impl Connection {
         }
     }
 
-    /// Reads after so many polls. A client's connection gives no more than its ration, and its end only once nothing
-    /// moved to it from one poll to the next. A feed's is read ahead, from its first read on.
+    /// Reads after so many polls. What was read ahead is given first. A client's connection gives no more than its
+    /// ration, and its end only once nothing moved to it from one poll to the next. A feed's is read ahead, from its
+    /// first read on.
     pub fn read(
         &mut self,
         buffer: &mut [u8],
@@ -116,7 +121,10 @@ impl Connection {
         requires { 0 < length buffer.old }
         ensures given { IsGiven result (length buffer.new) }
         ensures by { ReadsBy self.old.kind polls self.old self.new result }
-        ensures number { self.new.number ≡ self.old.number }
+        ensures gives { GivesInOrder (ahead_in self.old.ahead) (given_bytes result buffer.new)
+            (ahead_in self.new.ahead) }
+        ensures socket { socket_of self.new ≡ socket_of self.old }
+        ensures unsent { self.new.unsent ≡ self.old.unsent }
     {
         if self.has_failed {
             return Err(PortFault);
@@ -131,7 +139,9 @@ impl Connection {
         requires { 0 < length buffer.old }
         ensures given { IsGiven result (length buffer.new) }
         ensures by { ReadsBy Client polls self.old self.new result }
-        ensures number { self.new.number ≡ self.old.number }
+        ensures ahead { self.new.ahead ≡ self.old.ahead }
+        ensures socket { socket_of self.new ≡ socket_of self.old }
+        ensures unsent { self.new.unsent ≡ self.old.unsent }
     {
         let most = self.ration.left(polls).min(buffer.len());
         if most == 0 || self.has_nothing() {
@@ -159,7 +169,9 @@ impl Connection {
     fn find_end(&mut self, polls: u64) -> Got
         ensures given { IsGiven (Ok result) 0 }
         ensures by { ReadsBy Client polls self.old self.new (Ok result) }
-        ensures number { self.new.number ≡ self.old.number }
+        ensures ahead { self.new.ahead ≡ self.old.ahead }
+        ensures socket { socket_of self.new ≡ socket_of self.old }
+        ensures unsent { self.new.unsent ≡ self.old.unsent }
     {
         if self.is_finished(polls) {
             return Got::Closed;
@@ -175,18 +187,17 @@ impl Connection {
     }
 
     fn read_feed(&mut self, buffer: &mut [u8], aheads: &mut AheadPool) -> Result<Got, PortFault>
-        requires { 0 < length buffer.old }
+        requires room { 0 < length buffer.old }
+        requires feed { self.old.kind ≡ Feed }
         ensures given { IsGiven result (length buffer.new) }
-        ensures number { self.new.number ≡ self.old.number }
+        ensures gives { GivesInOrder (ahead_in self.old.ahead) (given_bytes result buffer.new)
+            (ahead_in self.new.ahead) }
+        ensures socket { socket_of self.new ≡ socket_of self.old }
+        ensures unsent { self.new.unsent ≡ self.old.unsent }
     {
-        if self.ahead.is_none() {
-            self.ahead = aheads.lend();
-        }
-        if let Some(ahead) = &mut self.ahead {
-            let count = ahead.take(buffer);
-            if count > 0 {
-                return Ok(Got::Bytes(count));
-            }
+        let count = self.give_ahead(buffer, aheads);
+        if count > 0 {
+            return Ok(Got::Bytes(count));
         }
         if self.has_nothing() {
             return Ok(Got::Later);
@@ -199,11 +210,35 @@ impl Connection {
         }
     }
 
+    /// Gives the first of what was read ahead, as much as there is and as fits. From now on there is room to read ahead
+    /// if there is any.
+    fn give_ahead(&mut self, buffer: &mut [u8], aheads: &mut AheadPool) -> usize
+        requires room { 0 < length buffer.old }
+        requires feed { self.old.kind ≡ Feed }
+        ensures count { result ≤ length buffer.new }
+        ensures none { result ≡ 0 → ahead_in self.old.ahead ≡ [] }
+        ensures given { take result buffer.new ≡ take result (ahead_in self.old.ahead) }
+        ensures left { ahead_in self.new.ahead ≡ drop result (ahead_in self.old.ahead) }
+        ensures kind { self.new.kind ≡ self.old.kind }
+        ensures socket { socket_of self.new ≡ socket_of self.old }
+        ensures unsent { self.new.unsent ≡ self.old.unsent }
+    {
+        if let Some(ahead) = &mut self.ahead {
+            return ahead.take(buffer);
+        }
+        self.ahead = aheads.lend();
+        0
+    }
+
     /// Reads once from the system, and as far ahead as there is room for.
     fn receive_ahead(&mut self, buffer: &mut [u8]) -> Receipt
-        requires { 0 < length buffer.old }
+        requires room { 0 < length buffer.old }
+        requires feed { self.old.kind ≡ Feed }
+        requires none { ahead_in self.old.ahead ≡ [] }
         ensures received { IsReceived result (length buffer.new) }
-        ensures number { self.new.number ≡ self.old.number }
+        ensures gives { GivesInOrder [] (received_bytes result buffer.new) (ahead_in self.new.ahead) }
+        ensures socket { socket_of self.new ≡ socket_of self.old }
+        ensures unsent { self.new.unsent ≡ self.old.unsent }
     {
         let asked = buffer.len();
         let Some(ahead) = &mut self.ahead else {
@@ -211,22 +246,10 @@ impl Connection {
             self.is_drained = is_short(receipt, asked);
             return receipt;
         };
-        let room = ahead.room();
-        let most = room.len();
-        if most == 0 {
-            return Receipt::Failed;
-        }
-        let receipt = receive(&self.stream, room);
-        self.is_drained = is_short(receipt, most);
+        let receipt = ahead.receive(&self.stream);
+        self.is_drained = is_short(receipt, BLOCK);
         match receipt {
-            Receipt::Bytes(count) => {
-                ahead.came(count);
-                let given = ahead.take(buffer);
-                if given == 0 {
-                    return Receipt::Failed;
-                }
-                Receipt::Bytes(given)
-            }
+            Receipt::Bytes(_) => Receipt::Bytes(ahead.take(buffer)),
             Receipt::WouldBlock => Receipt::WouldBlock,
             Receipt::Closed => Receipt::Closed,
             Receipt::Failed => Receipt::Failed,
@@ -238,7 +261,8 @@ impl Connection {
         ensures taken { IsTaken result (length bytes.now) }
         ensures moved { IsNoted result self.new.end polls }
         ensures order { TakesInOrder (waiting_in self.old.unsent) bytes.now result (waiting_in self.new.unsent) }
-        ensures number { self.new.number ≡ self.old.number }
+        ensures socket { socket_of self.new ≡ socket_of self.old }
+        ensures ahead { self.new.ahead ≡ self.old.ahead }
     {
         let put = self.take(bytes, pool);
         match put {
@@ -252,7 +276,8 @@ impl Connection {
     fn take(&mut self, bytes: &[u8], pool: &mut Pool) -> Result<Put, PortFault>
         ensures taken { IsTaken result (length bytes.now) }
         ensures order { TakesInOrder (waiting_in self.old.unsent) bytes.now result (waiting_in self.new.unsent) }
-        ensures number { self.new.number ≡ self.old.number }
+        ensures socket { socket_of self.new ≡ socket_of self.old }
+        ensures ahead { self.new.ahead ≡ self.old.ahead }
     {
         self.make_room(bytes.len(), pool);
         if self.has_failed {
@@ -264,7 +289,8 @@ impl Connection {
     /// Sends what waits, if so many bytes have no room beside it.
     fn make_room(&mut self, count: usize, pool: &mut Pool)
         ensures gone { HaveGone (waiting_in self.old.unsent) (waiting_in self.new.unsent) }
-        ensures number { self.new.number ≡ self.old.number }
+        ensures socket { socket_of self.new ≡ socket_of self.old }
+        ensures ahead { self.new.ahead ≡ self.old.ahead }
     {
         if self.unsent_count().saturating_add(count) > ROOM {
             self.flush(pool);
@@ -275,7 +301,8 @@ impl Connection {
     fn gather(&mut self, bytes: &[u8], pool: &mut Pool) -> Result<Put, PortFault>
         ensures taken { IsTaken result (length bytes.now) }
         ensures order { TakesInOrder (waiting_in self.old.unsent) bytes.now result (waiting_in self.new.unsent) }
-        ensures number { self.new.number ≡ self.old.number }
+        ensures socket { socket_of self.new ≡ socket_of self.old }
+        ensures ahead { self.new.ahead ≡ self.old.ahead }
     {
         if self.unsent.is_none() {
             self.unsent = pool.lend();
@@ -295,7 +322,8 @@ impl Connection {
     fn write_now(&mut self, bytes: &[u8]) -> Result<Put, PortFault>
         ensures taken { IsTaken result (length bytes.now) }
         ensures unsent { self.new.unsent ≡ self.old.unsent }
-        ensures number { self.new.number ≡ self.old.number }
+        ensures socket { socket_of self.new ≡ socket_of self.old }
+        ensures ahead { self.new.ahead ≡ self.old.ahead }
     {
         let count = if self.is_full { 0 } else { self.send(bytes) };
         if self.has_failed {
@@ -312,7 +340,8 @@ impl Connection {
         ensures count { result ≤ length bytes.now }
         ensures stuck { result < length bytes.now → (self.new.is_full || self.new.has_failed) ≡ true }
         ensures unsent { self.new.unsent ≡ self.old.unsent }
-        ensures number { self.new.number ≡ self.old.number }
+        ensures socket { socket_of self.new ≡ socket_of self.old }
+        ensures ahead { self.new.ahead ≡ self.old.ahead }
     {
         match send(&self.stream, bytes) {
             Sent::Took(count) => {
@@ -332,7 +361,9 @@ impl Connection {
 
     /// The system takes bytes again. How many of those that wait it took.
     pub fn resume(&mut self, pool: &mut Pool) -> usize
-        ensures { self.new.number ≡ self.old.number }
+        ensures gone { HaveGone (waiting_in self.old.unsent) (waiting_in self.new.unsent) }
+        ensures socket { socket_of self.new ≡ socket_of self.old }
+        ensures ahead { self.new.ahead ≡ self.old.ahead }
     {
         self.is_full = false;
         self.flush(pool)
@@ -344,7 +375,8 @@ impl Connection {
         ensures count { result ≤ length (waiting_in self.old.unsent) }
         ensures others_wait { waiting_in self.new.unsent ≡ drop result (waiting_in self.old.unsent) }
         ensures settled { IsSettled self.new }
-        ensures number { self.new.number ≡ self.old.number }
+        ensures socket { socket_of self.new ≡ socket_of self.old }
+        ensures ahead { self.new.ahead ≡ self.old.ahead }
     {
         if self.is_full || self.has_failed {
             return 0;
@@ -393,14 +425,14 @@ impl Connection {
     }
 
     pub fn set_listed(&mut self, is_listed: bool)
-        ensures { self.new.number ≡ self.old.number }
+        ensures { value_of self.new ≡ value_of self.old }
     {
         self.is_listed = is_listed;
     }
 
     /// The room to read ahead, if it has some. What was read ahead is dropped.
     pub fn take_ahead(&mut self) -> Option<Ahead>
-        ensures { self.new.number ≡ self.old.number }
+        ensures { socket_of self.new ≡ socket_of self.old }
     {
         self.ahead.take()
     }

@@ -8,6 +8,7 @@
 mod admission;
 mod ahead;
 mod connection;
+mod connections;
 mod departures;
 mod fault;
 mod hosts;

@@ -101,7 +101,7 @@ fn stays(ending: &mut Ending, pool: &mut Pool) -> bool {
 /// Tells the peer the end, where that was not done yet. Whether it has been told.
 fn tells_the_end(ending: &mut Ending) -> bool {
     if !ending.is_told {
-        ending.is_told = ending.connection.stream().shutdown(Shutdown::Write).is_ok();
+        ending.is_told = ending.connection.stream.shutdown(Shutdown::Write).is_ok();
     }
     ending.is_told
 }
@@ -110,7 +110,7 @@ fn tells_the_end(ending: &mut Ending) -> bool {
 fn goes_on(connection: &Connection) -> bool {
     let mut block = [0u8; 4_096];
     for _ in 0..BLOCKS {
-        match receive(connection.stream(), &mut block) {
+        match receive(&connection.stream, &mut block) {
             Receipt::Bytes(_) => {}
             Receipt::WouldBlock => return true,
             Receipt::Closed => return false,

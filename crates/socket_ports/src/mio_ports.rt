@@ -3,10 +3,13 @@ ghost use Rattle.std.specs.Prelude.{◌≡◌, ◌<◌, [], ◌∷◌, length, I
 ghost use Rattle.sl_io.specs.Counts.{CountsFailure};
 ghost use Rattle.ports.specs.Calls.{Tells, given, IsGiven, IsTaken};
 ghost use Rattle.ports.specs.Calls.Call.{Next, Read, Write, Shut};
+ghost use Rattle.socket_ports.specs.Connections.{KeepsSockets, OnlySends, ReadsFrom, WritesTo, all_but, numbers};
+ghost use Rattle.socket_ports.specs.Connections.{sockets_of};
 ghost use Rattle.socket_ports.specs.Departures.{HaveReasons, TellsAway};
 ghost use Rattle.socket_ports.specs.Doors.{RationsJoins};
-ghost use Rattle.socket_ports.specs.Numbers.{TellsOpenPorts, numbers};
+ghost use Rattle.socket_ports.specs.Numbers.{TellsOpenPorts};
 ghost use Rattle.socket_ports.specs.Peers.{Admits, address_at, without};
+ghost use Rattle.socket_ports.specs.Reads.{given_bytes};
 
 use crate::admission::Admission;
 use crate::departures::Departures;
@@ -39,8 +42,9 @@ impl MioPorts {
         clients: SocketAddrV4,
         feeds: SocketAddrV4,
     ) -> Result<MioPorts, ListenError>
-        ensures { IfOk result (λ ports. ports.sockets.peers
+        ensures peers { IfOk result (λ ports. ports.sockets.peers
             ≡ record { admission = record { feed_from = None; per_address = None }; joined = 0; opened = [] }) }
+        ensures connections { IfOk result (λ ports. ports.sockets.connections ≡ []) }
     {
         MioPorts::listen_to(rt, alloc, clients, feeds, Admission::of_all())
     }
@@ -53,8 +57,9 @@ impl MioPorts {
         feeds: SocketAddrV4,
         admission: Admission,
     ) -> Result<MioPorts, ListenError>
-        ensures { IfOk result (λ ports. ports.sockets.peers
+        ensures peers { IfOk result (λ ports. ports.sockets.peers
             ≡ record { admission = admission; joined = 0; opened = [] }) }
+        ensures connections { IfOk result (λ ports. ports.sockets.connections ≡ []) }
     {
         let away = Departures::new(alloc).map_err(|_| ListenError::OutOfMemory)?;
         let sockets = Sockets::listen(rt, alloc, clients, feeds, admission)?;
@@ -63,7 +68,7 @@ impl MioPorts {
 
     /// Ports over sockets that are listened on.
     fn over(sockets: Sockets, away: Departures) -> Result<MioPorts, ListenError>
-        ensures { IfOk result (λ ports. ports.sockets.peers ≡ sockets.peers) }
+        ensures { IfOk result (λ ports. ports.sockets ≡ sockets) }
     {
         let bound = sockets.bound()?;
         Ok(MioPorts {
@@ -85,6 +90,8 @@ impl MioPorts {
     pub fn finish(&mut self)
         ensures failures { self.new.failures ≡ self.old.failures }
         ensures peers { self.new.sockets.peers ≡ self.old.sockets.peers }
+        ensures sends { OnlySends self.old.sockets.connections self.new.sockets.connections }
+        ensures sockets { sockets_of self.new.sockets.connections ≡ sockets_of self.old.sockets.connections }
     {
         self.sockets.finish();
     }
@@ -102,13 +109,16 @@ impl Ports for MioPorts {
         ensures call { Tells None None (Next result ∷ []) }
         ensures failure { CountsFailure self.old.failures self.new.failures result }
         ensures numbers { TellsOpenPorts self.old.sockets.peers.joined self.new.sockets.peers.joined
-            (numbers self.new.sockets.connections.items) result }
+            (numbers self.new.sockets.connections) result }
         ensures admits { Admits self.old.sockets.peers self.new.sockets.peers result }
         ensures rationed { RationsJoins self.old.sockets.polls self.old.sockets.joins.count
             self.new.sockets.polls self.new.sockets.joins.count result }
         ensures reasons { HaveReasons self.old.sockets.peers.admission self.old.sockets.peers.opened self.new.away }
         ensures all_told { TellsAway self.old.sockets.polls self.old.sockets.joins.away
             self.new.sockets.polls self.new.sockets.joins.away self.new.away }
+        ensures sends { OnlySends self.old.sockets.connections self.new.sockets.connections }
+        ensures sockets { KeepsSockets result (sockets_of self.old.sockets.connections)
+            (sockets_of self.new.sockets.connections) }
     {
         self.away.clear();
         let answer = self.sockets.next(&mut self.away);
@@ -124,6 +134,9 @@ impl Ports for MioPorts {
         ensures call { Tells None None (Read port (length buffer.new) (given result buffer.new) ∷ []) }
         ensures failure { CountsFailure self.old.failures self.new.failures result }
         ensures peers { self.new.sockets.peers ≡ self.old.sockets.peers }
+        ensures reads { ReadsFrom port result (given_bytes result buffer.new)
+            self.old.sockets.connections self.new.sockets.connections }
+        ensures sockets { sockets_of self.new.sockets.connections ≡ sockets_of self.old.sockets.connections }
     {
         let answer = self.sockets.read(port, buffer);
         if answer.is_err() {
@@ -138,6 +151,8 @@ impl Ports for MioPorts {
         ensures call { Tells None None (Write port bytes.now result ∷ []) }
         ensures failure { CountsFailure self.old.failures self.new.failures result }
         ensures peers { self.new.sockets.peers ≡ self.old.sockets.peers }
+        ensures writes { WritesTo port bytes.now result self.old.sockets.connections self.new.sockets.connections }
+        ensures sockets { sockets_of self.new.sockets.connections ≡ sockets_of self.old.sockets.connections }
     {
         let answer = self.sockets.write(port, bytes);
         if answer.is_err() {
@@ -151,6 +166,7 @@ impl Ports for MioPorts {
         ensures failures { self.new.failures ≡ self.old.failures }
         ensures left { self.new.sockets.peers
             ≡ record self.old.sockets.peers { opened = without port self.old.sockets.peers.opened } }
+        ensures connections { self.new.sockets.connections ≡ all_but port self.old.sockets.connections }
     {
         self.sockets.shut(port);
     }

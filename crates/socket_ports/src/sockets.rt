@@ -2,16 +2,20 @@
 ghost use Rattle.std.specs.Prelude.{◌≡◌, ◌<◌, [], IfNone, IfOk, IfSome, Ok, length, true};
 ghost use Rattle.std.specs.List.{Contains};
 ghost use Rattle.ports.specs.Calls.{IsGiven, IsTaken};
+ghost use Rattle.socket_ports.specs.Connections.{KeepsSockets, OnlySends, ReadsFrom, WritesTo, all_but, numbers};
+ghost use Rattle.socket_ports.specs.Connections.{sockets_of};
 ghost use Rattle.socket_ports.specs.Departures.{HaveReasons, TellsAway};
 ghost use Rattle.socket_ports.specs.Doors.{IsPolled, RationsJoins, joins_by};
-ghost use Rattle.socket_ports.specs.Numbers.{TellsOpenPorts, numbers};
+ghost use Rattle.socket_ports.specs.Numbers.{TellsOpenPorts};
 ghost use Rattle.socket_ports.specs.Peers.{Admits, without};
+ghost use Rattle.socket_ports.specs.Reads.{given_bytes};
 
 mod joining;
 
 use crate::admission::Admission;
 use crate::ahead::AheadPool;
-use crate::connection::{Connection, Readiness, Told};
+use crate::connection::{Readiness, Told};
+use crate::connections::Connections;
 use crate::departures::Departures;
 use crate::fault::ListenError;
 use crate::joins::Joins;
@@ -46,10 +50,8 @@ pub struct Sockets {
     pub peers: Peers,
     /// How many connections were taken since the last poll.
     pub joins: Joins,
-    /// By rising number.
-    pub connections: Vec<Connection>,
-    /// The place at which a connection was found last. A loop asks for one port many times, and then for another.
-    near: usize,
+    /// The open ports' connections.
+    pub connections: Connections,
     lingering: Lingering,
     pool: Pool,
     aheads: AheadPool,
@@ -68,33 +70,6 @@ fn buffers(alloc: Global) -> Result<(Pool, AheadPool), AllocError> {
     Ok((pool, aheads))
 }
 
-/// A place, if the connection there has a number.
-fn place_if(connections: &[Connection], at: usize, number: u64) -> Option<usize>
-    ensures place { IfSome result (λ at. at < length connections.now) }
-    ensures number { IfSome result (λ at. Contains (numbers connections.now) number) }
-{
-    let connection = connections.get(at)?;
-    if connection.number == number {
-        Some(at)
-    } else {
-        None
-    }
-}
-
-/// The place of the connection with a number: where one was found last, or else found by halving.
-fn place_of(connections: &[Connection], near: usize, number: u64) -> Option<usize>
-    ensures place { IfSome result (λ at. at < length connections.now) }
-    ensures number { IfSome result (λ at. Contains (numbers connections.now) number) }
-{
-    if let Some(at) = place_if(connections, near, number) {
-        return Some(at);
-    }
-    let Ok(at) = connections.binary_search_by_key(&number, |connection| connection.number) else {
-        return None;
-    };
-    place_if(connections, at, number)
-}
-
 impl Sockets {
     pub fn listen(
         rt: &impl Net,
@@ -103,7 +78,9 @@ impl Sockets {
         feeds: SocketAddrV4,
         admission: Admission,
     ) -> Result<Sockets, ListenError>
-        ensures { IfOk result (λ sockets. sockets.peers ≡ record { admission = admission; joined = 0; opened = [] }) }
+        ensures peers { IfOk result (λ sockets. sockets.peers
+            ≡ record { admission = admission; joined = 0; opened = [] }) }
+        ensures connections { IfOk result (λ sockets. sockets.connections ≡ []) }
     {
         let Ok((pool, aheads)) = buffers(alloc) else {
             return Err(ListenError::OutOfMemory);
@@ -118,8 +95,7 @@ impl Sockets {
             listeners,
             peers: Peers::new(alloc, admission),
             joins: Joins::new(),
-            connections: Vec::new(alloc),
-            near: 0,
+            connections: Connections::new(alloc),
             lingering: Lingering::new(alloc),
             pool,
             aheads,
@@ -136,14 +112,17 @@ impl Sockets {
     /// What happened next: the happenings of one poll one after the other, up to sixteen ports that join, and then
     /// Quiet. A poll waits at most 100 ms, and not at all if bytes went, a port joined or one is to be told since the
     /// last one. The connections that were turned away meanwhile are told.
+    #[tactic(auto, using(crate::proofs::SocketLemmas::sends))]
     pub fn next(&mut self, away: &mut Departures) -> Result<Happening, PortFault>
         requires { away.old ≡ [] }
         ensures reasons { HaveReasons self.old.peers.admission self.old.peers.opened away.new }
         ensures all_told { TellsAway self.old.polls self.old.joins.away self.new.polls self.new.joins.away away.new }
         ensures numbers { TellsOpenPorts self.old.peers.joined self.new.peers.joined
-            (numbers self.new.connections.items) result }
+            (numbers self.new.connections) result }
         ensures admits { Admits self.old.peers self.new.peers result }
         ensures rationed { RationsJoins self.old.polls self.old.joins.count self.new.polls self.new.joins.count result }
+        ensures sends { OnlySends self.old.connections self.new.connections }
+        ensures sockets { KeepsSockets result (sockets_of self.old.connections) (sockets_of self.new.connections) }
     {
         self.send_gathered();
         self.poll_if_due()?;
@@ -162,6 +141,7 @@ impl Sockets {
         ensures peers { self.new.peers ≡ self.old.peers }
         ensures polls { IsPolled self.old.polls self.old.joins.count self.new.polls self.new.joins.count }
         ensures away { IsPolled self.old.polls self.old.joins.away self.new.polls self.new.joins.away }
+        ensures connections { self.new.connections ≡ self.old.connections }
     {
         if self.is_polled {
             return Ok(());
@@ -176,6 +156,7 @@ impl Sockets {
         ensures peers { self.new.peers ≡ self.old.peers }
         ensures polls { IsPolled self.old.polls self.old.joins.count self.new.polls self.new.joins.count }
         ensures away { IsPolled self.old.polls self.old.joins.away self.new.polls self.new.joins.away }
+        ensures connections { self.new.connections ≡ self.old.connections }
     {
         let Some(polls) = self.polls.checked_add(1) else {
             return Err(PortFault);
@@ -192,24 +173,21 @@ impl Sockets {
         self.polling.ask(wait)
     }
 
-    fn is_open(&self, number: u64) -> bool
-        ensures { result ≡ true → Contains (numbers self.now.connections.items) number }
-    {
-        place_of(self.connections.as_slice(), self.near, number).is_some()
-    }
-
     /// What is still to be told of the last poll.
+    #[tactic(auto, using(crate::proofs::SocketLemmas::sends))]
     fn pending(&mut self) -> Option<Happening>
         ensures some { IfSome result (λ h. TellsOpenPorts self.old.peers.joined self.new.peers.joined
-            (numbers self.new.connections.items) (Ok h)) }
+            (numbers self.new.connections) (Ok h)) }
         ensures admits { IfSome result (λ h. Admits self.old.peers self.new.peers (Ok h)) }
         ensures none { IfNone result (self.new.peers ≡ self.old.peers) }
         ensures no_join { IfSome result (λ h. joins_by (Ok h) ≡ 0) }
         ensures polls { self.new.polls ≡ self.old.polls }
         ensures joins { self.new.joins ≡ self.old.joins }
+        ensures sends { OnlySends self.old.connections self.new.connections }
+        ensures sockets { sockets_of self.new.connections ≡ sockets_of self.old.connections }
     {
         if let Some(number) = self.writable.take() {
-            if self.is_open(number) {
+            if self.connections.contains(number) {
                 return Some(Happening::Writable(number));
             }
         }
@@ -223,14 +201,15 @@ impl Sockets {
     /// Tells what an event says of a port.
     fn tell(&mut self, number: u64, told: Told) -> Option<Happening>
         ensures some { IfSome result (λ h. TellsOpenPorts self.old.peers.joined self.new.peers.joined
-            (numbers self.new.connections.items) (Ok h)) }
+            (numbers self.new.connections) (Ok h)) }
         ensures admits { IfSome result (λ h. Admits self.old.peers self.new.peers (Ok h)) }
         ensures none { IfNone result (self.new.peers ≡ self.old.peers) }
         ensures no_join { IfSome result (λ h. joins_by (Ok h) ≡ 0) }
         ensures polls { self.new.polls ≡ self.old.polls }
         ensures joins { self.new.joins ≡ self.old.joins }
+        ensures connections { self.new.connections ≡ self.old.connections }
     {
-        if !self.is_open(number) {
+        if !self.connections.contains(number) {
             return None;
         }
         if told.readable {
@@ -243,10 +222,13 @@ impl Sockets {
     }
 
     /// The next port of which an event tells something.
+    #[tactic(auto, using(crate::proofs::SocketLemmas::sends))]
     fn next_told(&mut self) -> Option<(u64, Told)>
         ensures peers { self.new.peers ≡ self.old.peers }
         ensures polls { self.new.polls ≡ self.old.polls }
         ensures joins { self.new.joins ≡ self.old.joins }
+        ensures sends { OnlySends self.old.connections self.new.connections }
+        ensures sockets { sockets_of self.new.connections ≡ sockets_of self.old.connections }
     {
         'events: for _ in 0..EVENTS {
             let event = self.polling.next()?;
@@ -263,23 +245,27 @@ impl Sockets {
     }
 
     /// An event of a port came.
+    #[tactic(auto, using(crate::proofs::SocketLemmas::sends))]
     fn mark(&mut self, number: u64, event: Event) -> Option<Told>
         ensures peers { self.new.peers ≡ self.old.peers }
         ensures polls { self.new.polls ≡ self.old.polls }
         ensures joins { self.new.joins ≡ self.old.joins }
+        ensures sends { OnlySends self.old.connections self.new.connections }
+        ensures sockets { sockets_of self.new.connections ≡ sockets_of self.old.connections }
     {
-        let Some(at) = place_of(self.connections.as_slice(), self.near, number) else {
-            self.lingering
-                .mark(number, event.is_writable(), &mut self.pool);
-            return None;
-        };
-        let connection = self.connections.get_mut(at)?;
         let readiness = Readiness {
             is_readable: event.is_readable(),
             is_over: event.is_read_closed() || event.is_error(),
             is_writable: event.is_writable(),
         };
-        let told = connection.mark(readiness, self.polls, &mut self.pool);
+        let Some(told) = self
+            .connections
+            .mark(number, readiness, self.polls, &mut self.pool)
+        else {
+            self.lingering
+                .mark(number, readiness.is_writable, &mut self.pool);
+            return None;
+        };
         if told.readable || told.writable {
             Some(told)
         } else {
@@ -289,10 +275,11 @@ impl Sockets {
 
     /// The next port that is told though no event came of it.
     fn next_due(&mut self) -> Option<u64>
-        ensures open { IfSome result (λ number. Contains (numbers self.new.connections.items) number) }
+        ensures open { IfSome result (λ number. Contains (numbers self.new.connections) number) }
         ensures peers { self.new.peers ≡ self.old.peers }
         ensures polls { self.new.polls ≡ self.old.polls }
         ensures joins { self.new.joins ≡ self.old.joins }
+        ensures connections { self.new.connections ≡ self.old.connections }
     {
         'due: for _ in 0..self.listing.due() {
             let number = self.listing.next()?;
@@ -305,23 +292,23 @@ impl Sockets {
 
     /// A port is told, and may be listed again. Whether it is open.
     fn unlist(&mut self, number: u64) -> bool
-        ensures open { result ≡ true → Contains (numbers self.new.connections.items) number }
+        ensures open { result ≡ true → Contains (numbers self.new.connections) number }
         ensures peers { self.new.peers ≡ self.old.peers }
         ensures polls { self.new.polls ≡ self.old.polls }
         ensures joins { self.new.joins ≡ self.old.joins }
+        ensures connections { self.new.connections ≡ self.old.connections }
     {
-        if let Some(at) = place_of(self.connections.as_slice(), self.near, number) {
-            if let Some(connection) = self.connections.get_mut(at) {
-                connection.set_listed(false);
-            }
-        }
-        self.is_open(number)
+        self.connections.set_listed(number, false);
+        self.connections.contains(number)
     }
 
     /// Sends what a port gathered, if it is not this one.
+    #[tactic(auto, using(crate::proofs::SocketLemmas::sends))]
     fn turn_to(&mut self, port: u64)
         ensures peers { self.new.peers ≡ self.old.peers }
         ensures polls { self.new.polls ≡ self.old.polls }
+        ensures sends { OnlySends self.old.connections self.new.connections }
+        ensures sockets { sockets_of self.new.connections ≡ sockets_of self.old.connections }
     {
         match self.gathering {
             Some(gathering) if gathering == port => {}
@@ -330,75 +317,72 @@ impl Sockets {
     }
 
     /// Sends what the last port took. If that fails, the port is told.
+    #[tactic(auto, using(crate::proofs::SocketLemmas::sends))]
     fn send_gathered(&mut self)
         ensures peers { self.new.peers ≡ self.old.peers }
         ensures polls { self.new.polls ≡ self.old.polls }
         ensures joins { self.new.joins ≡ self.old.joins }
+        ensures sends { OnlySends self.old.connections self.new.connections }
+        ensures sockets { sockets_of self.new.connections ≡ sockets_of self.old.connections }
     {
         let Some(port) = self.gathering.take() else {
             return;
         };
-        let Some(at) = place_of(self.connections.as_slice(), self.near, port) else {
-            return;
-        };
-        if let Some(connection) = self.connections.get_mut(at) {
-            let _ = connection.flush(&mut self.pool);
-        }
-        self.list_if_due(at);
+        self.connections.flush(port, &mut self.pool);
+        self.list_if_due(port);
     }
 
     /// Has a port told after the next poll, if there may be more to be read by then though no event comes.
-    fn list_if_due(&mut self, at: usize)
+    fn list_if_due(&mut self, port: u64)
         ensures peers { self.new.peers ≡ self.old.peers }
         ensures polls { self.new.polls ≡ self.old.polls }
         ensures joins { self.new.joins ≡ self.old.joins }
+        ensures connections { self.new.connections ≡ self.old.connections }
     {
-        if let Some(connection) = self.connections.get_mut(at) {
-            if !connection.is_listed() && connection.is_due(self.polls) {
-                connection.set_listed(self.listing.add(connection.number));
-            }
+        if self.connections.is_due(port, self.polls) {
+            let is_listed = self.listing.add(port);
+            self.connections.set_listed(port, is_listed);
         }
     }
 
+    /// Reads from a port: what was read ahead from it, and then what comes from the system.
+    #[tactic(auto, using(crate::proofs::SocketLemmas::reads_on))]
     pub fn read(&mut self, port: u64, buffer: &mut [u8]) -> Result<Got, PortFault>
         requires { 0 < length buffer.old }
         ensures bound { IsGiven result (length buffer.new) }
         ensures peers { self.new.peers ≡ self.old.peers }
+        ensures reads { ReadsFrom port result (given_bytes result buffer.new)
+            self.old.connections self.new.connections }
+        ensures sockets { sockets_of self.new.connections ≡ sockets_of self.old.connections }
     {
         self.turn_to(port);
-        let Some(at) = place_of(self.connections.as_slice(), self.near, port) else {
-            return Ok(Got::Closed);
-        };
-        self.near = at;
-        let Some(connection) = self.connections.get_mut(at) else {
-            return Ok(Got::Closed);
-        };
-        let got = connection.read(buffer, self.polls, &mut self.aheads);
+        let got = self
+            .connections
+            .read(port, buffer, self.polls, &mut self.aheads);
         match &got {
             Ok(Got::Bytes(_)) => self.is_busy = true,
-            Ok(Got::Later) => self.list_if_due(at),
+            Ok(Got::Later) => self.list_if_due(port),
             Ok(Got::Closed) | Err(PortFault) => {}
         }
         got
     }
 
+    /// Has a port take bytes. They wait at that port, and at no other.
     pub fn write(&mut self, port: u64, bytes: &[u8]) -> Result<Put, PortFault>
         ensures bound { IsTaken result (length bytes.now) }
         ensures peers { self.new.peers ≡ self.old.peers }
+        ensures writes { WritesTo port bytes.now result self.old.connections self.new.connections }
+        ensures sockets { sockets_of self.new.connections ≡ sockets_of self.old.connections }
     {
         self.turn_to(port);
-        let Some(at) = place_of(self.connections.as_slice(), self.near, port) else {
-            return Ok(Put::Later);
-        };
-        self.near = at;
-        let Some(connection) = self.connections.get_mut(at) else {
-            return Ok(Put::Later);
-        };
-        let put = connection.write(bytes, self.polls, &mut self.pool);
-        if matches!(&put, Ok(Put::Took(_))) {
-            self.is_busy = true;
+        let put = self
+            .connections
+            .write(port, bytes, self.polls, &mut self.pool);
+        match &put {
+            Ok(Put::Took(_)) => self.is_busy = true,
+            Ok(Put::Later) | Err(PortFault) => {}
         }
-        if connection.has_gathered() {
+        if self.connections.has_gathered(port) {
             self.gathering = Some(port);
         }
         put
@@ -406,34 +390,33 @@ impl Sockets {
 
     /// Ends a port. Its last bytes are still sent.
     pub fn shut(&mut self, port: u64)
-        ensures { self.new.peers ≡ record self.old.peers { opened = without port self.old.peers.opened } }
+        ensures peers { self.new.peers ≡ record self.old.peers { opened = without port self.old.peers.opened } }
+        ensures connections { self.new.connections ≡ all_but port self.old.connections }
     {
         self.peers.remove(port);
-        let Some(at) = place_of(self.connections.as_slice(), self.near, port) else {
+        let Some(mut connection) = self.connections.remove(port) else {
             return;
         };
-        if at < self.connections.len() {
-            let mut connection = self.connections.remove(at);
-            if let Some(ahead) = connection.take_ahead() {
-                self.aheads.take_back(ahead);
-            }
-            if connection.has_taken() {
-                self.lingering.keep(connection, &mut self.pool);
-            }
+        if let Some(ahead) = connection.take_ahead() {
+            self.aheads.take_back(ahead);
+        }
+        if connection.has_taken() {
+            self.lingering.keep(connection, &mut self.pool);
         }
     }
 
     fn unsent_count(&self) -> usize {
-        let mut count = self.lingering.unsent_count();
-        for connection in self.connections.iter() {
-            count = count.saturating_add(connection.unsent_count());
-        }
-        count
+        self.lingering
+            .unsent_count()
+            .saturating_add(self.connections.unsent_count())
     }
 
     /// Takes the events of the last poll, and tells nobody.
+    #[tactic(auto, using(crate::proofs::SocketLemmas::sends))]
     fn take_events(&mut self)
-        ensures { self.new.peers ≡ self.old.peers }
+        ensures peers { self.new.peers ≡ self.old.peers }
+        ensures sends { OnlySends self.old.connections self.new.connections }
+        ensures sockets { sockets_of self.new.connections ≡ sockets_of self.old.connections }
     {
         self.listing.clear();
         'events: for _ in 0..EVENTS {
@@ -444,8 +427,11 @@ impl Sockets {
     }
 
     /// Sends what was gathered, as long as somebody takes it, for five seconds at most.
+    #[tactic(auto, using(crate::proofs::SocketLemmas::sends))]
     pub fn finish(&mut self)
-        ensures { self.new.peers ≡ self.old.peers }
+        ensures peers { self.new.peers ≡ self.old.peers }
+        ensures sends { OnlySends self.old.connections self.new.connections }
+        ensures sockets { sockets_of self.new.connections ≡ sockets_of self.old.connections }
     {
         self.send_gathered();
         'polls: for _ in 0..LAST_POLLS {

@@ -1,9 +1,10 @@
 //! Which connections are taken, and how they join.
 ghost use Rattle.std.specs.Prelude.{◌≡◌, ◌<◌, ◌+◌, ◌^◌, [], IfNone, IfSome, Ok, length, true};
 ghost use Rattle.socket_ports.specs.Admissions.{IsAdmitted};
+ghost use Rattle.socket_ports.specs.Connections.{KeepsSockets, OnlySends, Opens, numbers, sockets_of};
 ghost use Rattle.socket_ports.specs.Departures.{HaveReasons, IfAway, IsReason, away_of};
 ghost use Rattle.socket_ports.specs.Doors.{joins_by};
-ghost use Rattle.socket_ports.specs.Numbers.{TellsOpenPorts, numbers};
+ghost use Rattle.socket_ports.specs.Numbers.{TellsOpenPorts};
 ghost use Rattle.socket_ports.specs.Peers.{Admits, IfJoined, IfNotJoined, IsJoined, happening_of};
 
 use super::Sockets;
@@ -64,6 +65,7 @@ impl Sockets {
         ensures peers { self.new.peers ≡ self.old.peers }
         ensures polls { self.new.polls ≡ self.old.polls }
         ensures joins { self.new.joins ≡ self.old.joins }
+        ensures connections { self.new.connections ≡ self.old.connections }
     {
         match self.listeners.accept() {
             Accepted::Connection(kind, stream, peer) => {
@@ -85,12 +87,16 @@ impl Sockets {
         ensures reasons { HaveReasons self.old.peers.admission self.old.peers.opened away.new }
         ensures all_told { self.new.joins.away ≡ self.old.joins.away + length away.new }
         ensures some { IfSome result (λ h. TellsOpenPorts self.old.peers.joined self.new.peers.joined
-            (numbers self.new.connections.items) (Ok h)) }
+            (numbers self.new.connections) (Ok h)) }
         ensures admits { IfSome result (λ h. Admits self.old.peers self.new.peers (Ok h)) }
         ensures none { IfNone result (self.new.peers ≡ self.old.peers) }
         ensures polls { self.new.polls ≡ self.old.polls }
         ensures counts { IfSome result (λ h. self.new.joins.count ≡ self.old.joins.count + joins_by (Ok h)) }
         ensures no_count { IfNone result (self.new.joins.count ≡ self.old.joins.count) }
+        ensures sends { OnlySends self.old.connections self.new.connections }
+        ensures opens { IfSome result (λ h. KeepsSockets (Ok h) (sockets_of self.old.connections)
+            (sockets_of self.new.connections)) }
+        ensures no_open { IfNone result (self.new.connections ≡ self.old.connections) }
     {
         'waiting: for _ in 0..CONNECTIONS {
             if self.joins.is_full() {
@@ -112,7 +118,7 @@ impl Sockets {
     fn take(&mut self) -> Taken
         requires { self.old.joins.count + self.old.joins.away < 16 }
         ensures joined { IfJoined result (λ h. TellsOpenPorts self.old.peers.joined self.new.peers.joined
-            (numbers self.new.connections.items) (Ok h)) }
+            (numbers self.new.connections) (Ok h)) }
         ensures admits { IfJoined result (λ h. Admits self.old.peers self.new.peers (Ok h)) }
         ensures counts { IfJoined result (λ h. self.new.joins.count ≡ self.old.joins.count + joins_by (Ok h)) }
         ensures others { IfNotJoined result ((self.new.peers ≡ self.old.peers) × (self.new.joins ≡ self.old.joins)) }
@@ -120,6 +126,10 @@ impl Sockets {
         ensures away { IfAway result (λ one.
             IsReason self.old.peers.admission self.old.peers.opened one.address one.reason) }
         ensures polls { self.new.polls ≡ self.old.polls }
+        ensures sends { OnlySends self.old.connections self.new.connections }
+        ensures opens { IfJoined result (λ h. KeepsSockets (Ok h) (sockets_of self.old.connections)
+            (sockets_of self.new.connections)) }
+        ensures no_open { IfNotJoined result (self.new.connections ≡ self.old.connections) }
     {
         let Some((kind, stream, peer)) = self.accept() else {
             return Taken::Nothing;
@@ -143,6 +153,7 @@ impl Sockets {
         ensures peers { self.new.peers ≡ self.old.peers }
         ensures polls { self.new.polls ≡ self.old.polls }
         ensures joins { self.new.joins ≡ self.old.joins }
+        ensures connections { self.new.connections ≡ self.old.connections }
     {
         if number >= LAST || stream.set_nodelay(true).is_err() {
             return false;
@@ -163,13 +174,15 @@ impl Sockets {
         ensures away { self.new.joins.away ≡ self.old.joins.away }
         ensures none { IfNone result ((self.new.peers ≡ self.old.peers) × (self.new.joins ≡ self.old.joins)) }
         ensures polls { self.new.polls ≡ self.old.polls }
+        ensures opens { IfSome result (λ n. Opens n self.old.connections self.new.connections) }
+        ensures no_open { IfNone result (self.new.connections ≡ self.old.connections) }
     {
         let number = self.peers.joined();
         if !self.prepare(number, kind, &mut stream) {
             return None;
         }
         let connection = Connection::new(number, kind, stream);
-        if self.connections.push(connection).is_err() {
+        if !self.connections.push(connection) {
             return None;
         }
         match self.peers.add(kind, address) {
@@ -178,7 +191,7 @@ impl Sockets {
                 Some(number)
             }
             Err(_) => {
-                let _dropped = self.connections.pop();
+                self.connections.pop();
                 None
             }
         }

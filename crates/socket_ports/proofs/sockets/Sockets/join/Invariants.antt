@@ -5,6 +5,7 @@ use Rattle.socket_ports.proofs.sockets.Sockets.join.Given as goal
 abbrev pub invariant-waiting : goal.invariant-waiting
 invariant-waiting l = record {
   peers : l.self.peers ≡ l.fn.self.peers;
+  connections : l.self.connections ≡ l.fn.self.connections;
   polls : l.self.polls ≡ l.fn.self.polls;
   count : l.self.joins.count ≡ l.fn.self.joins.count;
   away : l.self.joins.away ≡ l.fn.self.joins.away + length l.away;

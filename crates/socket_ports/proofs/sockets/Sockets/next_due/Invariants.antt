@@ -2,5 +2,9 @@ use Rattle.std.proofs.Common.{◌≡◌}
 use Rattle.socket_ports.proofs.sockets.Sockets.next_due.Given as goal
 
 abbrev pub invariant-due : goal.invariant-due
-invariant-due l =
-    (l.self.peers ≡ l.fn.self.peers) × (l.self.polls ≡ l.fn.self.polls) × (l.self.joins ≡ l.fn.self.joins)
+invariant-due l = record {
+  peers : l.self.peers ≡ l.fn.self.peers;
+  polls : l.self.polls ≡ l.fn.self.polls;
+  joins : l.self.joins ≡ l.fn.self.joins;
+  connections : l.self.connections ≡ l.fn.self.connections;
+}

@@ -1,6 +1,12 @@
 use Rattle.std.proofs.Common.{◌≡◌}
+use Rattle.socket_ports.specs.Connections.{OnlySends, sockets_of}
 use Rattle.socket_ports.proofs.sockets.Sockets.next_told.Given as goal
 
 abbrev pub invariant-events : goal.invariant-events
-invariant-events l =
-    (l.self.peers ≡ l.fn.self.peers) × (l.self.polls ≡ l.fn.self.polls) × (l.self.joins ≡ l.fn.self.joins)
+invariant-events l = record {
+  peers : l.self.peers ≡ l.fn.self.peers;
+  polls : l.self.polls ≡ l.fn.self.polls;
+  joins : l.self.joins ≡ l.fn.self.joins;
+  sends : OnlySends l.fn.self.connections l.self.connections;
+  sockets : sockets_of l.self.connections ≡ sockets_of l.fn.self.connections;
+}
