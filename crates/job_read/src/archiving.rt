@@ -66,8 +66,13 @@ fn folders_at<'r, 'a: 'r, R: Files<File = File> + AllocGlobal>(
         Ok(folders) if are_to_last => Ok(folders.to_last()),
         Ok(folders) => Ok(folders),
         Err(TopFault::Unopened(reason)) => Err(unopened(top, reason)),
-        Err(TopFault::Locked) => Err(unopened(top, io::Error::from(io::ErrorKind::ResourceBusy))),
+        Err(TopFault::Locked) => Err(unopened(top, added_to_by_another())),
     }
+}
+
+/// What is said of an archive that is locked.
+fn added_to_by_another() -> io::Error {
+    io::Error::new(io::ErrorKind::ResourceBusy, "another reader adds to it")
 }
 
 /// Why records could not be added to an archive, if that is what ended the reading.

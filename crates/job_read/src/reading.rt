@@ -424,7 +424,7 @@ fn is_told(options: ReadOptions<'_>, is_verbose: bool) -> bool
 }
 
 /// The state in a file, if one is named.
-fn state_in<'a, R: Files + AllocGlobal>(
+fn state_in<'a, R: Files<File = File> + AllocGlobal>(
     rt: &R,
     path: Option<&'a str>,
 ) -> Result<Option<StateFile<'a>>, Incident<'a>> {

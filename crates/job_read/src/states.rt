@@ -12,7 +12,7 @@ use sl_io::{Outer, ReadFault, Sink, read_all};
 use slreader::{LastPacket, Tally, Want};
 use std::alloc::{AllocError, Global};
 use std::cell::RefCell;
-use std::fs::File;
+use std::fs::{File, OpenOptions, TryLockError};
 use std::io::ErrorKind;
 use std::net::{Net, OpenStream};
 use std::rt::{Clock, Files};
@@ -31,14 +31,17 @@ pub struct StateFile<'a> {
     place: String,
     /// Another name in the same folder, under which the file is written anew.
     new_path: String,
+    /// Locked until the end, so that no other reader goes on after packets that this one is about to pass.
+    _lock: File,
     /// The last packets that it told of when the reader began.
     before: Vec<LastPacket>,
     text: Vec<u8>,
 }
 
 impl<'a> StateFile<'a> {
-    /// Reads a state. A file that is not there tells of no packet. One that is no plain file is refused, and not opened.
-    pub fn open<R: Files + AllocGlobal>(
+    /// Locks a state and reads it. A file that is not there tells of no packet. One that is no plain file is refused, and
+    /// not opened.
+    pub fn open<R: Files<File = File> + AllocGlobal>(
         rt: &R,
         path: &'a str,
     ) -> Result<StateFile<'a>, Incident<'a>> {
@@ -46,8 +49,9 @@ impl<'a> StateFile<'a> {
             Ok(place) => place,
             Err(reason) => return Err(unopened(path, reason)),
         };
+        let lock = locked(rt, place.as_str(), path)?;
         let before = lasts_at(rt, place.as_str(), path)?;
-        match StateFile::of(rt.alloc(), path, place, before) {
+        match StateFile::of(rt.alloc(), path, place, lock, before) {
             Ok(file) => Ok(file),
             Err(_) => Err(Incident::from(Failure::OutOfMemory)),
         }
@@ -58,6 +62,7 @@ impl<'a> StateFile<'a> {
         alloc: Global,
         path: &'a str,
         place: String,
+        lock: File,
         before: Vec<LastPacket>,
     ) -> Result<StateFile<'a>, AllocError> {
         let new_path = format!(in alloc; "{place}.new")?;
@@ -65,6 +70,7 @@ impl<'a> StateFile<'a> {
             path,
             place,
             new_path,
+            _lock: lock,
             before,
             text: Vec::new(alloc),
         })
@@ -80,20 +86,16 @@ impl<'a> StateFile<'a> {
         self.path
     }
 
-    /// The file is written anew under another name, which then takes its place.
+    /// The file is written anew under another name, which then takes its place. Stations that no want asks for stay in
+    /// it as they are by then.
     fn keep<R: Files + AllocGlobal>(
         &mut self,
         rt: &R,
         tally: &Tally,
         wants: &[Want<'_>],
     ) -> io::Result<()> {
-        let written = write_state(
-            rt.alloc(),
-            &mut self.text,
-            tally,
-            wants,
-            self.before.as_slice(),
-        );
+        let others = others_at(rt, self.place.as_str())?;
+        let written = write_state(rt.alloc(), &mut self.text, tally, wants, others.as_slice());
         if written.is_err() {
             return Err(io::Error::from(ErrorKind::OutOfMemory));
         }
@@ -103,6 +105,58 @@ impl<'a> StateFile<'a> {
             self.place.as_str(),
             self.text.as_slice(),
         )
+    }
+}
+
+/// The lock of the state at a place, that a word names: a file beside it.
+fn locked<'a, R: Files<File = File> + AllocGlobal>(
+    rt: &R,
+    place: &str,
+    path: &'a str,
+) -> Result<File, Incident<'a>> {
+    let Ok(name) = format!(in rt.alloc(); "{place}.lock") else {
+        return Err(Incident::from(Failure::OutOfMemory));
+    };
+    match place_of(rt, name.as_str()) {
+        Ok(_) => {}
+        Err(reason) => return Err(unopened(path, reason)),
+    }
+    let opened = OpenOptions::new()
+        .write(true)
+        .create(true)
+        .open(rt, name.as_str());
+    let lock = match opened {
+        Ok(lock) => lock,
+        Err(reason) => return Err(unopened(path, reason)),
+    };
+    match lock.try_lock() {
+        Ok(()) => Ok(lock),
+        Err(TryLockError::WouldBlock) => Err(unopened(path, kept_by_another())),
+        Err(TryLockError::Error(reason)) => Err(unopened(path, reason)),
+    }
+}
+
+/// What is said of a state that is locked.
+fn kept_by_another() -> io::Error {
+    io::Error::new(ErrorKind::ResourceBusy, "another reader keeps this state")
+}
+
+/// What is said of a state that was changed to something else.
+fn no_state() -> io::Error {
+    io::Error::new(ErrorKind::InvalidData, "the text is not a state any more")
+}
+
+/// The last packets that a state tells of which a reader has begun to keep; none if it is not there.
+fn others_at<R: Files + AllocGlobal>(rt: &R, place: &str) -> io::Result<Vec<LastPacket>> {
+    let text = match fs::read(rt, place) {
+        Ok(text) => text,
+        Err(reason) if reason.kind() == ErrorKind::NotFound => return Ok(Vec::new(rt.alloc())),
+        Err(reason) => return Err(reason),
+    };
+    match read_state(rt.alloc(), text.as_slice()) {
+        Ok(lasts) => Ok(lasts),
+        Err(reader_state::StateFault::OutOfMemory) => Err(io::Error::from(ErrorKind::OutOfMemory)),
+        Err(reader_state::StateFault::Invalid) => Err(no_state()),
     }
 }
 

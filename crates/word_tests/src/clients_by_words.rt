@@ -180,12 +180,17 @@ where
     read_of(rt, centre, line)
 }
 
+/// What is told of an archive that is locked.
+static SHARED_ARCHIVE: &str =
+    "seedlinkd: 44 File\n  cause: a file could not be opened\n  file: shared\n  \
+    reason: another reader adds to it\n";
+
 #[test]
 fn read_fails_at_an_archive_that_somebody_else_adds_to(rt: HostRuntime) -> Result<(), Fail> {
-    let line = "seedlinkd read 127.0.0.1:PORT GE_APE --fetch --archive shared";
+    let line = "seedlinkd read 127.0.0.1:PORT GE_APE --fetch --archive shared -v";
     let second = at_centre(&rt, |rt, centre| read_beside_another(rt, centre, line))?;
     assert!(rt; second.has_failed_at_once());
-    assert_eq!(rt; second.errors.as_str(), "seedlinkd: 44 File\n");
+    assert_eq!(rt; second.errors.as_str(), SHARED_ARCHIVE);
     Ok(())
 }
 
@@ -235,11 +240,37 @@ fn read_fails_at_a_text_that_is_no_state(rt: HostRuntime) -> Result<(), Fail> {
     Ok(())
 }
 
+/// What is told of a state that is locked.
+static SHARED_STATE: &str =
+    "seedlinkd: 53 State\n  cause: the file with the state can't be read\n  \
+    file: shared.state\n  reason: another reader keeps this state\n";
+
+#[test]
+fn read_fails_at_a_state_that_somebody_else_keeps(rt: HostRuntime) -> Result<(), Fail> {
+    fs::write(&rt, "shared.state.lock", b"")?;
+    let _lock = locked(&rt, "shared.state.lock")?;
+    let line = "seedlinkd read 127.0.0.1:PORT GE_APE --fetch --state shared.state -v";
+    let second = read(&rt, line)?;
+    assert!(rt; second.has_failed_at_once());
+    assert_eq!(rt; second.errors.as_str(), SHARED_STATE);
+    Ok(())
+}
+
+/// Nothing is read.
+#[test]
+fn read_fails_where_a_state_has_no_folder(rt: HostRuntime) -> Result<(), Fail> {
+    let line = "seedlinkd read 127.0.0.1:PORT GE_APE --fetch --state none/ape.state";
+    let read = read(&rt, line)?;
+    assert!(rt; read.has_failed_at_once());
+    assert_eq!(rt; read.errors.as_str(), "seedlinkd: 53 State\n");
+    Ok(())
+}
+
 /// The records are written all the same.
 #[test]
 fn read_fails_where_no_state_can_be_kept(rt: HostRuntime) -> Result<(), Fail> {
-    let line =
-        "seedlinkd read 127.0.0.1:PORT GE_APE --fetch --state none/ape.state --output all.mseed";
+    fs::create_dir(&rt, "kept.state.new")?;
+    let line = "seedlinkd read 127.0.0.1:PORT GE_APE --fetch --state kept.state --output all.mseed";
     let read = read(&rt, line)?;
     assert!(rt; !read.is_success());
     assert_eq!(rt; read.errors.as_str(), "seedlinkd: 53 State\n");
