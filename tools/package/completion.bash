@@ -12,7 +12,8 @@ _seedlinkd() {
         local options="--verbose --help"
         case $command in
             "") options+=" --version" ;;
-            serve) options+=" --listen --feed --turns --reread --report --feed-from --per-address --numbers --log" ;;
+            serve) options+=" --listen --feed --turns --reread --report --feed-from --per-address --numbers --log --strict" ;;
+            view) options+=" --strict" ;;
             check) options+=" --iso --summary --quiet --config" ;;
             replay) options+=" --text" ;;
             read) options+=" --fetch --begin --end --retry --archive --state --iso --output" ;;

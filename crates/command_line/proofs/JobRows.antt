@@ -5,8 +5,8 @@ use Rattle.clap.specs.declared.error.ErrorKind.TheVariants.{DisplayVersion, Miss
 use Rattle.clap.specs.declared.error.ErrorKind.TheVariants.{ValueValidation}
 use Rattle.clap.proofs.OnLiterals.{clap_on_literals}
 use Rattle.command_line.specs.declared.job.Every.TheVariants.{Seconds, Turns}
-use Rattle.command_line.specs.Jobs.{every_of, job_of, program_app, verbose_of}
-use Rattle.command_line.specs.Jobs.Asked.{Check, Replay, Serve, Feed, Read}
+use Rattle.command_line.specs.Jobs.{every_of, job_of, program_app, verbose_of, ServeAsked}
+use Rattle.command_line.specs.Jobs.Asked.{Check, Replay, View, Serve, Feed, Read}
 
 abbrev replay_words : List Text
 replay_words = codes "seedlinkd" ∷ codes "replay" ∷ codes "island.toml" ∷ codes "hello.script" ∷ []
@@ -43,14 +43,30 @@ pub summary_asked : job_of summary_words ≡ Some (Check (codes "f")
 unfolding clap_on_literals
 summary_asked = refl
 
+-- what `serve` is asked without options
+abbrev plain : (config listen feed : Text) → ServeAsked
+plain config listen feed =
+    record {
+      config = config;
+      listen = listen;
+      feed = feed;
+      turns = None;
+      reread = None;
+      report = None;
+      feed_from = None;
+      per_address = None;
+      numbers = None;
+      is_logged = false;
+      is_strict = false;
+    }
+
 abbrev serve_words : List Text
 serve_words =
     codes "seedlinkd" ∷ codes "serve" ∷ codes "c.toml" ∷ codes "--listen" ∷ codes "127.0.0.1:18000" ∷ codes "--feed"
     ∷ codes "127.0.0.1:18001" ∷ []
 
 pub serve_asked : job_of serve_words
-    ≡ Some (Serve (codes "c.toml") (codes "127.0.0.1:18000") (codes "127.0.0.1:18001") None None None None None None
-    false)
+    ≡ Some (Serve (plain (codes "c.toml") (codes "127.0.0.1:18000") (codes "127.0.0.1:18001")))
 unfolding clap_on_literals
 serve_asked = refl
 
@@ -64,7 +80,7 @@ turns_words =
     ∷ []
 
 pub turns_asked : job_of turns_words
-    ≡ Some (Serve (codes "c") (codes "a") (codes "b") (Some 20) None None None None None false)
+    ≡ Some (Serve (record (plain (codes "c") (codes "a") (codes "b")) { turns = Some 20 }))
 unfolding clap_on_literals
 turns_asked = refl
 
@@ -75,8 +91,8 @@ reread_words =
     ∷ codes "--listen=a" ∷ []
 
 pub reread_asked : job_of reread_words
-    ≡ Some (Serve (codes "c") (codes "a") (codes "b") None (Some (Turns 600)) (Some (Turns 9)) None None
-    None false)
+    ≡ Some (Serve (record (plain (codes "c") (codes "a") (codes "b"))
+    { reread = Some (Turns 600); report = Some (Turns 9) }))
 unfolding clap_on_literals
 reread_asked = refl
 
@@ -87,7 +103,8 @@ seconds_words =
     ∷ codes "--listen=a" ∷ []
 
 pub seconds_asked : job_of seconds_words
-    ≡ Some (Serve (codes "c") (codes "a") (codes "b") None (Some (Seconds 60)) (Some (Turns 9)) None None None false)
+    ≡ Some (Serve (record (plain (codes "c") (codes "a") (codes "b"))
+    { reread = Some (Seconds 60); report = Some (Turns 9) }))
 unfolding clap_on_literals
 seconds_asked = refl
 
@@ -107,7 +124,7 @@ numbers_words =
     ∷ codes "--listen=a" ∷ []
 
 pub numbers_asked : job_of numbers_words
-    ≡ Some (Serve (codes "c") (codes "a") (codes "b") None None None None None (Some (codes "n.toml")) false)
+    ≡ Some (Serve (record (plain (codes "c") (codes "a") (codes "b")) { numbers = Some (codes "n.toml") }))
 unfolding clap_on_literals
 numbers_asked = refl
 
@@ -118,8 +135,8 @@ limited_words =
     ∷ codes "--listen=a" ∷ codes "--per-address=3" ∷ []
 
 pub limited_asked : job_of limited_words
-    ≡ Some (Serve (codes "c") (codes "a") (codes "b") None None None (Some (codes "10.0.0.7, 10.1.0.0/16"))
-    (Some 3) None false)
+    ≡ Some (Serve (record (plain (codes "c") (codes "a") (codes "b"))
+    { feed_from = Some (codes "10.0.0.7, 10.1.0.0/16"); per_address = Some 3 }))
 unfolding clap_on_literals
 limited_asked = refl
 
@@ -128,9 +145,23 @@ log_words =
     codes "seedlinkd" ∷ codes "serve" ∷ codes "c" ∷ codes "--log" ∷ codes "--feed=b" ∷ codes "--listen=a" ∷ []
 
 pub log_asked : job_of log_words
-    ≡ Some (Serve (codes "c") (codes "a") (codes "b") None None None None None None true)
+    ≡ Some (Serve (record (plain (codes "c") (codes "a") (codes "b")) { is_logged = true }))
 unfolding clap_on_literals
 log_asked = refl
+
+abbrev strict_words : List Text
+strict_words =
+    codes "seedlinkd" ∷ codes "serve" ∷ codes "c" ∷ codes "--strict" ∷ codes "--feed=b" ∷ codes "--listen=a" ∷ []
+
+pub strict_asked : job_of strict_words
+    ≡ Some (Serve (record (plain (codes "c") (codes "a") (codes "b")) { is_strict = true }))
+unfolding clap_on_literals
+strict_asked = refl
+
+pub strict_view_asked : job_of (codes "seedlinkd" ∷ codes "view" ∷ codes "c" ∷ codes "--strict" ∷ [])
+    ≡ Some (View (codes "c") None true)
+unfolding clap_on_literals
+strict_view_asked = refl
 
 pub feed_asked : job_of (codes "seedlinkd" ∷ codes "feed" ∷ codes "a" ∷ codes "f" ∷ [])
     ≡ Some (Feed (codes "a") (codes "f" ∷ []))

@@ -21,6 +21,7 @@ use Rattle.command_line.specs.declared.job.Every.TheVariants.{Turns, Seconds}
 use Rattle.command_line.specs.declared.job.Job.{Job}
 use Rattle.command_line.specs.declared.job.Job.TheVariants as job
 use Rattle.command_line.specs.declared.job.ReadOptions.{ReadOptions}
+use Rattle.command_line.specs.declared.job.ServeOptions.{ServeOptions}
 use Rattle.command_line.specs.declared.job.WordsFault.{WordsFault}
 use Rattle.command_line.specs.declared.job.WordsFault.TheVariants.{OutOfMemory, Refused}
 
@@ -75,8 +76,12 @@ abbrev pub address_rule : Rule
 address_rule = new_rule (codes "ADDRESS")
 
 -- `view CONFIG [ADDRESS]`
+abbrev pub viewed_app : App
+viewed_app = with_rule (with_rule (new_app (codes "view")) (wanted (codes "CONFIG"))) address_rule
+
+-- `view CONFIG [ADDRESS] [--strict]`
 abbrev pub view_app : App
-view_app = with_verbose (with_rule (with_rule (new_app (codes "view")) (wanted (codes "CONFIG"))) address_rule)
+view_app = with_verbose (with_rule viewed_app (flag_rule (codes "strict")))
 
 -- an option `--name N` with a number from 1 to 1,000,000,000
 abbrev pub number_rule : Text → Rule
@@ -98,18 +103,18 @@ timed_app =
 abbrev pub limited_app : App
 limited_app = with_rule (with_rule timed_app (option false (codes "feed-from"))) (number_rule (codes "per-address"))
 
--- `--log`
-abbrev pub log_rule : Rule
-log_rule = record (new_rule (codes "log")) { long = Some (codes "log"); action = Some SetTrue }
-
 -- that with `[--numbers FILE]`
 abbrev pub numbered_app : App
 numbered_app = with_rule limited_app (option false (codes "numbers"))
 
+-- that with `[--log]`
+abbrev pub logged_app : App
+logged_app = with_rule numbered_app (flag_rule (codes "log"))
+
 -- `serve CONFIG --listen A:P --feed A:P [--turns N] [--reread N|Ns] [--report N|Ns] [--feed-from LIST]
--- [--per-address N] [--numbers FILE] [--log]`
+-- [--per-address N] [--numbers FILE] [--log] [--strict]`
 abbrev pub serve_app : App
-serve_app = with_verbose (with_rule numbered_app log_rule)
+serve_app = with_verbose (with_rule logged_app (flag_rule (codes "strict")))
 
 -- `FILE..`, one or more
 abbrev pub files_rule : Rule
@@ -223,14 +228,43 @@ options_asked o =
       is_iso = o.is_iso;
     }
 
+-- the words of `serve`
+pub record ServeAsked : Type 0 where
+  pub config : List ℕ
+  pub listen : List ℕ
+  pub feed : List ℕ
+  pub turns : Option ℕ
+  pub reread : Option Every
+  pub report : Option Every
+  pub feed_from : Option (List ℕ)
+  pub per_address : Option ℕ
+  pub numbers : Option (List ℕ)
+  pub is_logged : Bool
+  pub is_strict : Bool
+
+-- those that the code has
+abbrev pub serve_options_asked : ServeOptions → ServeAsked
+serve_options_asked o =
+    record {
+      config = o.config.now;
+      listen = o.listen.now;
+      feed = o.feed.now;
+      turns = o.turns;
+      reread = o.reread;
+      report = o.report;
+      feed_from = option_map (λ list. list.now) o.feed_from;
+      per_address = o.per_address;
+      numbers = option_map (λ file. file.now) o.numbers;
+      is_logged = o.is_logged;
+      is_strict = o.is_strict;
+    }
+
 -- A job as texts and numbers.
 pub data Asked : Type 0 where
   Check : (file : List ℕ) → (options : CheckAsked) → Asked
   Replay : (config script : List ℕ) → (is_text : Bool) → Asked
-  View : (config : List ℕ) → (address : Option (List ℕ)) → Asked
-  Serve : (config listen feed : List ℕ) → (turns : Option ℕ) → (reread report : Option Every)
-      → (feed_from : Option (List ℕ))
-      → (per_address : Option ℕ) → (numbers : Option (List ℕ)) → (log : Bool) → Asked
+  View : (config : List ℕ) → (address : Option (List ℕ)) → (is_strict : Bool) → Asked
+  Serve : (options : ServeAsked) → Asked
   Feed : (server : List ℕ) → (files : List (List ℕ)) → Asked
   Read : (server : List ℕ) → (wants : List (List ℕ)) → (options : ReadAsked) → Asked
 
@@ -238,10 +272,8 @@ pub data Asked : Type 0 where
 abbrev pub asked : Job → Asked
 asked (job.Check file options) = Check file.now (check_options_asked options)
 asked (job.Replay config script is_text) = Replay config.now script.now is_text
-asked (job.View config address) = View config.now (option_map (λ text. text.now) address)
-asked (job.Serve config listen feed turns reread report feed_from per_address numbers log) =
-    Serve config.now listen.now feed.now turns reread report (option_map (λ list. list.now) feed_from) per_address
-    (option_map (λ file. file.now) numbers) log
+asked (job.View config address is_strict) = View config.now (option_map (λ text. text.now) address) is_strict
+asked (job.Serve options) = Serve (serve_options_asked options)
 asked (job.Feed server files) = Feed server.now (map (λ file. file.now) files.items)
 asked (job.Read server wants options) =
     Read server.now (map (λ want. want.now) wants.items) (options_asked options)
@@ -279,12 +311,13 @@ replay_asked rows =
     with_script (flag_in (codes "text") rows) (first_of (codes "CONFIG") rows) (first_of (codes "SCRIPT") rows)
 
 -- the job of `view`, where its configuration is there
-abbrev pub with_config : Option (List ℕ) → Option (List ℕ) → Option Asked
-with_config address None = None
-with_config address (Some config) = Some (View config address)
+abbrev pub with_config : Option (List ℕ) → Bool → Option (List ℕ) → Option Asked
+with_config address is_strict None = None
+with_config address is_strict (Some config) = Some (View config address is_strict)
 
 abbrev pub view_asked : List Row → Option Asked
-view_asked rows = with_config (first_of (codes "ADDRESS") rows) (first_of (codes "CONFIG") rows)
+view_asked rows =
+    with_config (first_of (codes "ADDRESS") rows) (flag_in (codes "strict") rows) (first_of (codes "CONFIG") rows)
 
 -- a number from 1 to 1,000,000,000
 abbrev pub in_range : ℕ → Option ℕ
@@ -323,25 +356,30 @@ every_of text = every_at text (position is_s text)
 abbrev pub every_in : Text → List Row → Option (Option Every)
 every_in name rows = spelled every_of (first_of name rows)
 
--- the flag `--log` was given
-abbrev pub log_in : List Row → Bool
-log_in rows = option_map_or (λ text. bytes_eq text (codes "true")) (first_of (codes "log") rows) false
-
 -- a server's job, where all of it is there
-abbrev pub with_server : Option (List ℕ) → Option (List ℕ) → Option (List ℕ) →
-    Option (Option ℕ) → Option (Option Every) → Option (Option Every) → Option (List ℕ) → Option (Option ℕ)
-    → Option (List ℕ) → Bool → Option Asked
-with_server (Some config) (Some listen) (Some feed) (Some turns) (Some reread) (Some report) feed_from
-    (Some per_address) numbers log =
-    Some (Serve config listen feed turns reread report feed_from per_address numbers log)
-with_server _ _ _ _ _ _ feed_from _ numbers log = None
+abbrev pub with_server : Option (List ℕ) → Option (List ℕ) → Option (List ℕ)
+    → Option (Option ℕ) → Option (Option Every) → Option (Option Every) → Option (Option ℕ) → List Row → Option Asked
+with_server (Some config) (Some listen) (Some feed) (Some turns) (Some reread) (Some report) (Some per_address) rows =
+    Some (Serve (record {
+      config = config;
+      listen = listen;
+      feed = feed;
+      turns = turns;
+      reread = reread;
+      report = report;
+      feed_from = first_of (codes "feed-from") rows;
+      per_address = per_address;
+      numbers = first_of (codes "numbers") rows;
+      is_logged = flag_in (codes "log") rows;
+      is_strict = flag_in (codes "strict") rows;
+    }))
+with_server _ _ _ _ _ _ _ rows = None
 
 abbrev pub serve_asked : List Row → Option Asked
 serve_asked rows =
     with_server (first_of (codes "CONFIG") rows) (first_of (codes "listen") rows) (first_of (codes "feed") rows)
     (number_in (codes "turns") rows) (every_in (codes "reread") rows) (every_in (codes "report") rows)
-    (first_of (codes "feed-from") rows) (number_in (codes "per-address") rows) (first_of (codes "numbers") rows)
-    (log_in rows)
+    (number_in (codes "per-address") rows) rows
 
 -- a feeder's job, where all of it is there
 abbrev pub with_files : Option (List ℕ) → Option (List (List ℕ)) → Option Asked

@@ -4,12 +4,12 @@ ghost use Rattle.clap.specs.Words.{App, app_of, new_app, rule_of, with_rule, wit
 ghost use Rattle.command_line.specs.Building.{Builds};
 ghost use Rattle.command_line.specs.Jobs.{dated_app, fed_app, file_app, files_rule, flag_rule, listing_app};
 ghost use Rattle.command_line.specs.Jobs.{address_rule, addressed_app, bare_app, check_app, feed_app, fetch_rule};
-ghost use Rattle.command_line.specs.Jobs.{limited_app, log_rule, number_rule, numbered_app};
+ghost use Rattle.command_line.specs.Jobs.{limited_app, logged_app, number_rule, numbered_app};
 ghost use Rattle.command_line.specs.Jobs.{option};
 ghost use Rattle.command_line.specs.Jobs.{archiving_app, program_app, read_app, replay_app, retrying_app, spanned_app};
 ghost use Rattle.command_line.specs.Jobs.{scripted_app, stating_app};
 ghost use Rattle.command_line.specs.Jobs.{serve_app, timed_app};
-ghost use Rattle.command_line.specs.Jobs.{verbose_rule, view_app};
+ghost use Rattle.command_line.specs.Jobs.{verbose_rule, view_app, viewed_app};
 ghost use Rattle.command_line.specs.Jobs.{wanted, wants_app, wants_rule, with_verbose};
 
 use clap::builder::ValueParser;
@@ -194,9 +194,12 @@ fn address<'a>(alloc: Global) -> Arg<'a>
     Arg::new(alloc, "ADDRESS").help("The address of a client, as 10.0.0.7")
 }
 
+/// What `--strict` does.
+const STRICT_HELP: &str = "Refuses a CONFIG with keys that are not known";
+
 /// `view CONFIG [ADDRESS]`.
-fn view_command<'a>(alloc: Global) -> Built<'a>
-    ensures { Builds result view_app }
+fn viewed_command<'a>(alloc: Global) -> Built<'a>
+    ensures { Builds result viewed_app }
 {
     let command = started(
         alloc,
@@ -204,8 +207,15 @@ fn view_command<'a>(alloc: Global) -> Built<'a>
         "Lists the stations that an address sees, or all with the lists that hold for them",
     );
     let with_config = with_wanted(alloc, command, "CONFIG", "The configuration, in TOML");
-    let with_address = with_argument(with_config, address(alloc));
-    with_verbose(alloc, with_address)
+    with_argument(with_config, address(alloc))
+}
+
+/// `view CONFIG [ADDRESS] [--strict]`.
+fn view_command<'a>(alloc: Global) -> Built<'a>
+    ensures { Builds result view_app }
+{
+    let with_strict = with_flag(alloc, viewed_command(alloc), "strict", STRICT_HELP);
+    with_verbose(alloc, with_strict)
 }
 
 /// An option `--name N` with a number.
@@ -324,24 +334,25 @@ fn numbered_command<'a>(alloc: Global) -> Built<'a>
     with_argument(limited_command(alloc), numbers(alloc))
 }
 
-/// The flag `--log`.
-fn log<'a>(alloc: Global) -> Arg<'a>
-    ensures rule { rule_of result ≡ log_rule }
-    ensures own { result.global ≡ false }
+/// Serve's command with what it tells: `[--log]`.
+fn logged_command<'a>(alloc: Global) -> Built<'a>
+    ensures { Builds result logged_app }
 {
-    Arg::new(alloc, "log")
-        .long("log")
-        .action(ArgAction::SetTrue)
-        .help("Writes a line on standard error for each client and feed that comes or goes")
+    with_flag(
+        alloc,
+        numbered_command(alloc),
+        "log",
+        "Writes a line on standard error for each client and feed that comes or goes",
+    )
 }
 
 /// `serve CONFIG --listen A:P --feed A:P [--turns N] [--reread N|Ns] [--report N|Ns] [--feed-from LIST]
-/// [--per-address N] [--numbers FILE] [--log]`.
+/// [--per-address N] [--numbers FILE] [--log] [--strict]`.
 fn serve_command<'a>(alloc: Global) -> Built<'a>
     ensures { Builds result serve_app }
 {
-    let with_log = with_argument(numbered_command(alloc), log(alloc));
-    with_verbose(alloc, with_log)
+    let with_strict = with_flag(alloc, logged_command(alloc), "strict", STRICT_HELP);
+    with_verbose(alloc, with_strict)
 }
 
 /// The arguments `FILE..`.

@@ -24,30 +24,15 @@ pub enum Job<'a> {
         script: &'a str,
         is_text: bool,
     },
-    /// `view CONFIG [ADDRESS]`: the stations that an address sees, or without one all stations with the lists of
-    /// addresses that hold for them.
+    /// `view CONFIG [ADDRESS] [--strict]`: the stations that an address sees, or without one all stations with the
+    /// lists of addresses that hold for them. With `--strict` a configuration with keys that are not known is refused.
     View {
         config: &'a str,
         address: Option<&'a str>,
+        is_strict: bool,
     },
-    /// `serve CONFIG --listen A:P --feed A:P [--turns N] [--reread N|Ns] [--report N|Ns] [--feed-from LIST]
-    /// [--per-address N] [--numbers FILE] [--log]`: a server over sockets. Each number is 1 to 1,000,000,000. Without
-    /// `turns` the server runs until it is ended from outside. As often as `reread` says it reads its configuration
-    /// again, and as often as `report` says it tells what it has done. It takes feeds from the addresses of LIST alone,
-    /// and at most `per_address` clients of one address. Its stations begin with the numbers in FILE, which keeps
-    /// numbers for the next run. With `log` it tells who comes and goes.
-    Serve {
-        config: &'a str,
-        listen: &'a str,
-        feed: &'a str,
-        turns: Option<usize>,
-        reread: Option<Every>,
-        report: Option<Every>,
-        feed_from: Option<&'a str>,
-        per_address: Option<usize>,
-        numbers: Option<&'a str>,
-        log: bool,
-    },
+    /// `serve CONFIG --listen A:P --feed A:P ..`: a server over sockets, as its options say.
+    Serve(ServeOptions<'a>),
     /// `feed A:P FILE..`: sends the records of files to a server, one file after the other.
     Feed {
         server: &'a str,
@@ -72,6 +57,33 @@ pub struct CheckOptions<'a> {
     pub is_quiet: bool,
     /// `--config CONFIG`: records of stations that CONFIG has not are refused too.
     pub config: Option<&'a str>,
+}
+
+/// The words of `serve`. Each number is 1 to 1,000,000,000.
+#[derive(Clone, Copy)]
+pub struct ServeOptions<'a> {
+    /// `CONFIG`: the file of its configuration.
+    pub config: &'a str,
+    /// `--listen A:P`: where clients connect.
+    pub listen: &'a str,
+    /// `--feed A:P`: where feeds connect.
+    pub feed: &'a str,
+    /// `--turns N`: it ends after so many turns. Without it the server runs until it is ended from outside.
+    pub turns: Option<usize>,
+    /// `--reread N|Ns`: how often the configuration is read again.
+    pub reread: Option<Every>,
+    /// `--report N|Ns`: how often it is told what was done.
+    pub report: Option<Every>,
+    /// `--feed-from LIST`: the addresses that feeds are taken from; all without a list.
+    pub feed_from: Option<&'a str>,
+    /// `--per-address N`: how many clients of one address are taken; any number without one.
+    pub per_address: Option<usize>,
+    /// `--numbers FILE`: the stations begin with the numbers in it, and it keeps numbers for the next run.
+    pub numbers: Option<&'a str>,
+    /// `--log`: it is told who comes and goes.
+    pub is_logged: bool,
+    /// `--strict`: a configuration with keys that are not known is refused.
+    pub is_strict: bool,
 }
 
 /// The options of `read`. An end has a begin, and doesn't stand beside `fetch`, `retry` or `state`.

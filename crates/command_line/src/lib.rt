@@ -5,5 +5,5 @@ mod commands;
 mod job;
 mod words;
 
-pub use job::{CheckOptions, Every, Job, ReadOptions, Request, WordsFault};
+pub use job::{CheckOptions, Every, Job, ReadOptions, Request, ServeOptions, WordsFault};
 pub use words::read_words;

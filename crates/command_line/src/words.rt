@@ -6,12 +6,12 @@ ghost use Rattle.command_line.specs.Jobs.{HelpIs, IsJob, IsTold, asked, asked_by
 ghost use Rattle.command_line.specs.Jobs.{every_in, every_of, goes_on, is_askable, is_spelled, job_of, number_in};
 ghost use Rattle.command_line.specs.Jobs.{number_of};
 ghost use Rattle.command_line.specs.Jobs.{options_asked, options_in, program_app, read_asked, replay_asked};
-ghost use Rattle.command_line.specs.Jobs.{log_in, seconds_if, serve_asked};
+ghost use Rattle.command_line.specs.Jobs.{seconds_if, serve_asked};
 ghost use Rattle.command_line.specs.Jobs.{verbose_by, verbose_in, verbose_of, view_asked};
 ghost use Rattle.command_line.specs.declared.job.WordsFault.TheVariants.{OutOfMemory};
 
 use crate::commands::program;
-use crate::job::{CheckOptions, Every, Job, ReadOptions, Request, WordsFault};
+use crate::job::{CheckOptions, Every, Job, ReadOptions, Request, ServeOptions, WordsFault};
 use clap::ArgMatches;
 use clap::error::ErrorKind;
 use std::alloc::{AllocError, Global};
@@ -78,8 +78,12 @@ fn view_job<'a>(arguments: &ArgMatches<'a>) -> Option<Job<'a>>
     ensures { option_map asked result ≡ view_asked (rows_of (found_of arguments.now)) }
 {
     let config = text_at(arguments, "CONFIG")?;
-    let address = text_at(arguments, "ADDRESS");
-    Some(Job::View { config, address })
+    let is_strict = has_flag(arguments, "strict");
+    Some(Job::View {
+        config,
+        address: text_at(arguments, "ADDRESS"),
+        is_strict,
+    })
 }
 
 /// The number from 1 to 1,000,000,000 that a text spells.
@@ -146,13 +150,6 @@ fn every_in<'a>(arguments: &ArgMatches<'a>, name: &str) -> Option<Option<Every>>
     }
 }
 
-/// Whether the flag `--log` is given.
-fn is_logged(arguments: &ArgMatches<'_>) -> bool
-    ensures { result ≡ log_in (rows_of (found_of arguments.now)) }
-{
-    text_at(arguments, "log") == Some("true")
-}
-
 fn serve_job<'a>(arguments: &ArgMatches<'a>) -> Option<Job<'a>>
     ensures { option_map asked result ≡ serve_asked (rows_of (found_of arguments.now)) }
 {
@@ -162,22 +159,20 @@ fn serve_job<'a>(arguments: &ArgMatches<'a>) -> Option<Job<'a>>
     let turns = number_in(arguments, "turns")?;
     let reread = every_in(arguments, "reread")?;
     let report = every_in(arguments, "report")?;
-    let feed_from = text_at(arguments, "feed-from");
     let per_address = number_in(arguments, "per-address")?;
-    let numbers = text_at(arguments, "numbers");
-    let log = is_logged(arguments);
-    Some(Job::Serve {
+    Some(Job::Serve(ServeOptions {
         config,
         listen,
         feed,
         turns,
         reread,
         report,
-        feed_from,
+        feed_from: text_at(arguments, "feed-from"),
         per_address,
-        numbers,
-        log,
-    })
+        numbers: text_at(arguments, "numbers"),
+        is_logged: has_flag(arguments, "log"),
+        is_strict: has_flag(arguments, "strict"),
+    }))
 }
 
 fn feed_job<'a>(alloc: Global, arguments: &ArgMatches<'a>) -> Result<Option<Job<'a>>, AllocError>

@@ -27,6 +27,7 @@ failure_reason failure.OutOfMemory = reason.OutOfMemory
 failure_reason failure.Write = reason.Write
 failure_reason failure.File = reason.File
 failure_reason (failure.Config fault) = config_reason fault
+failure_reason failure.UnknownKeys = reason.Missing
 failure_reason (failure.Replay fault) = replay_reason fault
 failure_reason (failure.Check fault) = stream_reason fault
 failure_reason (failure.Records fault) = file_reason fault

@@ -27,6 +27,8 @@ pub enum Failure {
     File,
     /// The text of the configuration is none.
     Config(ConfigFault),
+    /// The configuration has keys that are not known, and those are refused.
+    UnknownKeys,
     /// The script was not replayed.
     Replay(ReplayFault),
     /// The records of a file were not checked to their end.
@@ -76,6 +78,7 @@ impl Failure {
             Failure::Write => Reason::Write,
             Failure::File => Reason::File,
             Failure::Config(fault) => fault.reason(),
+            Failure::UnknownKeys => Reason::Missing,
             Failure::Replay(fault) => fault.reason(),
             Failure::Check(fault) => fault.reason(),
             Failure::Records(fault) => fault.reason(),
@@ -102,6 +105,7 @@ impl Failure {
 fn own_cause(failure: Failure) -> Option<&'static str> {
     let cause = match failure {
         Failure::Write => "help could not be written",
+        Failure::UnknownKeys => "the configuration has keys that are not known",
         Failure::Address => "a word is no address with a port",
         Failure::Client => "a word is no address",
         Failure::Records(FileFault::Station) =>

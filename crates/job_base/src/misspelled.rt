@@ -1,31 +1,79 @@
 //! Keys of a configuration that are not known, and so may be misspelled.
+ghost use Rattle.std.specs.Prelude.{◌≡◌, [], true, IfOk, IfErr, IfSome};
+ghost use Rattle.std.specs.Str.{IsUtf8};
+ghost use Rattle.toml.specs.Parse.{parse_document};
+ghost use Rattle.protocol.specs.Catalog.{stations_of};
+ghost use Rattle.unknown_keys.specs.Unknown.{named, unknown_text};
+ghost use Rattle.incidents.specs.declared.failure.Failure.TheVariants.{UnknownKeys};
+
 use crate::files::{config_in, text_at};
 use catalog::Config;
 use incidents::{Failure, Incident};
 use shown_lines::ShownText;
+use std::alloc::Global;
 use std::rt::Files;
 use unknown_keys::unknown_keys;
 
-/// Names the keys of a configuration's text that are not known, a line each on the standard error.
+/// The lines that name the keys of a configuration's text that are not known.
+pub fn unknown_lines<'a>(
+    alloc: Global,
+    path: &'a str,
+    config: &Config,
+    text: &[u8],
+) -> Result<Vec<u8>, Incident<'a>>
+    ensures { IfOk result (λ lines. IsUtf8 text.now → IfSome (parse_document text.now)
+        (λ keys. lines.items ≡ named (unknown_text keys (stations_of config.now)))) }
+{
+    match unknown_keys(alloc, config, text) {
+        Ok(lines) => Ok(lines),
+        Err(_) => Err(Failure::OutOfMemory.in_file(path)),
+    }
+}
+
+/// With `is_strict` a configuration is refused if there are lines that name unknown keys of it.
+pub fn refuse_unknown<'a>(path: &'a str, lines: &[u8], is_strict: bool) -> Result<(), Incident<'a>>
+    ensures taken { IfOk result (λ _. is_strict ≡ true → lines.now ≡ []) }
+    ensures refused { IfErr result (λ incident.
+        (is_strict ≡ true) × (incident.failure ≡ UnknownKeys)) }
+{
+    if is_strict && !lines.is_empty() {
+        return Err(Failure::UnknownKeys.in_file(path));
+    }
+    Ok(())
+}
+
+/// Writes lines to the standard error.
+fn tell_lines<R: Eprint>(rt: &R, lines: &[u8]) {
+    if let Ok(lines) = str::from_utf8(lines) {
+        let _ = eprint!(rt; "{}", ShownText(lines));
+    }
+}
+
+/// Names the keys of a configuration's text that are not known, a line each on the standard error. With `is_strict` it
+/// is refused if there are any.
 pub fn tell_unknown_keys<'a, R: Eprint + AllocGlobal>(
     rt: &R,
     path: &'a str,
     config: &Config,
     text: &[u8],
-) -> Result<(), Incident<'a>> {
-    let Ok(lines) = unknown_keys(rt.alloc(), config, text) else {
-        return Err(Failure::OutOfMemory.in_file(path));
+    is_strict: bool,
+) -> Result<(), Incident<'a>>
+    ensures { IfOk result (λ _. is_strict ≡ true → IsUtf8 text.now → IfSome (parse_document text.now)
+        (λ keys. named (unknown_text keys (stations_of config.now)) ≡ [])) }
+{
+    let lines = match unknown_lines(rt.alloc(), path, config, text) {
+        Ok(lines) => lines,
+        Err(incident) => return Err(incident),
     };
-    if let Ok(lines) = str::from_utf8(lines.as_slice()) {
-        let _ = eprint!(rt; "{}", ShownText(lines));
-    }
-    Ok(())
+    tell_lines(rt, lines.as_slice());
+    refuse_unknown(path, lines.as_slice(), is_strict)
 }
 
-/// The configuration in a file, whose unknown keys are named.
+/// The configuration in a file, whose unknown keys are named. With `is_strict` it is refused if there are any.
 pub fn checked_config_at<'a, R: Files + Eprint + AllocGlobal>(
     rt: &R,
     path: &'a str,
+    is_strict: bool,
 ) -> Result<Config, Incident<'a>> {
     let text = match text_at(rt, path) {
         Ok(text) => text,
@@ -35,7 +83,7 @@ pub fn checked_config_at<'a, R: Files + Eprint + AllocGlobal>(
         Ok(config) => config,
         Err(incident) => return Err(incident),
     };
-    match tell_unknown_keys(rt, path, &config, text.as_slice()) {
+    match tell_unknown_keys(rt, path, &config, text.as_slice(), is_strict) {
         Ok(()) => Ok(config),
         Err(incident) => Err(incident),
     }

@@ -1,6 +1,5 @@
 //! Plain files: which file a path leads to, and whether it is one.
-use crate::files::{config_at, unopened};
-use catalog::Config;
+use crate::files::{text_at, unopened};
 use incidents::Incident;
 use std::alloc::Global;
 use std::rt::Files;
@@ -21,13 +20,13 @@ pub fn plain_at<'a, R: Files>(rt: &R, path: &'a str) -> Result<(), Incident<'a>>
     }
 }
 
-/// The configuration in a plain file: reading another one may wait for ever.
-pub fn plain_config_at<'a, R: Files + AllocGlobal>(
+/// The text of a plain file: reading another one may wait for ever.
+pub fn plain_text_at<'a, R: Files + AllocGlobal>(
     rt: &R,
     path: &'a str,
-) -> Result<Config, Incident<'a>> {
+) -> Result<Vec<u8>, Incident<'a>> {
     match plain_at(rt, path) {
-        Ok(()) => config_at(rt, path),
+        Ok(()) => text_at(rt, path),
         Err(incident) => Err(incident),
     }
 }

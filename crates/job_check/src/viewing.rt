@@ -84,15 +84,16 @@ fn write_view<R: Print + AllocGlobal>(
     }
 }
 
-/// Names the keys of a configuration that are not known, and writes the view of it.
+/// Names the keys of a configuration that are not known, for which it is refused with `is_strict`, and writes the view.
 fn view_config<'a, R: Print + Eprint + AllocGlobal>(
     rt: &R,
     path: &'a str,
     config: &Config,
     text: &[u8],
     address: Option<Ipv4Addr>,
+    is_strict: bool,
 ) -> Result<(), Incident<'a>> {
-    match tell_unknown_keys(rt, path, config, text) {
+    match tell_unknown_keys(rt, path, config, text, is_strict) {
         Ok(()) => {}
         Err(incident) => return Err(incident),
     }
@@ -108,9 +109,10 @@ fn view_text<'a, R: Print + Eprint + AllocGlobal>(
     path: &'a str,
     text: &[u8],
     address: Option<Ipv4Addr>,
+    is_strict: bool,
 ) -> Result<(), Incident<'a>> {
     match config_in(rt.alloc(), path, text) {
-        Ok(config) => view_config(rt, path, &config, text, address),
+        Ok(config) => view_config(rt, path, &config, text, address, is_strict),
         Err(incident) => Err(incident),
     }
 }
@@ -120,25 +122,28 @@ fn view_at<'a, R: Files + Print + Eprint + AllocGlobal>(
     rt: &R,
     path: &'a str,
     address: Option<Ipv4Addr>,
+    is_strict: bool,
 ) -> Result<(), Incident<'a>> {
     match text_at(rt, path) {
-        Ok(text) => view_text(rt, path, text.as_slice(), address),
+        Ok(text) => view_text(rt, path, text.as_slice(), address, is_strict),
         Err(incident) => Err(incident),
     }
 }
 
 /// Writes what an address sees of the configuration in a file, or without an address all stations with whom they are
-/// open to. Keys that are not known are named on the standard error. The address is judged before the file is opened.
+/// open to. Keys that are not known are named on the standard error, and with `is_strict` the configuration is refused
+/// for them. The address is judged before the file is opened.
 pub fn view_file<'a, R: Files + Print + Eprint + AllocGlobal>(
     rt: &R,
     path: &'a str,
     word: Option<&'a str>,
+    is_strict: bool,
 ) -> Result<(), Incident<'a>> {
     match word {
         Some(word) => match address_in(word) {
-            Ok(address) => view_at(rt, path, Some(address)),
+            Ok(address) => view_at(rt, path, Some(address), is_strict),
             Err(incident) => Err(incident),
         },
-        None => view_at(rt, path, None),
+        None => view_at(rt, path, None, is_strict),
     }
 }

@@ -4,25 +4,26 @@ ghost use Rattle.job_serve.specs.Admitting.{FeedsFrom, RefusesList};
 ghost use Rattle.incidents.specs.declared.failure.Failure.TheVariants.{OutOfMemory};
 
 use access_list::AccessList;
+use command_line::ServeOptions;
 use incidents::{Failure, Incident};
 use socket_ports::Admission;
 use std::alloc::Global;
 
-/// Who may connect: feeds from the addresses of a list alone, if a word has one, and at most so many clients of one
-/// address.
+/// Who may connect, by the words of a command line: feeds from the addresses of a list alone, if there is one, and at
+/// most so many clients of one address.
 ///
 /// It fails with the fault of the first invalid entry of the list, or with OutOfMemory if there is no memory.
 pub fn admission_of<'a>(
     alloc: Global,
-    feed_from: Option<&'a str>,
-    per_address: Option<usize>,
+    options: &ServeOptions<'a>,
 ) -> Result<Admission, Incident<'a>>
-    ensures feeds { IfOk result (λ admission. FeedsFrom feed_from.entry admission.feed_from) }
-    ensures clients { IfOk result (λ admission. admission.per_address ≡ per_address) }
+    ensures feeds { IfOk result (λ admission. FeedsFrom options.now.feed_from admission.feed_from) }
+    ensures clients { IfOk result (λ admission. admission.per_address ≡ options.now.per_address) }
     ensures refused { IfErr result (λ incident. incident.failure ≢ OutOfMemory →
-        RefusesList feed_from.entry incident) }
+        RefusesList options.now.feed_from incident) }
 {
-    let Some(word) = feed_from else {
+    let per_address = options.per_address;
+    let Some(word) = options.feed_from else {
         return Ok(Admission {
             feed_from: None,
             per_address,

@@ -9,7 +9,8 @@ mod numbers;
 mod operator;
 mod sockets;
 mod spare;
+mod timetable;
 mod visits;
 
-pub use operator::ServeOptions;
+pub use operator::ServeRequest;
 pub use sockets::serve_sockets;

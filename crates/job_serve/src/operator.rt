@@ -6,16 +6,19 @@ ghost use Rattle.serving.specs.Paces.{IsPaced};
 ghost use Rattle.serving.specs.declared.faults.ServeFault.TheVariants.{OutOfMemory, Poll};
 ghost use Rattle.incidents.specs.declared.failure.Failure.TheVariants.{Serve};
 ghost use Rattle.job_serve.specs.Serving.{ServedByFile, EndedByFile};
+ghost use Rattle.job_serve.specs.Timetables.{timetable_of};
 ghost use Rattle.incidents.specs.declared.incident.Incident.{Incident};
 
 use crate::numbers::NumberFile;
 use crate::spare::Spare;
+use crate::timetable::{seconds_in, timetable_of};
 use crate::visits::SharedLines;
 use catalog::Config;
+use command_line::ServeOptions;
 use config_findings::{Difference, first_difference};
 use error_lines::{Device, Line};
 use incidents::{Failure, Incident, Site, Told};
-use job_base::plain_config_at;
+use job_base::{config_in, plain_text_at, refuse_unknown, unknown_lines};
 use ports::Ports;
 use serving::{Activity, Ahead, Between, Due, Pace, Refusal, ServeFault, Timetable, serve_between};
 use std::alloc::Global;
@@ -24,25 +27,12 @@ use std::fs::File;
 use std::rt::{Clock, Files};
 use std::time::Duration;
 
-/// Whom a server takes, what it does between its turns, and how it tells it.
+/// What `serve` is asked.
 #[derive(Clone, Copy)]
-pub struct ServeOptions<'a> {
-    /// The file of its configuration.
-    pub path: &'a str,
-    /// The file of its numbers, if it has one.
-    pub numbers: Option<&'a str>,
-    /// The addresses that feeds are taken from; all without a list.
-    pub feed_from: Option<&'a str>,
-    /// How many clients of one address are taken; any number without one.
-    pub per_address: Option<usize>,
-    pub timetable: Timetable,
-    /// Every how many seconds the configuration is read again, and it is reported what was done.
-    pub reread_seconds: Option<usize>,
-    pub report_seconds: Option<usize>,
+pub struct ServeRequest<'a> {
+    pub options: ServeOptions<'a>,
     /// Whether a configuration that is not taken is explained.
     pub is_verbose: bool,
-    /// Whether it is told who comes and goes.
-    pub log: bool,
 }
 
 /// How the last keep of numbers went.
@@ -72,6 +62,10 @@ pub struct Operator<'r, 'a, 'l, R, D> {
     last_keep: LastKeep,
     unkept: Site<'a>,
     is_verbose: bool,
+    /// Whether a configuration is refused for keys that are not known.
+    is_strict: bool,
+    /// The lines that named such keys last.
+    unknown: Vec<u8>,
     errors: &'l SharedLines<D>,
     /// The configuration that the server began with.
     begun: Config,
@@ -83,6 +77,26 @@ impl<'r, 'a, 'l, R, D: Device> Operator<'r, 'a, 'l, R, D> {
     /// Tells an incident that ends nothing.
     fn tell(&mut self, incident: &Incident<'_>) {
         self.errors.write_line(&line_of(incident, self.is_verbose));
+    }
+
+    /// Tells lines that name unknown keys, if they are others than those that were told last.
+    fn tell_unknown(&mut self, lines: Vec<u8>) {
+        if lines.as_slice() != self.unknown.as_slice() {
+            for line in lines.as_slice().split(|byte| *byte == b'\n') {
+                self.tell_text(line);
+            }
+        }
+        self.unknown = lines;
+    }
+
+    /// Tells a line that was made already, if it is one.
+    fn tell_text(&mut self, text: &[u8]) {
+        let mut line = Line::new();
+        if let Ok(text) = str::from_utf8(text) {
+            if !text.is_empty() && line.try_push_str(text).is_ok() {
+                self.errors.write_line(&line);
+            }
+        }
     }
 
     /// Tells that the configuration that was read last differs in more than access lists.
@@ -110,7 +124,7 @@ impl<'r, 'a, 'l, R: Files<File = File> + Clock + AllocGlobal, D> Operator<'r, 'a
     fn new(
         rt: &'r R,
         config: &Config,
-        options: ServeOptions<'a>,
+        request: ServeRequest<'a>,
         numbers: Option<NumberFile<'a>>,
         errors: &'l SharedLines<D>,
     ) -> Result<Operator<'r, 'a, 'l, R, D>, Incident<'a>>
@@ -122,17 +136,20 @@ impl<'r, 'a, 'l, R: Files<File = File> + Clock + AllocGlobal, D> Operator<'r, 'a
                 site: Site::Unnamed,
             });
         };
+        let options = request.options;
         Ok(Operator {
             rt,
-            path: options.path,
+            path: options.config,
             began: rt.monotonic().unwrap_or(Duration::ZERO),
-            reread: Pace::new(options.reread_seconds),
-            report: Pace::new(options.report_seconds),
+            reread: Pace::new(seconds_in(options.reread)),
+            report: Pace::new(seconds_in(options.report)),
             numbers,
             spare: Spare::new(rt),
             last_keep: LastKeep::Missing,
             unkept: Site::Unnamed,
-            is_verbose: options.is_verbose,
+            is_verbose: request.is_verbose,
+            is_strict: options.is_strict,
+            unknown: Vec::new(rt.alloc()),
             errors,
             begun,
             difference: None,
@@ -186,6 +203,23 @@ fn line_of(incident: &Incident<'_>, is_verbose: bool) -> Line {
     line
 }
 
+impl<'r, 'a, 'l, R: Files<File = File> + AllocGlobal, D: Device> Operator<'r, 'a, 'l, R, D> {
+    /// The configuration as it is now. Keys that are not known are named if they are others than those that were named
+    /// last, and if it is strict, the configuration is refused for them.
+    fn read_config(&mut self) -> Result<Config, Incident<'a>> {
+        self.spare.let_go();
+        let text = plain_text_at(self.rt, self.path);
+        self.spare.take(self.rt);
+        let text = text?;
+        let alloc = self.rt.alloc();
+        let config = config_in(alloc, self.path, text.as_slice())?;
+        let lines = unknown_lines(alloc, self.path, &config, text.as_slice())?;
+        self.tell_unknown(lines);
+        refuse_unknown(self.path, self.unknown.as_slice(), self.is_strict)?;
+        Ok(config)
+    }
+}
+
 impl<'r, 'a, 'l, R: Files<File = File> + Clock + AllocGlobal, D: Device> Between
     for Operator<'r, 'a, 'l, R, D> {
     type Fault = Incident<'a>;
@@ -206,10 +240,7 @@ impl<'r, 'a, 'l, R: Files<File = File> + Clock + AllocGlobal, D: Device> Between
     }
 
     fn configuration(&mut self) -> Result<Config, Incident<'a>> {
-        self.spare.let_go();
-        let read = plain_config_at(self.rt, self.path);
-        self.spare.take(self.rt);
-        let mut config = read?;
+        let mut config = self.read_config()?;
         if let Some(file) = &self.numbers {
             file.begin(&mut config);
         }
@@ -250,26 +281,27 @@ impl<'r, 'a, 'l, R: Files<File = File> + Clock + AllocGlobal, D: Device> Between
     }
 }
 
-/// Runs a new server with the configuration that was read from a file over ports, as the options say, with lines to a
+/// Runs a new server with the configuration that was read from a file over ports, as the words say, with lines to a
 /// device and the numbers in a file, if there is one, and gives the ports back.
 pub fn serve_by<'a, R: Files<File = File> + Clock + AllocGlobal, P: Ports + Drop, D: Device + Drop>(
     rt: &R,
     config: Config,
     ports: P,
-    options: ServeOptions<'a>,
+    request: ServeRequest<'a>,
     numbers: Option<NumberFile<'a>>,
     errors: &SharedLines<D>,
 ) -> Result<P, Incident<'a>>
     ensures served { IfOk result (λ left.
-        ServedByFile options.entry.timetable config (P.calls ports) (P.calls left)) }
+        ServedByFile (timetable_of request.entry.options) config (P.calls ports) (P.calls left)) }
     ensures ended { IfErr result (λ incident. incident.failure ≡ Serve Poll →
-        EndedByFile options.entry.timetable config (P.calls ports)) }
+        EndedByFile (timetable_of request.entry.options) config (P.calls ports)) }
 {
-    let operator = match Operator::new(rt, &config, options, numbers, errors) {
+    let timetable = timetable_of(&request.options);
+    let operator = match Operator::new(rt, &config, request, numbers, errors) {
         Ok(operator) => operator,
         Err(incident) => return Err(incident),
     };
-    serve_beside(rt.alloc(), config, ports, operator, options.timetable)
+    serve_beside(rt.alloc(), config, ports, operator, timetable)
 }
 
 /// Runs a new server over ports beside an operator that began with its configuration, and gives the ports back.

@@ -1,11 +1,11 @@
 //! A server over sockets.
-ghost use Rattle.std.specs.Prelude.{◌≡◌, ◌||◌, is_some, IfOk};
+ghost use Rattle.std.specs.Prelude.{◌≡◌, [], IfOk};
 
 use crate::admitting::admission_of;
 use crate::configured::ConfiguredRecords;
 use crate::descriptors::tell_missing;
 use crate::numbers::NumberFile;
-use crate::operator::{ServeOptions, serve_by};
+use crate::operator::{ServeRequest, serve_by};
 use crate::visits::{SharedLines, VisitLines};
 use catalog::Config;
 use error_lines::{Device, StandardError};
@@ -25,7 +25,10 @@ fn listen_at<'a, R: Net + AllocGlobal>(
     clients: ServerAddress<'a>,
     feeds: ServerAddress<'a>,
     admission: Admission,
-) -> Result<MioPorts, Incident<'a>> {
+) -> Result<MioPorts, Incident<'a>>
+    ensures { IfOk result (λ ports. ports.sockets.peers
+        ≡ record { admission = admission; joined = 0; opened = [] }) }
+{
     let for_clients = clients.endpoint.socket_address();
     let for_feeds = feeds.endpoint.socket_address();
     match MioPorts::listen_to(rt, rt.alloc(), for_clients, for_feeds, admission) {
@@ -34,30 +37,22 @@ fn listen_at<'a, R: Net + AllocGlobal>(
     }
 }
 
-/// Whether the configuration is read again while the server runs.
-fn is_read_again(options: &ServeOptions<'_>) -> bool
-    ensures { result ≡ (is_some options.now.timetable.reread || is_some options.now.reread_seconds) }
-{
-    options.timetable.reread.is_some() || options.reread_seconds.is_some()
-}
-
-/// Serves clients and feeds as the options say, and then sends what was not sent yet. The keys of the configuration that
+/// Serves clients and feeds as the words say, and then sends what was not sent yet. The keys of the configuration that
 /// are not known are named first. A configuration that is to be read again has to be a plain file.
 pub fn serve_sockets<'a, R: Files<File = File> + Eprint + Clock + Net + AllocGlobal>(
     rt: &R,
-    listen: &'a str,
-    feed: &'a str,
-    options: ServeOptions<'a>,
+    request: ServeRequest<'a>,
 ) -> Result<(), Incident<'a>> {
-    let clients = server_of(listen)?;
-    let feeds = server_of(feed)?;
-    let admission = admission_of(rt.alloc(), options.feed_from, options.per_address)?;
-    if is_read_again(&options) {
-        plain_at(rt, options.path)?;
+    let options = request.options;
+    let clients = server_of(options.listen)?;
+    let feeds = server_of(options.feed)?;
+    let admission = admission_of(rt.alloc(), &options)?;
+    if options.reread.is_some() {
+        plain_at(rt, options.config)?;
     }
-    let config = checked_config_at(rt, options.path)?;
+    let config = checked_config_at(rt, options.config, options.is_strict)?;
     tell_missing(rt, config.max_connections());
-    serve_with(rt, clients, feeds, admission, config, options)
+    serve_with(rt, clients, feeds, admission, config, request)
 }
 
 /// Serves those who are admitted, with a configuration that was read, and then sends what was not sent yet.
@@ -67,11 +62,11 @@ fn serve_with<'a, R: Files<File = File> + Eprint + Clock + Net + AllocGlobal>(
     feeds: ServerAddress<'a>,
     admission: Admission,
     mut config: Config,
-    options: ServeOptions<'a>,
+    request: ServeRequest<'a>,
 ) -> Result<(), Incident<'a>> {
-    let numbers = numbers_for(rt, options.numbers, &mut config)?;
+    let numbers = numbers_for(rt, request.options.numbers, &mut config)?;
     let ports = listen_at(rt, clients, feeds, admission)?;
-    serve_to_the_end(rt, config, ports, options, numbers)
+    serve_to_the_end(rt, config, ports, request, numbers)
 }
 
 /// Serves over ports that are listened on, and then sends what was not sent yet.
@@ -79,10 +74,10 @@ fn serve_to_the_end<'a, R: Files<File = File> + Eprint + Clock + AllocGlobal>(
     rt: &R,
     config: Config,
     ports: MioPorts,
-    options: ServeOptions<'a>,
+    request: ServeRequest<'a>,
     numbers: Option<NumberFile<'a>>,
 ) -> Result<(), Incident<'a>> {
-    let mut ports = serve_over(rt, config, ports, options, numbers)?;
+    let mut ports = serve_over(rt, config, ports, request, numbers)?;
     ports.finish();
     Ok(())
 }
@@ -92,14 +87,14 @@ fn serve_over<'a, R: Files<File = File> + Eprint + Clock + AllocGlobal>(
     rt: &R,
     config: Config,
     ports: MioPorts,
-    options: ServeOptions<'a>,
+    request: ServeRequest<'a>,
     numbers: Option<NumberFile<'a>>,
 ) -> Result<MioPorts, Incident<'a>> {
     let lines = SharedLines::new(StandardError::open(rt));
-    if options.log {
-        serve_logged(rt, config, ports, options, numbers, &lines)
+    if request.options.is_logged {
+        serve_logged(rt, config, ports, request, numbers, &lines)
     } else {
-        serve_by(rt, config, ports, options, numbers, &lines)
+        serve_by(rt, config, ports, request, numbers, &lines)
     }
 }
 
@@ -119,12 +114,12 @@ fn ports_that_log<'l, D: Device + Drop>(
     LoggedPorts::new(alloc, ports, most, VisitLines::new(lines), judge)
 }
 
-/// Serves as the options say, and tells who comes and goes.
+/// Serves as the words say, and tells who comes and goes.
 fn serve_logged<'a, R: Files<File = File> + Clock + AllocGlobal, D: Device + Drop>(
     rt: &R,
     config: Config,
     ports: MioPorts,
-    options: ServeOptions<'a>,
+    request: ServeRequest<'a>,
     numbers: Option<NumberFile<'a>>,
     lines: &SharedLines<D>,
 ) -> Result<MioPorts, Incident<'a>> {
@@ -134,7 +129,7 @@ fn serve_logged<'a, R: Files<File = File> + Clock + AllocGlobal, D: Device + Dro
             site: Site::Unnamed,
         });
     };
-    match serve_by(rt, config, logged, options, numbers, lines) {
+    match serve_by(rt, config, logged, request, numbers, lines) {
         Ok(logged) => {
             let (ports, _journal) = logged.into_parts();
             Ok(ports)

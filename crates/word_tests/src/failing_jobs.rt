@@ -30,9 +30,10 @@ struct Row {
     names: &'static str,
 }
 
-/// In each row but those with one fault, a later fault is due as well: the first one is reported. There is a
-/// configuration `centre.toml`, a file of records `two.mseed` and none that begins with `no`.
-static ROWS: [Row; 22] = [
+/// In each row but those with one fault, a later fault is due as well: the first one is reported. There are
+/// configurations `centre.toml`, `wrong.toml`, which has misspelled keys, and `broken.toml`, a file of records
+/// `two.mseed`, and none that begins with `no`.
+static ROWS: [Row; 25] = [
     // A server: the address for clients, that for feeds, the configuration, and then the ports.
     Row {
         words: "seedlinkd -v serve no.toml --listen nowhere --feed elsewhere",
@@ -82,9 +83,27 @@ static ROWS: [Row; 22] = [
         names: "file: no?[2J??.toml\n",
     },
     Row {
-        words: "seedlinkd -v view noréééééééééééééééééééééééééééééééééééééééééééééééééééééééééééééééééééééééééééééééééééééééééééééééééééé",
+        words: "seedlinkd -v view noréééééééééééééééééééééééééééééééééééééééééééééééééééééééééééé\
+            éééééééééééééééééééééééééééééééééééééééé",
         line: "seedlinkd: 44 File\n",
-        names: "file: noréééééééééééééééééééééééééééééééééééééééééééééééééééééééééééééééééééééééééééééééééééééééééééééé\n",
+        names: "file: noréééééééééééééééééééééééééééééééééééééééééééééééééééééééééééé\
+            éééééééééééééééééééééééééééééééééé\n",
+    },
+    // Keys that are not known are named, and refused on request.
+    Row {
+        words: "seedlinkd -v serve wrong.toml --strict --listen 127.0.0.1:TAKEN --feed 127.0.0.1:TAKEN",
+        line: "seedlinkd: unknown key titel\nseedlinkd: unknown key acces, station 1 GE APE\nseedlinkd: 21 Missing\n",
+        names: "file: wrong.toml\n",
+    },
+    Row {
+        words: "seedlinkd serve wrong.toml --listen 127.0.0.1:TAKEN --feed 127.0.0.1:TAKEN",
+        line: "seedlinkd: unknown key titel\nseedlinkd: unknown key acces, station 1 GE APE\nseedlinkd: 46 Listen\n",
+        names: "",
+    },
+    Row {
+        words: "seedlinkd -v view wrong.toml --strict",
+        line: "seedlinkd: unknown key titel\nseedlinkd: unknown key acces, station 1 GE APE\nseedlinkd: 21 Missing\n",
+        names: "file: wrong.toml\n",
     },
     // A feeder: the address, the file, and then the connection.
     Row {
@@ -156,6 +175,11 @@ static CENTRE: &str =
     "title = \"Centre\"\nmax_connections = 9\n[[station]]\nnetwork = \"GE\"\ncode = \"APE\"\n\
     description = \"Island\"\ncapacity = 9\n";
 
+/// The same with two keys that are misspelled.
+static WRONG: &str =
+    "title = \"Centre\"\ntitel = \"\"\nmax_connections = 9\n[[station]]\nnetwork = \"GE\"\n\
+    code = \"APE\"\ndescription = \"Island\"\ncapacity = 9\nacces = \"10.0.0.7\"\n";
+
 /// The text with a port in place of a word.
 fn with_port(alloc: Global, text: &str, word: &str, port: u16) -> Result<String, Fail> {
     let port = format!(in alloc; "{port}")?;
@@ -225,6 +249,7 @@ where
 /// The files that the rows name.
 fn make_files<R: Files>(rt: &R) -> Result<(), Fail> {
     fs::write(rt, "centre.toml", CENTRE.as_bytes())?;
+    fs::write(rt, "wrong.toml", WRONG.as_bytes())?;
     fs::write(rt, "broken.toml", b"title =")?;
     fs::write(rt, "two.mseed", &[b'0'; 1_024])?;
     Ok(())

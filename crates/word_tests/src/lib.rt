@@ -12,6 +12,10 @@ mod followers;
 #[cfg(test)]
 mod outcome;
 #[cfg(test)]
+mod pairs;
+#[cfg(test)]
 mod told;
+#[cfg(test)]
+mod visits;
 #[cfg(test)]
 mod words;

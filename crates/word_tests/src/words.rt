@@ -1,248 +1,20 @@
-//! A server as the words of a command line start it, over sockets: while it runs, its visitors act whenever it reads
-//! its configuration again, which is after each turn.
-use crate::outcome::{free_ports, job_of};
-use loopback::{Actor, GREETING, Visitor, packet, record};
-use std::alloc::Global;
-use std::cell::RefCell;
-use std::fs::{self, File};
-use std::net::{Ipv4Addr, Net};
-use std::os::fd::AsRawFd;
-use std::rt::Files;
+//! A server as the words of a command line start it, over sockets.
+use crate::visits::{CLOSED, OPEN, run, run_with_numbers};
+use std::fs;
 use std::test::Fail;
 
-/// Before which reading of the configuration a record comes.
-const FIRST: u32 = 8;
-
-/// Before which one its file changes.
-const CHANGE: u32 = 14;
-
-/// Before which one another record comes.
-const SECOND: u32 = 18;
-
-/// How many turns a server has.
-const TURNS: u32 = 26;
-
-/// One station that is open to everybody.
-static OPEN: &str =
+/// One station that is open to 10.0.0.7 alone, if its key were not misspelled.
+static MISSPELLED: &str =
     "title = \"Test Centre\"\nmax_connections = 9\n[[station]]\nnetwork = \"GE\"\ncode = \"APE\"\ndescription = \
-    \"Island\"\ncapacity = 9\n";
+    \"Island\"\ncapacity = 9\nacces = \"10.0.0.7\"\n";
 
-/// The same, open to 127.0.0.1 alone.
-static CLOSED: &str =
-    "title = \"Test Centre\"\nmax_connections = 9\naccess = \"127.0.0.1\"\n[[station]]\nnetwork = \
-    \"GE\"\ncode = \"APE\"\ndescription = \"Island\"\ncapacity = 9\n";
+/// The line that says so.
+static UNKNOWN: &str = "seedlinkd: unknown key acces, station 1 GE APE\n";
 
-/// What CAT is answered.
-static ISLAND: &[u8] = b"GE APE   Island\r\nEND\r\n";
-
-/// Who visits a server, and what its configuration's file holds once it changes.
-#[derive(Drop)]
-struct Visits {
-    clients: u16,
-    feeds: u16,
-    later: &'static str,
-    /// Clients at 127.0.0.1 and at 127.0.0.2.
-    near: Option<Visitor>,
-    far: Option<Visitor>,
-    /// Feeds of one record each, before and after the change.
-    first: Option<Visitor>,
-    second: Option<Visitor>,
-}
-
-impl Visits {
-    /// Nobody so far, at the ports for clients and for feeds.
-    fn at((clients, feeds): (u16, u16), later: &'static str) -> Visits {
-        Visits {
-            clients,
-            feeds,
-            later,
-            near: None,
-            far: None,
-            first: None,
-            second: None,
-        }
-    }
-
-    /// A record comes on a feed.
-    fn feed<R: Net + AllocGlobal>(&self, rt: &R, samples: u16) -> Option<Visitor> {
-        match record(b"APE", b"BHZ", samples) {
-            Ok(record) => Visitor::connect(rt, Ipv4Addr::LOCALHOST, self.feeds, &record).ok(),
-            Err(_) => None,
-        }
-    }
-
-    /// A record comes if it is due.
-    fn feed_in_time<R: Net + AllocGlobal>(&mut self, rt: &R, opened: u32) {
-        if opened == FIRST {
-            self.first = self.feed(rt, 1);
-        }
-        if opened == SECOND {
-            self.second = self.feed(rt, 2);
-        }
-    }
-
-    /// Clients come, or look at what has come for them.
-    fn look<R: Net + AllocGlobal>(&mut self, rt: &R) {
-        look(rt, &mut self.near, Ipv4Addr::LOCALHOST, self.clients);
-        look(rt, &mut self.far, other_address(), self.clients);
-    }
-
-    /// What has come for the clients.
-    fn seen(&self) -> Result<Seen, Fail> {
-        Ok(Seen {
-            near: packets_of(&self.near)?,
-            far: packets_of(&self.far)?,
-            is_far_over: matches!(&self.far, Some(far) if far.is_over()),
-        })
-    }
-}
-
-/// A second address of this machine.
-fn other_address() -> Ipv4Addr {
-    Ipv4Addr::new(127, 0, 0, 2)
-}
-
-/// A client looks at what has come for it, or comes.
-fn look<R: Net + AllocGlobal>(rt: &R, visitor: &mut Option<Visitor>, from: Ipv4Addr, port: u16) {
-    match visitor {
-        Some(visitor) => visitor.look(),
-        None => *visitor = Visitor::connect(rt, from, port, b"HELLO\rCAT\rDATA\r").ok(),
-    }
-}
-
-impl<R: Files<File = File> + Net + AllocGlobal> Actor<R> for Visits {
-    fn act(&mut self, rt: &R, opened: u32) {
-        // The first reading is before the server listens.
-        if opened == 0 {
-            return;
-        }
-        if opened == CHANGE {
-            let _ = fs::write(rt, "centre.toml", self.later.as_bytes());
-        }
-        self.feed_in_time(rt, opened);
-        self.look(rt);
-    }
-
-    fn serve(&mut self, _rt: &R) {}
-}
-
-/// How many packets came for the clients at 127.0.0.1 and at 127.0.0.2, behind the greeting and the list of stations;
-/// None if something else came. And whether the connection of the second has ended.
-#[derive(Clone, Copy, Drop)]
-struct Seen {
-    near: Option<u16>,
-    far: Option<u16>,
-    is_far_over: bool,
-}
-
-/// What comes of a server whose configuration's file changes while it runs.
-#[derive(Drop)]
-struct ServerRun {
-    is_success: bool,
-    seen: Seen,
-    errors: String,
-}
-
-impl ServerRun {
-    /// Whether the server ended well, and sent its clients the greeting, the list of stations and the first so many
-    /// packets, and nothing else.
-    fn has_sent(&self, near: u16, far: u16) -> bool {
-        self.is_success && self.seen.near == Some(near) && self.seen.far == Some(far)
-    }
-}
-
-/// The configuration's file, and one for the standard error.
-fn make_files<R: Files>(rt: &R) -> Result<(), Fail> {
-    fs::write(rt, "centre.toml", OPEN.as_bytes())?;
-    fs::write(rt, "errors.txt", b"")?;
-    Ok(())
-}
-
-/// The command line of a server with more words.
-fn line_of(alloc: Global, (clients, feeds): (u16, u16), more: &str) -> Result<String, Fail> {
-    Ok(format!(in alloc;
-        "seedlinkd serve centre.toml --listen 127.0.0.1:{clients} --feed 127.0.0.1:{feeds} --turns {TURNS} {more}"
-    )?)
-}
-
-/// Runs a server with more words, as those of a command line start it.
-fn run_server<R>(rt: &R, later: &'static str, more: &str) -> Result<ServerRun, Fail>
-where
-    R: Files<File = File> + Net + AllocGlobal,
-    R::File: AsRawFd,
-{
-    make_files(rt)?;
-    let ports = free_ports(rt)?;
-    let line = line_of(rt.alloc(), ports, more)?;
-    let visits = RefCell::new(Visits::at(ports, later));
-    run_visited(rt, &visits, line.as_str())
-}
-
-/// Runs the server of a command line while it is visited.
-fn run_visited<R>(rt: &R, visits: &RefCell<Visits>, line: &str) -> Result<ServerRun, Fail>
-where
-    R: Files<File = File> + Net + AllocGlobal,
-    R::File: AsRawFd,
-{
-    let is_success = job_of(rt, visits, line)?.is_success();
-    let seen = seen_by(visits)?;
-    Ok(ServerRun {
-        is_success,
-        seen,
-        errors: fs::read_to_string(rt, "errors.txt")?,
-    })
-}
-
-/// The same on the runtime of a test.
-fn run(rt: &HostRuntime, later: &'static str, more: &str) -> Result<ServerRun, Fail> {
-    run_server(rt, later, more)
-}
-
-/// What has come for clients that have visited.
-fn seen_by(visits: &RefCell<Visits>) -> Result<Seen, Fail> {
-    match visits.try_borrow() {
-        Ok(visits) => visits.seen(),
-        Err(_) => Err(Fail::from("somebody acts still")),
-    }
-}
-
-/// How many packets a client was sent behind the greeting and the list of stations, of those of the first records; None
-/// if it was sent something else.
-fn packets_of(visitor: &Option<Visitor>) -> Result<Option<u16>, Fail> {
-    match visitor {
-        Some(visitor) => packets_behind(visitor.came()),
-        None => Ok(None),
-    }
-}
-
-/// The same in the bytes that were sent.
-fn packets_behind(bytes: &[u8]) -> Result<Option<u16>, Fail> {
-    let mut left = bytes;
-    for part in [GREETING, ISLAND] {
-        left = match left.strip_prefix(part) {
-            Some(rest) => rest,
-            None => return Ok(None),
-        };
-    }
-    packets_in(left)
-}
-
-/// The packet of the record with so many samples.
-fn packet_of(number: &[u8; 8], samples: u16) -> Result<[u8; 520], Fail> {
-    Ok(packet(number, &record(b"APE", b"BHZ", samples)?))
-}
-
-/// How many packets of the first records these bytes are, and nothing else.
-fn packets_in(bytes: &[u8]) -> Result<Option<u16>, Fail> {
-    let first = packet_of(b"SL000000", 1)?;
-    let second = packet_of(b"SL000001", 2)?;
-    Ok(match bytes.strip_prefix(first.as_slice()) {
-        Some([]) => Some(1),
-        Some(rest) if rest == second.as_slice() => Some(2),
-        None if bytes.is_empty() => Some(0),
-        _ => None,
-    })
-}
+/// The open station with another capacity.
+static LARGER: &str =
+    "title = \"Test Centre\"\nmax_connections = 9\n[[station]]\nnetwork = \"GE\"\ncode = \"APE\"\ndescription = \
+    \"Island\"\ncapacity = 10\n";
 
 #[test]
 fn serve_answers_clients_and_takes_feeds(rt: HostRuntime) -> Result<(), Fail> {
@@ -315,6 +87,70 @@ fn serve_tells_whom_it_turns_away(rt: HostRuntime) -> Result<(), Fail> {
         run.errors.as_str(),
         "seedlinkd: open 0 127.0.0.1\nseedlinkd: open 1 127.0.0.2\nseedlinkd: away 127.0.0.1 feed-from\n\
         seedlinkd: away 127.0.0.1 feed-from\n"
+    );
+    Ok(())
+}
+
+#[test]
+fn a_reread_names_keys_that_are_not_known_once(rt: HostRuntime) -> Result<(), Fail> {
+    let run = run(&rt, MISSPELLED, "--reread 1")?;
+    assert!(rt; run.has_sent(2, 2));
+    assert_eq!(rt; run.errors.as_str(), UNKNOWN);
+    Ok(())
+}
+
+/// The lists in force stay.
+#[test]
+fn a_strict_reread_refuses_keys_that_are_not_known(rt: HostRuntime) -> Result<(), Fail> {
+    let run = run(&rt, MISSPELLED, "--reread 1 --strict")?;
+    assert!(rt; run.has_sent(2, 2));
+    let Some(rest) = run.errors.as_str().strip_prefix(UNKNOWN) else {
+        return Err(Fail::from("the key is not named first"));
+    };
+    assert!(rt; rest.lines().count() > 1);
+    assert!(rt; rest.lines().all(|line| line == "seedlinkd: 21 Missing"));
+    Ok(())
+}
+
+#[test]
+fn a_reread_tells_that_a_configuration_differs(rt: HostRuntime) -> Result<(), Fail> {
+    let run = run(&rt, LARGER, "--reread 1")?;
+    assert!(rt; run.has_sent(2, 2));
+    assert!(rt; run.errors.as_str().lines().count() > 1);
+    assert!(rt;
+        run.errors
+            .as_str()
+            .lines()
+            .all(|line| line == "seedlinkd: 34 Different")
+    );
+    Ok(())
+}
+
+#[test]
+fn a_report_counts_clients_and_feeds(rt: HostRuntime) -> Result<(), Fail> {
+    let run = run(&rt, OPEN, "--reread 1 --report 1")?;
+    let line = "seedlinkd: clients 2, feeds 1, records 1, refused 0";
+    assert!(rt;
+        run.errors.as_str().lines().any(|told| told == line),
+        "{}",
+        run.errors
+    );
+    Ok(())
+}
+
+/// A server goes on after the numbers that the one before it has kept, and a reread with them differs in nothing.
+#[test]
+fn numbers_are_kept_for_the_next_server(rt: HostRuntime) -> Result<(), Fail> {
+    let more = "--reread 1 --numbers numbers.toml";
+    let first = run_with_numbers(&rt, [b"SL000000", b"SL000001"], more)?;
+    assert!(rt; first.has_sent(2, 2));
+    let second = run_with_numbers(&rt, [b"SL000800", b"SL000801"], more)?;
+    assert!(rt; second.has_sent(2, 2));
+    assert_eq!(rt; second.errors.as_str(), "");
+    assert!(rt;
+        fs::read_to_string(&rt, "numbers.toml")?
+            .as_str()
+            .contains("001000")
     );
     Ok(())
 }

@@ -1,7 +1,7 @@
 //! The lines that explain a fault.
 use super::replays::config;
 use catalog::Config;
-use command_line::{CheckOptions, Job, ReadOptions};
+use command_line::{CheckOptions, Job, ReadOptions, ServeOptions};
 use config_findings::{finding_of, first_difference};
 use jobs::ReplayStyle::Hexadecimal;
 use jobs::{Failure, Incident, replay, run_job};
@@ -291,7 +291,7 @@ fn unfinished(rt: &HostRuntime, job: Job<'_>) -> Result<String, Fail> {
 
 #[test]
 fn a_list_of_feeders(rt: HostRuntime) -> Result<(), Fail> {
-    let serve = Job::Serve {
+    let serve = Job::Serve(ServeOptions {
         config: "none/at.all",
         listen: "127.0.0.1:0",
         feed: "127.0.0.1:0",
@@ -301,8 +301,9 @@ fn a_list_of_feeders(rt: HostRuntime) -> Result<(), Fail> {
         feed_from: Some("10.0.0.7, 10.0.0.0/33, localhost"),
         per_address: None,
         numbers: None,
-        log: false,
-    };
+        is_logged: false,
+        is_strict: false,
+    });
     let wanted =
         "  cause: an access list is refused: a token has no mask behind its first slash\n  \
         word: 10.0.0.7, 10.0.0.0/33, localhost\n  entry: 10.0.0.0/33\n  \

@@ -1,5 +1,5 @@
 //! Words of the command line.
-use command_line::{CheckOptions, Every, Job, Request, WordsFault, read_words};
+use command_line::{CheckOptions, Every, Job, Request, ServeOptions, WordsFault, read_words};
 use std::alloc::{AllocError, Global};
 use std::test::Fail;
 
@@ -63,7 +63,11 @@ fn is_check(job: &Job<'_>, wanted: &str, told: &CheckOptions<'_>) -> bool {
 /// Whether it is the job of viewing this configuration as this address sees it.
 fn is_view(job: &Job<'_>, wanted: &str, seen_by: Option<&str>) -> bool {
     match job {
-        Job::View { config, address } => *config == wanted && *address == seen_by,
+        Job::View {
+            config,
+            address,
+            is_strict: false,
+        } => *config == wanted && *address == seen_by,
         _ => false,
     }
 }
@@ -71,18 +75,21 @@ fn is_view(job: &Job<'_>, wanted: &str, seen_by: Option<&str>) -> bool {
 /// Whether it is the job of serving C at a:1 with feeds at b:2, for so many turns, with these limits and no other option.
 fn is_serve(job: &Job<'_>, ends: Option<usize>, list: Option<&str>, most: Option<usize>) -> bool {
     match job {
-        Job::Serve {
-            config: "c.toml",
-            listen: "a:1",
-            feed: "b:2",
-            turns,
-            reread: None,
-            report: None,
-            feed_from,
-            per_address,
-            numbers: None,
-            log: false,
-        } => *turns == ends && *feed_from == list && *per_address == most,
+        Job::Serve(
+            ServeOptions {
+                config: "c.toml",
+                listen: "a:1",
+                feed: "b:2",
+                turns,
+                reread: None,
+                report: None,
+                feed_from,
+                per_address,
+                numbers: None,
+                is_logged: false,
+                is_strict: false,
+            },
+        ) => *turns == ends && *feed_from == list && *per_address == most,
         _ => false,
     }
 }
@@ -230,12 +237,14 @@ fn times(
         return Ok(None);
     };
     match request.job {
-        Job::Serve {
-            turns,
-            reread,
-            report,
-            ..
-        } => Ok(Some((turns, period_of(reread), period_of(report)))),
+        Job::Serve(
+            ServeOptions {
+                turns,
+                reread,
+                report,
+                ..
+            },
+        ) => Ok(Some((turns, period_of(reread), period_of(report)))),
         _ => Ok(None),
     }
 }
