@@ -217,7 +217,7 @@ def reread():
 
 def run(words, wanted):
     """What an example prints, with the ports that it has in the text."""
-    fault = next(line for line in wanted if line.startswith("seedlinkd: ")).removeprefix("seedlinkd: ")
+    fault = next(line for line in wanted if re.match(r"seedlinkd: \d", line)).removeprefix("seedlinkd: ")
     with Room() as room:
         job = next(word for word in words if word in ("serve", "feed", "read", "check", "replay"))
         PREPARE.get((fault, job), lambda room: None)(room)

@@ -1,4 +1,4 @@
-//! The records of a reader go to a server's feed port.
+//! The records of a reader go to a server's feed port, and the end of the server is waited for.
 ghost use Rattle.std.specs.Prelude.{◌≡◌, ◌≢◌, ◌<◌, ◌⊎◌, [], length, IfErr, IfOk, IfSome, MatchResult, OnErr, OnOk};
 ghost use Rattle.std.specs.Io.KnownBytes.{Appends, IsAtEnd};
 ghost use Rattle.sl_io.specs.Counts.{IsMore};
@@ -12,10 +12,7 @@ ghost use Rattle.incidents.specs.declared.failure.Failure.TheVariants.{Answered,
 
 use feeder::send;
 use incidents::Failure;
-use job_base::{Endpoint, connect};
-use sl_io::{Outer, Sink, Source};
-use std::io::{ErrorKind, Read, Write};
-use std::net::{Net, OpenStream, Shutdown};
+use sl_io::{Sink, Source};
 
 /// Sends the whole records that are left of a reader, and answers how many they are (2^64 - 1 if there are more).
 ///
@@ -64,105 +61,5 @@ pub fn await_end<R: Source>(server: &mut R) -> Result<(), Failure>
         Ok(0) => Ok(()),
         Ok(_) => Err(Failure::Answered),
         Err(_) => Err(Failure::Untaken),
-    }
-}
-
-/// Whether a connection is over before this side has ended it: the server has ended its half, or the connection has
-/// failed.
-fn is_over<T: OpenStream>(stream: &T) -> bool {
-    if stream.set_nonblocking(true).is_err() {
-        return true;
-    }
-    let is_open = match stream.peek(&mut [0; 1]) {
-        Ok(count) => count > 0,
-        Err(error) => error.kind() == ErrorKind::WouldBlock,
-    };
-    !is_open || stream.set_nonblocking(false).is_err()
-}
-
-/// Whether a connection of which both sides have ended their halves was closed in order: nothing that was sent was
-/// refused, and this side's end had come to the server before the server ended its own. Then the system has no peer of
-/// it any more.
-fn is_closed<T: OpenStream>(stream: &T) -> bool {
-    matches!(stream.take_error(), Ok(None)) && stream.peer_addr().is_err()
-}
-
-/// A feed of which all records were sent, and whose sending half is shut.
-#[derive(Drop)]
-pub struct SentFeed<T> {
-    stream: T,
-    count: u64,
-}
-
-impl<T: OpenStream + Read + Drop> SentFeed<T> {
-    /// Waits for the server's end. If it comes in order, the server has read everything: then the answer is how many
-    /// records were sent. It fails with 43 if the connection was reset, or if the server ended it before it had read
-    /// to the end, and with 52 if the server answered something.
-    pub fn wait(self) -> Result<u64, Failure> {
-        let SentFeed { stream, count } = self;
-        let mut server = Outer::new(stream);
-        await_end(&mut server)?;
-        if is_closed(&server.into_inner()) {
-            Ok(count)
-        } else {
-            Err(Failure::Untaken)
-        }
-    }
-}
-
-/// A feed under way: a connection over which so many records were sent.
-#[derive(Drop)]
-pub struct Feed<T> {
-    server: Outer<T>,
-    count: u64,
-}
-
-impl<T: OpenStream + Write + Drop> Feed<T> {
-    /// Before the first record.
-    pub fn new(stream: T) -> Feed<T> {
-        Feed {
-            server: Outer::new(stream),
-            count: 0,
-        }
-    }
-
-    /// Sends the whole records that are left of a reader. It fails as `feed_records` does.
-    pub fn send<S: Source>(&mut self, records: &mut S) -> Result<(), Failure> {
-        let count = feed_records(records, &mut self.server)?;
-        self.count = self.count.saturating_add(count);
-        Ok(())
-    }
-
-    /// Shuts the sending half. It fails with 43 if the server ended the connection before.
-    pub fn shut(self) -> Result<SentFeed<T>, Failure> {
-        let Feed { server, count } = self;
-        let stream = server.into_inner();
-        if is_over(&stream) || stream.shutdown(Shutdown::Write).is_err() {
-            return Err(Failure::Untaken);
-        }
-        Ok(SentFeed { stream, count })
-    }
-}
-
-/// Sends the whole records that are left of a reader over a connection, and shuts its sending half. It fails as
-/// `feed_records` does, and with 43 if the server ended the connection before.
-pub fn send_feed<T: OpenStream + Write + Drop, S: Source>(
-    stream: T,
-    records: &mut S,
-) -> Result<SentFeed<T>, Failure> {
-    let mut feed = Feed::new(stream);
-    feed.send(records)?;
-    feed.shut()
-}
-
-/// Connects to a server's feed port, sends the whole records that are left of a reader, and shuts the sending half.
-pub fn begin_feed<R: Net, S: Source>(
-    rt: &R,
-    server: Endpoint,
-    records: &mut S,
-) -> Result<SentFeed<R::Stream>, Failure> {
-    match connect(rt, server) {
-        Ok(stream) => send_feed(stream, records),
-        Err(_) => Err(Failure::Connect),
     }
 }

@@ -1,6 +1,10 @@
 //! Files of records go to a server.
-use crate::feeding::{Feed, SentFeed};
-use incidents::{Failure, Incident, Site};
+ghost use Rattle.std.specs.Prelude.{◌≡◌, ◌/◌, IfOk, IfSome, OnOk};
+
+use crate::feed::{Feed, SentFeed};
+use crate::looks::look_at_each;
+use crate::sent::SentRecords;
+use incidents::{Incident, Site};
 use job_base::{
     ReasonKeeper, ServerAddress, Watched, connection, is_terminal, open, server_of, size_of,
 };
@@ -34,26 +38,30 @@ fn input<'a, R: Files>(rt: &R, path: &'a str) -> Result<R::File, Incident<'a>> {
     }
 }
 
-/// Sends the records of a file that is open.
+/// Sends the records of a file that is open, and says how many records were sent by then.
 fn send_input<'a, R: Files<File = File> + Eprint + Clock, T: OpenStream + io::Write + Drop>(
     rt: &R,
     feed: &mut Feed<T>,
     tally: &mut FeedTally,
+    sent: &mut SentRecords<'a>,
     file: File,
     path: &'a str,
     server: &'a str,
-) -> Result<(), Incident<'a>> {
+) -> Result<(), Incident<'a>>
+    ensures { sent.new.count ≡ feed.new.taken / 512 }
+{
     let size = size_of(&file);
     let watched = Watched::new(rt, ReasonKeeper::new(file), size, is_terminal());
     let mut records = Outer::new(Judged {
         inner: watched,
         tally,
     });
-    let sent = feed.send(&mut records);
+    let outcome = feed.send(&mut records);
+    sent.reach(path, feed.records());
     let Judged { inner, tally } = records.into_inner();
     tally.end_file();
     let reason = inner.end().into_reason();
-    match sent {
+    match outcome {
         Ok(()) => Ok(()),
         Err(failure) => Err(failure.in_feed(path, server).at_input(path, reason)),
     }
@@ -64,12 +72,22 @@ fn send_each<'a, R: Files<File = File> + Eprint + Clock, T: OpenStream + io::Wri
     rt: &R,
     feed: &mut Feed<T>,
     tally: &mut FeedTally,
+    sent: &mut SentRecords<'a>,
     files: &[&'a str],
     server: &'a str,
-) -> Result<(), Incident<'a>> {
-    for path in files {
-        let file = input(rt, path)?;
-        send_input(rt, feed, tally, file, path, server)?;
+) -> Result<(), Incident<'a>>
+    requires { sent.old.count ≡ feed.old.taken / 512 }
+    ensures { sent.new.count ≡ feed.new.taken / 512 }
+{
+    'files: for path in files {
+        let file = match input(rt, path) {
+            Ok(file) => file,
+            Err(incident) => return Err(incident),
+        };
+        match send_input(rt, feed, tally, sent, file, path, server) {
+            Ok(()) => {}
+            Err(incident) => return Err(incident),
+        }
     }
     Ok(())
 }
@@ -79,15 +97,18 @@ fn send_over<'a, R: Files<File = File> + Eprint + Clock, T: OpenStream + io::Wri
     rt: &R,
     mut feed: Feed<T>,
     tally: &mut FeedTally,
+    sent: &mut SentRecords<'a>,
     file: File,
     first: &'a str,
     others: &[&'a str],
     server: &'a str,
-) -> Result<SentFeed<T>, Incident<'a>> {
-    send_input(rt, &mut feed, tally, file, first, server)?;
-    send_each(rt, &mut feed, tally, others, server)?;
+) -> Result<SentFeed<T>, Incident<'a>>
+    ensures { IfOk result (λ feed. feed.count ≡ sent.new.count) }
+{
+    send_input(rt, &mut feed, tally, sent, file, first, server)?;
+    send_each(rt, &mut feed, tally, sent, others, server)?;
     match feed.shut() {
-        Ok(sent) => Ok(sent),
+        Ok(feed) => Ok(feed),
         Err(failure) => Err(failure.in_feed(first, server)),
     }
 }
@@ -101,11 +122,14 @@ fn send_open<'a, R: Files<File = File> + Eprint + Clock + Net>(
     first: &'a str,
     others: &[&'a str],
     tally: &mut FeedTally,
-) -> Result<SentFeed<R::Stream>, Incident<'a>> {
+    sent: &mut SentRecords<'a>,
+) -> Result<SentFeed<R::Stream>, Incident<'a>>
+    ensures { IfOk result (λ feed. feed.count ≡ sent.new.count) }
+{
     match connection(rt, server) {
         Ok(stream) => {
             let feed = Feed::new(stream);
-            send_over(rt, feed, tally, file, first, others, server.word)
+            send_over(rt, feed, tally, sent, file, first, others, server.word)
         }
         Err(incident) => Err(incident),
     }
@@ -118,28 +142,56 @@ fn send_from<'a, R: Files<File = File> + Eprint + Clock + Net>(
     first: &'a str,
     others: &[&'a str],
     tally: &mut FeedTally,
-) -> Result<SentFeed<R::Stream>, Incident<'a>> {
+    sent: &mut SentRecords<'a>,
+) -> Result<SentFeed<R::Stream>, Incident<'a>>
+    ensures { IfOk result (λ feed. feed.count ≡ sent.new.count) }
+{
     match input(rt, first) {
-        Ok(file) => send_open(rt, server, file, first, others, tally),
+        Ok(file) => send_open(rt, server, file, first, others, tally, sent),
         Err(incident) => Err(incident),
     }
 }
 
-/// Sends the records of files to a server, one file after the other, and shuts the sending half of the connection. The
-/// first file is opened before the connection is made.
+/// Sends the records of files to a server, one file after the other, and shuts the sending half of the connection. All
+/// files are looked at before the connection is made, and the first one is opened. `sent` counts the records that the
+/// connection has taken whole, also at a fault; what the server has read of them is not known.
 pub fn send_files<'a, R: Files<File = File> + Eprint + Clock + Net>(
     rt: &R,
     server: &'a str,
     files: &[&'a str],
     tally: &mut FeedTally,
-) -> Result<Option<SentFeed<R::Stream>>, Incident<'a>> {
+    sent: &mut SentRecords<'a>,
+) -> Result<Option<SentFeed<R::Stream>>, Incident<'a>>
+    ensures { IfOk result (λ feed. IfSome feed (λ feed. feed.count ≡ sent.new.count)) }
+{
     let server = server_of(server)?;
+    look_at_each(rt, files)?;
     let Some((first, others)) = files.split_first() else {
         return Ok(None);
     };
-    match send_from(rt, server, first, others, tally) {
-        Ok(sent) => Ok(Some(sent)),
+    match send_from(rt, server, first, others, tally, sent) {
+        Ok(feed) => Ok(Some(feed)),
         Err(incident) => Err(incident),
+    }
+}
+
+/// Sends the records of files to a server, and waits until it has read them.
+fn send_and_wait<'a, R: Files<File = File> + Eprint + Clock + Net>(
+    rt: &R,
+    server: &'a str,
+    files: &[&'a str],
+    tally: &mut FeedTally,
+    sent: &mut SentRecords<'a>,
+) -> Result<(), Incident<'a>> {
+    let Some(feed) = send_files(rt, server, files, tally, sent)? else {
+        return Ok(());
+    };
+    match feed.wait() {
+        Ok(_) => Ok(()),
+        Err(failure) => Err(Incident {
+            failure,
+            site: Site::Server(server),
+        }),
     }
 }
 
@@ -159,7 +211,8 @@ fn tell_sent<R: Eprint>(rt: &R, count: u64, tally: &FeedTally, is_verbose: bool)
 }
 
 /// Sends the records of files to a server, and waits until it has read them. If no server takes some of them, or with
-/// `is_verbose`, the last line of the standard error says how many they were, and how many of them no server takes.
+/// `is_verbose`, the last line of the standard error says how many they were, and how many of them no server takes. At
+/// a fault a line says how many records the connection has taken whole, and which was the last.
 pub fn feed_files<'a, R: Files<File = File> + Eprint + Clock + Net>(
     rt: &R,
     server: &'a str,
@@ -167,17 +220,15 @@ pub fn feed_files<'a, R: Files<File = File> + Eprint + Clock + Net>(
     is_verbose: bool,
 ) -> Result<(), Incident<'a>> {
     let mut tally = FeedTally::new();
-    let Some(sent) = send_files(rt, server, files, &mut tally)? else {
-        return Ok(());
-    };
-    match sent.wait() {
-        Ok(count) => {
-            tell_sent(rt, count, &tally, is_verbose);
+    let mut sent = SentRecords::new();
+    match send_and_wait(rt, server, files, &mut tally, &mut sent) {
+        Ok(()) => {
+            tell_sent(rt, sent.count, &tally, is_verbose);
             Ok(())
         }
-        Err(failure) => Err(Incident {
-            failure,
-            site: Site::Server(server),
-        }),
+        Err(incident) => {
+            let _ = eprintln!(rt; "{sent}");
+            Err(incident)
+        }
     }
 }

@@ -2,8 +2,13 @@
 //! what stands in a record.
 #![tactic(auto)]
 
+mod feed;
 mod feeding;
 mod feeds;
+mod looks;
+mod sent;
 
-pub use feeding::{SentFeed, await_end, begin_feed, feed_records, send_feed};
+pub use feed::{SentFeed, begin_feed, send_feed};
+pub use feeding::{await_end, feed_records};
 pub use feeds::{feed_files, send_files};
+pub use sent::{FileRecord, SentRecords};

@@ -2,7 +2,7 @@
 use crate::records::{gives_packet, send};
 use incidents::Failure;
 use job_base::Endpoint;
-use job_feed::{await_end, begin_feed, feed_records, send_feed, send_files};
+use job_feed::{SentRecords, await_end, begin_feed, feed_records, send_feed, send_files};
 use loopback::{Centre, any_port, at_centre, record};
 use record_listing::FeedTally;
 use sl_io::{Failing, MemorySource, Outer};
@@ -108,12 +108,13 @@ fn are_taken<R: Files<File = File> + Eprint + Clock + Net>(
     server: &str,
 ) -> bool {
     let mut tally = FeedTally::new();
+    let mut sent = SentRecords::new();
     let files = ["first.mseed", "second.mseed"];
-    let Ok(Some(feed)) = send_files(rt, server, &files, &mut tally) else {
+    let Ok(Some(feed)) = send_files(rt, server, &files, &mut tally, &mut sent) else {
         return false;
     };
     centre.turns(3);
-    matches!(feed.wait(), Ok(2)) && tally.refused() == 0
+    matches!(feed.wait(), Ok(2)) && sent.count == 2 && tally.refused() == 0
 }
 
 /// The same, and whether both records have arrived.

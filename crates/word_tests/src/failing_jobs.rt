@@ -31,9 +31,9 @@ struct Row {
 }
 
 /// In each row but those with one fault, a later fault is due as well: the first one is reported. There are
-/// configurations `centre.toml`, `wrong.toml`, which has misspelled keys, and `broken.toml`, a file of records
-/// `two.mseed`, and none that begins with `no`.
-static ROWS: [Row; 25] = [
+/// configurations `centre.toml`, `wrong.toml`, which has misspelled keys, and `broken.toml`; files of records `two.mseed`
+/// and `rest.mseed`, of which the second ends inside a record; and no file that begins with `no`.
+static ROWS: [Row; 29] = [
     // A server: the address for clients, that for feeds, the configuration, and then the ports.
     Row {
         words: "seedlinkd -v serve no.toml --listen nowhere --feed elsewhere",
@@ -105,21 +105,41 @@ static ROWS: [Row; 25] = [
         line: "seedlinkd: unknown key titel\nseedlinkd: unknown key acces, station 1 GE APE\nseedlinkd: 21 Missing\n",
         names: "file: wrong.toml\n",
     },
-    // A feeder: the address, the file, and then the connection.
+    // A feeder: the address, all files, and then the connection. What it sent is said before the fault.
     Row {
         words: "seedlinkd -v feed nowhere no.mseed",
-        line: "seedlinkd: 11 Address\n",
+        line: "seedlinkd: sent 0 records\nseedlinkd: 11 Address\n",
         names: "word: nowhere\n",
     },
     Row {
         words: "seedlinkd -v feed 127.0.0.1:FREE no.mseed",
-        line: "seedlinkd: 44 File\n",
+        line: "seedlinkd: sent 0 records\nseedlinkd: 44 File\n",
         names: "file: no.mseed\n",
     },
     Row {
+        words: "seedlinkd -v feed 127.0.0.1:TAKEN two.mseed two.mseed no.mseed",
+        line: "seedlinkd: sent 0 records\nseedlinkd: 44 File\n",
+        names: "file: no.mseed\n",
+    },
+    Row {
+        words: "seedlinkd -v feed 127.0.0.1:TAKEN two.mseed .",
+        line: "seedlinkd: sent 0 records\nseedlinkd: 44 File\n",
+        names: "file: .\n",
+    },
+    Row {
         words: "seedlinkd -v feed 127.0.0.1:FREE two.mseed",
-        line: "seedlinkd: 47 Connect\n",
+        line: "seedlinkd: sent 0 records\nseedlinkd: 47 Connect\n",
         names: "address: 127.0.0.1:FREE\n",
+    },
+    Row {
+        words: "seedlinkd -v feed 127.0.0.1:TAKEN two.mseed rest.mseed two.mseed",
+        line: "seedlinkd: sent 3 records, up to record 1 of rest.mseed\nseedlinkd: 41 Partial\n",
+        names: "file: rest.mseed\n",
+    },
+    Row {
+        words: "seedlinkd -v feed 127.0.0.1:TAKEN two.mseed centre.toml",
+        line: "seedlinkd: sent 2 records, up to record 2 of two.mseed\nseedlinkd: 41 Partial\n",
+        names: "file: centre.toml\n",
     },
     // A reader: the address, the wants in order, the output, and then the connection.
     Row {
@@ -252,6 +272,7 @@ fn make_files<R: Files>(rt: &R) -> Result<(), Fail> {
     fs::write(rt, "wrong.toml", WRONG.as_bytes())?;
     fs::write(rt, "broken.toml", b"title =")?;
     fs::write(rt, "two.mseed", &[b'0'; 1_024])?;
+    fs::write(rt, "rest.mseed", &[b'0'; 1_023])?;
     Ok(())
 }
 

@@ -1,0 +1,178 @@
+//! A feed under way: a connection, and how many bytes of records it has taken.
+ghost use Rattle.std.specs.Prelude.{◌≡◌, ◌+◌, ◌-◌, ◌^◌, ◌/◌, length, min, take, IfErr, IfOk, IfSome, OnErr, OnOk};
+ghost use Rattle.feeder.specs.Sending.{whole_part};
+ghost use Rattle.job_feed.specs.Handing.{CountsBeginning, counted_part};
+
+use crate::feeding::{await_end, feed_records};
+use incidents::Failure;
+use job_base::{Endpoint, connect};
+use sl_io::{DeviceFault, Outer, Sink, Source};
+use std::io::{ErrorKind, Read, Write};
+use std::net::{Net, OpenStream, Shutdown};
+
+/// The length of a record, in bytes.
+const RECORD: u64 = 512;
+
+/// Whether a connection is over before this side has ended it: the server has ended its half, or the connection has
+/// failed.
+fn is_over<T: OpenStream>(stream: &T) -> bool {
+    if stream.set_nonblocking(true).is_err() {
+        return true;
+    }
+    let is_open = match stream.peek(&mut [0; 1]) {
+        Ok(count) => count > 0,
+        Err(error) => error.kind() == ErrorKind::WouldBlock,
+    };
+    !is_open || stream.set_nonblocking(false).is_err()
+}
+
+/// Whether a connection of which both sides have ended their halves was closed in order: nothing that was sent was
+/// refused, and this side's end had come to the server before the server ended its own. Then the system has no peer of
+/// it any more.
+fn is_closed<T: OpenStream>(stream: &T) -> bool {
+    matches!(stream.take_error(), Ok(None)) && stream.peer_addr().is_err()
+}
+
+/// A feed of which all records were sent, and whose sending half is shut.
+#[derive(Drop)]
+pub struct SentFeed<T> {
+    stream: T,
+    /// How many records were sent.
+    pub count: u64,
+}
+
+impl<T: OpenStream + Read + Drop> SentFeed<T> {
+    /// Waits for the server's end. If it comes in order, the server has read everything: then the answer is how many
+    /// records were sent. It fails with 43 if the connection was reset, or if the server ended it before it had read
+    /// to the end, and with 52 if the server answered something.
+    pub fn wait(self) -> Result<u64, Failure> {
+        let SentFeed { stream, count } = self;
+        let mut server = Outer::new(stream);
+        await_end(&mut server)?;
+        if is_closed(&server.into_inner()) {
+            Ok(count)
+        } else {
+            Err(Failure::Untaken)
+        }
+    }
+}
+
+/// The first bytes of a piece: as many as can be counted beside those that were taken.
+fn countable(taken: u64, bytes: &[u8]) -> &[u8]
+    ensures { result.now ≡ take (min (2 ^ 64 - 1 - taken) (length bytes.now)) bytes.now }
+{
+    let room = (u64::MAX - taken) as usize;
+    &bytes[..room.min(bytes.len())]
+}
+
+/// A feed under way: a connection, and how many bytes it has taken. Of the bytes that the connection tells it tells the
+/// last ones, as many as it has counted. It takes no more than 2^64 - 1.
+#[derive(Drop)]
+pub struct Feed<T> {
+    stream: T,
+    taken: u64,
+    failures: u64,
+    calls: u64,
+    empty_writes: u64,
+}
+
+impl<T: Write> Sink for Feed<T> {
+    ghost written = { λ s. counted_part s.taken (T.contents s.stream) };
+
+    ghost failures = { λ s. s.failures };
+
+    ghost calls = { λ s. s.calls };
+
+    ghost empty_writes = { λ s. s.empty_writes };
+
+    fn write(&mut self, bytes: &[u8]) -> Result<usize, DeviceFault> {
+        self.calls = self.calls.wrapping_add(1);
+        match self.stream.write(countable(self.taken, bytes)) {
+            Ok(count) => {
+                if count == 0 && !bytes.is_empty() {
+                    self.empty_writes = self.empty_writes.wrapping_add(1);
+                }
+                self.taken += count as u64;
+                Ok(count)
+            }
+            Err(_) => {
+                self.failures = self.failures.wrapping_add(1);
+                Err(DeviceFault)
+            }
+        }
+    }
+}
+
+impl<T: OpenStream + Write + Drop> Feed<T> {
+    /// Before the first record.
+    pub fn new(stream: T) -> Feed<T>
+        ensures { result.taken ≡ 0 }
+    {
+        Feed {
+            stream,
+            taken: 0,
+            failures: 0,
+            calls: 0,
+            empty_writes: 0,
+        }
+    }
+
+    /// Sends the whole records that are left of a reader, and counts the bytes that the connection takes, also at a
+    /// fault. It fails as `feed_records` does.
+    pub fn send<S: Source>(&mut self, records: &mut S) -> Result<(), Failure>
+        ensures all { OnOk result (IfSome (S.left records.old) (λ bytes.
+            IfSome (counted_part self.old.taken (T.contents self.old.stream)) (λ _.
+            self.new.taken ≡ self.old.taken + length (whole_part bytes)))) }
+        ensures counted { IfSome (S.left records.old) (λ bytes.
+            IfSome (counted_part self.old.taken (T.contents self.old.stream)) (λ before.
+            CountsBeginning self.old.taken self.new.taken before
+            (counted_part self.new.taken (T.contents self.new.stream)) (whole_part bytes))) }
+    {
+        match feed_records(records, self) {
+            Ok(_) => Ok(()),
+            Err(failure) => Err(failure),
+        }
+    }
+
+    /// How many records the connection has taken whole.
+    pub fn records(&self) -> u64
+        ensures { result ≡ self.now.taken / 512 }
+    {
+        self.taken / RECORD
+    }
+
+    /// Shuts the sending half. It fails with 43 if the server ended the connection before.
+    pub fn shut(self) -> Result<SentFeed<T>, Failure>
+        ensures { IfOk result (λ sent. sent.count ≡ self.taken / 512) }
+    {
+        let count = self.records();
+        let Feed { stream, .. } = self;
+        if is_over(&stream) || stream.shutdown(Shutdown::Write).is_err() {
+            return Err(Failure::Untaken);
+        }
+        Ok(SentFeed { stream, count })
+    }
+}
+
+/// Sends the whole records that are left of a reader over a connection, and shuts its sending half. It fails as
+/// `feed_records` does, and with 43 if the server ended the connection before.
+pub fn send_feed<T: OpenStream + Write + Drop, S: Source>(
+    stream: T,
+    records: &mut S,
+) -> Result<SentFeed<T>, Failure> {
+    let mut feed = Feed::new(stream);
+    feed.send(records)?;
+    feed.shut()
+}
+
+/// Connects to a server's feed port, sends the whole records that are left of a reader, and shuts the sending half.
+pub fn begin_feed<R: Net, S: Source>(
+    rt: &R,
+    server: Endpoint,
+    records: &mut S,
+) -> Result<SentFeed<R::Stream>, Failure> {
+    match connect(rt, server) {
+        Ok(stream) => send_feed(stream, records),
+        Err(_) => Err(Failure::Connect),
+    }
+}

@@ -1,0 +1,56 @@
+//! Files of records are looked at before any of them is sent.
+ghost use Rattle.std.specs.Prelude.{All, Ok, OnOk};
+
+use incidents::Incident;
+use job_base::{open, unopened};
+use std::rt::Files;
+use std::{fs, io};
+
+/// Whether a file can be opened.
+fn open_once<'a, R: Files>(rt: &R, path: &'a str) -> Result<(), Incident<'a>> {
+    match open(rt, path) {
+        Ok(_) => Ok(()),
+        Err(incident) => Err(incident),
+    }
+}
+
+/// Whether there is a file from which records can be read. A plain file is opened, and a folder is refused. A pipe or a
+/// device is only there: to open a pipe waits for its writer, and to close it may end that.
+fn look_at_file<'a, R: Files>(rt: &R, path: &'a str) -> Result<(), Incident<'a>> {
+    match fs::metadata(rt, path) {
+        Ok(found) if found.is_file() => open_once(rt, path),
+        Ok(found) if found.is_dir() => Err(unopened(
+            path,
+            io::Error::from(io::ErrorKind::IsADirectory),
+        )),
+        Ok(_) => Ok(()),
+        Err(reason) => Err(unopened(path, reason)),
+    }
+}
+
+/// The same of what a word of the command line names, which may be the standard input.
+fn look_at<'a, R: Files>(rt: &R, path: &'a str) -> Result<(), Incident<'a>> {
+    match path {
+        "-" => Ok(()),
+        _ => look_at_file(rt, path),
+    }
+}
+
+/// Tries each of some items, in order, up to the first that fails.
+fn try_each<T: Copy, E: Drop, F: Fn(T) -> Result<(), E>>(items: &[T], attempt: F) -> Result<(), E>
+    requires { F.IsAlwaysCallable attempt }
+    ensures { OnOk result (All (λ item. F.post attempt item (Ok tt)) items.now) }
+{
+    for item in items {
+        match attempt(*item) {
+            Ok(()) => {}
+            Err(fault) => return Err(fault),
+        }
+    }
+    Ok(())
+}
+
+/// Looks at each of some files.
+pub fn look_at_each<'a, R: Files>(rt: &R, files: &[&'a str]) -> Result<(), Incident<'a>> {
+    try_each(files, |path| look_at(rt, path))
+}

@@ -1,0 +1,63 @@
+//! What a job that feeds has sent, for its user.
+ghost use Rattle.std.specs.Prelude.{◌≡◌, ◌-◌, nat_lt, None, Some, if◌then◌else◌};
+
+use shown_lines::ShownLine;
+use std::fmt::{self, Display, Formatter, Write};
+
+/// A record of a file.
+#[derive(Clone, Copy, Drop)]
+pub struct FileRecord<'a> {
+    pub file: &'a str,
+    /// Its number there, from 1 on.
+    pub number: u64,
+}
+
+/// How many records a connection has taken whole, and the last of them.
+#[derive(Clone, Copy, Drop)]
+pub struct SentRecords<'a> {
+    pub count: u64,
+    pub last: Option<FileRecord<'a>>,
+}
+
+impl<'a> SentRecords<'a> {
+    /// Before the first record.
+    pub fn new() -> SentRecords<'a>
+        ensures count { result.count ≡ 0 }
+        ensures last { result.last ≡ None }
+    {
+        SentRecords {
+            count: 0,
+            last: None,
+        }
+    }
+
+    /// By now the connection has taken so many. Those that came last are of this file, from its first record on.
+    pub fn reach(&mut self, file: &'a str, count: u64)
+        ensures count { self.new.count ≡ count }
+        ensures last { self.new.last ≡ (if nat_lt self.old.count count
+            then Some (record { file = file.entry; number = count - self.old.count }) else self.old.last) }
+    {
+        if self.count < count {
+            self.last = Some(FileRecord {
+                file,
+                number: count - self.count,
+            });
+        }
+        self.count = count;
+    }
+}
+
+impl Display for SentRecords<'_> {
+    /// `seedlinkd: sent 205 records, up to record 5 of c.mseed`, in a line of at most 200 bytes.
+    fn fmt<W: Write>(&self, f: &mut Formatter<W>) -> fmt::Result {
+        let count = self.count;
+        let mut line = ShownLine::new(f);
+        match self.last {
+            Some(FileRecord { file, number }) => write!(
+                line,
+                "seedlinkd: sent {count} records, up to record {number} of {file}"
+            ),
+            None => write!(line, "seedlinkd: sent {count} records"),
+        }
+    }
+}
