@@ -486,7 +486,7 @@ fn retrying_command<'a>(alloc: Global) -> Built<'a>
         alloc,
         spanned_command(alloc),
         "retry",
-        "Asks again after N seconds when no server is there, 1 to 1000000000",
+        "Asks again after N seconds when no server is there, 1 to 1000000000, and after an hour for what is refused",
     )
 }
 
@@ -521,7 +521,7 @@ fn state<'a>(alloc: Global) -> Arg<'a>
         "state",
         "FILE",
         false,
-        "Goes on after the packets that FILE tells of, and keeps there how far it is",
+        "Goes on after the packets that FILE tells of, and keeps there how far it is; it locks FILE.lock",
     )
 }
 
