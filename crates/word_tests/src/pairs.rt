@@ -21,8 +21,9 @@ impl<R: Net + AllocGlobal> Actor<R> for Pair {
     fn act(&mut self, rt: &R, opened: u32) {
         // The first file is opened before the server listens.
         if opened > 0 {
-            look(rt, &mut self.first, Ipv4Addr::LOCALHOST, self.port);
-            look(rt, &mut self.second, Ipv4Addr::LOCALHOST, self.port);
+            let port = self.port;
+            look(rt, &mut self.first, Ipv4Addr::LOCALHOST, port);
+            look(rt, &mut self.second, Ipv4Addr::LOCALHOST, port);
         }
     }
 

@@ -80,20 +80,26 @@ impl Visits {
         }
     }
 
+    /// Whether something is due that comes before that opening of a file, and later by the delay.
+    fn is_at(&self, opened: u32, due: u32) -> bool {
+        opened == due.saturating_add(self.delay)
+    }
+
     /// A record comes if it is due.
     fn feed_in_time<R: Net + AllocGlobal>(&mut self, rt: &R, opened: u32) {
-        if opened == FIRST + self.delay {
+        if self.is_at(opened, FIRST) {
             self.first = self.feed(rt, 1);
         }
-        if opened == SECOND + self.delay {
+        if self.is_at(opened, SECOND) {
             self.second = self.feed(rt, 2);
         }
     }
 
     /// Clients come, or look at what has come for them.
     fn look<R: Net + AllocGlobal>(&mut self, rt: &R) {
-        look(rt, &mut self.near, Ipv4Addr::LOCALHOST, self.clients);
-        look(rt, &mut self.far, other_address(), self.clients);
+        let port = self.clients;
+        look(rt, &mut self.near, Ipv4Addr::LOCALHOST, port);
+        look(rt, &mut self.far, other_address(), port);
     }
 
     /// What has come for the clients.
@@ -130,7 +136,7 @@ impl<R: Files<File = File> + Net + AllocGlobal> Actor<R> for Visits {
         if opened == 0 {
             return;
         }
-        if opened == CHANGE + self.delay {
+        if self.is_at(opened, CHANGE) {
             let _ = fs::write(rt, "centre.toml", self.later.as_bytes());
         }
         self.feed_in_time(rt, opened);
