@@ -4,9 +4,8 @@
     bench/alike.py [ROUNDS]
 
 A client asks for 64 stations, of which 32 are hidden from it and 32 don't exist, in batches of 60 lines: 2,000 batches for each, in
-an order by chance, which are 120,000 questions. A code that doesn't exist follows each hidden one, so that both stand at the same place
-among those of the stations that the client sees: where a code stands among these shows in the time, and tells nothing that the client
-doesn't know. A station's time is the mean of its fastest half. The threshold that parts the two kinds best is right for so many of 100
+an order by chance, which are 120,000 questions. A code that doesn't exist follows each hidden one.
+A station's time is the mean of its fastest half. The threshold that parts the two kinds best is right for so many of 100
 stations, and that is printed for each round. Beside it stands the same for 64 codes none of which exists, in pairs too: what chance
 alone is good for. It fails if the median of the rounds, 5 of them by default, is above 60 and above that of chance.
 """
