@@ -1,4 +1,5 @@
 mod ReadLemmas
+mod DecidedLemmas
 pub mod DeedLemmas
 mod StepLemmas
 mod WriteLemmas

@@ -1,3 +1,4 @@
+pub mod Decided
 pub mod Deeds
 pub mod Passes
 pub mod Feeding

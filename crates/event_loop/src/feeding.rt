@@ -3,37 +3,57 @@ ghost use Rattle.std.specs.Prelude.{◌≡◌, ℕ, ◌<◌, ◌≤◌, Bool, []
 ghost use Rattle.protocol.specs.Catalog.{Config};
 ghost use Rattle.protocol.specs.World.{World};
 ghost use Rattle.server_core.specs.ServerValues.{StandsAt};
+ghost use Rattle.event_loop.specs.Decided.{RecordDecided};
 ghost use Rattle.event_loop.specs.Deeds.{Tally};
 ghost use Rattle.event_loop.specs.Feeding.{Arrives, FeedReads, fed, feed_seat, feed_tally};
 ghost use Rattle.event_loop.specs.Going.{Once, Whole, if_open};
 ghost use Rattle.event_loop.specs.Sleeping.{IsQuiet};
 
+use crate::deciding::end;
 use crate::passes::Onward;
 use feeder::{FeedCutter, Feeding};
-use ports::{Got, PortFault, Ports};
+use ports::{Decision, Ending, Got, PortFault, Ports};
 use server_core::Server;
 
-/// A record arrives, and one that is refused is counted. It is told whether one was accepted.
-fn take_record(server: &mut Server, whole: &[u8; 512], refused: &mut u64, brought: &mut bool)
+/// A record of a feed's port arrives. One that is refused is counted, and it is said why. It is told whether one was
+/// accepted.
+fn take_record<P: Ports>(
+    server: &mut Server,
+    ports: &mut P,
+    port: u64,
+    whole: &[u8; 512],
+    refused: &mut u64,
+    brought: &mut bool,
+)
+    ensures calls { P.calls ports.new ≡ P.calls ports.old }
+    ensures failures { P.failures ports.new ≡ P.failures ports.old }
+    ensures decides { (config : Config) (w : World) → StandsAt server.old config w →
+        RecordDecided config w whole.now port (P.decided ports.old) (P.decided ports.new) }
     ensures arrives { (config : Config) (w : World) → StandsAt server.old config w →
         Arrives config w (whole.now ∷ []) server.new refused.old refused.new }
     ensures quiet { IsQuiet brought.old brought.new server.old server.new }
 {
-    if server.arrive(whole).is_err() {
-        *refused = refused.saturating_add(1);
-    } else {
-        *brought = true;
+    match server.arrive(whole) {
+        Ok(_) => *brought = true,
+        Err(fault) => {
+            *refused = refused.saturating_add(1);
+            ports.tell(port, Decision::Refused(fault.reason()));
+        }
     }
 }
 
 /// The records that a piece of a feed makes whole arrive.
-fn take_records(
+fn take_records<P: Ports>(
     server: &mut Server,
+    ports: &mut P,
+    port: u64,
     cutter: &mut FeedCutter,
     piece: &[u8],
     refused: &mut u64,
     brought: &mut bool,
 )
+    ensures calls { P.calls ports.new ≡ P.calls ports.old }
+    ensures failures { P.failures ports.new ≡ P.failures ports.old }
     ensures arrives { (config : Config) (w : World) → StandsAt server.old config w →
         Arrives config w (fed cutter.old piece.now).records server.new refused.old refused.new }
     ensures rest { cutter.new ≡ (fed cutter.old piece.now).rest }
@@ -45,7 +65,7 @@ fn take_records(
     'records: while !left.is_empty() {
         let Feeding { used, whole } = cutter.feed(left);
         match whole {
-            Some(whole) => take_record(server, whole, refused, brought),
+            Some(whole) => take_record(server, ports, port, whole, refused, brought),
             None => {}
         }
         left = &left[used..];
@@ -76,7 +96,8 @@ fn read_feed_once<P: Ports>(
     }
     match ports.read(port, buffer) {
         Ok(Got::Bytes(count)) => {
-            take_records(server, cutter, &buffer[..count], refused, brought);
+            let piece = &buffer[..count];
+            take_records(server, ports, port, cutter, piece, refused, brought);
             Onward::On
         }
         Ok(Got::Later) => {
@@ -84,11 +105,11 @@ fn read_feed_once<P: Ports>(
             Onward::Stop
         }
         Ok(Got::Closed) => {
-            ports.shut(port);
+            end(ports, port, Ending::Closed);
             Onward::Over
         }
         Err(PortFault) => {
-            ports.shut(port);
+            end(ports, port, Ending::Failed);
             Onward::Over
         }
     }

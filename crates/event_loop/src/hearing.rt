@@ -8,6 +8,7 @@ ghost use Rattle.sl_io.specs.Counts.{IsMore};
 ghost use Rattle.ports.specs.Calls.{Call, Tells};
 ghost use Rattle.ports.specs.Calls.Call.{Next};
 ghost use Rattle.ports.specs.declared.answers.Happening.TheVariants.{Joined, JoinedFeed};
+ghost use Rattle.event_loop.specs.Decided.{ClientDecided, FeedDecided};
 ghost use Rattle.event_loop.specs.Deeds.{Tally, no_tally};
 ghost use Rattle.event_loop.specs.Going.{Whole};
 ghost use Rattle.event_loop.specs.Hearing.{feeds_in, heard};
@@ -18,9 +19,10 @@ ghost use Rattle.event_loop.specs.Tables.{heard_end};
 ghost use Rattle.std.specs.Prelude.{◌<◌, true, vec_len};
 ghost use Rattle.std.specs.Vec.{vec_capacity};
 
+use crate::deciding::turn_away;
 use crate::seat::{FeedRest, Role, Seat};
 use crate::table::{clients, mark_readable, mark_writable, place_of};
-use ports::{Happening, PortFault, Ports};
+use ports::{AwayReason, Decision, Happening, Party, PortFault, Ports};
 use server_core::Server;
 use std::alloc::Global;
 use std::net::Ipv4Addr;
@@ -83,6 +85,8 @@ fn join_client<P: Ports>(
     ensures known { AreKnown server.new seats.new.items awake.new.items }
     ensures seated { AreSeated server.new seats.new.items }
     ensures failures { P.failures ports.new ≡ P.failures ports.old }
+    ensures decides { ClientDecided max_clients port seats.old.items seats.new.items
+        (P.decided ports.old) (P.decided ports.new) }
     ensures goes { (t : Tally) (calls : Option (List Call)) (config : Config) (w : World) →
         Tells calls (P.calls ports.old) (Next (Ok (Joined port address)) ∷ []) → StandsAt server.old config w →
         HearsOnce config max_clients w calls (P.calls ports.new) server.new t seats.old.items seats.new.items
@@ -91,16 +95,21 @@ fn join_client<P: Ports>(
     let Err(at) = place_of(seats.as_slice(), port) else {
         return;
     };
-    if clients(seats.as_slice(), feeds) >= max_clients || !has_room(seats, awake) {
-        ports.shut(port);
+    if clients(seats.as_slice(), feeds) >= max_clients {
+        turn_away(ports, port, AwayReason::MaxConnections);
+        return;
+    }
+    if !has_room(seats, awake) {
+        turn_away(ports, port, AwayReason::Memory);
         return;
     }
     match server.open(alloc, address) {
         Ok(client) => {
             let _kept = seats.insert(at, Seat::joining(port, Role::Client(client)));
             let _woken = awake.insert(at, 1);
+            ports.tell(port, Decision::LetIn(Party::Client));
         }
-        Err(_) => ports.shut(port),
+        Err(_) => turn_away(ports, port, AwayReason::Memory),
     }
 }
 
@@ -124,6 +133,7 @@ fn join_feed<P: Ports>(
     ensures known { AreKnown server.now seats.new.items awake.new.items }
     ensures seated { AreSeated server.now seats.new.items }
     ensures failures { P.failures ports.new ≡ P.failures ports.old }
+    ensures decides { FeedDecided port seats.old.items seats.new.items (P.decided ports.old) (P.decided ports.new) }
     ensures goes { (t : Tally) (calls : Option (List Call)) (config : Config) (w : World) →
         Tells calls (P.calls ports.old) (Next (Ok (JoinedFeed port)) ∷ []) → StandsAt server.now config w →
         HearsOnce config max_clients w calls (P.calls ports.new) server.now t seats.old.items seats.new.items
@@ -132,17 +142,22 @@ fn join_feed<P: Ports>(
     let Err(at) = place_of(seats.as_slice(), port) else {
         return;
     };
-    if *feeds >= FEEDS || !has_room(seats, awake) {
-        ports.shut(port);
+    if *feeds >= FEEDS {
+        turn_away(ports, port, AwayReason::Feeds);
+        return;
+    }
+    if !has_room(seats, awake) {
+        turn_away(ports, port, AwayReason::Memory);
         return;
     }
     match FeedRest::new(alloc) {
         Ok(rest) => {
             let _kept = seats.insert(at, Seat::joining(port, Role::Feed(rest)));
             let _woken = awake.insert(at, 1);
+            ports.tell(port, Decision::LetIn(Party::Feed));
             *feeds += 1;
         }
-        Err(_) => ports.shut(port),
+        Err(_) => turn_away(ports, port, AwayReason::Memory),
     }
 }
 

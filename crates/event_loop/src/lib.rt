@@ -1,6 +1,7 @@
 //! The loop over ports: what comes from them and what they take is a list of events of the server.
 #![tactic(auto)]
 
+mod deciding;
 mod feeding;
 mod hearing;
 mod passes;

@@ -6,6 +6,8 @@ ghost use Rattle.protocol.specs.World.{World, step};
 ghost use Rattle.protocol.specs.World.Event.{Close, Take};
 ghost use Rattle.ports.specs.Calls.{Tells};
 ghost use Rattle.ports.specs.Calls.Call.{Shut};
+ghost use Rattle.ports.specs.Decisions.{Decides};
+ghost use Rattle.ports.specs.declared.decisions.Decision.TheVariants.{Ends};
 ghost use Rattle.server_core.specs.Marks.{LeavesOthers};
 ghost use Rattle.server_core.specs.Refusals.{offer_of};
 ghost use Rattle.server_core.specs.ServerValues.{MayTake, StandsAt};
@@ -15,8 +17,9 @@ ghost use Rattle.event_loop.specs.Passes.{ClientReads, ClientWrites, client_at, 
 ghost use Rattle.event_loop.specs.Going.{Once, Whole, if_open};
 ghost use Rattle.event_loop.specs.Offering.{Hands, IfTook, IfWrites, IsOffered, WritesOn};
 
+use crate::deciding::end;
 use crate::seat::{Role, Seat};
-use ports::{Got, PortFault, Ports, Put};
+use ports::{Ending, Got, PortFault, Ports, Put};
 use server_core::{Client, Gone, Offer, Server};
 
 /// How a pass goes on after a step.
@@ -30,14 +33,15 @@ pub enum Onward {
     Over,
 }
 
-/// A client's port is shut, and the client is closed.
-fn shut<P: Ports>(server: &mut Server, ports: &mut P, client: Client, port: u64)
+/// A client's port is shut, it is said why, and the client is closed.
+fn shut<P: Ports>(server: &mut Server, ports: &mut P, client: Client, port: u64, ending: Ending)
     ensures call { Tells (P.calls ports.old) (P.calls ports.new) (Shut port ∷ []) }
+    ensures decides { Decides (P.decided ports.old) (P.decided ports.new) ((port, Ends ending) ∷ []) }
     ensures stands { (config : Config) (w : World) → StandsAt server.old config w
         → StandsAt server.new config (step config w (Close client)) }
     ensures others { LeavesOthers client server.old server.new }
 {
-    ports.shut(port);
+    end(ports, port, ending);
     let _ = server.close(client);
 }
 
@@ -70,11 +74,11 @@ fn read_piece<P: Ports>(
             Onward::Stop
         }
         Ok(Got::Closed) => {
-            shut(server, ports, client, seat.port);
+            shut(server, ports, client, seat.port, Ending::Closed);
             Onward::Over
         }
         Err(PortFault) => {
-            shut(server, ports, client, seat.port);
+            shut(server, ports, client, seat.port, Ending::Failed);
             Onward::Over
         }
     }
@@ -166,14 +170,14 @@ fn hand<P: Ports>(
     ensures others { LeavesOthers client server.old server.new }
 {
     let Ok(offer) = found else {
-        shut(server, ports, client, seat.port);
+        shut(server, ports, client, seat.port, Ending::Complete);
         return Handing::Closed;
     };
     match offer {
         Offer::Bytes => {}
         Offer::Idle => return Handing::Stopped,
         Offer::Ended => {
-            shut(server, ports, client, seat.port);
+            shut(server, ports, client, seat.port, Ending::Complete);
             return Handing::Closed;
         }
     }
@@ -183,7 +187,7 @@ fn hand<P: Ports>(
                 return Handing::Stopped;
             }
             let Ok(put) = ports.write(seat.port, bytes) else {
-                shut(server, ports, client, seat.port);
+                shut(server, ports, client, seat.port, Ending::Failed);
                 return Handing::Closed;
             };
             match put {

@@ -1,4 +1,3 @@
 pub mod Admitting
-pub mod Configured
 pub mod Serving
 pub mod Timetables

@@ -3,7 +3,6 @@
 #![tactic(auto)]
 
 mod admitting;
-mod configured;
 mod descriptors;
 mod numbers;
 mod operator;

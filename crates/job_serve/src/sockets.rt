@@ -1,8 +1,7 @@
 //! A server over sockets.
-ghost use Rattle.std.specs.Prelude.{◌≡◌, [], IfOk};
+ghost use Rattle.std.specs.Prelude.{◌≡◌, ◌+◌, [], IfOk};
 
 use crate::admitting::admission_of;
-use crate::configured::ConfiguredRecords;
 use crate::descriptors::tell_missing;
 use crate::numbers::NumberFile;
 use crate::operator::{ServeRequest, serve_by};
@@ -98,20 +97,21 @@ fn serve_over<'a, R: Files<File = File> + Eprint + Clock + AllocGlobal>(
     }
 }
 
-/// Ports that tell who comes and goes, and how many records of each feed were refused. A reread never changes the
-/// stations, so the judge keeps a copy of the configuration from the start.
+/// How many feeds can be connected.
+const FEEDS: usize = 16;
+
+/// Ports that tell who comes and goes, and how many records of each feed were refused.
 fn ports_that_log<'l, D: Device + Drop>(
     alloc: Global,
     config: &Config,
     ports: MioPorts,
     lines: &'l SharedLines<D>,
-) -> Result<LoggedPorts<MioPorts, VisitLines<'l, D>, ConfiguredRecords>, AllocError>
+) -> Result<LoggedPorts<MioPorts, VisitLines<'l, D>>, AllocError>
     ensures inner { IfOk result (λ logged. logged.inner ≡ ports) }
-    ensures judge { IfOk result (λ logged. logged.judge.config ≡ config.now) }
+    ensures room { IfOk result (λ logged. logged.visitors.room ≡ config.now.max_connections + 16) }
 {
-    let judge = ConfiguredRecords::new(config.copy(alloc)?);
-    let most = config.max_connections();
-    LoggedPorts::new(alloc, ports, most, VisitLines::new(lines), judge)
+    let room = config.max_connections() + FEEDS;
+    LoggedPorts::new(alloc, ports, room, VisitLines::new(lines))
 }
 
 /// Serves as the words say, and tells who comes and goes.

@@ -1,4 +1,2 @@
-pub mod FeedTallyLemmas
 pub mod NoteLemmas
-pub mod OpenFeedLemmas
 pub mod VisitorLemmas

@@ -1,5 +1,5 @@
 -- Ports by rising number: where one is found, what more bytes at it change, and what is left without it.
-use Rattle.std.proofs.Common.{◌≡◌, ℕ, zero, suc, ◌+◌, ◌<◌, ◌≤◌, ◌==◌, ◌^◌, ◌-◌, min, not, Bool, true, false}
+use Rattle.std.proofs.Common.{◌≡◌, ℕ, zero, suc, ◌<◌, ◌≤◌, ◌==◌, not, Bool, true, false}
 use Rattle.std.proofs.Common.{if◌then◌else◌, List, [], ◌∷◌, ◌++◌, length, map, find, get_or, set, Option, Some, None}
 use Rattle.std.proofs.Common.{Result, Ok, Err, IfOk, IfErr, refl, sym, ap, ap₂, subst, take, drop, ◌∙◌, arith}
 use Rattle.std.specs.List.{remove}
@@ -9,9 +9,10 @@ use Rattle.std.proofs.lemmas.Cmp.{ranked}
 use Rattle.std.proofs.lemmas.List.Sorted.{IsNonDecreasingBy-from_default}
 use Rattle.std.proofs.lemmas.Bool.Decides.{nat_tests}
 use Rattle.std.proofs.lemmas.Grind.{common_steps}
+use Rattle.logged_ports.specs.declared.traffic.Traffic.{Traffic}
 use Rattle.logged_ports.specs.declared.visitor.Visitor.{Visitor}
 use Rattle.logged_ports.specs.Visitors.{AreAbove, AreAtMost, AreUpTo, IsGapFor, IsVisitorAt, Rise, is_at, is_next}
-use Rattle.logged_ports.specs.Visitors.{nobody, port_at, with_bytes, without}
+use Rattle.logged_ports.specs.Visitors.{joined_traffic, nobody, port_at, with_traffic, without}
 
 -- ---- rising ports
 
@@ -87,65 +88,65 @@ first-lower v vs port at h is =
 gap-above : (vs : List Visitor) (n : ℕ) → IsGapFor vs n zero → AreAbove n vs
 gap-above vs n gap = above-from n vs (λ j lt. gap.higher_after j (omega arith) lt)
 
--- ---- more bytes
+-- ---- more traffic
 
-abbrev more : ℕ → Visitor → Visitor
-more bytes v = record v { bytes = min (v.bytes + bytes) (2 ^ 64 - 1) }
+abbrev with_more : Traffic → Visitor → Visitor
+with_more more v = record v { traffic = joined_traffic v.traffic more }
 
-abbrev with_if : ℕ → Visitor → Bool → Visitor
-with_if bytes v same = if same then more bytes v else v
+abbrev with_if : Traffic → Visitor → Bool → Visitor
+with_if more v same = if same then with_more more v else v
 
-bytes-above : (port bytes : ℕ) (vs : List Visitor) → AreAbove port vs → map (with_bytes port bytes) vs ≡ vs
-bytes-above port bytes [] h = refl
-bytes-above port bytes (v ∷ vs) h =
-    ap₂ (λ x xs. x ∷ xs) (ap (with_if bytes v) (not-above v.port port h.0)) (bytes-above port bytes vs h.1)
+traffic-above : (port : ℕ) (more : Traffic) (vs : List Visitor) → AreAbove port vs → map (with_traffic port more) vs ≡ vs
+traffic-above port more [] h = refl
+traffic-above port more (v ∷ vs) h =
+    ap₂ (λ x xs. x ∷ xs) (ap (with_if more v) (not-above v.port port h.0)) (traffic-above port more vs h.1)
 
-pub bytes-found : (port bytes : ℕ) (vs : List Visitor) (at : ℕ) → Rise vs → IsVisitorAt vs port at
-    → map (with_bytes port bytes) vs ≡ set vs at (more bytes (get_or vs at nobody))
-bytes-found port bytes [] at h is = absurd (omega (arith, is.inside))
-bytes-found port bytes (v ∷ vs) zero h is =
+pub traffic-found : (port : ℕ) (more : Traffic) (vs : List Visitor) (at : ℕ) → Rise vs → IsVisitorAt vs port at
+    → map (with_traffic port more) vs ≡ set vs at (with_more more (get_or vs at nobody))
+traffic-found port more [] at h is = absurd (omega (arith, is.inside))
+traffic-found port more (v ∷ vs) zero h is =
     let same : v.port ≡ port = is.has_port in
-    ap₂ (λ x xs. x ∷ xs) (ap (with_if bytes v) (is-same v.port port same))
-    (bytes-above port bytes vs (subst (λ p. AreAbove p vs) same h.0))
-bytes-found port bytes (v ∷ vs) (suc at) h is =
-    ap₂ (λ x xs. x ∷ xs) (ap (with_if bytes v) (not-below v.port port (first-lower v vs port at h is)))
-    (bytes-found port bytes vs at h.1 (at-tail v vs port at is))
+    ap₂ (λ x xs. x ∷ xs) (ap (with_if more v) (is-same v.port port same))
+    (traffic-above port more vs (subst (λ p. AreAbove p vs) same h.0))
+traffic-found port more (v ∷ vs) (suc at) h is =
+    ap₂ (λ x xs. x ∷ xs) (ap (with_if more v) (not-below v.port port (first-lower v vs port at h is)))
+    (traffic-found port more vs at h.1 (at-tail v vs port at is))
 
-pub bytes-absent : (port bytes : ℕ) (vs : List Visitor) (at : ℕ) → IsGapFor vs port at
-    → map (with_bytes port bytes) vs ≡ vs
-bytes-absent port bytes [] at gap = refl
-bytes-absent port bytes (v ∷ vs) zero gap = bytes-above port bytes (v ∷ vs) (gap-above (v ∷ vs) port gap)
-bytes-absent port bytes (v ∷ vs) (suc at) gap =
-    ap₂ (λ x xs. x ∷ xs) (ap (with_if bytes v) (not-below v.port port (gap.lower_before 0 (omega arith))))
-    (bytes-absent port bytes vs at (gap-tail v vs port at gap))
+pub traffic-absent : (port : ℕ) (more : Traffic) (vs : List Visitor) (at : ℕ) → IsGapFor vs port at
+    → map (with_traffic port more) vs ≡ vs
+traffic-absent port more [] at gap = refl
+traffic-absent port more (v ∷ vs) zero gap = traffic-above port more (v ∷ vs) (gap-above (v ∷ vs) port gap)
+traffic-absent port more (v ∷ vs) (suc at) gap =
+    ap₂ (λ x xs. x ∷ xs) (ap (with_if more v) (not-below v.port port (gap.lower_before 0 (omega arith))))
+    (traffic-absent port more vs at (gap-tail v vs port at gap))
 
 -- it leaves the ports
-same-port : (port bytes : ℕ) (v : Visitor) (same : Bool) → (with_if bytes v same).port ≡ v.port
-same-port port bytes v true = refl
-same-port port bytes v false = refl
+same-port : (port : ℕ) (more : Traffic) (v : Visitor) (same : Bool) → (with_if more v same).port ≡ v.port
+same-port port more v true = refl
+same-port port more v false = refl
 
-above-bytes : (n port bytes : ℕ) (vs : List Visitor) → AreAbove n vs → AreAbove n (map (with_bytes port bytes) vs)
-above-bytes n port bytes [] h = tt
-above-bytes n port bytes (v ∷ vs) h =
-    (subst (λ p. n < p) (sym (same-port port bytes v (v.port == port))) h.0, above-bytes n port bytes vs h.1)
+above-traffic : (n port : ℕ) (more : Traffic) (vs : List Visitor) → AreAbove n vs → AreAbove n (map (with_traffic port more) vs)
+above-traffic n port more [] h = tt
+above-traffic n port more (v ∷ vs) h =
+    (subst (λ p. n < p) (sym (same-port port more v (v.port == port))) h.0, above-traffic n port more vs h.1)
 
-pub rise-bytes : (port bytes : ℕ) (vs : List Visitor) → Rise vs → Rise (map (with_bytes port bytes) vs)
-rise-bytes port bytes [] h = tt
-rise-bytes port bytes (v ∷ vs) h = (
-  subst (λ p. AreAbove p (map (with_bytes port bytes) vs)) (sym (same-port port bytes v (v.port == port)))
-      (above-bytes v.port port bytes vs h.0),
-  rise-bytes port bytes vs h.1,
+pub rise-traffic : (port : ℕ) (more : Traffic) (vs : List Visitor) → Rise vs → Rise (map (with_traffic port more) vs)
+rise-traffic port more [] h = tt
+rise-traffic port more (v ∷ vs) h = (
+  subst (λ p. AreAbove p (map (with_traffic port more) vs)) (sym (same-port port more v (v.port == port)))
+      (above-traffic v.port port more vs h.0),
+  rise-traffic port more vs h.1,
 )
 
-most-bytes : (n port bytes : ℕ) (vs : List Visitor) → AreAtMost n vs → AreAtMost n (map (with_bytes port bytes) vs)
-most-bytes n port bytes [] h = tt
-most-bytes n port bytes (v ∷ vs) h =
-    (subst (λ p. p ≤ n) (sym (same-port port bytes v (v.port == port))) h.0, most-bytes n port bytes vs h.1)
+most-traffic : (n port : ℕ) (more : Traffic) (vs : List Visitor) → AreAtMost n vs → AreAtMost n (map (with_traffic port more) vs)
+most-traffic n port more [] h = tt
+most-traffic n port more (v ∷ vs) h =
+    (subst (λ p. p ≤ n) (sym (same-port port more v (v.port == port))) h.0, most-traffic n port more vs h.1)
 
-pub up-to-bytes : (last : Option ℕ) (port bytes : ℕ) (vs : List Visitor) → AreUpTo last vs
-    → AreUpTo last (map (with_bytes port bytes) vs)
-up-to-bytes None port bytes vs h = ap (map (with_bytes port bytes)) h
-up-to-bytes (Some last) port bytes vs h = most-bytes last port bytes vs h
+pub up-to-traffic : (last : Option ℕ) (port : ℕ) (more : Traffic) (vs : List Visitor) → AreUpTo last vs
+    → AreUpTo last (map (with_traffic port more) vs)
+up-to-traffic None port more vs h = ap (map (with_traffic port more)) h
+up-to-traffic (Some last) port more vs h = most-traffic last port more vs h
 
 -- ---- what is left
 

@@ -1,5 +1,3 @@
-pub mod Books
-pub mod FeedTallies
-pub mod OpenFeeds
+pub mod Decided
 pub mod Visitors
 pub mod Visits

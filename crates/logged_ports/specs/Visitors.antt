@@ -1,9 +1,12 @@
--- The clients that are connected.
--- Ports are this project's own. Left out: whose a port is.
+-- Who is connected.
+-- Ports are this project's own.
 use Rattle.std.specs.Prelude.{◌≡◌, ℕ, ◌+◌, ◌-◌, ◌^◌, ◌<◌, ◌≤◌, ◌==◌, ◌&&◌, nat_lt, not, Bool, true, if◌then◌else◌}
 use Rattle.std.specs.Prelude.{List, [], ◌∷◌, ◌++◌, length, min, slice_index_or, Option, Some, None}
 use Rattle.std.specs.List.{filter}
 use Rattle.std.specs.declared.net.ipv4_addr.Ipv4Addr.{Ipv4Addr}
+use Rattle.ports.specs.declared.decisions.Party.{Party}
+use Rattle.ports.specs.declared.decisions.Party.TheVariants.{Client}
+use Rattle.logged_ports.specs.declared.traffic.Traffic.{Traffic}
 use Rattle.logged_ports.specs.declared.visitor.Visitor.{Visitor}
 
 -- for how many there is room, the last port that was added, and who is there
@@ -12,9 +15,31 @@ pub record VisitorsValue : Type 0 where
   pub last : Option ℕ
   pub present : List Visitor
 
+-- a count with more, which stays at the largest
+abbrev pub counted : ℕ → ℕ → ℕ
+counted n more = min (n + more) (2 ^ 64 - 1)
+
+-- so many bytes that a port gave, so many that it took, and a record that it gave and that was refused
+abbrev pub giving : ℕ → Traffic
+giving n = record { given = n; taken = 0; refused = 0 }
+
+abbrev pub taking : ℕ → Traffic
+taking n = record { given = 0; taken = n; refused = 0 }
+
+abbrev pub refusing : Traffic
+refusing = record { given = 0; taken = 0; refused = 1 }
+
+-- so much, and so much more
+abbrev pub joined_traffic : Traffic → Traffic → Traffic
+joined_traffic t more = record {
+  given = counted t.given more.given;
+  taken = counted t.taken more.taken;
+  refused = counted t.refused more.refused;
+}
+
 -- who has just come
-abbrev pub fresh : ℕ → Ipv4Addr → Visitor
-fresh port address = record { port = port; address = address; bytes = 0 }
+abbrev pub fresh : ℕ → Party → Ipv4Addr → Visitor
+fresh port party address = record { port = port; party = party; address = address; traffic = giving 0 }
 
 -- a port is above the last one
 abbrev pub is_next : Option ℕ → ℕ → Bool
@@ -31,10 +56,10 @@ with_visitor visitor v =
 abbrev pub is_at : ℕ → Visitor → Bool
 is_at port visitor = visitor.port == port
 
--- with more bytes, where it is at that port
-abbrev pub with_bytes : (port bytes : ℕ) → Visitor → Visitor
-with_bytes port bytes visitor =
-    if visitor.port == port then record visitor { bytes = min (visitor.bytes + bytes) (2 ^ 64 - 1) } else visitor
+-- with more traffic, where it is at that port
+abbrev pub with_traffic : (port : ℕ) → Traffic → Visitor → Visitor
+with_traffic port more visitor =
+    if visitor.port == port then record visitor { traffic = joined_traffic visitor.traffic more } else visitor
 
 -- all but those at a port
 abbrev pub without : ℕ → List Visitor → List Visitor
@@ -61,7 +86,7 @@ Rise (v ∷ vs) = AreAbove v.port vs × Rise vs
 
 -- who is there where nobody is
 abbrev pub nobody : Visitor
-nobody = record { port = 0; address = record { octets = [] }; bytes = 0 }
+nobody = record { port = 0; party = Client; address = record { octets = [] }; traffic = giving 0 }
 
 -- the port at a place
 abbrev pub port_at : List Visitor → ℕ → ℕ

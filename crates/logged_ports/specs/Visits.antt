@@ -1,6 +1,6 @@
 -- Visits that are noted in a journal.
 -- Journals are this project's own. Left out: when something is noted, and whether anybody reads it.
-use Rattle.std.specs.Prelude.{◌≡◌, List, [], ◌∷◌, ◌++◌, Option, Some, None}
+use Rattle.std.specs.Prelude.{◌≡◌, List, ◌++◌, Option, Some, None}
 use Rattle.logged_ports.specs.declared.visit.Visit.{Visit}
 
 -- Those visits were noted between the two, where the journal tells them after it.
@@ -8,8 +8,3 @@ abbrev pub Notes : Option (List Visit) → Option (List Visit) → List Visit �
 Notes old None visits = Unit {0}
 Notes (Some before) (Some after) visits = after ≡ before ++ visits
 Notes None (Some after) visits = ⊥
-
--- what may be noted, as a list
-abbrev pub listed : Option Visit → List Visit
-listed None = []
-listed (Some visit) = visit ∷ []

@@ -1,39 +1,13 @@
 //! What is noted of visits.
+use ports::AwayReason;
 use std::fmt::{self, Display, Formatter, Write};
 use std::net::Ipv4Addr;
-
-/// Why a connection was closed before a byte of it was read or written.
-#[derive(Clone, Copy, Drop)]
-pub enum Reason {
-    /// As many clients are connected as the configuration allows.
-    MaxConnections,
-    /// Sixteen feeds are connected.
-    Feeds,
-    /// There is no memory for it.
-    Memory,
-    /// Feeds are not taken from its address.
-    FeedFrom,
-    /// Its address has as many clients as it may have.
-    PerAddress,
-}
-
-impl Display for Reason {
-    fn fmt<W: Write>(&self, f: &mut Formatter<W>) -> fmt::Result {
-        f.write_str(match self {
-            Reason::MaxConnections => "max_connections",
-            Reason::Feeds => "feeds",
-            Reason::Memory => "memory",
-            Reason::FeedFrom => "feed-from",
-            Reason::PerAddress => "per-address",
-        })
-    }
-}
 
 /// A connection that was turned away.
 #[derive(Clone, Copy, Drop)]
 pub struct Away {
     pub address: Ipv4Addr,
-    pub reason: Reason,
+    pub reason: AwayReason,
 }
 
 /// What happened of a visit. A port is named by its number.

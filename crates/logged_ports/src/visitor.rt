@@ -1,34 +1,59 @@
-//! The client at a port.
+//! Who is at a port.
 ghost use Rattle.std.specs.Prelude.{◌≡◌};
+ghost use Rattle.logged_ports.specs.Decided.{over_of};
 ghost use Rattle.logged_ports.specs.Visitors.{fresh};
 
+use crate::traffic::Traffic;
+use crate::visit::Visit;
+use ports::Party;
 use std::net::Ipv4Addr;
 
-/// The client at a port.
+/// How long a record is.
+const RECORD: u64 = 512;
+
+/// Who is at a port, and what went over it.
 #[derive(Clone, Copy, Drop)]
 pub struct Visitor {
     pub port: u64,
+    pub party: Party,
     pub address: Ipv4Addr,
-    /// How many bytes it took. It stays at 2^64 - 1.
-    pub bytes: u64,
+    pub traffic: Traffic,
 }
 
 impl Visitor {
     /// Who has just come.
-    pub fn new(port: u64, address: Ipv4Addr) -> Visitor
-        ensures { result ≡ fresh port address }
+    pub fn new(port: u64, party: Party, address: Ipv4Addr) -> Visitor
+        ensures { result ≡ fresh port party address }
     {
         Visitor {
             port,
+            party,
             address,
-            bytes: 0,
+            traffic: Traffic::bytes_given(0),
         }
     }
-}
 
-/// Who joined last, until the next call says whether the port is let in.
-#[derive(Clone, Copy, Drop)]
-pub enum Newcomer {
-    Client(Visitor),
-    Feed { port: u64, address: Ipv4Addr },
+    /// What is noted at the end: of a client the bytes that it took, of a feed the whole records that it gave.
+    pub fn end(self) -> Visit
+        ensures { result ≡ over_of self }
+    {
+        let Visitor {
+            port,
+            party,
+            address,
+            traffic,
+        } = self;
+        match party {
+            Party::Client => Visit::Close {
+                port,
+                address,
+                bytes: traffic.taken,
+            },
+            Party::Feed => Visit::FeedOver {
+                port,
+                records: traffic.given / RECORD,
+                refused: traffic.refused,
+            },
+        }
+    }
 }

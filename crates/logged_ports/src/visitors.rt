@@ -1,14 +1,15 @@
-//! The clients that are connected.
-ghost use Rattle.std.specs.Prelude.{◌≡◌, ◌≤◌, ◌<◌, [], None, IfErr, IfOk, find, length, map};
-ghost use Rattle.logged_ports.specs.Visitors.{IsGapFor, IsVisitorAt, Rise, is_at, is_next, with_bytes, with_visitor};
+//! Who is connected.
+ghost use Rattle.std.specs.Prelude.{◌≡◌, ◌≤◌, ◌<◌, [], None, IfErr, IfOk, find, map};
+ghost use Rattle.logged_ports.specs.Visitors.{IsGapFor, IsVisitorAt, Rise, is_at, is_next, with_traffic, with_visitor};
 ghost use Rattle.logged_ports.specs.Visitors.{without};
 
+use crate::traffic::Traffic;
 use crate::visitor::Visitor;
 use std::alloc::{AllocError, Global};
 use std::marker::Model;
 
-/// The clients that are connected, by rising number of their ports. In a contract it is for how many there is room, the
-/// last port that was added, and the clients. There is room for so many when it is made, and no call allocates.
+/// Who is connected, by rising number of their ports. In a contract it is for how many there is room, the last port that
+/// was added, and who is there. There is room for so many when it is made, and no call allocates.
 #[derive(Drop)]
 pub struct Visitors {
     last: Option<u64>,
@@ -45,14 +46,14 @@ fn place_of(present: &[Visitor], port: u64) -> Result<usize, usize>
     present.binary_search_by_key(&port, |visitor| visitor.port)
 }
 
-/// More bytes at a port.
-fn add_bytes(present: &mut [Visitor], port: u64, bytes: u64)
+/// More went over a port.
+fn count(present: &mut [Visitor], port: u64, more: Traffic)
     requires { Rise present.old }
-    ensures { present.new ≡ map (with_bytes port bytes) present.old }
+    ensures { present.new ≡ map (with_traffic port more) present.old }
 {
     if let Ok(at) = place_of(present, port) {
         let visitor = &mut present[at];
-        visitor.bytes = visitor.bytes.saturating_add(bytes);
+        visitor.traffic = visitor.traffic.and(more);
     }
 }
 
@@ -68,13 +69,6 @@ impl Visitors {
         })
     }
 
-    /// How many are there.
-    pub fn count(&self) -> usize
-        ensures { result ≡ length self.now.present }
-    {
-        self.present.len()
-    }
-
     /// One more is there, if its port is above all that were added and there is room for it.
     pub fn add(&mut self, visitor: Visitor)
         ensures { self.new ≡ with_visitor visitor self.old }
@@ -85,11 +79,11 @@ impl Visitors {
         }
     }
 
-    /// More bytes at a port, if somebody is there.
-    pub fn add_bytes(&mut self, port: u64, bytes: u64)
-        ensures { self.new ≡ record self.old { present = map (with_bytes port bytes) self.old.present } }
+    /// More went over a port, if somebody is there.
+    pub fn count(&mut self, port: u64, more: Traffic)
+        ensures { self.new ≡ record self.old { present = map (with_traffic port more) self.old.present } }
     {
-        add_bytes(self.present.as_mut_slice(), port, bytes);
+        count(self.present.as_mut_slice(), port, more);
     }
 
     /// Who was at a port, if somebody was. Nobody is there any more.

@@ -2,9 +2,9 @@
 use super::runs::Row::{Feed, Inside, Outside, Quiet, Reads};
 use super::runs::{Row, happenings, pieces, record};
 use catalog::Config;
-use logged_ports::{Away, LoggedPorts, Reason, RecordJudge, Visit};
+use logged_ports::{Away, LoggedPorts, Visit};
 use memory_ports::{MemoryJournal, MemoryPorts, PortScript, ReadAnswer, Script, ScriptedDoors};
-use mseed_header::read;
+use ports::AwayReason;
 use serving::serve;
 use std::alloc::Global;
 use std::fmt::Write;
@@ -17,27 +17,8 @@ fn feeder() -> Ipv4Addr {
     Ipv4Addr::new(10, 0, 0, 2)
 }
 
-/// Takes the records of a configuration's stations.
-#[derive(Drop)]
-struct StationRecords {
-    config: Config,
-}
-
-impl RecordJudge for StationRecords {
-    ghost use Rattle.loop_tests.specs.StationRecords.{is_of_a_station};
-
-    ghost takes = { λ s bytes. is_of_a_station s.config bytes };
-
-    fn takes(&self, bytes: &[u8; 512]) -> bool {
-        match read(bytes) {
-            Ok(header) => {
-                let place = self.config.place_of(header.network(), header.station());
-                place.is_some()
-            }
-            Err(_) => false,
-        }
-    }
-}
+/// How many connections can be followed: eight clients, and sixteen feeds.
+const ROOM: usize = 24;
 
 /// The lines of some visits.
 fn lines_of(alloc: Global, visits: &[Visit]) -> Result<String, Fail> {
@@ -61,10 +42,7 @@ fn noted(
     let ports = MemoryPorts::new(alloc, Script::new(happenings(alloc, rows)?, scripts));
     let doors = ScriptedDoors::new(alloc, ports, feeder(), away);
     let journal = MemoryJournal::new(alloc);
-    let judge = StationRecords {
-        config: config.copy(alloc)?,
-    };
-    let logged = LoggedPorts::new(alloc, doors, config.max_connections(), journal, judge)?;
+    let logged = LoggedPorts::new(alloc, doors, ROOM, journal)?;
     let (_, journal) = serve(alloc, config, logged, turns)?.into_parts();
     lines_of(alloc, journal.visits())
 }
@@ -212,15 +190,15 @@ fn turned_away(alloc: Global) -> Result<Vec<Vec<Away>>, Fail> {
     let mut second = Vec::new(alloc);
     first.push(Away {
         address: Ipv4Addr::new(192, 0, 2, 1),
-        reason: Reason::PerAddress,
+        reason: AwayReason::PerAddress,
     })?;
     first.push(Away {
         address: Ipv4Addr::new(192, 0, 2, 2),
-        reason: Reason::FeedFrom,
+        reason: AwayReason::FeedFrom,
     })?;
     second.push(Away {
         address: Ipv4Addr::new(192, 0, 2, 3),
-        reason: Reason::PerAddress,
+        reason: AwayReason::PerAddress,
     })?;
     let mut all = Vec::new(alloc);
     all.push(second)?;

@@ -1,2 +1,3 @@
+pub mod Guests
 pub mod Made
 pub mod Records

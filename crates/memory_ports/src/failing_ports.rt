@@ -3,11 +3,12 @@ ghost use Rattle.std.specs.Prelude.{◌≡◌, ◌<◌, ◌==◌, ◌-◌, ◌�
 ghost use Rattle.sl_io.specs.Counts.{CountsFailure};
 ghost use Rattle.ports.specs.Calls.{Call, Tells, given, IsGiven, IsTaken};
 ghost use Rattle.ports.specs.Calls.Call.{Next, Read, Write, Shut};
+ghost use Rattle.ports.specs.Decisions.{Decides};
 ghost use Rattle.memory_ports.specs.Made.{told};
 ghost use Rattle.memory_ports.specs.Records.{port_record, record_value};
 
 use crate::memory_ports::{Log, PortRecord, record_of};
-use ports::{Got, Happening, PortFault, Ports, Put};
+use ports::{Decision, Got, Happening, PortFault, Ports, Put};
 use std::alloc::{AllocError, Global};
 
 /// Ports of which one call of `next`, `read` or `write` fails and reaches nothing. All others are passed on. They keep
@@ -65,6 +66,8 @@ impl<P: Ports> Ports for FailingPorts<P> {
 
     ghost failures = { λ s. s.log.failures };
 
+    ghost decided = { λ s. P.decided s.inner };
+
     fn next(&mut self) -> Result<Happening, PortFault>
         ensures call { Tells (told self.old.log) (told self.new.log) (Next result ∷ []) }
         ensures failure { CountsFailure self.old.log.failures self.new.log.failures result }
@@ -74,6 +77,7 @@ impl<P: Ports> Ports for FailingPorts<P> {
         ensures passed_on { self.old.due ≢ 1 → IsSome (told self.new.log) →
             Tells (P.calls self.old.inner) (P.calls self.new.inner) (Next result ∷ [])
             × CountsFailure (P.failures self.old.inner) (P.failures self.new.inner) result }
+        ensures decided { P.decided self.new.inner ≡ P.decided self.old.inner }
         ensures due { self.new.due ≡ self.old.due - 1 }
     {
         if self.is_due() {
@@ -96,6 +100,7 @@ impl<P: Ports> Ports for FailingPorts<P> {
             Tells (P.calls self.old.inner) (P.calls self.new.inner)
             (Read port (length buffer.new) (given result buffer.new) ∷ [])
             × CountsFailure (P.failures self.old.inner) (P.failures self.new.inner) result }
+        ensures decided { P.decided self.new.inner ≡ P.decided self.old.inner }
         ensures due { self.new.due ≡ self.old.due - 1 }
     {
         if self.is_due() {
@@ -116,6 +121,7 @@ impl<P: Ports> Ports for FailingPorts<P> {
         ensures passed_on { self.old.due ≢ 1 → IsSome (told self.new.log) →
             Tells (P.calls self.old.inner) (P.calls self.new.inner) (Write port bytes.now result ∷ [])
             × CountsFailure (P.failures self.old.inner) (P.failures self.new.inner) result }
+        ensures decided { P.decided self.new.inner ≡ P.decided self.old.inner }
         ensures due { self.new.due ≡ self.old.due - 1 }
     {
         if self.is_due() {
@@ -130,9 +136,21 @@ impl<P: Ports> Ports for FailingPorts<P> {
         ensures failures { self.new.log.failures ≡ self.old.log.failures }
         ensures passed_on { Tells (P.calls self.old.inner) (P.calls self.new.inner) (Shut port ∷ [])
             × (P.failures self.new.inner ≡ P.failures self.old.inner) }
+        ensures decided { P.decided self.new.inner ≡ P.decided self.old.inner }
         ensures due { self.new.due ≡ self.old.due }
     {
         self.inner.shut(port);
         self.log.shut(port);
+    }
+
+    fn tell(&mut self, port: u64, decision: Decision)
+        ensures calls { told self.new.log ≡ told self.old.log }
+        ensures failures { self.new.log.failures ≡ self.old.log.failures }
+        ensures passed_on { (P.calls self.new.inner ≡ P.calls self.old.inner)
+            × (P.failures self.new.inner ≡ P.failures self.old.inner) }
+        ensures decides { Decides (P.decided self.old.inner) (P.decided self.new.inner) ((port, decision) ∷ []) }
+        ensures due { self.new.due ≡ self.old.due }
+    {
+        self.inner.tell(port, decision);
     }
 }

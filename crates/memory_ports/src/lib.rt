@@ -9,6 +9,6 @@ mod scripted_doors;
 pub use failing_ports::FailingPorts;
 pub use memory_journal::MemoryJournal;
 pub use memory_ports::{
-    Gave, Made, MemoryPorts, PortRecord, PortScript, ReadAnswer, Script, WriteAnswer,
+    Decided, Gave, Made, MemoryPorts, PortRecord, PortScript, ReadAnswer, Script, WriteAnswer,
 };
-pub use scripted_doors::ScriptedDoors;
+pub use scripted_doors::{Guest, ScriptedDoors};

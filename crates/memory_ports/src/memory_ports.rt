@@ -1,19 +1,20 @@
 //! Ports in memory, that follow a script and tell every call.
-ghost use Rattle.std.specs.Prelude.{◌≡◌, ◌<◌, List, Some, [], ◌∷◌, IfOk, IsSome, OnOk, length, map};
+ghost use Rattle.std.specs.Prelude.{◌≡◌, ◌<◌, ℕ, List, Some, [], ◌∷◌, IfOk, IsSome, OnOk, length, map};
 ghost use Rattle.sl_io.specs.Counts.{CountsFailure};
 ghost use Rattle.ports.specs.Calls.{Call, Tells, given, IsGiven, IsTaken};
 ghost use Rattle.ports.specs.Calls.Call.{Next, Read, Write};
-ghost use Rattle.memory_ports.specs.Made.{told, made_value};
+ghost use Rattle.ports.specs.declared.decisions.Decision.{Decision};
+ghost use Rattle.memory_ports.specs.Made.{decided_in, decided_value, made_value, told};
 ghost use Rattle.memory_ports.specs.Records.{port_record, record_value};
 
-use ports::{Got, Happening, PortFault, Ports, Put};
+use ports::{Decision, Got, Happening, PortFault, Ports, Put};
 use std::alloc::{AllocError, Global};
 
 mod log;
 mod port_record;
 mod script;
 
-pub use log::{Gave, Log, Made};
+pub use log::{Decided, Gave, Log, Made};
 pub use port_record::PortRecord;
 pub(crate) use port_record::record_of;
 pub use script::{PortScript, ReadAnswer, Script, WriteAnswer};
@@ -45,6 +46,14 @@ impl MemoryPorts {
         self.log.made()
     }
 
+    /// What was decided of ports, in order.
+    pub fn decided(&self) -> &[Decided]
+        ensures { (decisions : List (ℕ × Decision)) → decided_in self.now.log ≡ Some decisions →
+            map decided_value result.now ≡ decisions }
+    {
+        self.log.decided()
+    }
+
     /// The bytes that a port gave, the bytes that it took, and whether it was shut. It fails only for want of memory.
     pub fn record(&self, alloc: Global, port: u64) -> Result<PortRecord, AllocError>
         ensures { IfOk result (λ r. (calls : List Call) → told self.now.log ≡ Some calls
@@ -59,10 +68,13 @@ impl Ports for MemoryPorts {
 
     ghost failures = { λ s. s.log.failures };
 
+    ghost decided = { λ s. decided_in s.log };
+
     fn next(&mut self) -> Result<Happening, PortFault>
         ensures call { Tells (told self.old.log) (told self.new.log) (Next result ∷ []) }
         ensures failure { CountsFailure self.old.log.failures self.new.log.failures result }
         ensures telling { OnOk result (IsSome (told self.old.log) → IsSome (told self.new.log)) }
+        ensures decided { decided_in self.new.log ≡ decided_in self.old.log }
     {
         let happening = self.script.next();
         self.log.next(Ok(happening))
@@ -75,6 +87,7 @@ impl Ports for MemoryPorts {
             (Read port (length buffer.new) (given result buffer.new) ∷ []) }
         ensures failure { CountsFailure self.old.log.failures self.new.log.failures result }
         ensures telling { OnOk result (IsSome (told self.old.log) → IsSome (told self.new.log)) }
+        ensures decided { decided_in self.new.log ≡ decided_in self.old.log }
     {
         let answer = self.script.read(port, buffer);
         self.log.read(port, buffer, answer)
@@ -86,6 +99,7 @@ impl Ports for MemoryPorts {
         ensures call { Tells (told self.old.log) (told self.new.log) (Write port bytes.now result ∷ []) }
         ensures failure { CountsFailure self.old.log.failures self.new.log.failures result }
         ensures telling { OnOk result (IsSome (told self.old.log) → IsSome (told self.new.log)) }
+        ensures decided { decided_in self.new.log ≡ decided_in self.old.log }
     {
         let answer = self.script.write(port, bytes.len());
         self.log.write(port, bytes, answer)
@@ -93,5 +107,9 @@ impl Ports for MemoryPorts {
 
     fn shut(&mut self, port: u64) {
         self.log.shut(port);
+    }
+
+    fn tell(&mut self, port: u64, decision: Decision) {
+        self.log.decide(port, decision);
     }
 }

@@ -3,11 +3,20 @@ ghost use Rattle.std.specs.Prelude.{◌≡◌, ◌<◌, [], ◌∷◌, length};
 ghost use Rattle.sl_io.specs.Counts.{CountsFailure};
 ghost use Rattle.ports.specs.Calls.{Tells, given, IsGiven, IsTaken};
 ghost use Rattle.ports.specs.Calls.Call.{Next, Read, Write, Shut};
+ghost use Rattle.ports.specs.Decisions.{Decides};
+ghost use Rattle.memory_ports.specs.Guests.{address_of};
 
 use logged_ports::{Away, Doors};
-use ports::{Got, Happening, PortFault, Ports, Put};
+use ports::{Decision, Got, Happening, PortFault, Ports, Put};
 use std::alloc::Global;
 use std::net::Ipv4Addr;
+
+/// A client that joined at a port, and from where it came.
+#[derive(Clone, Copy, Drop)]
+pub struct Guest {
+    pub port: u64,
+    pub address: Ipv4Addr,
+}
 
 /// Ports over others, whose feeds all come from one address and that turn away whom a script says.
 #[derive(Drop)]
@@ -15,9 +24,23 @@ pub struct ScriptedDoors<P> {
     inner: P,
     alloc: Global,
     feeds_from: Ipv4Addr,
+    /// The clients that joined.
+    guests: Vec<Guest>,
     /// Who is turned away by each call of `next`, the last first.
     script: Vec<Vec<Away>>,
     away: Vec<Away>,
+}
+
+/// From where the client at a port came, or else where the feeds come from.
+fn address_of(guests: &[Guest], port: u64, feeds_from: Ipv4Addr) -> Ipv4Addr
+    ensures { result ≡ address_of port feeds_from guests.now }
+{
+    for guest in guests {
+        if guest.port == port {
+            return guest.address;
+        }
+    }
+    feeds_from
 }
 
 impl<P> ScriptedDoors<P> {
@@ -36,6 +59,7 @@ impl<P> ScriptedDoors<P> {
             inner,
             alloc,
             feeds_from,
+            guests: Vec::new(alloc),
             script,
             away: Vec::new(alloc),
         }
@@ -64,12 +88,19 @@ impl<P: Ports> Ports for ScriptedDoors<P> {
 
     ghost failures = { λ s. P.failures s.inner };
 
+    ghost decided = { λ s. P.decided s.inner };
+
     fn next(&mut self) -> Result<Happening, PortFault>
         ensures call { Tells (P.calls self.old.inner) (P.calls self.new.inner) (Next result ∷ []) }
         ensures failure { CountsFailure (P.failures self.old.inner) (P.failures self.new.inner) result }
+        ensures decided { P.decided self.new.inner ≡ P.decided self.old.inner }
     {
         self.begin();
-        self.inner.next()
+        let answer = self.inner.next();
+        if let Ok(Happening::Joined(port, address)) = answer {
+            let _kept = self.guests.push(Guest { port, address });
+        }
+        answer
     }
 
     fn read(&mut self, port: u64, buffer: &mut [u8]) -> Result<Got, PortFault>
@@ -78,6 +109,7 @@ impl<P: Ports> Ports for ScriptedDoors<P> {
         ensures call { Tells (P.calls self.old.inner) (P.calls self.new.inner)
             (Read port (length buffer.new) (given result buffer.new) ∷ []) }
         ensures failure { CountsFailure (P.failures self.old.inner) (P.failures self.new.inner) result }
+        ensures decided { P.decided self.new.inner ≡ P.decided self.old.inner }
     {
         self.inner.read(port, buffer)
     }
@@ -87,6 +119,7 @@ impl<P: Ports> Ports for ScriptedDoors<P> {
         ensures bound { IsTaken result (length bytes.now) }
         ensures call { Tells (P.calls self.old.inner) (P.calls self.new.inner) (Write port bytes.now result ∷ []) }
         ensures failure { CountsFailure (P.failures self.old.inner) (P.failures self.new.inner) result }
+        ensures decided { P.decided self.new.inner ≡ P.decided self.old.inner }
     {
         self.inner.write(port, bytes)
     }
@@ -94,21 +127,30 @@ impl<P: Ports> Ports for ScriptedDoors<P> {
     fn shut(&mut self, port: u64)
         ensures call { Tells (P.calls self.old.inner) (P.calls self.new.inner) (Shut port ∷ []) }
         ensures failures { P.failures self.new.inner ≡ P.failures self.old.inner }
+        ensures decided { P.decided self.new.inner ≡ P.decided self.old.inner }
     {
         self.inner.shut(port);
+    }
+
+    fn tell(&mut self, port: u64, decision: Decision)
+        ensures calls { P.calls self.new.inner ≡ P.calls self.old.inner }
+        ensures failures { P.failures self.new.inner ≡ P.failures self.old.inner }
+        ensures decides { Decides (P.decided self.old.inner) (P.decided self.new.inner) ((port, decision) ∷ []) }
+    {
+        self.inner.tell(port, decision);
     }
 }
 
 impl<P: Ports> Doors for ScriptedDoors<P> {
     ghost turned_away = { λ s. s.away.items };
 
-    ghost address = { λ s port. s.feeds_from };
+    ghost address = { λ s port. address_of port s.feeds_from s.guests.items };
 
     fn turned_away(&self) -> &[Away] {
         self.away.as_slice()
     }
 
-    fn address(&self, _port: u64) -> Ipv4Addr {
-        self.feeds_from
+    fn address(&self, port: u64) -> Ipv4Addr {
+        address_of(self.guests.as_slice(), port, self.feeds_from)
     }
 }

@@ -2,7 +2,7 @@
 ghost use Rattle.std.specs.Prelude.{◌≡◌, ◌≤◌, None, length};
 
 use crate::trial::Fault;
-use ports::{Got, Happening, PortFault, Ports, Put};
+use ports::{Decision, Got, Happening, PortFault, Ports, Put};
 use std::alloc::{AllocError, Global};
 use std::net::Ipv4Addr;
 
@@ -92,6 +92,8 @@ impl Ports for Wires {
 
     ghost failures = { λ s. s.failures };
 
+    ghost decided = { λ _. None };
+
     fn next(&mut self) -> Result<Happening, PortFault> {
         let step = self.step;
         self.step = self.step.saturating_add(1);
@@ -129,4 +131,6 @@ impl Ports for Wires {
             _ => self.feed.is_shut = true,
         }
     }
+
+    fn tell(&mut self, _port: u64, _decision: Decision) {}
 }

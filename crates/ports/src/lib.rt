@@ -8,10 +8,14 @@ ghost use Rattle.std.specs.declared.option.Option.{Option};
 ghost use Rattle.sl_io.specs.Counts.{CountsFailure};
 ghost use Rattle.ports.specs.Calls.{Call, Tells, given, IsGiven, IsTaken};
 ghost use Rattle.ports.specs.Calls.Call.{Next, Read, Write, Shut};
+ghost use Rattle.ports.specs.Decisions.{Decides};
+ghost use Rattle.ports.specs.declared.decisions.Decision.{Decision as DecisionValue};
 
 mod answers;
+mod decisions;
 
 pub use answers::{Got, Happening, PortFault, Put};
+pub use decisions::{AwayReason, Decision, Ending, Party};
 
 /// Where clients and feeds join, each at a port of its own number. No port joins twice. The count of failures is a
 /// number below 2^64 that goes on at 0 after 2^64 - 1: a call fails only with one failure more.
@@ -22,10 +26,14 @@ pub trait Ports {
     // How many calls failed.
     ghost failures: { Self → ℕ };
 
+    // What was decided of which port, if the ports tell it.
+    ghost decided: { Self → Option (List (ℕ × DecisionValue)) };
+
     /// What happened next.
     fn next(&mut self) -> Result<Happening, PortFault>
         ensures call { Tells (calls self.old) (calls self.new) (Next result ∷ []) }
-        ensures failure { CountsFailure (failures self.old) (failures self.new) result };
+        ensures failure { CountsFailure (failures self.old) (failures self.new) result }
+        ensures decided { decided self.new ≡ decided self.old };
 
     /// Reads some bytes of a port into the beginning of the buffer, which is not empty.
     fn read(&mut self, port: u64, buffer: &mut [u8]) -> Result<Got, PortFault>
@@ -33,17 +41,27 @@ pub trait Ports {
         ensures bound { IsGiven result (length buffer.new) }
         ensures call { Tells (calls self.old) (calls self.new)
             (Read port (length buffer.new) (given result buffer.new) ∷ []) }
-        ensures failure { CountsFailure (failures self.old) (failures self.new) result };
+        ensures failure { CountsFailure (failures self.old) (failures self.new) result }
+        ensures decided { decided self.new ≡ decided self.old };
 
     /// Hands a beginning of the bytes, of which there is at least one, to a port.
     fn write(&mut self, port: u64, bytes: &[u8]) -> Result<Put, PortFault>
         requires { 0 < length bytes.now }
         ensures bound { IsTaken result (length bytes.now) }
         ensures call { Tells (calls self.old) (calls self.new) (Write port bytes.now result ∷ []) }
-        ensures failure { CountsFailure (failures self.old) (failures self.new) result };
+        ensures failure { CountsFailure (failures self.old) (failures self.new) result }
+        ensures decided { decided self.new ≡ decided self.old };
 
     /// Ends a port.
     fn shut(&mut self, port: u64)
         ensures call { Tells (calls self.old) (calls self.new) (Shut port ∷ []) }
-        ensures failures { failures self.new ≡ failures self.old };
+        ensures failures { failures self.new ≡ failures self.old }
+        ensures decided { decided self.new ≡ decided self.old };
+
+    /// Whoever runs the ports says what it decided of one. That is no call of theirs: nothing comes of it but what they
+    /// note.
+    fn tell(&mut self, port: u64, decision: Decision)
+        ensures calls { calls self.new ≡ calls self.old }
+        ensures failures { failures self.new ≡ failures self.old }
+        ensures decides { Decides (decided self.old) (decided self.new) ((port, decision) ∷ []) };
 }

@@ -1,19 +1,19 @@
 -- Which connections are turned away before they join, and why.
--- Ports are this project's own. Left out: connections that the system refuses, or that ended before they were held.
+-- Ports are this project's own. Left out: connections that the system refuses.
 use Rattle.std.specs.Prelude.{◌≡◌, ℕ, ◌+◌, List, length}
 use Rattle.std.specs.List.{All}
 use Rattle.std.specs.declared.net.ipv4_addr.Ipv4Addr.{Ipv4Addr}
 use Rattle.protocol.specs.Reading.{Not}
 use Rattle.logged_ports.specs.declared.visit.Away.{Away}
-use Rattle.logged_ports.specs.declared.visit.Reason.{Reason}
-use Rattle.logged_ports.specs.declared.visit.Reason.TheVariants.{MaxConnections, Feeds, Memory, FeedFrom, PerAddress}
+use Rattle.ports.specs.declared.decisions.AwayReason.{AwayReason}
+use Rattle.ports.specs.declared.decisions.AwayReason.TheVariants.{MaxConnections, Feeds, Memory, FeedFrom, PerAddress}
 use Rattle.socket_ports.specs.declared.admission.Admission.{Admission}
 use Rattle.socket_ports.specs.declared.listeners.Kind.{Kind}
 use Rattle.socket_ports.specs.declared.listeners.Kind.TheVariants.{Client, Feed}
 use Rattle.socket_ports.specs.declared.peer.Peer.{Peer}
 use Rattle.socket_ports.specs.declared.sockets.joining.Taken.{Taken}
 use Rattle.socket_ports.specs.declared.sockets.joining.Taken.TheVariants as taken
-use Rattle.socket_ports.specs.Admissions.{HasPlace, IsFeeder}
+use Rattle.socket_ports.specs.Admissions.{HasPlace, IsAdmitted, IsFeeder}
 
 -- why a connection of a kind is turned away
 abbrev pub away_of : Kind → Ipv4Addr → Away
@@ -21,13 +21,13 @@ away_of Client address = record { address = address; reason = PerAddress }
 away_of Feed address = record { address = address; reason = FeedFrom }
 
 -- A reason holds for an address while those ports are open: feeds are not taken from it, or it has as many clients as
--- it may have.
-abbrev pub IsReason : Admission → List Peer → Ipv4Addr → Reason → Type 0
+-- it may have; or else it may join, and there was nothing by which it could be held.
+abbrev pub IsReason : Admission → List Peer → Ipv4Addr → AwayReason → Type 0
 IsReason admission opened address FeedFrom = Not (IsFeeder admission.feed_from address)
 IsReason admission opened address PerAddress = Not (HasPlace admission.per_address opened address)
 IsReason admission opened address MaxConnections = ⊥
 IsReason admission opened address Feeds = ⊥
-IsReason admission opened address Memory = ⊥
+IsReason admission opened address Memory = (kind : Kind) × IsAdmitted admission opened kind address
 
 -- Each of these connections was turned away for a reason that holds for its address.
 abbrev pub HaveReasons : Admission → List Peer → List Away → Type 0

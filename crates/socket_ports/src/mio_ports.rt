@@ -16,7 +16,7 @@ use crate::departures::Departures;
 use crate::fault::ListenError;
 use crate::sockets::Sockets;
 use logged_ports::{Away, Doors};
-use ports::{Got, Happening, PortFault, Ports, Put};
+use ports::{Decision, Got, Happening, PortFault, Ports, Put};
 use std::alloc::Global;
 use std::net::{Ipv4Addr, Net, SocketAddrV4};
 
@@ -102,6 +102,8 @@ impl Ports for MioPorts {
 
     ghost failures = { λ s. s.failures };
 
+    ghost decided = { λ _. None };
+
     /// What happened next. A new port has a number that no port had before: the count of those that joined, which no
     /// other call changes. Readable and Writable are told of open ports alone. At most sixteen ports join between two
     /// polls, and those alone that are admitted. All that are not admitted are told.
@@ -170,6 +172,9 @@ impl Ports for MioPorts {
     {
         self.sockets.shut(port);
     }
+
+    /// Nothing is noted here.
+    fn tell(&mut self, _port: u64, _decision: Decision) {}
 }
 
 impl Doors for MioPorts {

@@ -1,9 +1,9 @@
 //! Who may connect: feeds from a list of addresses alone, and so many clients of one address.
 use crate::records::{gives_packet, send};
 use access_list::AccessList;
-use logged_ports::{Away, Doors, Reason};
+use logged_ports::{Away, Doors};
 use loopback::{Centre, GREETING, any_port, at_limited_centre, connect_from};
-use ports::Ports;
+use ports::{AwayReason, Ports};
 use socket_ports::{Admission, MioPorts};
 use std::alloc::Global;
 use std::io::{Read, Write};
@@ -161,8 +161,8 @@ fn a_client_that_goes_leaves_its_place(rt: HostRuntime) -> Result<(), Fail> {
 
 /// Whether a connection was turned away as a third client, or as a feed that is not of the list.
 fn is_third_or_stranger(away: &Away) -> bool {
-    let is_client = away.address == other() && away.reason == Reason::PerAddress;
-    let is_feed = away.address == Ipv4Addr::LOCALHOST && away.reason == Reason::FeedFrom;
+    let is_client = away.address == other() && away.reason == AwayReason::PerAddress;
+    let is_feed = away.address == Ipv4Addr::LOCALHOST && away.reason == AwayReason::FeedFrom;
     is_client || is_feed
 }
 

@@ -3,9 +3,10 @@ ghost use Rattle.std.specs.Prelude.{◌≡◌, IfOk, IsErr, IsSome, OnOk, Some, 
 ghost use Rattle.sl_io.specs.Counts.{CountsFailure, IsMore};
 ghost use Rattle.ports.specs.Calls.{Tells, given, IsGiven, IsTaken};
 ghost use Rattle.ports.specs.Calls.Call.{Next, Read, Write, Shut};
-ghost use Rattle.memory_ports.specs.Made.{told, gave_value};
+ghost use Rattle.ports.specs.Decisions.{Decides};
+ghost use Rattle.memory_ports.specs.Made.{decided_in, gave_value, told};
 
-use ports::{Got, Happening, PortFault, Put};
+use ports::{Decision, Got, Happening, PortFault, Put};
 use std::alloc::{AllocError, Global};
 
 /// What a read gave.
@@ -28,7 +29,14 @@ pub enum Made {
     Shut(u64),
 }
 
-/// All calls that were made.
+/// What was decided of a port.
+#[derive(Clone, Copy, Drop)]
+pub struct Decided {
+    pub port: u64,
+    pub decision: Decision,
+}
+
+/// All calls that were made, and all that was decided.
 #[derive(Drop)]
 pub struct Log {
     alloc: Global,
@@ -36,6 +44,9 @@ pub struct Log {
     /// There was no memory for a call.
     lost: bool,
     pub failures: u64,
+    decided: Vec<Decided>,
+    /// There was no memory for a decision.
+    is_undecided: bool,
 }
 
 fn kept_answer(
@@ -63,6 +74,26 @@ impl Log {
             made: Vec::new(alloc),
             lost: false,
             failures: 0,
+            decided: Vec::new(alloc),
+            is_undecided: false,
+        }
+    }
+
+    /// What was decided of ports, in order.
+    pub fn decided(&self) -> &[Decided]
+        ensures { result.now ≡ self.now.decided.items }
+    {
+        self.decided.as_slice()
+    }
+
+    /// Keeps a decision.
+    pub fn decide(&mut self, port: u64, decision: Decision)
+        ensures calls { told self.new ≡ told self.old }
+        ensures failures { self.new.failures ≡ self.old.failures }
+        ensures decides { Decides (decided_in self.old) (decided_in self.new) ((port, decision) ∷ []) }
+    {
+        if self.decided.push(Decided { port, decision }).is_err() {
+            self.is_undecided = true;
         }
     }
 
@@ -77,6 +108,7 @@ impl Log {
     fn lose(&mut self)
         ensures lost { told self.new ≡ None }
         ensures failures { IsMore self.old.failures self.new.failures 1 }
+        ensures decided { decided_in self.new ≡ decided_in self.old }
     {
         self.lost = true;
         self.failures = self.failures.wrapping_add(1);
@@ -85,6 +117,7 @@ impl Log {
     fn fail(&mut self)
         ensures same { told self.new ≡ told self.old }
         ensures failures { IsMore self.old.failures self.new.failures 1 }
+        ensures decided { decided_in self.new ≡ decided_in self.old }
     {
         self.failures = self.failures.wrapping_add(1);
     }
@@ -95,6 +128,7 @@ impl Log {
         ensures answer { IsSome (told self.new) → result ≡ answer }
         ensures failed { IsErr answer → IsErr result }
         ensures telling { OnOk result (IsSome (told self.old) → IsSome (told self.new)) }
+        ensures decided { decided_in self.new ≡ decided_in self.old }
     {
         if self.made.push(Made::Next(answer)).is_err() {
             self.lose();
@@ -120,6 +154,7 @@ impl Log {
         ensures answer { IsSome (told self.new) → result ≡ answer }
         ensures failed { IsErr answer → IsErr result }
         ensures telling { OnOk result (IsSome (told self.old) → IsSome (told self.new)) }
+        ensures decided { decided_in self.new ≡ decided_in self.old }
     {
         let Ok(gave) = kept_answer(self.alloc, buffer, answer) else {
             self.lose();
@@ -152,6 +187,7 @@ impl Log {
         ensures answer { IsSome (told self.new) → result ≡ answer }
         ensures failed { IsErr answer → IsErr result }
         ensures telling { OnOk result (IsSome (told self.old) → IsSome (told self.new)) }
+        ensures decided { decided_in self.new ≡ decided_in self.old }
     {
         let Ok(copy) = bytes.to_vec(self.alloc) else {
             self.lose();
@@ -170,6 +206,7 @@ impl Log {
     pub fn shut(&mut self, port: u64)
         ensures call { Tells (told self.old) (told self.new) (Shut port ∷ []) }
         ensures failures { self.new.failures ≡ self.old.failures }
+        ensures decided { decided_in self.new ≡ decided_in self.old }
     {
         if self.made.push(Made::Shut(port)).is_err() {
             self.lost = true;

@@ -11,9 +11,9 @@ use super::Sockets;
 use crate::connection::Connection;
 use crate::departures::Departures;
 use crate::listeners::{Accepted, Kind, LAST, token_of};
-use logged_ports::{Away, Reason};
+use logged_ports::Away;
 use mio::net::TcpStream;
-use ports::Happening;
+use ports::{AwayReason, Happening};
 use std::net::{Ipv4Addr, SocketAddr};
 
 /// How many connections are taken at most between two polls.
@@ -24,9 +24,9 @@ const CONNECTIONS: u8 = 16;
 enum Taken {
     /// It joined.
     Joined(Happening),
-    /// It may not join, and is closed.
+    /// It may not join, or there was nothing by which it could be held. It is closed.
     Away(Away),
-    /// None waits, or there is nothing by which it could be held.
+    /// None waits.
     Nothing,
 }
 
@@ -45,8 +45,8 @@ fn away_of(kind: Kind, address: Ipv4Addr) -> Away
     ensures { result ≡ away_of kind address }
 {
     let reason = match kind {
-        Kind::Client => Reason::PerAddress,
-        Kind::Feed => Reason::FeedFrom,
+        Kind::Client => AwayReason::PerAddress,
+        Kind::Feed => AwayReason::FeedFrom,
     };
     Away { address, reason }
 }
@@ -81,7 +81,7 @@ impl Sockets {
     }
 
     /// A new port, of a client or of a feed, unless sixteen connections were taken since the last poll. A connection of
-    /// somebody who may not join is closed with no byte, and told.
+    /// somebody who may not join, or that can't be held, is closed with no byte, and told.
     pub(super) fn join(&mut self, away: &mut Departures) -> Option<Happening>
         requires { away.old ≡ [] }
         ensures reasons { HaveReasons self.old.peers.admission self.old.peers.opened away.new }
@@ -142,7 +142,10 @@ impl Sockets {
         }
         match self.hold(kind, address, stream) {
             Some(number) => Taken::Joined(joined(kind, number, address)),
-            None => Taken::Nothing,
+            None => Taken::Away(Away {
+                address,
+                reason: AwayReason::Memory,
+            }),
         }
     }
 

@@ -15,7 +15,7 @@ use Rattle.event_loop.proofs.feeding.take_records.Goals as goal
 use Rattle.event_loop.proofs.feeding.take_records.Goals.{in-Some, in-None}
 
 pub records-preserved : goal.records-preserved
-records-preserved c =
+records-preserved g c =
     let h = c.records.invariant in
     let whole = c.feed.result.whole in
     let after : c.match-whole.cutter ≡ left_over c.records.cutter c.records.left.now whole = elim c.match-whole.branch [
@@ -41,6 +41,15 @@ records-preserved c =
       | in-Some w ↦ rw (w.server-is, w.brought-is) w.take_record.ensures.quiet
       | in-None w ↦ rw (w.server-is, w.brought-is) (quiet_none c.records.brought c.records.server)
     ] in
+    let calls : g.P.Ports.calls c.match-whole.ports ≡ g.P.Ports.calls c.args.ports.now = elim c.match-whole.branch [
+      | in-Some w ↦ rw w.ports-is (w.take_record.ensures.calls ∙ h.calls)
+      | in-None w ↦ rw w.ports-is h.calls
+    ] in
+    let failures : g.P.Ports.failures c.match-whole.ports ≡ g.P.Ports.failures c.args.ports.now =
+    elim c.match-whole.branch [
+      | in-Some w ↦ rw w.ports-is (w.take_record.ensures.failures ∙ h.failures)
+      | in-None w ↦ rw w.ports-is h.failures
+    ] in
     let rest = take_rest c.records.left.now c.feed.result.used in
     let parts = fed-in-two c.records.cutter c.records.left.now c.match-whole.cutter _ c.feed.result.used whole
     c.feed.ensures.read after rest in
@@ -52,13 +61,15 @@ records-preserved c =
             arrives-then config w x.0 (lent_records whole) c.records.server c.match-whole.server c.args.refused.now
                 c.records.refused c.match-whole.refused x.2 (one config (world_fed config w x.0) x.2.stands),
           );
+      calls = calls;
+      failures = failures;
       rest = ap (λ (f : FeedRead). f.rest) (sym parts) ∙ h.rest;
       quiet = quiet_then c.args.brought.now c.records.brought c.match-whole.brought c.args.server.now c.records.server
           c.match-whole.server h.quiet quiet;
     }
 
 pub returns-clause-arrives : goal.returns-clause-arrives
-returns-clause-arrives c = λ config w stands.
+returns-clause-arrives g c = λ config w stands.
     let x = c.records.invariant.arrives config w stands in
     let none : c.records.left.now ≡ [] = grind (arith, common_steps) in
     subst (λ rs. Arrives config w rs c.records.server c.args.refused.now c.records.refused)

@@ -8,13 +8,15 @@ use Rattle.event_loop.specs.Sleeping.{IsQuiet}
 use Rattle.event_loop.proofs.feeding.take_records.Given as goal
 
 abbrev pub invariant-records : goal.invariant-records
-invariant-records l = record {
+invariant-records g l = record {
   arrives : (config : Config) (w : World) → StandsAt l.fn.server config w →
       (done : List (List ℕ)) × (done ++ (fed l.cutter l.left).records ≡ (fed l.fn.cutter l.piece).records)
       × Arrives config w done l.server l.fn.refused l.refused;
+  calls : g.P.Ports.calls l.ports ≡ g.P.Ports.calls l.fn.ports;
+  failures : g.P.Ports.failures l.ports ≡ g.P.Ports.failures l.fn.ports;
   rest : (fed l.cutter l.left).rest ≡ (fed l.fn.cutter l.piece).rest;
   quiet : IsQuiet l.fn.brought l.brought l.fn.server l.server;
 }
 
 abbrev pub decreases-records : goal.decreases-records
-decreases-records l = length l.left
+decreases-records g l = length l.left

@@ -1,4 +1,4 @@
-use Rattle.std.proofs.Common.{rules, ◌≡◌, ◌<◌, ◌∙◌, length, vec_len, refl, sym, ap, subst, arith}
+use Rattle.std.proofs.Common.{rules, ◌≡◌, ◌<◌, ◌≤◌, ◌∙◌, length, vec_len, refl, sym, ap, subst, arith}
 use Rattle.std.specs.List.{insert}
 use Rattle.std.specs.Vec.{vec_capacity}
 use Rattle.std.specs.Result.{IsOk}
@@ -6,6 +6,7 @@ use Rattle.std.proofs.lemmas.Grind.{common_steps}
 use Rattle.event_loop.specs.declared.seat.Seat.{Seat}
 use Rattle.event_loop.specs.declared.seat.Role.TheVariants.{Client as ClientRole}
 use Rattle.ports.specs.declared.answers.Happening.TheVariants.{Joined}
+use Rattle.event_loop.specs.Decided.ClientDecided.{full, is_open, let_in, no_memory}
 use Rattle.event_loop.specs.Hearing.{joining, clients_in, feeds_in}
 use Rattle.event_loop.specs.Tables.{IsTable, IsSeatOf, IsGapFor, HearsOnce}
 use Rattle.event_loop.specs.declared.hearing.Heard.TheVariants.{Happened}
@@ -15,8 +16,6 @@ use Rattle.std.proofs.Common.{List, ℕ}
 use Rattle.event_loop.specs.Sleeping.{AreKnown, AreSeated}
 use Rattle.event_loop.proofs.AwakeLemmas.{known-more, seated-more, some-number}
 use Rattle.event_loop.proofs.hearing.join_client.Goals as goal
-use Rattle.event_loop.proofs.hearing.join_client.Goals.{then-clients-max_clients-via-then-clients-max_clients}
-use Rattle.event_loop.proofs.hearing.join_client.Goals.{then-clients-max_clients-via-else-clients-max_clients+then-not-has_room}
 
 pub returns-in_default-clause-goes : goal.returns-in_default-clause-goes
 returns-in_default-clause-goes g c = λ t calls config w tells stands.
@@ -30,16 +29,21 @@ pub returns-then-clients-max_clients-clause-goes : goal.returns-then-clients-max
 returns-then-clients-max_clients-clause-goes g c = λ t calls config w tells stands.
     let ss = c.args.seats.now.items in
     let gap : IsGapFor ss c.args.port c.in-Err.at = search rules in
-    let same : c.then-clients-max_clients.seats.items ≡ ss = elim c.then-clients-max_clients.branch [
-      | then-clients-max_clients-via-then-clients-max_clients x ↦ ap (λ v. v.items) x.seats-is
-      | then-clients-max_clients-via-else-clients-max_clients+then-not-has_room x ↦ ap (λ v. v.items) x.seats-is
-          ∙ x.has_room.ensures.seats
-    ] in
+    hears-away config c.args.max_clients w calls (g.P.Ports.calls c.args.ports.now) c.args.server.now t ss
+    (g.P.Ports.calls c.turn_away.new.ports)
+    c.args.port c.args.address (is-unseated ss c.args.port c.in-Err.at gap) tells c.turn_away.ensures.call stands
+
+pub returns-then-not-has_room-clause-goes : goal.returns-then-not-has_room-clause-goes
+returns-then-not-has_room-clause-goes g c = λ t calls config w tells stands.
+    let ss = c.args.seats.now.items in
+    let gap : IsGapFor ss c.args.port c.in-Err.at = search rules in
     subst (λ xs. HearsOnce config c.args.max_clients w calls
-    (g.P.Ports.calls c.shut.new.self) c.args.server.now t ss xs Happened) (sym same)
+    (g.P.Ports.calls c.turn_away-then-not-has_room.new.ports) c.args.server.now t ss xs Happened)
+    (sym c.has_room.ensures.seats)
     (hears-away config c.args.max_clients w calls (g.P.Ports.calls c.args.ports.now) c.args.server.now t ss
-    (g.P.Ports.calls c.shut.new.self)
-    c.args.port c.args.address (is-unseated ss c.args.port c.in-Err.at gap) tells c.shut.ensures.call stands)
+    (g.P.Ports.calls c.turn_away-then-not-has_room.new.ports)
+    c.args.port c.args.address (is-unseated ss c.args.port c.in-Err.at gap) tells
+    c.turn_away-then-not-has_room.ensures.call stands)
 
 pub returns-in-Ok-clause-table : goal.returns-in-Ok-clause-table
 returns-in-Ok-clause-table g c =
@@ -63,21 +67,23 @@ returns-in-Ok-clause-goes g c = λ t calls config w tells stands.
     let kept : c.insert-kept.new.self.items ≡ insert ss c.in-Err.at new = grind (arith, common_steps) in
     let few : clients_in ss < c.args.max_clients = grind (arith, common_steps) in
     let number : c.in-Ok.client ≡ length w.connections = c.in-Ok.ensures.number ∙ stands.count in
-    hears-open config c.args.max_clients w calls
+    subst (λ x. HearsOnce config c.args.max_clients w calls x c.open.new.self t ss c.insert-kept.new.self.items
+    Happened) (sym c.tell.ensures.calls)
+    (hears-open config c.args.max_clients w calls
     (g.P.Ports.calls c.args.ports.now) c.args.server.now t ss c.open.new.self c.insert-kept.new.self.items
     c.args.port c.args.address c.in-Ok.client (is-unseated ss c.args.port c.in-Err.at gap) few number
     (kept ∙ inserted ss new c.in-Err.at gap)
-    tells (c.in-Ok.ensures.ok config w stands)
+    tells (c.in-Ok.ensures.ok config w stands))
 
 pub returns-in-Err-open-clause-goes : goal.returns-in-Err-open-clause-goes
 returns-in-Err-open-clause-goes g c = λ t calls config w tells stands.
     let ss = c.args.seats.now.items in
     let gap : IsGapFor ss c.args.port c.in-Err.at = search rules in
     subst (λ xs. HearsOnce config c.args.max_clients w calls
-    (g.P.Ports.calls c.shut-in-Err-open.new.self) c.open.new.self t ss xs Happened) (sym c.has_room.ensures.seats)
+    (g.P.Ports.calls c.turn_away-in-Err-open.new.ports) c.open.new.self t ss xs Happened) (sym c.has_room.ensures.seats)
     (hears-away config c.args.max_clients w calls (g.P.Ports.calls c.args.ports.now) c.open.new.self t ss
-    (g.P.Ports.calls c.shut-in-Err-open.new.self)
-    c.args.port c.args.address (is-unseated ss c.args.port c.in-Err.at gap) tells c.shut-in-Err-open.ensures.call
+    (g.P.Ports.calls c.turn_away-in-Err-open.new.ports)
+    c.args.port c.args.address (is-unseated ss c.args.port c.in-Err.at gap) tells c.turn_away-in-Err-open.ensures.call
     (rw c.in-Err-open.ensures.err stands))
 
 pub returns-in-Ok-clause-known : goal.returns-in-Ok-clause-known
@@ -124,3 +130,36 @@ returns-in-Ok-clause-feeds g c =
     let ok : IsOk c.insert-kept.result = c.insert-kept.ensures.succeeds room in
     let kept : c.insert-kept.new.self.items ≡ insert ss c.in-Err.at new = grind (arith, common_steps) in
     c.requires.feeds ∙ sym (ap feeds_in kept ∙ client-more ss new c.in-Err.at refl)
+
+pub returns-in_default-clause-decides : goal.returns-in_default-clause-decides
+returns-in_default-clause-decides g c =
+    let ss = c.args.seats.now.items in
+    let found : IsSeatOf ss c.args.port c.in_default.field-0 = search rules in
+    is_open (is-seated ss c.args.port c.in_default.field-0 found) refl
+
+pub returns-then-clients-max_clients-clause-decides : goal.returns-then-clients-max_clients-clause-decides
+returns-then-clients-max_clients-clause-decides g c =
+    let ss = c.args.seats.now.items in
+    let many : c.args.max_clients ≤ clients_in ss = grind (arith, common_steps) in
+    full many c.turn_away.ensures.decides
+
+pub returns-then-not-has_room-clause-decides : goal.returns-then-not-has_room-clause-decides
+returns-then-not-has_room-clause-decides g c =
+    let ss = c.args.seats.now.items in
+    let few : clients_in ss < c.args.max_clients = grind (arith, common_steps) in
+    no_memory few c.has_room.ensures.seats c.turn_away-then-not-has_room.ensures.decides
+
+pub returns-in-Ok-clause-decides : goal.returns-in-Ok-clause-decides
+returns-in-Ok-clause-decides g c =
+    let room : vec_len c.has_room.new.seats < vec_capacity c.has_room.new.seats = search rules in
+    let ok : IsOk c.insert-kept.result = c.insert-kept.ensures.succeeds room in
+    let longer : length c.args.seats.now.items < length c.insert-kept.new.self.items =
+    grind (arith, common_steps)
+    in
+    let_in longer c.tell.ensures.decides
+
+pub returns-in-Err-open-clause-decides : goal.returns-in-Err-open-clause-decides
+returns-in-Err-open-clause-decides g c =
+    let ss = c.args.seats.now.items in
+    let few : clients_in ss < c.args.max_clients = grind (arith, common_steps) in
+    no_memory few c.has_room.ensures.seats c.turn_away-in-Err-open.ensures.decides

@@ -1,4 +1,4 @@
-use Rattle.std.proofs.Common.{rules, ◌≡◌, ◌+◌, ◌<◌, ◌∙◌, [], vec_len, refl, sym, ap, subst, arith}
+use Rattle.std.proofs.Common.{rules, ◌≡◌, ◌+◌, ◌<◌, ◌≤◌, ◌∙◌, length, [], vec_len, refl, sym, ap, subst, arith}
 use Rattle.std.specs.List.{insert}
 use Rattle.std.specs.Vec.{vec_capacity}
 use Rattle.std.specs.Result.{IsOk}
@@ -6,6 +6,7 @@ use Rattle.std.proofs.lemmas.Grind.{common_steps}
 use Rattle.event_loop.specs.declared.seat.Seat.{Seat}
 use Rattle.event_loop.specs.declared.seat.Role.TheVariants.{Feed as FeedRole}
 use Rattle.ports.specs.declared.answers.Happening.TheVariants.{JoinedFeed}
+use Rattle.event_loop.specs.Decided.FeedDecided.{full, is_open, let_in, no_memory}
 use Rattle.event_loop.specs.Hearing.{joining, feeds_in}
 use Rattle.event_loop.specs.Tables.{IsTable, IsSeatOf, IsGapFor, HearsOnce}
 use Rattle.event_loop.specs.declared.hearing.Heard.TheVariants.{Happened}
@@ -14,8 +15,6 @@ use Rattle.event_loop.proofs.HearLemmas.{hears-old, hears-away-feed, hears-feed}
 use Rattle.event_loop.specs.Sleeping.{AreKnown, AreSeated}
 use Rattle.event_loop.proofs.AwakeLemmas.{known-more, seated-more}
 use Rattle.event_loop.proofs.hearing.join_feed.Goals as goal
-use Rattle.event_loop.proofs.hearing.join_feed.Goals.{then-feeds-ge-FEEDS-via-then-feeds-ge-FEEDS}
-use Rattle.event_loop.proofs.hearing.join_feed.Goals.{then-feeds-ge-FEEDS-via-else-feeds-ge-FEEDS+then-not-has_room}
 
 pub returns-in_default-clause-goes : goal.returns-in_default-clause-goes
 returns-in_default-clause-goes g c = λ t calls config w tells stands.
@@ -29,16 +28,21 @@ pub returns-then-feeds-ge-FEEDS-clause-goes : goal.returns-then-feeds-ge-FEEDS-c
 returns-then-feeds-ge-FEEDS-clause-goes g c = λ t calls config w tells stands.
     let ss = c.args.seats.now.items in
     let gap : IsGapFor ss c.args.port c.in-Err.at = search rules in
-    let same : c.then-feeds-ge-FEEDS.seats.items ≡ ss = elim c.then-feeds-ge-FEEDS.branch [
-      | then-feeds-ge-FEEDS-via-then-feeds-ge-FEEDS x ↦ ap (λ v. v.items) x.seats-is
-      | then-feeds-ge-FEEDS-via-else-feeds-ge-FEEDS+then-not-has_room x ↦ ap (λ v. v.items) x.seats-is
-          ∙ x.has_room.ensures.seats
-    ] in
+    hears-away-feed config c.args.max_clients w calls (g.P.Ports.calls c.args.ports.now) c.args.server.now t ss
+    (g.P.Ports.calls c.turn_away.new.ports)
+    c.args.port (is-unseated ss c.args.port c.in-Err.at gap) tells c.turn_away.ensures.call stands
+
+pub returns-then-not-has_room-clause-goes : goal.returns-then-not-has_room-clause-goes
+returns-then-not-has_room-clause-goes g c = λ t calls config w tells stands.
+    let ss = c.args.seats.now.items in
+    let gap : IsGapFor ss c.args.port c.in-Err.at = search rules in
     subst (λ xs. HearsOnce config c.args.max_clients w calls
-    (g.P.Ports.calls c.shut.new.self) c.args.server.now t ss xs Happened) (sym same)
+    (g.P.Ports.calls c.turn_away-then-not-has_room.new.ports) c.args.server.now t ss xs Happened)
+    (sym c.has_room.ensures.seats)
     (hears-away-feed config c.args.max_clients w calls (g.P.Ports.calls c.args.ports.now) c.args.server.now t ss
-    (g.P.Ports.calls c.shut.new.self)
-    c.args.port (is-unseated ss c.args.port c.in-Err.at gap) tells c.shut.ensures.call stands)
+    (g.P.Ports.calls c.turn_away-then-not-has_room.new.ports)
+    c.args.port (is-unseated ss c.args.port c.in-Err.at gap) tells
+    c.turn_away-then-not-has_room.ensures.call stands)
 
 pub returns-in-Ok-clause-table : goal.returns-in-Ok-clause-table
 returns-in-Ok-clause-table g c =
@@ -61,20 +65,22 @@ returns-in-Ok-clause-goes g c = λ t calls config w tells stands.
     let ok : IsOk c.insert-kept.result = c.insert-kept.ensures.succeeds room in
     let kept : c.insert-kept.new.self.items ≡ insert ss c.in-Err.at new = grind (arith, common_steps) in
     let few : feeds_in ss < 16 = grind (arith, common_steps) in
-    hears-feed config c.args.max_clients w calls
+    subst (λ x. HearsOnce config c.args.max_clients w calls x c.args.server.now t ss c.insert-kept.new.self.items
+    Happened) (sym c.tell.ensures.calls)
+    (hears-feed config c.args.max_clients w calls
     (g.P.Ports.calls c.args.ports.now) c.args.server.now t ss c.insert-kept.new.self.items
-    c.args.port (is-unseated ss c.args.port c.in-Err.at gap) few (kept ∙ inserted ss new c.in-Err.at gap) tells stands
+    c.args.port (is-unseated ss c.args.port c.in-Err.at gap) few (kept ∙ inserted ss new c.in-Err.at gap) tells stands)
 
 pub returns-in-Err-new-clause-goes : goal.returns-in-Err-new-clause-goes
 returns-in-Err-new-clause-goes g c = λ t calls config w tells stands.
     let ss = c.args.seats.now.items in
     let gap : IsGapFor ss c.args.port c.in-Err.at = search rules in
     subst (λ xs. HearsOnce config c.args.max_clients w calls
-    (g.P.Ports.calls c.shut-in-Err-new.new.self) c.args.server.now t ss xs
+    (g.P.Ports.calls c.turn_away-in-Err-new.new.ports) c.args.server.now t ss xs
     Happened) (sym c.has_room.ensures.seats)
     (hears-away-feed config c.args.max_clients w calls (g.P.Ports.calls c.args.ports.now) c.args.server.now t ss
-    (g.P.Ports.calls c.shut-in-Err-new.new.self) c.args.port (is-unseated ss c.args.port c.in-Err.at gap) tells
-    c.shut-in-Err-new.ensures.call stands)
+    (g.P.Ports.calls c.turn_away-in-Err-new.new.ports) c.args.port (is-unseated ss c.args.port c.in-Err.at gap) tells
+    c.turn_away-in-Err-new.ensures.call stands)
 
 pub returns-in-Ok-clause-known : goal.returns-in-Ok-clause-known
 returns-in-Ok-clause-known g c =
@@ -115,3 +121,36 @@ returns-in-Ok-clause-feeds g c =
     let ok : IsOk c.insert-kept.result = c.insert-kept.ensures.succeeds room in
     let kept : c.insert-kept.new.self.items ≡ insert ss c.in-Err.at new = grind (arith, common_steps) in
     ap (λ n. n + 1) c.requires.feeds ∙ sym (ap feeds_in kept ∙ feed-more ss new c.in-Err.at refl)
+
+pub returns-in_default-clause-decides : goal.returns-in_default-clause-decides
+returns-in_default-clause-decides g c =
+    let ss = c.args.seats.now.items in
+    let found : IsSeatOf ss c.args.port c.in_default.field-0 = search rules in
+    is_open (is-seated ss c.args.port c.in_default.field-0 found) refl
+
+pub returns-then-feeds-ge-FEEDS-clause-decides : goal.returns-then-feeds-ge-FEEDS-clause-decides
+returns-then-feeds-ge-FEEDS-clause-decides g c =
+    let ss = c.args.seats.now.items in
+    let many : 16 ≤ feeds_in ss = grind (arith, common_steps) in
+    full many c.turn_away.ensures.decides
+
+pub returns-then-not-has_room-clause-decides : goal.returns-then-not-has_room-clause-decides
+returns-then-not-has_room-clause-decides g c =
+    let ss = c.args.seats.now.items in
+    let few : feeds_in ss < 16 = grind (arith, common_steps) in
+    no_memory few c.has_room.ensures.seats c.turn_away-then-not-has_room.ensures.decides
+
+pub returns-in-Ok-clause-decides : goal.returns-in-Ok-clause-decides
+returns-in-Ok-clause-decides g c =
+    let room : vec_len c.has_room.new.seats < vec_capacity c.has_room.new.seats = search rules in
+    let ok : IsOk c.insert-kept.result = c.insert-kept.ensures.succeeds room in
+    let longer : length c.args.seats.now.items < length c.insert-kept.new.self.items =
+    grind (arith, common_steps)
+    in
+    let_in longer c.tell.ensures.decides
+
+pub returns-in-Err-new-clause-decides : goal.returns-in-Err-new-clause-decides
+returns-in-Err-new-clause-decides g c =
+    let ss = c.args.seats.now.items in
+    let few : feeds_in ss < 16 = grind (arith, common_steps) in
+    no_memory few c.has_room.ensures.seats c.turn_away-in-Err-new.ensures.decides
