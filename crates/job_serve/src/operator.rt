@@ -297,26 +297,11 @@ pub fn serve_by<'a, R: Files<File = File> + Clock + AllocGlobal, P: Ports + Drop
         EndedByFile (timetable_of request.entry.options) config (P.calls ports)) }
 {
     let timetable = timetable_of(&request.options);
-    let operator = match Operator::new(rt, &config, request, numbers, errors) {
+    let mut operator = match Operator::new(rt, &config, request, numbers, errors) {
         Ok(operator) => operator,
         Err(incident) => return Err(incident),
     };
-    serve_beside(rt.alloc(), config, ports, operator, timetable)
-}
-
-/// Runs a new server over ports beside an operator that began with its configuration, and gives the ports back.
-fn serve_beside<'a, R: Files<File = File> + Clock + AllocGlobal, P: Ports + Drop, D: Device + Drop>(
-    alloc: Global,
-    config: Config,
-    ports: P,
-    mut operator: Operator<'_, 'a, '_, R, D>,
-    timetable: Timetable,
-) -> Result<P, Incident<'a>>
-    ensures served { IfOk result (λ left. ServedByFile timetable config (P.calls ports) (P.calls left)) }
-    ensures ended { IfErr result (λ incident. incident.failure ≡ Serve Poll →
-        EndedByFile timetable config (P.calls ports)) }
-{
-    match serve_between(alloc, config, ports, &mut operator, timetable) {
+    match serve_between(rt.alloc(), config, ports, &mut operator, timetable) {
         Ok(ports) => Ok(ports),
         Err(fault) => Err(operator.incident_of(fault)),
     }

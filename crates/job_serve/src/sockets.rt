@@ -7,6 +7,7 @@ use crate::numbers::NumberFile;
 use crate::operator::{ServeRequest, serve_by};
 use crate::visits::{SharedLines, VisitLines};
 use catalog::Config;
+use command_line::ServeOptions;
 use error_lines::{Device, StandardError};
 use incidents::{Failure, Incident, Site};
 use job_base::{ServerAddress, checked_config_at, plain_at, server_of};
@@ -18,8 +19,42 @@ use std::fs::File;
 use std::net::Net;
 use std::rt::{Clock, Files};
 
+/// What a server has before it listens: where it is to, whom it takes, and what its files said.
+#[derive(Drop)]
+struct Opened<'a> {
+    clients: ServerAddress<'a>,
+    feeds: ServerAddress<'a>,
+    admission: Admission,
+    config: Config,
+    numbers: Option<NumberFile<'a>>,
+}
+
+/// Takes the words, and reads the files that they name. The keys of the configuration that are not known are named. A
+/// configuration that is to be read again has to be a plain file.
+fn open<'a, R: Files<File = File> + Eprint + AllocGlobal>(
+    rt: &R,
+    options: &ServeOptions<'a>,
+) -> Result<Opened<'a>, Incident<'a>> {
+    let clients = server_of(options.listen)?;
+    let feeds = server_of(options.feed)?;
+    let admission = admission_of(rt.alloc(), options)?;
+    if options.reread.is_some() {
+        plain_at(rt, options.config)?;
+    }
+    let mut config = checked_config_at(rt, options.config, options.is_strict)?;
+    tell_missing(rt, config.max_connections());
+    let numbers = numbers_for(rt, options.numbers, &mut config)?;
+    Ok(Opened {
+        clients,
+        feeds,
+        admission,
+        config,
+        numbers,
+    })
+}
+
 /// Listens at two addresses, for clients and for feeds, of which those are taken that are admitted.
-fn listen_at<'a, R: Net + AllocGlobal>(
+fn listen<'a, R: Net + AllocGlobal>(
     rt: &R,
     clients: ServerAddress<'a>,
     feeds: ServerAddress<'a>,
@@ -36,53 +71,26 @@ fn listen_at<'a, R: Net + AllocGlobal>(
     }
 }
 
-/// Serves clients and feeds as the words say, and then sends what was not sent yet. The keys of the configuration that
-/// are not known are named first. A configuration that is to be read again has to be a plain file.
+/// Serves clients and feeds as the words say, and then sends what was not sent yet.
 pub fn serve_sockets<'a, R: Files<File = File> + Eprint + Clock + Net + AllocGlobal>(
     rt: &R,
     request: ServeRequest<'a>,
 ) -> Result<(), Incident<'a>> {
-    let options = request.options;
-    let clients = server_of(options.listen)?;
-    let feeds = server_of(options.feed)?;
-    let admission = admission_of(rt.alloc(), &options)?;
-    if options.reread.is_some() {
-        plain_at(rt, options.config)?;
-    }
-    let config = checked_config_at(rt, options.config, options.is_strict)?;
-    tell_missing(rt, config.max_connections());
-    serve_with(rt, clients, feeds, admission, config, request)
-}
-
-/// Serves those who are admitted, with a configuration that was read, and then sends what was not sent yet.
-fn serve_with<'a, R: Files<File = File> + Eprint + Clock + Net + AllocGlobal>(
-    rt: &R,
-    clients: ServerAddress<'a>,
-    feeds: ServerAddress<'a>,
-    admission: Admission,
-    mut config: Config,
-    request: ServeRequest<'a>,
-) -> Result<(), Incident<'a>> {
-    let numbers = numbers_for(rt, request.options.numbers, &mut config)?;
-    let ports = listen_at(rt, clients, feeds, admission)?;
-    serve_to_the_end(rt, config, ports, request, numbers)
-}
-
-/// Serves over ports that are listened on, and then sends what was not sent yet.
-fn serve_to_the_end<'a, R: Files<File = File> + Eprint + Clock + AllocGlobal>(
-    rt: &R,
-    config: Config,
-    ports: MioPorts,
-    request: ServeRequest<'a>,
-    numbers: Option<NumberFile<'a>>,
-) -> Result<(), Incident<'a>> {
-    let mut ports = serve_over(rt, config, ports, request, numbers)?;
+    let Opened {
+        clients,
+        feeds,
+        admission,
+        config,
+        numbers,
+    } = open(rt, &request.options)?;
+    let ports = listen(rt, clients, feeds, admission)?;
+    let mut ports = run(rt, config, ports, request, numbers)?;
     ports.finish();
     Ok(())
 }
 
 /// Serves over ports that are listened on, with lines to the standard error, and gives the ports back.
-fn serve_over<'a, R: Files<File = File> + Eprint + Clock + AllocGlobal>(
+fn run<'a, R: Files<File = File> + Eprint + Clock + AllocGlobal>(
     rt: &R,
     config: Config,
     ports: MioPorts,
@@ -91,7 +99,7 @@ fn serve_over<'a, R: Files<File = File> + Eprint + Clock + AllocGlobal>(
 ) -> Result<MioPorts, Incident<'a>> {
     let lines = SharedLines::new(StandardError::open(rt));
     if request.options.is_logged {
-        serve_logged(rt, config, ports, request, numbers, &lines)
+        run_logged(rt, config, ports, request, numbers, &lines)
     } else {
         serve_by(rt, config, ports, request, numbers, &lines)
     }
@@ -114,8 +122,8 @@ fn ports_that_log<'l, D: Device + Drop>(
     LoggedPorts::new(alloc, ports, room, VisitLines::new(lines))
 }
 
-/// Serves as the words say, and tells who comes and goes.
-fn serve_logged<'a, R: Files<File = File> + Clock + AllocGlobal, D: Device + Drop>(
+/// The same, and tells who comes and goes.
+fn run_logged<'a, R: Files<File = File> + Clock + AllocGlobal, D: Device + Drop>(
     rt: &R,
     config: Config,
     ports: MioPorts,
