@@ -7,3 +7,4 @@ pub mod KeepLemmas
 pub mod LookLemmas
 pub mod PaceLemmas
 pub mod RestartLemmas
+pub mod ClaimLemmas

@@ -10,3 +10,4 @@ pub mod Keeping
 pub mod Looking
 pub mod Paces
 pub mod Restarts
+pub mod Claims

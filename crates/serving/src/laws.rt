@@ -1,4 +1,5 @@
 //! What follows of a run.
+ghost use Rattle.serving.specs.Claims.{TakesAlike, TakesAllButOverruns, TakesAllThatIsHeld, TakesAsWithoutHidden};
 ghost use Rattle.serving.specs.Counting.{AsksAsDue};
 ghost use Rattle.serving.specs.Keeping.{KeepsAhead, KeepsExactly};
 ghost use Rattle.serving.specs.Looking.{AsksByTime};
@@ -41,4 +42,29 @@ pub fn comes_on_time()
 /// other stations, and whatever other clients do, in whatever run.
 pub fn restarts_tell_nothing()
     ensures { RestartsTellNothing }
+{}
+
+/// Two clients with the same view at their Open, the same events of their own and the same arrivals at stations that
+/// they see take the same bytes at their ports, at whatever running servers and beside whatever other clients.
+pub fn serves_alike<B: Between>()
+    ensures { TakesAlike B.Fault }
+{}
+
+/// What a client's port takes in a run is what is handed to that client by a server without the stations that are
+/// hidden from its address under every configuration in force, by the same events, if the same new configurations are
+/// accepted.
+pub fn hidden_stations_tell_nothing<B: Between>()
+    ensures { TakesAsWithoutHidden B.Fault }
+{}
+
+/// A client's port takes what is handed to the client, and a transfer of it misses a wanted record only if that was
+/// overrun: if as many later records of its station as are held had come when an offer passed over it.
+pub fn misses_only_overruns<B: Between>()
+    ensures { TakesAllButOverruns B.Fault }
+{}
+
+/// A client's port takes what is handed to the client, and a transfer of it misses nothing if at each of its offers all
+/// that may still be chosen and is wanted is held.
+pub fn misses_nothing_that_is_held<B: Between>()
+    ensures { TakesAllThatIsHeld B.Fault }
 {}
