@@ -153,7 +153,8 @@ fn failures_kept(reread: bool, failures: u8) -> u8
 /// Has a server go on until the turns of its timetable are done, and does between them what the timetable says. A turn
 /// that fails is passed over; it ends early, with 40, only if sixteen turns in a row fail, which are counted anew once
 /// the configuration was read again. What was done until then stands, and a further run goes on. The numbers of the
-/// stations count as kept when it begins. Nothing is allocated but if a port joins, and by what is asked between turns.
+/// stations count as kept when it begins. Memory is needed if a port joins, and for what is asked between turns; what
+/// else the loop and its ports allocate they can do without.
 pub fn run<P: Ports, B: Between>(
     server: &mut Loop<P>,
     between: &mut B,
