@@ -1,3 +1,4 @@
 mod LineLemmas
 pub mod OwnerLemmas
 pub mod StationLemmas
+pub mod NearLemmas

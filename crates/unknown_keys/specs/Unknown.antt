@@ -3,9 +3,11 @@
 use Rattle.std.specs.Prelude.{ℕ, zero, suc, ◌+◌, ◌-◌, ◌==◌, ◌||◌, nat_lt, Bool, if◌then◌else◌, List, [], ◌∷◌, ◌++◌}
 use Rattle.std.specs.Prelude.{map, flat_map, codes}
 use Rattle.std.specs.Prelude.{decimal, Option, Some, None, option_and_then}
+use Rattle.std.specs.List.{list_any}
 use Rattle.std.specs.Str.{bytes_eq}
 use Rattle.toml.specs.Data.{Members, no_members, member, as_table, at, get_member}
 use Rattle.protocol.specs.Catalog.{Station}
+use Rattle.unknown_keys.specs.Nearest.{nearest}
 use Rattle.unknown_keys.specs.declared.owner.Owner.{Owner}
 use Rattle.unknown_keys.specs.declared.owner.Owner.TheVariants as owner
 
@@ -21,20 +23,15 @@ whose (owner.Station number station) = TheStation number station.now.station
 
 -- ---- which keys are known
 
-abbrev pub is_server_key : List ℕ → Bool
-is_server_key key =
-    bytes_eq key (codes "title") || (bytes_eq key (codes "access")
-    || (bytes_eq key (codes "max_connections") || bytes_eq key (codes "station")))
+-- the keys that the whole server, or a station, has
+abbrev pub keys_of : Whose → List (List ℕ)
+keys_of TheServer = codes "title" ∷ codes "access" ∷ codes "max_connections" ∷ codes "station" ∷ []
+keys_of (TheStation number station) =
+    codes "network" ∷ codes "code" ∷ codes "description" ∷ codes "capacity" ∷ codes "first" ∷ codes "access" ∷ []
 
-abbrev pub is_station_key : List ℕ → Bool
-is_station_key key =
-    bytes_eq key (codes "network") || (bytes_eq key (codes "code") || (bytes_eq key (codes "description")
-    || (bytes_eq key (codes "capacity") || (bytes_eq key (codes "first") || bytes_eq key (codes "access")))))
-
--- a key is one that the whole server, or a station, has
+-- a key is one of them
 abbrev pub is_known : Whose → List ℕ → Bool
-is_known TheServer key = is_server_key key
-is_known (TheStation number station) key = is_station_key key
+is_known o key = list_any (bytes_eq key) (keys_of o)
 
 -- the keys of a table that are not, in its order
 abbrev pub unknown_in : Whose → Members → List (List ℕ)
@@ -52,9 +49,18 @@ abbrev pub owner_words : Whose → List ℕ
 owner_words TheServer = []
 owner_words (TheStation number s) = codes ", station " ++ decimal number ++ 32 ∷ s.network ++ 32 ∷ s.code
 
+-- the question whether another key was meant
+abbrev pub question : Option (List ℕ) → List ℕ
+question None = []
+question (Some near) = codes "; did you mean " ++ near ++ codes "?"
+
+-- the same for the nearest of those that there are
+abbrev pub hint : Whose → List ℕ → List ℕ
+hint o key = question (nearest key (keys_of o))
+
 -- the line of a key, with its end
 abbrev pub key_line : Whose → List ℕ → List ℕ
-key_line o key = codes "seedlinkd: unknown key " ++ map shown key ++ owner_words o ++ 10 ∷ []
+key_line o key = codes "seedlinkd: unknown key " ++ map shown key ++ owner_words o ++ hint o key ++ 10 ∷ []
 
 -- the lines of a table's keys
 abbrev pub owner_lines : Whose → Members → List ℕ

@@ -3,6 +3,7 @@
 
 mod first_lines;
 mod lines;
+mod nearest;
 mod owner;
 mod unknown;
 

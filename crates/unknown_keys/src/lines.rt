@@ -29,13 +29,14 @@ fn put_key(text: &mut Vec<u8>, key: &[u8]) -> Result<(), AllocError>
     Ok(())
 }
 
-/// The line of a key that is not known.
+/// The line of a key that is not known, with the known one that is nearest, if one is near.
 pub fn put_line(text: &mut Vec<u8>, key: &str, owner: Owner<'_>) -> Result<(), AllocError>
     ensures { OnOk result (text.new.items ≡ text.old.items ++ key_line (whose owner.entry) key.now) }
 {
     put(text, b"seedlinkd: unknown key ")?;
     put_key(text, key.as_bytes())?;
     owner.put_words(text)?;
+    owner.put_nearest(text, key)?;
     put(text, b"\n")?;
     Ok(())
 }

@@ -1,12 +1,28 @@
 //! Whose keys a table of a configuration has.
-ghost use Rattle.std.specs.Prelude.{◌≡◌, ◌++◌, OnOk};
-ghost use Rattle.unknown_keys.specs.Unknown.{is_known, is_server_key, is_station_key, owner_words, whose};
+ghost use Rattle.std.specs.Prelude.{◌≡◌, ◌++◌, OnOk, map};
+ghost use Rattle.std.specs.List.{list_any};
+ghost use Rattle.std.specs.Str.{bytes_eq};
+ghost use Rattle.unknown_keys.specs.Unknown.{hint, is_known, keys_of, owner_words, whose};
 ghost use Rattle.unknown_keys.specs.Unknown.Whose.{TheStation};
 
 use crate::lines::put;
+use crate::nearest::nearest;
 use catalog::Station;
 use itoa::Buffer;
 use std::alloc::AllocError;
+
+/// The keys of the whole server.
+static SERVER_KEYS: [&str; 4] = ["title", "access", "max_connections", "station"];
+
+/// The keys of a station.
+static STATION_KEYS: [&str; 6] = [
+    "network",
+    "code",
+    "description",
+    "capacity",
+    "first",
+    "access",
+];
 
 /// Whose keys they are.
 #[derive(Clone, Copy)]
@@ -18,14 +34,34 @@ pub enum Owner<'a> {
 }
 
 impl Owner<'_> {
+    /// The keys that it has.
+    fn keys(self) -> &'static [&'static str]
+        ensures { map (λ k. k.now) result.now ≡ keys_of (whose self.entry) }
+    {
+        match self {
+            Owner::Server => &SERVER_KEYS,
+            Owner::Station(_, _) => &STATION_KEYS,
+        }
+    }
+
     /// Whether a key is one that it has.
     pub fn knows(self, key: &str) -> bool
         ensures { result ≡ is_known (whose self.entry) key.now }
     {
-        match self {
-            Owner::Server => is_server_key(key),
-            Owner::Station(_, _) => is_station_key(key),
-        }
+        is_among(key, self.keys())
+    }
+
+    /// Puts the key that it has and that is nearest to another one behind a text, as a question, if one is near.
+    pub fn put_nearest(self, text: &mut Vec<u8>, key: &str) -> Result<(), AllocError>
+        ensures { OnOk result (text.new.items ≡ text.old.items ++ hint (whose self.entry) key.now) }
+    {
+        let Some(near) = nearest(key, self.keys()) else {
+            return Ok(());
+        };
+        put(text, b"; did you mean ")?;
+        put(text, near.as_bytes())?;
+        put(text, b"?")?;
+        Ok(())
     }
 
     /// Puts the words that name it behind a text.
@@ -39,23 +75,16 @@ impl Owner<'_> {
     }
 }
 
-/// Whether it is a key of the whole server.
-fn is_server_key(key: &str) -> bool
-    ensures { result ≡ is_server_key key.now }
+/// Whether a key is one of some.
+fn is_among(key: &str, known: &[&str]) -> bool
+    ensures { result ≡ list_any (bytes_eq key.now) (map (λ k. k.now) known.now) }
 {
-    key == "title" || key == "access" || key == "max_connections" || key == "station"
-}
-
-/// Whether it is a key of a station.
-fn is_station_key(key: &str) -> bool
-    ensures { result ≡ is_station_key key.now }
-{
-    key == "network"
-        || key == "code"
-        || key == "description"
-        || key == "capacity"
-        || key == "first"
-        || key == "access"
+    for name in known {
+        if key == *name {
+            return true;
+        }
+    }
+    false
 }
 
 /// The words that name a station.

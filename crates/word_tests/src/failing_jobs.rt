@@ -92,17 +92,20 @@ static ROWS: [Row; 29] = [
     // Keys that are not known are named, and refused on request.
     Row {
         words: "seedlinkd -v serve wrong.toml --strict --listen 127.0.0.1:TAKEN --feed 127.0.0.1:TAKEN",
-        line: "seedlinkd: unknown key titel\nseedlinkd: unknown key acces, station 1 GE APE\nseedlinkd: 21 Missing\n",
+        line: "seedlinkd: unknown key titel; did you mean title?\n\
+            seedlinkd: unknown key acces, station 1 GE APE; did you mean access?\nseedlinkd: 21 Missing\n",
         names: "file: wrong.toml\n",
     },
     Row {
         words: "seedlinkd serve wrong.toml --listen 127.0.0.1:TAKEN --feed 127.0.0.1:TAKEN",
-        line: "seedlinkd: unknown key titel\nseedlinkd: unknown key acces, station 1 GE APE\nseedlinkd: 46 Listen\n",
+        line: "seedlinkd: unknown key titel; did you mean title?\n\
+            seedlinkd: unknown key acces, station 1 GE APE; did you mean access?\nseedlinkd: 46 Listen\n",
         names: "",
     },
     Row {
         words: "seedlinkd -v view wrong.toml --strict",
-        line: "seedlinkd: unknown key titel\nseedlinkd: unknown key acces, station 1 GE APE\nseedlinkd: 21 Missing\n",
+        line: "seedlinkd: unknown key titel; did you mean title?\n\
+            seedlinkd: unknown key acces, station 1 GE APE; did you mean access?\nseedlinkd: 21 Missing\n",
         names: "file: wrong.toml\n",
     },
     // A feeder: the address, all files, and then the connection. What it sent is said before the fault.

@@ -9,7 +9,7 @@ static MISSPELLED: &str =
     \"Island\"\ncapacity = 9\nacces = \"10.0.0.7\"\n";
 
 /// The line that says so.
-static UNKNOWN: &str = "seedlinkd: unknown key acces, station 1 GE APE\n";
+static UNKNOWN: &str = "seedlinkd: unknown key acces, station 1 GE APE; did you mean access?\n";
 
 /// The open station with another capacity.
 static LARGER: &str =

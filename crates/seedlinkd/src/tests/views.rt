@@ -95,13 +95,60 @@ fn keys_that_are_not_known_are_named(rt: HostRuntime) -> Result<(), Fail> {
     let lines = unknown_keys(rt.alloc(), &config, MISSPELLED)?;
     assert!(rt;
         lines.as_slice()
-            == b"seedlinkd: unknown key a?b???\nseedlinkd: unknown key limits\nseedlinkd: unknown key max_connection\n\
-            seedlinkd: unknown key titel\nseedlinkd: unknown key acces, station 2 XX WLF\n\
+            == b"seedlinkd: unknown key a?b???\nseedlinkd: unknown key limits\n\
+            seedlinkd: unknown key max_connection; did you mean max_connections?\n\
+            seedlinkd: unknown key titel; did you mean title?\n\
+            seedlinkd: unknown key acces, station 2 XX WLF; did you mean access?\n\
             seedlinkd: unknown key title, station 2 XX WLF\n"
                 .as_slice()
     );
     let config = Config::read(rt.alloc(), CENTRE)?;
     assert!(rt; unknown_keys(rt.alloc(), &config, CENTRE)?.is_empty());
+    Ok(())
+}
+
+/// A configuration whose last lines are of a station.
+static ONE_STATION: &str =
+    "title = \"T\"\n[[station]]\nnetwork = \"GE\"\ncode = \"APE\"\ndescription = \"\"\ncapacity = 3\n";
+
+/// Keys of a station that are not known, each with the known one that is nearest, if one is near.
+static NEAR: [(&str, &str); 12] = [
+    ("acess", "access"),
+    ("accesss", "access"),
+    ("excess", "access"),
+    ("acccess", "access"),
+    ("acce", "access"),
+    ("acc", ""),
+    ("capactiy", "capacity"),
+    ("Code", "code"),
+    ("fisrt", "first"),
+    ("fristt", "first"),
+    ("netwrok", "network"),
+    ("station", ""),
+];
+
+/// The lines that name the unknown keys of a station that has one more key.
+fn lines_with_key(alloc: Global, key: &str) -> Result<Vec<u8>, Fail> {
+    let text = format!(in alloc; "{ONE_STATION}{key} = 1\n")?;
+    let config = Config::read(alloc, text.as_bytes())?;
+    Ok(unknown_keys(alloc, &config, text.as_bytes())?)
+}
+
+/// The line of a key that is not known, and of the one that is nearest.
+fn line_with_key(alloc: Global, key: &str, near: &str) -> Result<String, AllocError> {
+    if near.is_empty() {
+        return Ok(format!(in alloc; "seedlinkd: unknown key {key}, station 1 GE APE\n")?);
+    }
+    Ok(format!(in alloc; "seedlinkd: unknown key {key}, station 1 GE APE; did you mean {near}?\n")?)
+}
+
+#[test]
+fn the_nearest_known_key_is_named(rt: HostRuntime) -> Result<(), Fail> {
+    for (key, near) in &NEAR {
+        let lines = lines_with_key(rt.alloc(), key)?;
+        let line = line_with_key(rt.alloc(), key, near)?;
+        assert!(rt; lines.as_slice() == line.as_bytes(), "{key}");
+    }
     Ok(())
 }
 
