@@ -4,11 +4,13 @@
 #![tactic(auto)]
 
 mod centre;
+mod polls;
 mod records;
 mod stage;
 mod visitor;
 
 pub use centre::{CENTRE, Centre, any_port, at_centre, at_limited_centre, connect};
+pub use polls::close_polls;
 pub use records::{packet, record};
 pub use stage::{Actor, Stage, StageListener, StageStream};
 pub use test_centre::GREETING;

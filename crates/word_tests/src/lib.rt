@@ -8,6 +8,8 @@ mod clients_by_words;
 #[cfg(test)]
 mod failing_jobs;
 #[cfg(test)]
+mod failing_polls;
+#[cfg(test)]
 mod followers;
 #[cfg(test)]
 mod outcome;
