@@ -1,16 +1,22 @@
 -- What the loop says that it decides.
 -- The loop is this project's own. Left out: whether anybody hears it.
-use Rattle.std.specs.Prelude.{◌≡◌, ◌≢◌, ℕ, ◌<◌, ◌≤◌, Bool, true, List, [], ◌∷◌, length, Option, Result, Ok, Err}
+use Rattle.std.specs.Prelude.{◌≡◌, ◌≢◌, ℕ, ◌<◌, ◌≤◌, Bool, true, List, [], ◌∷◌, length, slice_index, Option, Result, Ok}
+use Rattle.std.specs.Prelude.{Err}
 use Rattle.protocol.specs.Catalog.{Config}
 use Rattle.protocol.specs.World.{World}
-use Rattle.server_core.specs.Arrivals.{answer_to, arrive_reason}
+use Rattle.protocol.specs.Record.{record_reason}
+use Rattle.protocol.specs.declared.reason.Reason.TheVariants as reason
+use Rattle.server_core.specs.Arrivals.{answer_to}
 use Rattle.server_core.specs.declared.arrivals.ArriveFault.{ArriveFault}
-use Rattle.server_core.specs.declared.arrivals.ArriveFault.TheVariants.{Exhausted}
+use Rattle.server_core.specs.declared.arrivals.ArriveFault.TheVariants.{Exhausted, Record, UnknownStation}
 use Rattle.ports.specs.Decisions.{Decides}
 use Rattle.ports.specs.declared.decisions.AwayReason.TheVariants.{Feeds, Memory, MaxConnections}
 use Rattle.ports.specs.declared.decisions.Decision.{Decision}
 use Rattle.ports.specs.declared.decisions.Decision.TheVariants.{LetIn, Refused, TurnedAway}
 use Rattle.ports.specs.declared.decisions.Party.TheVariants.{Client, Feed}
+use Rattle.ports.specs.declared.decisions.RecordCodes.{RecordCodes}
+use Rattle.ports.specs.declared.decisions.Refusal.{Refusal}
+use Rattle.ports.specs.declared.decisions.Refusal.TheVariants.{Other, Unknown}
 use Rattle.event_loop.specs.declared.seat.Seat.{Seat}
 use Rattle.event_loop.specs.Hearing.{clients_in, feeds_in, is_seated}
 
@@ -34,14 +40,27 @@ pub data FeedDecided (port : ℕ) (ss ss' : List Seat) (old new : Option (List (
       → FeedDecided port ss ss' old new
   let_in : length ss < length ss' → Decides old new ((port, LetIn Feed) ∷ []) → FeedDecided port ss ss' old new
 
+-- the codes of a record's station, by its bytes
+abbrev pub codes_in : List ℕ → RecordCodes
+codes_in r = record {
+  network = slice_index r 18 ∷ slice_index r 19 ∷ [];
+  station = slice_index r 8 ∷ slice_index r 9 ∷ slice_index r 10 ∷ slice_index r 11 ∷ slice_index r 12 ∷ [];
+}
+
+-- why a record is refused, by the fault that answers it
+abbrev pub refusal_of : ArriveFault → List ℕ → Refusal
+refusal_of UnknownStation r = Unknown (codes_in r)
+refusal_of (Record f) r = Other (record_reason f)
+refusal_of Exhausted r = Other reason.Exhausted
+
 -- what is said of a record that a port gave, by the answer to it
-abbrev pub decided_of : (port : ℕ) → Result ℕ ArriveFault → List (ℕ × Decision)
-decided_of port (Ok number) = []
-decided_of port (Err fault) = (port, Refused (arrive_reason fault)) ∷ []
+abbrev pub decided_of : (port : ℕ) → List ℕ → Result ℕ ArriveFault → List (ℕ × Decision)
+decided_of port r (Ok number) = []
+decided_of port r (Err fault) = (port, Refused (refusal_of fault r)) ∷ []
 
 -- What is said of a record: nothing if it is taken, and else why it is refused.
 pub record RecordDecided (config : Config) (w : World) (bytes : List ℕ) (port : ℕ)
     (old new : Option (List (ℕ × Decision))) : Type 0 where
   pub answer : Result ℕ ArriveFault
   pub is : answer ≢ Err Exhausted → answer ≡ answer_to config w.history bytes
-  pub decides : Decides old new (decided_of port answer)
+  pub decides : Decides old new (decided_of port bytes answer)

@@ -3,7 +3,7 @@ ghost use Rattle.std.specs.Prelude.{◌≡◌, ℕ, ◌<◌, ◌≤◌, Bool, []
 ghost use Rattle.protocol.specs.Catalog.{Config};
 ghost use Rattle.protocol.specs.World.{World};
 ghost use Rattle.server_core.specs.ServerValues.{StandsAt};
-ghost use Rattle.event_loop.specs.Decided.{RecordDecided};
+ghost use Rattle.event_loop.specs.Decided.{RecordDecided, codes_in, refusal_of};
 ghost use Rattle.event_loop.specs.Deeds.{Tally};
 ghost use Rattle.event_loop.specs.Feeding.{Arrives, FeedReads, fed, feed_seat, feed_tally};
 ghost use Rattle.event_loop.specs.Going.{Once, Whole, if_open};
@@ -12,8 +12,30 @@ ghost use Rattle.event_loop.specs.Sleeping.{IsQuiet};
 use crate::deciding::end;
 use crate::passes::Onward;
 use feeder::{FeedCutter, Feeding};
-use ports::{Decision, Ending, Got, PortFault, Ports};
-use server_core::Server;
+use ports::{Decision, Ending, Got, PortFault, Ports, RecordCodes, Refusal};
+use protocol::reason::Reason;
+use server_core::{ArriveFault, Server};
+
+/// The codes of a record's station, as they stand in its header.
+fn codes_in(record: &[u8; 512]) -> RecordCodes
+    ensures { result ≡ codes_in record.now }
+{
+    RecordCodes {
+        network: [record[18], record[19]],
+        station: [record[8], record[9], record[10], record[11], record[12]],
+    }
+}
+
+/// Why a record is refused, by the fault that answers it.
+fn refusal_of(fault: ArriveFault, record: &[u8; 512]) -> Refusal
+    ensures { result ≡ refusal_of fault record.now }
+{
+    match fault {
+        ArriveFault::UnknownStation => Refusal::Unknown(codes_in(record)),
+        ArriveFault::Record(fault) => Refusal::Other(fault.reason()),
+        ArriveFault::Exhausted => Refusal::Other(Reason::Exhausted),
+    }
+}
 
 /// A record of a feed's port arrives. One that is refused is counted, and it is said why. It is told whether one was
 /// accepted.
@@ -37,7 +59,7 @@ fn take_record<P: Ports>(
         Ok(_) => *brought = true,
         Err(fault) => {
             *refused = refused.saturating_add(1);
-            ports.tell(port, Decision::Refused(fault.reason()));
+            ports.tell(port, Decision::Refused(refusal_of(fault, whole)));
         }
     }
 }

@@ -191,7 +191,8 @@ fn pass_all<P: Ports>(
     }
 }
 
-/// A server over ports. It goes on by turns, and a turn allocates only when a port joins.
+/// A server over ports. It goes on by turns, and a turn allocates when a port joins, and where more clients are marked
+/// than ever before; if there is no memory for that, all ports are woken.
 #[derive(Drop)]
 pub struct Loop<P: Ports> {
     server: Server,

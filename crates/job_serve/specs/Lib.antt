@@ -1,3 +1,4 @@
 pub mod Admitting
+pub mod Refusals
 pub mod Serving
 pub mod Timetables

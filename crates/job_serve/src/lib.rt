@@ -6,6 +6,7 @@ mod admitting;
 mod descriptors;
 mod numbers;
 mod operator;
+mod refusals;
 mod sockets;
 mod spare;
 mod timetable;

@@ -14,7 +14,7 @@ use job_base::{ServerAddress, checked_config_at, plain_at, server_of};
 use logged_ports::LoggedPorts;
 use serving::ServeFault;
 use socket_ports::{Admission, MioPorts};
-use std::alloc::{AllocError, Global};
+use std::alloc::AllocError;
 use std::fs::File;
 use std::net::Net;
 use std::rt::{Clock, Files};
@@ -109,17 +109,18 @@ fn run<'a, R: Files<File = File> + Eprint + Clock + AllocGlobal>(
 const FEEDS: usize = 16;
 
 /// Ports that tell who comes and goes, and how many records of each feed were refused.
-fn ports_that_log<'l, D: Device + Drop>(
-    alloc: Global,
+fn ports_that_log<'r, 'l, R: AllocGlobal, D: Device + Drop>(
+    rt: &'r R,
     config: &Config,
     ports: MioPorts,
     lines: &'l SharedLines<D>,
-) -> Result<LoggedPorts<MioPorts, VisitLines<'l, D>>, AllocError>
+) -> Result<LoggedPorts<MioPorts, VisitLines<'r, 'l, R, D>>, AllocError>
     ensures inner { IfOk result (λ logged. logged.inner ≡ ports) }
     ensures room { IfOk result (λ logged. logged.visitors.room ≡ config.now.max_connections + 16) }
 {
     let room = config.max_connections() + FEEDS;
-    LoggedPorts::new(alloc, ports, room, VisitLines::new(lines))
+    let journal = VisitLines::new(rt, rt.alloc(), lines)?;
+    LoggedPorts::new(rt.alloc(), ports, room, journal)
 }
 
 /// The same, and tells who comes and goes.
@@ -131,7 +132,7 @@ fn run_logged<'a, R: Files<File = File> + Clock + AllocGlobal, D: Device + Drop>
     numbers: Option<NumberFile<'a>>,
     lines: &SharedLines<D>,
 ) -> Result<MioPorts, Incident<'a>> {
-    let Ok(logged) = ports_that_log(rt.alloc(), &config, ports, lines) else {
+    let Ok(logged) = ports_that_log(rt, &config, ports, lines) else {
         return Err(Incident {
             failure: Failure::Serve(ServeFault::OutOfMemory),
             site: Site::Unnamed,

@@ -2,10 +2,14 @@
 ghost use Rattle.std.specs.Prelude.{[], ◌∷◌, None};
 ghost use Rattle.logged_ports.specs.Visits.{Notes};
 
+use crate::refusals::{RefusalLog, RefusedLine, RefusedText};
 use error_lines::{Device, ErrorLines, Line};
 use logged_ports::{Journal, Visit};
+use ports::Refusal;
+use std::alloc::{AllocError, Global};
 use std::cell::RefCell;
-use std::fmt::Write;
+use std::fmt::{Display, Write};
+use std::rt::Clock;
 
 /// Lines to a device that several parts of a server write.
 #[derive(Drop)]
@@ -29,27 +33,76 @@ impl<D: Device> SharedLines<D> {
     }
 }
 
-/// A journal whose entries are lines, as `seedlinkd: open 17 10.0.0.7`.
+/// A journal whose entries are lines, as `seedlinkd: open 17 10.0.0.7`. Of records that were refused it writes one for
+/// each cause of a feed, and for each unknown station one an hour.
 #[derive(Drop)]
-pub struct VisitLines<'l, D> {
+pub struct VisitLines<'r, 'l, R, D> {
+    rt: &'r R,
     lines: &'l SharedLines<D>,
+    refusals: RefusalLog,
 }
 
-impl<'l, D> VisitLines<'l, D> {
-    pub fn new(lines: &'l SharedLines<D>) -> VisitLines<'l, D> {
-        VisitLines { lines }
+impl<'r, 'l, R, D> VisitLines<'r, 'l, R, D> {
+    /// A journal that wrote nothing yet. It fails only for want of memory.
+    pub fn new(
+        rt: &'r R,
+        alloc: Global,
+        lines: &'l SharedLines<D>,
+    ) -> Result<VisitLines<'r, 'l, R, D>, AllocError> {
+        let refusals = RefusalLog::new(alloc)?;
+        Ok(VisitLines {
+            rt,
+            lines,
+            refusals,
+        })
     }
 }
 
-impl<'l, D: Device> Journal for VisitLines<'l, D> {
+/// A line of the server's log.
+fn line_of(text: impl Display + Drop) -> Line {
+    let mut line = Line::new();
+    let _ = write!(line, "seedlinkd: {text}");
+    line
+}
+
+impl<'r, 'l, R: Clock, D: Device> VisitLines<'r, 'l, R, D> {
+    /// A record of a feed was refused, of which the visit tells.
+    fn note_refused(&mut self, visit: &Visit, port: u64, refusal: Refusal) {
+        let now = match self.rt.monotonic() {
+            Ok(now) => u64::try_from(now.as_millis()).unwrap_or(u64::MAX),
+            Err(_) => 0,
+        };
+        match self.refusals.see(port, refusal, now) {
+            Some(RefusedLine::First) => self.lines.write_line(&line_of(visit)),
+            Some(more) => self.lines.write_line(&line_of(RefusedText(more))),
+            None => {}
+        }
+    }
+}
+
+impl<'r, 'l, R: Clock, D: Device> Journal for VisitLines<'r, 'l, R, D> {
     // What the standard error takes, no contract can say.
     ghost noted = { λ _. None };
 
     fn note(&mut self, visit: Visit)
         ensures { Notes None None (visit ∷ []) }
     {
-        let mut line = Line::new();
-        let _ = write!(line, "seedlinkd: {visit}");
-        self.lines.write_line(&line);
+        match visit {
+            Visit::Refused {
+                port,
+                record: _,
+                refusal,
+            } => self.note_refused(&visit, port, refusal),
+            Visit::FeedOver {
+                port,
+                address: _,
+                records: _,
+                refused: _,
+            } => {
+                self.refusals.forget(port);
+                self.lines.write_line(&line_of(visit));
+            }
+            _ => self.lines.write_line(&line_of(visit)),
+        }
     }
 }

@@ -13,8 +13,8 @@ use Rattle.logged_ports.specs.declared.traffic.Traffic.{Traffic}
 use Rattle.logged_ports.specs.declared.visit.Visit.{Visit}
 use Rattle.logged_ports.specs.declared.visit.Visit.TheVariants as visit
 use Rattle.logged_ports.specs.declared.visitor.Visitor.{Visitor}
-use Rattle.logged_ports.specs.Visitors.{VisitorsValue, fresh, is_at, refusing, with_traffic}
-use Rattle.logged_ports.specs.Visitors.{with_visitor, without}
+use Rattle.logged_ports.specs.Visitors.{VisitorsValue, fresh, is_at, records_given, refusing}
+use Rattle.logged_ports.specs.Visitors.{with_traffic, with_visitor, without}
 
 -- ---- what goes over a port
 
@@ -34,12 +34,12 @@ abbrev pub decided_visitors : (port : ℕ) → Decision → Ipv4Addr → Visitor
 decided_visitors port (LetIn party) address v = with_visitor (fresh port party address) v
 decided_visitors port (TurnedAway reason) address v = v
 decided_visitors port (Ends ending) address v = record v { present = without port v.present }
-decided_visitors port (Refused reason) address v = counted_at port refusing v
+decided_visitors port (Refused refusal) address v = counted_at port refusing v
 
 -- what is noted of whoever was at a port: of a client the bytes that it took, of a feed the whole records that it gave
 abbrev pub over_by : Party → Visitor → Visit
 over_by Client v = visit.Close v.port v.address v.traffic.taken
-over_by Feed v = visit.FeedOver v.port (v.traffic.given / 512) v.traffic.refused
+over_by Feed v = visit.FeedOver v.port v.address (v.traffic.given / 512) v.traffic.refused
 
 abbrev pub over_of : Visitor → Visit
 over_of v = over_by v.party v
@@ -57,4 +57,5 @@ abbrev pub decided_notes : (port : ℕ) → Decision → Ipv4Addr → VisitorsVa
 decided_notes port (LetIn party) address v = opened_by party port address ∷ []
 decided_notes port (TurnedAway reason) address v = visit.Away (record { address = address; reason = reason }) ∷ []
 decided_notes port (Ends ending) address v = over_if (find (is_at port) v.present)
-decided_notes port (Refused reason) address v = []
+decided_notes port (Refused refusal) address v =
+    visit.Refused port (records_given (find (is_at port) v.present)) refusal ∷ []

@@ -1,6 +1,6 @@
 -- Who is connected.
 -- Ports are this project's own.
-use Rattle.std.specs.Prelude.{◌≡◌, ℕ, ◌+◌, ◌-◌, ◌^◌, ◌<◌, ◌≤◌, ◌==◌, ◌&&◌, nat_lt, not, Bool, true, if◌then◌else◌}
+use Rattle.std.specs.Prelude.{◌≡◌, ℕ, ◌+◌, ◌-◌, ◌/◌, ◌^◌, ◌<◌, ◌≤◌, ◌==◌, ◌&&◌, nat_lt, not, Bool, true, if◌then◌else◌}
 use Rattle.std.specs.Prelude.{List, [], ◌∷◌, ◌++◌, length, min, slice_index_or, Option, Some, None}
 use Rattle.std.specs.List.{filter}
 use Rattle.std.specs.declared.net.ipv4_addr.Ipv4Addr.{Ipv4Addr}
@@ -60,6 +60,11 @@ is_at port visitor = visitor.port == port
 abbrev pub with_traffic : (port : ℕ) → Traffic → Visitor → Visitor
 with_traffic port more visitor =
     if visitor.port == port then record visitor { traffic = joined_traffic visitor.traffic more } else visitor
+
+-- how many whole records somebody gave
+abbrev pub records_given : Option Visitor → ℕ
+records_given None = 0
+records_given (Some v) = v.traffic.given / 512
 
 -- all but those at a port
 abbrev pub without : ℕ → List Visitor → List Visitor

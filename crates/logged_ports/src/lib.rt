@@ -22,7 +22,7 @@ mod visitors;
 pub use logging::LoggedPorts;
 use ports::Ports;
 use std::net::Ipv4Addr;
-pub use visit::{Away, Visit};
+pub use visit::{Away, ShownCodes, Visit};
 
 /// Ports that know from where connections come, and that may turn some away before they join.
 pub trait Doors: Ports {

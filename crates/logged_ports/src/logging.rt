@@ -88,7 +88,15 @@ fn decide<J: Journal>(
         Decision::LetIn(party) => let_in(visitors, journal, port, party, address),
         Decision::TurnedAway(reason) => journal.note(Visit::Away(Away { address, reason })),
         Decision::Ends(_) => let_go(visitors, journal, port),
-        Decision::Refused(_) => visitors.count(port, Traffic::refused_record()),
+        Decision::Refused(refusal) => {
+            let record = visitors.records(port);
+            visitors.count(port, Traffic::refused_record());
+            journal.note(Visit::Refused {
+                port,
+                record,
+                refusal,
+            });
+        }
     }
 }
 

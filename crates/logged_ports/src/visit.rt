@@ -1,5 +1,5 @@
 //! What is noted of visits.
-use ports::AwayReason;
+use ports::{AwayReason, RecordCodes, Refusal};
 use std::fmt::{self, Display, Formatter, Write};
 use std::net::Ipv4Addr;
 
@@ -31,18 +31,77 @@ pub enum Visit {
         port: u64,
         address: Ipv4Addr,
     },
+    /// A record that a feed gave was refused: the so-manieth whole one, from 1 on.
+    Refused {
+        port: u64,
+        record: u64,
+        refusal: Refusal,
+    },
     /// A feed's port was shut, after it gave so many whole records of 512 bytes, of which so many were refused; at most
     /// 2^64 - 1 of each.
     FeedOver {
         port: u64,
+        address: Ipv4Addr,
         records: u64,
         refused: u64,
     },
 }
 
+/// Writes a code without the spaces behind it. A byte that doesn't print is shown as `?`.
+fn put_code<W: Write>(f: &mut Formatter<W>, code: &[u8]) -> fmt::Result {
+    for byte in code.trim_ascii_end() {
+        f.write_char(if byte.is_ascii_graphic() {
+            char::from(*byte)
+        } else {
+            '?'
+        })?;
+    }
+    Ok(())
+}
+
+/// The codes of a record, as `GE WLF`.
+#[derive(Clone, Copy, Drop)]
+pub struct ShownCodes(pub RecordCodes);
+
+impl Display for ShownCodes {
+    fn fmt<W: Write>(&self, f: &mut Formatter<W>) -> fmt::Result {
+        let codes = &self.0;
+        put_code(f, &codes.network)?;
+        f.write_char(' ')?;
+        put_code(f, &codes.station)
+    }
+}
+
+/// Writes why a record of a feed was refused.
+fn put_refusal<W: Write>(
+    f: &mut Formatter<W>,
+    port: u64,
+    record: u64,
+    refusal: &Refusal,
+) -> fmt::Result {
+    match refusal {
+        Refusal::Unknown(codes) => {
+            let codes = ShownCodes(*codes);
+            write!(
+                f,
+                "feed {port} refused {codes}, an unknown station, first at record {record}"
+            )
+        }
+        Refusal::Other(reason) => {
+            let number = reason.number();
+            let name = reason.name();
+            write!(
+                f,
+                "feed {port} refused {number} {name}, first at record {record}"
+            )
+        }
+    }
+}
+
 impl Display for Visit {
-    /// As `open 17 10.0.0.7`, `away 10.0.0.7 max_connections`, `close 17 10.0.0.7 bytes 52000`, `feed 3 10.0.0.2` and
-    /// `feed 3 over records 120 refused 2`.
+    /// As `open 17 10.0.0.7`, `away 10.0.0.7 max_connections`, `close 17 10.0.0.7 bytes 52000`, `feed 3 10.0.0.2`,
+    /// `feed 3 refused 6 Length, first at record 17`, `feed 3 refused GE WLF, an unknown station, first at record 2` and
+    /// `feed 3 over 10.0.0.2 records 120 refused 2`.
     fn fmt<W: Write>(&self, f: &mut Formatter<W>) -> fmt::Result {
         match self {
             Visit::Open { port, address } => write!(f, "open {port} {address}"),
@@ -56,11 +115,20 @@ impl Display for Visit {
                 bytes,
             } => write!(f, "close {port} {address} bytes {bytes}"),
             Visit::Feed { port, address } => write!(f, "feed {port} {address}"),
+            Visit::Refused {
+                port,
+                record,
+                refusal,
+            } => put_refusal(f, *port, *record, refusal),
             Visit::FeedOver {
                 port,
+                address,
                 records,
                 refused,
-            } => write!(f, "feed {port} over records {records} refused {refused}"),
+            } => write!(
+                f,
+                "feed {port} over {address} records {records} refused {refused}"
+            ),
         }
     }
 }

@@ -9,7 +9,7 @@ use ports::Party;
 use std::net::Ipv4Addr;
 
 /// How long a record is.
-const RECORD: u64 = 512;
+pub const RECORD: u64 = 512;
 
 /// Who is at a port, and what went over it.
 #[derive(Clone, Copy, Drop)]
@@ -51,6 +51,7 @@ impl Visitor {
             },
             Party::Feed => Visit::FeedOver {
                 port,
+                address,
                 records: traffic.given / RECORD,
                 refused: traffic.refused,
             },

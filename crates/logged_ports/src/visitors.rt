@@ -1,10 +1,10 @@
 //! Who is connected.
 ghost use Rattle.std.specs.Prelude.{◌≡◌, ◌≤◌, ◌<◌, [], None, IfErr, IfOk, find, map};
 ghost use Rattle.logged_ports.specs.Visitors.{IsGapFor, IsVisitorAt, Rise, is_at, is_next, with_traffic, with_visitor};
-ghost use Rattle.logged_ports.specs.Visitors.{without};
+ghost use Rattle.logged_ports.specs.Visitors.{records_given, without};
 
 use crate::traffic::Traffic;
-use crate::visitor::Visitor;
+use crate::visitor::{RECORD, Visitor};
 use std::alloc::{AllocError, Global};
 use std::marker::Model;
 
@@ -84,6 +84,16 @@ impl Visitors {
         ensures { self.new ≡ record self.old { present = map (with_traffic port more) self.old.present } }
     {
         count(self.present.as_mut_slice(), port, more);
+    }
+
+    /// How many whole records a port gave, if somebody is there, and else 0.
+    pub fn records(&self, port: u64) -> u64
+        ensures { result ≡ records_given (find (is_at port) self.now.present) }
+    {
+        match place_of(self.present.as_slice(), port) {
+            Ok(at) => self.present[at].traffic.given / RECORD,
+            Err(_) => 0,
+        }
     }
 
     /// Who was at a port, if somebody was. Nobody is there any more.

@@ -77,7 +77,8 @@ fn those_who_come_and_go_are_noted(rt: HostRuntime) -> Result<(), Fail> {
     let lines = noted(rt.alloc(), &VISITS, scripts, Vec::new(rt.alloc()), 2)?;
     assert_eq!(rt;
         lines.as_str(),
-        "open 0 10.0.0.7\nopen 1 172.16.0.9\nfeed 2 10.0.0.2\nfeed 2 over records 2 refused 2\n\
+        "open 0 10.0.0.7\nopen 1 172.16.0.9\nfeed 2 10.0.0.2\nfeed 2 refused 1 Sequence, first at record 1\n\
+        feed 2 refused 1 Sequence, first at record 2\nfeed 2 over 10.0.0.2 records 2 refused 2\n\
         close 0 10.0.0.7 bytes 45\n"
     );
     Ok(())
@@ -108,7 +109,8 @@ fn refused_records_of_a_feed_are_noted(rt: HostRuntime) -> Result<(), Fail> {
     )?;
     assert_eq!(rt;
         lines.as_str(),
-        "feed 2 10.0.0.2\nfeed 2 over records 3 refused 2\n"
+        "feed 2 10.0.0.2\nfeed 2 refused ZZ SHUT, an unknown station, first at record 2\n\
+        feed 2 refused 1 Sequence, first at record 3\nfeed 2 over 10.0.0.2 records 3 refused 2\n"
     );
     Ok(())
 }

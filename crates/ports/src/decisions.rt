@@ -47,6 +47,22 @@ pub enum Ending {
     Complete,
 }
 
+/// The codes of a record's station, as they stand in its header: with spaces behind them up to two and five bytes.
+#[derive(Clone, Copy, Drop)]
+pub struct RecordCodes {
+    pub network: [u8; 2],
+    pub station: [u8; 5],
+}
+
+/// Why a record is refused.
+#[derive(Clone, Copy, Drop)]
+pub enum Refusal {
+    /// No station has its codes.
+    Unknown(RecordCodes),
+    /// Another reason.
+    Other(Reason),
+}
+
 /// What is decided of a port.
 #[derive(Clone, Copy, Drop)]
 pub enum Decision {
@@ -57,5 +73,5 @@ pub enum Decision {
     /// The port is shut next.
     Ends(Ending),
     /// A record of 512 bytes that it gave is refused.
-    Refused(Reason),
+    Refused(Refusal),
 }

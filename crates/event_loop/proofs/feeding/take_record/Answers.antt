@@ -51,7 +51,7 @@ pub returns-in-Err-clause-decides : goal.returns-in-Err-clause-decides
 returns-in-Err-clause-decides g c = λ config w stands. record {
   answer = c.arrive.result;
   is = λ e. c.arrive.ensures.answer e config w stands;
-  decides = rw (c.in-Err.is, ← c.reason.ensures) c.tell.ensures.decides;
+  decides = rw (c.in-Err.is, ← c.refusal_of.ensures) c.tell.ensures.decides;
 }
 
 pub returns-in-Ok-clause-decides : goal.returns-in-Ok-clause-decides
