@@ -34,6 +34,8 @@ mod random_records;
 #[cfg(test)]
 mod reasons;
 #[cfg(test)]
+mod runs;
+#[cfg(test)]
 mod selectors;
 #[cfg(test)]
 mod sequence_numbers;

@@ -1,30 +1,47 @@
 //! Records that are read into an archive.
-ghost use Rattle.std.specs.Prelude.{None};
+ghost use Rattle.std.specs.Prelude.{◌≡◌, None};
+ghost use Rattle.std.specs.Io.{WritesAtMost};
+ghost use Rattle.sl_io.specs.Counts.{CountsEmptyWrite};
 
 use crate::clock::milliseconds;
 use crate::notices::{ErrorTeller, Notice, Teller};
+use crate::torn::tell_torn;
 use crate::unplaced::UnplacedCount;
 use incidents::{Failure, Incident};
-use job_base::unopened;
+use job_base::{descriptor_limit, unopened};
 use packet_listing::Nowhere;
-use record_archive::{Archive, ArchiveFault, DiskFolders, StationCodes, TopFault};
+use record_archive::{
+    Archive, ArchiveFault, ContinuedFiles, ContinuedOutput, DiskFiles, FileLength, FilePlace,
+    ONE_FILE, RecordFiles, StationCodes, StationLocks, TopFault, Unnamed, lock_stations,
+};
 use sl_io::{DeviceFault, Outer, Sink};
 use slreader::Want;
 use std::alloc::{AllocError, Global};
+use std::cell::RefCell;
 use std::fs::File;
-use std::io;
+use std::io::{self, Write};
+use std::num::NonZeroUsize;
 use std::rt::{Clock, Files};
 
 /// An archive on the disk.
-type DiskArchive<'r, R> = Archive<DiskFolders<'r, R>>;
+type DiskArchive<'r, R> = Archive<ContinuedFiles<DiskFiles<'r, R>>>;
 
-/// An archive of which it is told how many records have no place.
+/// How many files an archive keeps open at most.
+const MOST_OPEN: u64 = 1_024;
+
+/// How many of the descriptors that the program may have an archive leaves to others, beside the locks.
+const OTHERS: u64 = 64;
+
+/// An archive of which it is told how many records have no place, and which files had a torn end.
 #[derive(Drop)]
-pub struct ToldArchive<'r, R: Files<File = File>> {
+pub struct ToldArchive<'r, R: Files<File = File> + Clock> {
     rt: &'r R,
-    archive: DiskArchive<'r, R>,
+    archive: RefCell<DiskArchive<'r, R>>,
+    _locks: StationLocks,
     teller: ErrorTeller<'r, R>,
     count: UnplacedCount,
+    failures: u64,
+    calls: u64,
 }
 
 /// The stations of wants.
@@ -36,90 +53,283 @@ fn stations_of(alloc: Global, wants: &[Want<'_>]) -> Result<Vec<StationCodes>, A
     Ok(stations)
 }
 
-/// The archive below a folder of records of the stations that are wanted, to which nobody else adds records meanwhile.
-/// If they are to last, each can be put on the disk.
-pub fn archive_at<'r, 'a: 'r, R: Files<File = File> + AllocGlobal>(
+/// How many files an archive of so many stations keeps open, by how many descriptors the program may have.
+fn open_count(limit: Option<u64>, stations: usize) -> NonZeroUsize {
+    let others = OTHERS.saturating_add(stations as u64);
+    let most = limit
+        .unwrap_or(MOST_OPEN)
+        .saturating_sub(others)
+        .min(MOST_OPEN);
+    let most = usize::try_from(most).unwrap_or(0);
+    NonZeroUsize::new(most).unwrap_or(NonZeroUsize::MIN)
+}
+
+/// Files at a place, in which a reader goes on after what a state says of them. Without a state nothing has to last, and
+/// what stands in a file is not handed again.
+pub fn files_at<'r, 'a: 'r, R: Files<File = File> + Clock + AllocGlobal>(
+    rt: &'r R,
+    place: FilePlace<'a>,
+    stations: usize,
+    named: Option<Vec<FileLength>>,
+    unnamed: Unnamed,
+) -> Result<ContinuedFiles<DiskFiles<'r, R>>, Incident<'a>> {
+    let open = open_count(descriptor_limit(), stations);
+    let Ok(files) = DiskFiles::new(rt, rt.alloc(), place, open, named.is_some()) else {
+        return Err(Incident::from(Failure::OutOfMemory));
+    };
+    Ok(match named {
+        Some(named) => ContinuedFiles::new(rt.alloc(), files, named, unnamed),
+        None => ContinuedFiles::new(rt.alloc(), files, Vec::new(rt.alloc()), Unnamed::Kept),
+    })
+}
+
+/// The archive below a folder of records of the stations that are wanted, to which nobody else adds records of these
+/// meanwhile. With a state it goes on after the lengths of files that that names, and can be made to last.
+pub fn archive_at<'r, 'a: 'r, R: Files<File = File> + Clock + AllocGlobal>(
     rt: &'r R,
     top: &'a str,
-    are_to_last: bool,
+    named: Option<Vec<FileLength>>,
     wants: &[Want<'_>],
 ) -> Result<ToldArchive<'r, R>, Incident<'a>> {
     let Ok(stations) = stations_of(rt.alloc(), wants) else {
         return Err(Incident::from(Failure::OutOfMemory));
     };
-    let folders = folders_at(rt, top, are_to_last)?;
+    let locks = locks_at(rt, top, &stations)?;
+    let place = FilePlace::Below(top);
+    let files = files_at(rt, place, stations.len(), named, Unnamed::Tail)?;
     Ok(ToldArchive {
         rt,
-        archive: Archive::new(rt.alloc(), folders, stations),
+        archive: RefCell::new(Archive::new(rt.alloc(), files, stations)),
+        _locks: locks,
         teller: ErrorTeller::new(rt),
         count: UnplacedCount::new(),
+        failures: 0,
+        calls: 0,
     })
 }
 
-/// The folders below one.
-fn folders_at<'r, 'a: 'r, R: Files<File = File> + AllocGlobal>(
-    rt: &'r R,
+/// The locks of stations below a folder.
+fn locks_at<'a, R: Files<File = File> + AllocGlobal>(
+    rt: &R,
     top: &'a str,
-    are_to_last: bool,
-) -> Result<DiskFolders<'r, R>, Incident<'a>> {
-    match DiskFolders::open(rt, rt.alloc(), top) {
-        Ok(folders) if are_to_last => Ok(folders.to_last()),
-        Ok(folders) => Ok(folders),
+    stations: &[StationCodes],
+) -> Result<StationLocks, Incident<'a>> {
+    match lock_stations(rt, rt.alloc(), top, stations) {
+        Ok(locks) => Ok(locks),
         Err(TopFault::Unopened(reason)) => Err(unopened(top, reason)),
         Err(TopFault::Locked) => Err(unopened(top, added_to_by_another())),
     }
 }
 
-/// What is said of an archive that is locked.
+/// What is said of an archive of which a station is locked.
 fn added_to_by_another() -> io::Error {
-    io::Error::new(io::ErrorKind::ResourceBusy, "another reader adds to it")
+    io::Error::new(
+        io::ErrorKind::ResourceBusy,
+        "another reader adds records of one of these stations",
+    )
 }
 
 /// Why records could not be added to an archive, if that is what ended the reading.
-pub fn at_archive<'r, 'a, R: Files<File = File>>(
+pub fn at_archive<'r, 'a, R: Files<File = File> + Clock>(
     incident: Incident<'a>,
     archive: DiskArchive<'r, R>,
     top: &'a str,
 ) -> Incident<'a> {
+    let mut archive = archive;
     match archive.fault() {
         Some(ArchiveFault::OutOfMemory) => Incident::from(Failure::OutOfMemory),
-        Some(ArchiveFault::Folder) => incident.at_output(top, archive.into_folders().into_reason()),
+        Some(ArchiveFault::Folder) => incident.at_output(top, archive.take_reason()),
         None => incident,
     }
 }
 
-impl<'r, R: Files<File = File> + Eprint> ToldArchive<'r, R> {
+impl<'r, R: Files<File = File> + Eprint + Clock> ToldArchive<'r, R> {
     /// Says how many records have no place, if more have none than was told, and no more records come.
     pub fn end(self) -> DiskArchive<'r, R> {
         let ToldArchive {
             rt: _,
             archive,
+            _locks: _,
             mut teller,
             count,
+            failures: _,
+            calls: _,
         } = self;
+        let archive = archive.into_inner();
         let unplaced = archive.unplaced();
         if count.is_less(unplaced) {
             teller.tell(&Notice::Unplaced(unplaced));
         }
         archive
     }
+
+    /// Tells of a torn file, and how many records have no place, if that is due.
+    fn tell(&mut self, unplaced: u64, torn: Option<String>)
+        ensures failures { self.new.failures ≡ self.old.failures }
+        ensures calls { self.new.calls ≡ self.old.calls }
+    {
+        if let Some(path) = torn {
+            tell_torn(self.rt, path.as_str());
+        }
+        if self.count.is_less(unplaced) {
+            self.count
+                .tell(unplaced, milliseconds(self.rt), &mut self.teller);
+        }
+    }
+}
+
+/// Writes to an archive, and answers as well how many of its records have no place, and which file was torn.
+fn write_to<'r, R: Files<File = File> + Clock>(
+    archive: &mut DiskArchive<'r, R>,
+    bytes: &[u8],
+) -> (Result<usize, DeviceFault>, u64, Option<String>)
+    ensures bound { WritesAtMost result.0 bytes.now }
+    ensures empty { CountsEmptyWrite 0 0 result.0 bytes.now }
+{
+    let written = archive.write(bytes);
+    let torn = archive.take_torn();
+    (written, archive.unplaced(), torn)
 }
 
 impl<'r, R: Files<File = File> + Eprint + Clock> Sink for ToldArchive<'r, R> {
     ghost written = { λ _. None };
 
-    ghost failures = { λ a. a.archive.failures };
+    ghost failures = { λ a. a.failures };
 
-    ghost calls = { λ a. a.archive.calls };
+    ghost calls = { λ a. a.calls };
 
     ghost empty_writes = { λ _. 0 };
 
     fn write(&mut self, bytes: &[u8]) -> Result<usize, DeviceFault> {
-        let written = self.archive.write(bytes);
-        let unplaced = self.archive.unplaced();
-        if self.count.is_less(unplaced) {
-            self.count
-                .tell(unplaced, milliseconds(self.rt), &mut self.teller);
+        self.calls = self.calls.wrapping_add(1);
+        let (written, unplaced, torn) = write_to(self.archive.get_mut(), bytes);
+        self.tell(unplaced, torn);
+        if written.is_err() {
+            self.failures = self.failures.wrapping_add(1);
+        }
+        written
+    }
+}
+
+/// One file to which a reader adds each record once, of which it is told if it had a torn end.
+#[derive(Drop)]
+pub struct ToldOutput<'r, R: Files<File = File> + Clock> {
+    rt: &'r R,
+    output: RefCell<ContinuedOutput<DiskFiles<'r, R>>>,
+    failures: u64,
+    calls: u64,
+}
+
+/// The file at a path, in which a reader goes on after what a state says of it. If that says nothing, what stands there
+/// is not handed again.
+pub fn output_at<'r, 'a: 'r, R: Files<File = File> + Clock + AllocGlobal>(
+    rt: &'r R,
+    path: &'a str,
+    named: Vec<FileLength>,
+) -> Result<ToldOutput<'r, R>, Incident<'a>> {
+    let files = files_at(rt, FilePlace::At(path), 0, Some(named), Unnamed::Kept)?;
+    Ok(ToldOutput {
+        rt,
+        output: RefCell::new(ContinuedOutput::new(files)),
+        failures: 0,
+        calls: 0,
+    })
+}
+
+impl<'r, R: Files<File = File> + Clock> ToldOutput<'r, R> {
+    /// What the system says of the last call that failed.
+    pub fn into_reason(self) -> Option<io::Error> {
+        self.output.into_inner().take_reason()
+    }
+}
+
+/// Puts the end of a file aside that is no whole record, before records are added to it, and tells that.
+pub fn mend_end<'a, R: Files<File = File> + Eprint + Clock + AllocGlobal>(
+    rt: &R,
+    path: &'a str,
+) -> Result<(), Incident<'a>> {
+    let place = FilePlace::At(path);
+    let Ok(mut files) = DiskFiles::new(rt, rt.alloc(), place, NonZeroUsize::MIN, false) else {
+        return Err(Incident::from(Failure::OutOfMemory));
+    };
+    if files.count(ONE_FILE).is_err() {
+        return Err(unopened(path, unlasting(files.take_reason())));
+    }
+    if let Some(path) = files.take_torn() {
+        tell_torn(rt, path.as_str());
+    }
+    Ok(())
+}
+
+/// A file to which records are added. After a write that failed it is cut to whole records.
+#[derive(Drop)]
+pub struct WholeFile {
+    file: File,
+}
+
+impl WholeFile {
+    /// A file that ends with a whole record.
+    pub fn new(file: File) -> WholeFile {
+        WholeFile { file }
+    }
+
+    /// Cuts off what is no whole record, if it is a plain file and the system can.
+    fn cut_to_whole(&self) {
+        if let Ok(metadata) = self.file.metadata() {
+            let length = metadata.len();
+            if metadata.is_file() {
+                let _ = self.file.set_len(length - length % 512);
+            }
+        }
+    }
+}
+
+impl Write for WholeFile {
+    fn write(&mut self, bytes: &[u8]) -> io::Result<usize> {
+        match self.file.write(bytes) {
+            Ok(count) => Ok(count),
+            Err(reason) => {
+                self.cut_to_whole();
+                Err(reason)
+            }
+        }
+    }
+
+    fn flush(&mut self) -> io::Result<()> {
+        self.file.flush()
+    }
+}
+
+/// Writes to a file, and answers as well whether it was torn.
+fn write_one<'r, R: Files<File = File> + Clock>(
+    output: &mut ContinuedOutput<DiskFiles<'r, R>>,
+    bytes: &[u8],
+) -> (Result<usize, DeviceFault>, Option<String>)
+    ensures bound { WritesAtMost result.0 bytes.now }
+    ensures empty { CountsEmptyWrite 0 0 result.0 bytes.now }
+{
+    let written = output.write(bytes);
+    let torn = output.take_torn();
+    (written, torn)
+}
+
+impl<'r, R: Files<File = File> + Eprint + Clock> Sink for ToldOutput<'r, R> {
+    ghost written = { λ _. None };
+
+    ghost failures = { λ o. o.failures };
+
+    ghost calls = { λ o. o.calls };
+
+    ghost empty_writes = { λ _. 0 };
+
+    fn write(&mut self, bytes: &[u8]) -> Result<usize, DeviceFault> {
+        self.calls = self.calls.wrapping_add(1);
+        let (written, torn) = write_one(self.output.get_mut(), bytes);
+        if let Some(path) = torn {
+            tell_torn(self.rt, path.as_str());
+        }
+        if written.is_err() {
+            self.failures = self.failures.wrapping_add(1);
         }
         written
     }
@@ -127,25 +337,52 @@ impl<'r, R: Files<File = File> + Eprint + Clock> Sink for ToldArchive<'r, R> {
 
 /// Where records are written, as far as they can be made to last there.
 pub trait Lasting {
-    /// Makes all records last that were written so far.
-    fn make_last(&self) -> io::Result<()>;
+    /// Makes all records last that were written so far, and then tells how many records of each file don't come again;
+    /// None where no files are written.
+    fn make_last(&self) -> io::Result<Option<Vec<FileLength>>>;
 }
 
 impl Lasting for Nowhere {
-    fn make_last(&self) -> io::Result<()> {
-        Ok(())
+    fn make_last(&self) -> io::Result<Option<Vec<FileLength>>> {
+        Ok(None)
     }
 }
 
 /// What was written has been handed on.
 impl<T> Lasting for Outer<T> {
-    fn make_last(&self) -> io::Result<()> {
-        Ok(())
+    fn make_last(&self) -> io::Result<Option<Vec<FileLength>>> {
+        Ok(None)
     }
 }
 
-impl<'r, R: Files<File = File>> Lasting for ToldArchive<'r, R> {
-    fn make_last(&self) -> io::Result<()> {
-        self.archive.folders().sync()
+/// What is said of something that could not be made to last, if the system says nothing.
+fn unlasting(reason: Option<io::Error>) -> io::Error {
+    match reason {
+        Some(reason) => reason,
+        None => io::Error::from(io::ErrorKind::Other),
+    }
+}
+
+impl<'r, R: Files<File = File> + Clock> Lasting for ToldArchive<'r, R> {
+    fn make_last(&self) -> io::Result<Option<Vec<FileLength>>> {
+        let Ok(mut archive) = self.archive.try_borrow_mut() else {
+            return Err(unlasting(None));
+        };
+        match archive.last() {
+            Ok(lengths) => Ok(Some(lengths)),
+            Err(_) => Err(unlasting(archive.take_reason())),
+        }
+    }
+}
+
+impl<'r, R: Files<File = File> + Clock> Lasting for ToldOutput<'r, R> {
+    fn make_last(&self) -> io::Result<Option<Vec<FileLength>>> {
+        let Ok(mut output) = self.output.try_borrow_mut() else {
+            return Err(unlasting(None));
+        };
+        match output.last() {
+            Ok(lengths) => Ok(Some(lengths)),
+            Err(_) => Err(unlasting(output.take_reason())),
+        }
     }
 }

@@ -12,6 +12,7 @@ mod notices;
 mod reading;
 mod sides;
 mod states;
+mod torn;
 mod unplaced;
 mod windows;
 

@@ -5,7 +5,7 @@ ghost use Rattle.job_read.specs.Asking.{is_told};
 ghost use Rattle.job_read.specs.Endings.{goes_on, is_mendable, lost, unlisted};
 ghost use Rattle.job_read.specs.Places.{is_last_place, place_after};
 
-use crate::archiving::{Lasting, archive_at, at_archive};
+use crate::archiving::{Lasting, WholeFile, archive_at, at_archive, mend_end, output_at};
 use crate::asking::Renewal;
 use crate::connections::Connections;
 use crate::hearing::{HeardLines, Listener};
@@ -19,6 +19,7 @@ use job_base::{
     unopened,
 };
 use packet_listing::{Break, Keeper, ListingFault, Nowhere, Servers, follow};
+use record_archive::FileLength;
 use record_listing::Times;
 use sl_io::{Outer, Sink};
 use slreader::{ReaderFault, Tally, Want, Window};
@@ -28,7 +29,7 @@ use std::fs::{File, OpenOptions};
 use std::net::Net;
 use std::rt::{Clock, Files};
 use std::time::Duration;
-use std::{io, thread};
+use std::{fs, io, thread};
 
 /// The servers that a word names, with commas between them.
 fn servers_of<'a>(alloc: Global, word: &'a str) -> Result<Vec<ServerAddress<'a>>, Incident<'a>> {
@@ -389,12 +390,62 @@ fn list_and_add<'a, R: Files<File = File> + Print + Eprint + Clock + Net + Alloc
     state: Option<StateFile<'a>>,
     path: &'a str,
 ) -> Result<(), Incident<'a>> {
+    if !is_plain(rt, path) {
+        return list_and_append(rt, reading, state, path);
+    }
+    match state {
+        Some(state) => list_and_go_on(rt, reading, state, path),
+        None => {
+            mend_end(rt, path)?;
+            list_and_append(rt, reading, None, path)
+        }
+    }
+}
+
+/// The same, to whatever the path names.
+fn list_and_append<'a, R: Files<File = File> + Print + Eprint + Clock + Net + AllocGlobal>(
+    rt: &R,
+    reading: &Reading<'a, '_>,
+    state: Option<StateFile<'a>>,
+    path: &'a str,
+) -> Result<(), Incident<'a>> {
     let (file, same) = opened_twice(rt, path)?;
     let lines = Outer::new(io::writer(rt));
-    let mut records = Outer::new(ReasonKeeper::new(file));
+    let mut records = Outer::new(ReasonKeeper::new(WholeFile::new(file)));
     match list_on(rt, reading, state, Some(same), lines, &mut records) {
         Ok(()) => Ok(()),
         Err(incident) => Err(incident.at_output(path, records.into_inner().into_reason())),
+    }
+}
+
+/// The same, to a plain file, in which the reader goes on after what the state says of it: each record is added once.
+fn list_and_go_on<'a, R: Files<File = File> + Print + Eprint + Clock + Net + AllocGlobal>(
+    rt: &R,
+    reading: &Reading<'a, '_>,
+    mut state: StateFile<'a>,
+    path: &'a str,
+) -> Result<(), Incident<'a>> {
+    drop_file(opened_to_add(rt, path)?);
+    state.name_output(rt, path)?;
+    let Ok(lengths) = state.lengths(rt.alloc()) else {
+        return Err(Incident::from(Failure::OutOfMemory));
+    };
+    let mut records = output_at(rt, path, lengths)?;
+    let lines = Outer::new(io::writer(rt));
+    match list_on(rt, reading, Some(state), None, lines, &mut records) {
+        Ok(()) => Ok(()),
+        Err(incident) => Err(incident.at_output(path, records.into_reason())),
+    }
+}
+
+/// A file that was only opened to see whether it can be.
+fn drop_file<F: Drop>(_file: F) {}
+
+/// Whether a path names a plain file, or nothing yet.
+fn is_plain<R: Files>(rt: &R, path: &str) -> bool {
+    match fs::metadata(rt, path) {
+        Ok(found) => found.is_file(),
+        Err(reason) => reason.kind() == io::ErrorKind::NotFound,
     }
 }
 
@@ -405,13 +456,28 @@ fn list_and_archive<'a, R: Files<File = File> + Print + Eprint + Clock + Net + A
     state: Option<StateFile<'a>>,
     top: &'a str,
 ) -> Result<(), Incident<'a>> {
-    let mut archive = archive_at(rt, top, state.is_some(), &reading.wants)?;
+    let lengths = lengths_in(rt.alloc(), &state)?;
+    let mut archive = archive_at(rt, top, lengths, &reading.wants)?;
     let lines = Outer::new(io::writer(rt));
     let read = list_on(rt, reading, state, None, lines, &mut archive);
     let archive = archive.end();
     match read {
         Ok(()) => Ok(()),
         Err(incident) => Err(at_archive(incident, archive, top)),
+    }
+}
+
+/// The lengths of files that a state tells of, if there is one.
+fn lengths_in<'a>(
+    alloc: Global,
+    state: &Option<StateFile<'a>>,
+) -> Result<Option<Vec<FileLength>>, Incident<'a>> {
+    let Some(state) = state else {
+        return Ok(None);
+    };
+    match state.lengths(alloc) {
+        Ok(lengths) => Ok(Some(lengths)),
+        Err(_) => Err(Incident::from(Failure::OutOfMemory)),
     }
 }
 

@@ -6,8 +6,9 @@ use crate::archiving::Lasting;
 use crate::clock::milliseconds;
 use incidents::{Failure, Incident, Site, StateFault};
 use job_base::{place_of, replace};
-use packet_listing::{KeepFault, Keeper};
-use reader_state::{read_state, write_state};
+use packet_listing::{KeepFault, Keeper, ListingFault};
+use reader_state::{State, read_state, write_state};
+use record_archive::{FileLength, ONE_FILE};
 use sl_io::{Outer, ReadFault, Sink, read_all};
 use slreader::{LastPacket, Tally, Want};
 use std::alloc::{AllocError, Global};
@@ -22,6 +23,9 @@ use std::{fs, io};
 /// How many milliseconds lie at least between two times that a state is kept.
 const EVERY: u64 = 1_000;
 
+/// The length of a record, in bytes.
+const RECORD: u64 = 512;
+
 /// A file with the state of a reader: what it said when the reader began, and what it is to say.
 #[derive(Drop)]
 pub struct StateFile<'a> {
@@ -33,8 +37,8 @@ pub struct StateFile<'a> {
     new_path: String,
     /// Locked until the end, so that no other reader goes on after packets that this one is about to pass.
     _lock: File,
-    /// The last packets that it told of when the reader began.
-    before: Vec<LastPacket>,
+    /// What it said when the reader began.
+    before: State,
     text: Vec<u8>,
 }
 
@@ -50,20 +54,20 @@ impl<'a> StateFile<'a> {
             Err(reason) => return Err(unopened(path, reason)),
         };
         let lock = locked(rt, place.as_str(), path)?;
-        let before = lasts_at(rt, place.as_str(), path)?;
+        let before = state_at(rt, place.as_str(), path)?;
         match StateFile::of(rt.alloc(), path, place, lock, before) {
             Ok(file) => Ok(file),
             Err(_) => Err(Incident::from(Failure::OutOfMemory)),
         }
     }
 
-    /// A file that told of these packets.
+    /// A file that said that.
     fn of(
         alloc: Global,
         path: &'a str,
         place: String,
         lock: File,
-        before: Vec<LastPacket>,
+        before: State,
     ) -> Result<StateFile<'a>, AllocError> {
         let new_path = format!(in alloc; "{place}.new")?;
         Ok(StateFile {
@@ -78,7 +82,55 @@ impl<'a> StateFile<'a> {
 
     /// The last packets that it told of when the reader began.
     pub fn before(&self) -> &[LastPacket] {
-        self.before.as_slice()
+        self.before.lasts()
+    }
+
+    /// The lengths of files that it told of then.
+    pub fn lengths(&self, alloc: Global) -> Result<Vec<FileLength>, AllocError> {
+        let mut lengths = Vec::new(alloc);
+        for length in self.before.files() {
+            lengths.push(FileLength::new(alloc, length.name(), length.count())?)?;
+        }
+        Ok(lengths)
+    }
+
+    /// Names the length of the one file to which records are added, before the first of this reader, if it is not named
+    /// yet: what stands in it was counted, or is nothing that the servers hand again.
+    pub fn name_output<R: Files + AllocGlobal>(
+        &mut self,
+        rt: &R,
+        output: &'a str,
+    ) -> Result<(), Incident<'a>> {
+        if self.before.names(ONE_FILE) {
+            return Ok(());
+        }
+        let count = match fs::metadata(rt, output) {
+            Ok(found) => found.len() / RECORD,
+            Err(reason) => return Err(job_base::unopened(output, reason)),
+        };
+        if self.before.put_file(rt.alloc(), ONE_FILE, count).is_err() {
+            return Err(Incident::from(Failure::OutOfMemory));
+        }
+        match self.write(rt) {
+            Ok(()) => Ok(()),
+            Err(reason) => Err(Incident {
+                failure: Failure::Packets(ListingFault::State),
+                site: Site::Unwritten(self.path, reason),
+            }),
+        }
+    }
+
+    /// Writes what it said when the reader began.
+    fn write<R: Files + AllocGlobal>(&mut self, rt: &R) -> io::Result<()> {
+        if self.before.put_text(&mut self.text).is_err() {
+            return Err(io::Error::from(ErrorKind::OutOfMemory));
+        }
+        replace(
+            rt,
+            self.new_path.as_str(),
+            self.place.as_str(),
+            self.text.as_slice(),
+        )
     }
 
     /// Where it is.
@@ -87,16 +139,21 @@ impl<'a> StateFile<'a> {
     }
 
     /// The file is written anew under another name, which then takes its place. Stations that no want asks for stay in
-    /// it as they are by then.
+    /// it as they are by then, and so do the lengths of files if the reader writes none.
     fn keep<R: Files + AllocGlobal>(
         &mut self,
         rt: &R,
         tally: &Tally,
         wants: &[Want<'_>],
+        files: Option<&[FileLength]>,
     ) -> io::Result<()> {
         let others = others_at(rt, self.place.as_str())?;
-        let written = write_state(rt.alloc(), &mut self.text, tally, wants, others.as_slice());
-        if written.is_err() {
+        let files = match files {
+            Some(files) => files,
+            None => others.files(),
+        };
+        let lasts = others.lasts();
+        if write_state(rt.alloc(), &mut self.text, tally, wants, lasts, files).is_err() {
             return Err(io::Error::from(ErrorKind::OutOfMemory));
         }
         replace(
@@ -146,15 +203,15 @@ fn no_state() -> io::Error {
     io::Error::new(ErrorKind::InvalidData, "the text is not a state any more")
 }
 
-/// The last packets that a state tells of which a reader has begun to keep; none if it is not there.
-fn others_at<R: Files + AllocGlobal>(rt: &R, place: &str) -> io::Result<Vec<LastPacket>> {
+/// What a state says that a reader has begun to keep; nothing if it is not there.
+fn others_at<R: Files + AllocGlobal>(rt: &R, place: &str) -> io::Result<State> {
     let text = match fs::read(rt, place) {
         Ok(text) => text,
-        Err(reason) if reason.kind() == ErrorKind::NotFound => return Ok(Vec::new(rt.alloc())),
+        Err(reason) if reason.kind() == ErrorKind::NotFound => return Ok(State::new(rt.alloc())),
         Err(reason) => return Err(reason),
     };
     match read_state(rt.alloc(), text.as_slice()) {
-        Ok(lasts) => Ok(lasts),
+        Ok(state) => Ok(state),
         Err(reader_state::StateFault::OutOfMemory) => Err(io::Error::from(ErrorKind::OutOfMemory)),
         Err(reader_state::StateFault::Invalid) => Err(no_state()),
     }
@@ -171,25 +228,25 @@ fn unopened<'a>(path: &'a str, reason: io::Error) -> Incident<'a> {
     }
 }
 
-/// The last packets that a file tells of; none if it is not there.
-fn lasts_at<'a, R: Files + AllocGlobal>(
+/// What a state says; nothing if it is not there.
+fn state_at<'a, R: Files + AllocGlobal>(
     rt: &R,
     place: &str,
     path: &'a str,
-) -> Result<Vec<LastPacket>, Incident<'a>> {
+) -> Result<State, Incident<'a>> {
     match fs::open(rt, place) {
-        Ok(file) => lasts_in(rt.alloc(), file, path),
-        Err(reason) if reason.kind() == ErrorKind::NotFound => Ok(Vec::new(rt.alloc())),
+        Ok(file) => state_in(rt.alloc(), file, path),
+        Err(reason) if reason.kind() == ErrorKind::NotFound => Ok(State::new(rt.alloc())),
         Err(reason) => Err(unopened(path, reason)),
     }
 }
 
-/// The last packets that a file tells of which is open.
-fn lasts_in<'a, F: io::Read + Drop>(
+/// What a state says whose file is open.
+fn state_in<'a, F: io::Read + Drop>(
     alloc: Global,
     file: F,
     path: &'a str,
-) -> Result<Vec<LastPacket>, Incident<'a>> {
+) -> Result<State, Incident<'a>> {
     let mut file = Outer::new(file);
     let text = match read_all(alloc, &mut file) {
         Ok(text) => text,
@@ -197,7 +254,7 @@ fn lasts_in<'a, F: io::Read + Drop>(
         Err(ReadFault::Read) => return Err(Failure::State(StateFault::Unread).in_file(path)),
     };
     match read_state(alloc, text.as_slice()) {
-        Ok(lasts) => Ok(lasts),
+        Ok(state) => Ok(state),
         Err(reader_state::StateFault::OutOfMemory) => Err(Failure::OutOfMemory.in_file(path)),
         Err(reader_state::StateFault::Invalid) => {
             Err(Failure::State(StateFault::Invalid).in_file(path))
@@ -214,6 +271,8 @@ pub struct StateKeeper<'r, 'a, 'w, R: Net> {
     wants: &'r [Want<'w>],
     /// The file to which records are added, if they are, once more.
     output: Option<File>,
+    /// The lengths of files when they were made to last, if files are written.
+    lengths: Option<Vec<FileLength>>,
     /// The connection that is read.
     present: &'r RefCell<Option<R::Stream>>,
     /// When the state was kept last, in milliseconds.
@@ -236,6 +295,7 @@ impl<'r, 'a, 'w, R: Net> StateKeeper<'r, 'a, 'w, R> {
             file,
             wants,
             output,
+            lengths: None,
             present,
             kept: 0,
             reason: None,
@@ -290,6 +350,19 @@ impl<'r, 'a, 'w, R: Clock + Net> StateKeeper<'r, 'a, 'w, R> {
     }
 }
 
+impl<'r, 'a, 'w, R: Files + Clock + Net + AllocGlobal> StateKeeper<'r, 'a, 'w, R> {
+    /// Keeps what was counted in the file, if there is one, with the lengths that files had when they were made to last.
+    fn keep_in_file(&mut self, tally: &Tally) -> io::Result<()>
+        ensures { self.new.failures ≡ self.old.failures }
+    {
+        let lengths = self.lengths.as_ref().map(|lengths| lengths.as_slice());
+        match &mut self.file {
+            Some(file) => file.keep(self.rt, tally, self.wants, lengths),
+            None => Ok(()),
+        }
+    }
+}
+
 impl<'r, 'a, 'w, R, P> Keeper<P> for StateKeeper<'r, 'a, 'w, R>
 where
     R: Files + Clock + Net + AllocGlobal,
@@ -307,7 +380,6 @@ where
         if passed < EVERY && !self.is_silent(EVERY - passed) {
             return false;
         }
-        self.kept = self.now();
         true
     }
 
@@ -316,16 +388,17 @@ where
             return Ok(());
         }
         match last_all(records, &self.output) {
-            Ok(()) => Ok(()),
+            Ok(lengths) => {
+                self.lengths = lengths;
+                Ok(())
+            }
             Err(reason) => self.fail(reason),
         }
     }
 
     fn keep(&mut self, tally: &Tally) -> Result<(), KeepFault> {
-        let kept = match &mut self.file {
-            Some(file) => file.keep(self.rt, tally, self.wants),
-            None => Ok(()),
-        };
+        let kept = self.keep_in_file(tally);
+        self.kept = self.now();
         match kept {
             Ok(()) => Ok(()),
             Err(reason) => self.fail(reason),
@@ -333,13 +406,14 @@ where
     }
 }
 
-/// Makes what was written last, in records and in a file to which they are added.
-fn last_all<P: Lasting>(records: &P, output: &Option<File>) -> io::Result<()> {
-    records.make_last()?;
+/// Makes what was written last, in records and in a file to which they are added. Tells the lengths of files by then.
+fn last_all<P: Lasting>(records: &P, output: &Option<File>) -> io::Result<Option<Vec<FileLength>>> {
+    let lengths = records.make_last()?;
     match output {
-        Some(file) => synced(file),
-        None => Ok(()),
+        Some(file) => synced(file)?,
+        None => {}
     }
+    Ok(lengths)
 }
 
 /// Has the system put on the disk what was written to a file. One that lies on no disk, as a pipe, has no need of it.

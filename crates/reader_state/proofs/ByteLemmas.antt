@@ -1,11 +1,10 @@
 -- Bytes that are neither a space nor the end of a line.
-use Rattle.std.proofs.Common.{◌≡◌, ◌≢◌, ℕ, ℤ, pos, negsuc, suc, ◌+◌, ◌*◌, ◌<◌, ◌^◌, ◌&&◌, Bool, true, false, List, []}
+use Rattle.std.proofs.Common.{◌≡◌, ◌≢◌, ℕ, ℤ, pos, negsuc, suc, ◌<◌, ◌^◌, ◌&&◌, Bool, true, false, List, []}
 use Rattle.std.proofs.Common.{◌∷◌, ◌++◌, Some, None, refl, arith}
 use Rattle.std.proofs.lemmas.Bool.Decides.{nat_tests}
 use Rattle.std.specs.Prelude.{Option}
 use Rattle.std.specs.List.{list_all}
-use Rattle.std.specs.Fmt.{decimal, signed_decimal}
-use Rattle.std.specs.Int.Signed.{mag}
+use Rattle.std.specs.Fmt.{decimal}
 use Rattle.std.specs.Str.Parse.{AllDigits}
 use Rattle.std.proofs.lemmas.Fmt.{decimal_is_IsNumeral}
 use Rattle.std.proofs.lemmas.Str.Parse.{digit_from_value}
@@ -53,17 +52,17 @@ decimals-lack b (c ∷ cs) small h =
     let differs : c ≢ b = λ is. omega (arith, digit_from_value c h.0, is) in
     (differs, decimals-lack b cs small h.1)
 
-pub end-lacks : (end : Option ℤ) → IsEnd end → Lacks 10 (end_text end)
-end-lacks None h = (λ is. omega (arith, is), tt)
-end-lacks (Some (pos n)) h =
-    let small : n < 2 ^ 63 = h.1 in
-    decimals-lack 10 (decimal n) (omega arith) (decimal_is_IsNumeral n (omega arith)).0.1
-end-lacks (Some (negsuc n)) h =
-    let small : n < 2 ^ 63 = h.1 in (
-      λ is. omega (arith, is),
-      decimals-lack 10 (decimal (suc n)) (omega arith)
-          (decimal_is_IsNumeral (suc n) (omega arith)).0.1,
-    )
+pub decimal-lacks : (b n : ℕ) → b < 48 → n < 2 ^ 64 → Lacks b (decimal n)
+decimal-lacks b n small fits = decimals-lack b (decimal n) small (decimal_is_IsNumeral n fits).0.1
+
+pub end-lacks : (b : ℕ) (end : Option ℤ) → b < 45 → IsEnd end → Lacks b (end_text end)
+end-lacks b None small h = (λ is. omega (arith, is, small), tt)
+end-lacks b (Some (pos n)) small h =
+    let fits : n < 2 ^ 63 = h.1 in
+    decimal-lacks b n (omega (arith, small)) (omega (arith, fits))
+end-lacks b (Some (negsuc n)) small h =
+    let fits : n < 2 ^ 63 = h.1 in
+    (λ is. omega (arith, is, small), decimal-lacks b (suc n) (omega (arith, small)) (omega (arith, fits)))
 
 pub lacks-append : (b : ℕ) (xs ys : List ℕ) → Lacks b xs → Lacks b ys → Lacks b (xs ++ ys)
 lacks-append b [] ys h k = k

@@ -1,10 +1,10 @@
 -- Texts that are cut at their first separator.
-use Rattle.std.proofs.Common.{◌≡◌, ◌≢◌, ℕ, zero, suc, ◌+◌, ◌-◌, ◌<◌, ◌==◌, List, [], ◌∷◌, ◌++◌, Bool, true, false}
+use Rattle.std.proofs.Common.{◌≡◌, ◌≢◌, ℕ, suc, ◌+◌, ◌-◌, ◌<◌, ◌==◌, List, [], ◌∷◌, ◌++◌}
 use Rattle.std.proofs.Common.{length, take, drop, Some, None, refl, sym, ap, ◌∙◌, arith, add-one, not, length-append}
 use Rattle.std.proofs.Common.{length-drop}
 use Rattle.std.proofs.lemmas.Bool.Decides.{nat_tests}
-use Rattle.std.specs.Prelude.{Option, position}
-use Rattle.std.specs.List.{prefix_len, position_or_len}
+use Rattle.std.specs.Prelude.{position}
+use Rattle.std.specs.List.{prefix_len}
 use Rattle.reader_state.specs.States.{Lacks}
 
 -- a text up to the first separator
@@ -62,3 +62,21 @@ cut-smaller b (x ∷ xs) front rest place is =
     let size : length rest ≡ length (x ∷ xs) - (length front + 1) =
     ap length is ∙ length-drop (length front + 1) (x ∷ xs) in
     omega (arith, size)
+
+-- Without a separator nothing is cut off.
+whole-len : (b : ℕ) (xs : List ℕ) → Lacks b xs → prefix_len (λ x. not (x == b)) xs ≡ length xs
+whole-len b [] h = grind (arith, nat_tests)
+whole-len b (x ∷ xs) h =
+    let differs : x ≢ b = h.0 in
+    let rest : prefix_len (λ y. not (y == b)) xs ≡ length xs = whole-len b xs h.1 in
+    grind (arith, nat_tests, rest, differs)
+
+no-position : (b : ℕ) (xs : List ℕ) → Lacks b xs → position (λ x. x == b) xs ≡ None
+no-position b xs h =
+    let whole : prefix_len (λ x. not (x == b)) xs ≡ length xs = whole-len b xs h in
+    grind (arith, nat_tests, whole)
+
+pub nothing-cut : {A : Type 0} → (b : ℕ) (text : List ℕ) (place : ℕ) → position (λ x. x == b) text ≡ Some place
+    → Lacks b text → A
+nothing-cut b text place found lacks =
+    let bad : None ≡ Some place = sym (no-position b text lacks) ∙ found in absurd cc

@@ -2,3 +2,6 @@ pub mod CutLemmas
 pub mod ByteLemmas
 pub mod TextLemmas
 pub mod ParseLemmas
+pub mod FileLemmas
+pub mod ApartLemmas
+pub mod PartLemmas

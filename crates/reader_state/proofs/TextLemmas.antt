@@ -1,27 +1,38 @@
 -- The lines of last packets.
-use Rattle.std.proofs.Common.{◌≡◌, ◌≢◌, ℕ, ◌<◌, true, List, [], ◌∷◌, ◌++◌, refl, sym, ap, ◌∙◌, arith, append_assoc}
+use Rattle.std.proofs.Common.{◌≡◌, ◌≢◌, ℕ, ◌<◌, List, [], ◌∷◌, ◌++◌, refl, sym, ap, ◌∙◌, arith, append_assoc}
 use Rattle.std.proofs.Common.{length}
-use Rattle.slreader.specs.Lasts.{LastValue, is_named}
+use Rattle.slreader.specs.Lasts.{LastValue}
 use Rattle.slreader.specs.Wants.{is_code}
 use Rattle.protocol.specs.Packet.{digits}
 use Rattle.reader_state.specs.States.{AreLast, IsLast, Lacks, end_text, line_of, others_of, text_of, words_of}
 use Rattle.reader_state.proofs.ByteLemmas.{both, code-lacks, digits-lack, end-lacks, lacks-append}
 
--- no end of a line stands in the words of a last packet
-pub words-lack : (l : LastValue) → IsLast l → Lacks 10 (words_of l)
-words-lack l h =
+-- no such byte stands in the words of a last packet
+words-lack-by : (b : ℕ) (l : LastValue) → b < 45 → b ≢ 32 → IsLast l → Lacks b (words_of l)
+words-lack-by b l small other h =
     let named = both (is_code 2 l.network) (is_code 5 l.station) h.named in
-    let differs : 32 ≢ 10 = λ is. omega (arith, is) in
+    let below : b < 48 = omega (arith, small) in
+    let differs : 32 ≢ b = λ is. other (sym is) in
     let ends : List ℕ = end_text l.reached.end in
     let numbers : List ℕ = digits l.reached.number ++ 32 ∷ ends in
     let stations : List ℕ = l.station ++ 32 ∷ numbers in
-    let last : Lacks 10 ends = end-lacks l.reached.end h.ends in
-    let third : Lacks 10 numbers =
-    lacks-append 10 (digits l.reached.number) (32 ∷ ends) (digits-lack 10 l.reached.number (omega arith))
-    (differs, last) in
-    let second : Lacks 10 stations =
-    lacks-append 10 l.station (32 ∷ numbers) (code-lacks 10 5 l.station (omega arith) named.1) (differs, third) in
-    lacks-append 10 l.network (32 ∷ stations) (code-lacks 10 2 l.network (omega arith) named.0) (differs, second)
+    let last : Lacks b ends = end-lacks b l.reached.end small h.ends in
+    let third : Lacks b numbers =
+    lacks-append b (digits l.reached.number) (32 ∷ ends) (digits-lack b l.reached.number below) (differs, last) in
+    let second : Lacks b stations =
+    lacks-append b l.station (32 ∷ numbers) (code-lacks b 5 l.station below named.1) (differs, third) in
+    lacks-append b l.network (32 ∷ stations) (code-lacks b 2 l.network below named.0) (differs, second)
+
+pub words-lack : (l : LastValue) → IsLast l → Lacks 10 (words_of l)
+words-lack l h = words-lack-by 10 l (omega arith) (λ is. omega (arith, is)) h
+
+-- no `#` stands in the lines of stations
+pub text-lacks : (ls : List LastValue) → AreLast ls → Lacks 35 (text_of ls)
+text-lacks [] h = tt
+text-lacks (l ∷ ls) h =
+    lacks-append 35 (line_of l) (text_of ls)
+    (lacks-append 35 (words_of l) (10 ∷ []) (words-lack-by 35 l (omega arith) (λ is. omega (arith, is)) h.0)
+    (λ is. omega (arith, is), tt)) (text-lacks ls h.1)
 
 -- the first line and the others
 pub text-first : (l : LastValue) (ls : List LastValue) → text_of (l ∷ ls) ≡ words_of l ++ 10 ∷ text_of ls

@@ -1,13 +1,16 @@
 -- The text of a reader's state: a line for each station, NET STA NUMBER END, in the manner of slinktool. NUMBER is that
 -- of the last packet, in six hexadecimal digits, and END the end of its record in units of 0.0001 s since 1970, or `-`.
-use Rattle.std.specs.Prelude.{ℕ, ℤ, List, [], ◌∷◌, ◌++◌, is_none, Bool, if◌then◌else◌}
+-- If the reader writes files, a line `#` follows and then one for each file, NAME COUNT: the first COUNT records of the
+-- file are counted by the numbers above.
+use Rattle.std.specs.Prelude.{ℕ, ℤ, List, [], ◌∷◌, ◌++◌, is_none, Bool, ◌&&◌, if◌then◌else◌}
 use Rattle.std.specs.Prelude.{Option, Some, None}
 use Rattle.std.specs.Prelude.{◌≡◌, ◌≢◌, ◌<◌, ◌^◌, true}
-use Rattle.std.specs.Fmt.{signed_decimal}
+use Rattle.std.specs.Fmt.{decimal, signed_decimal}
 use Rattle.std.specs.Prelude.{FitsSigned}
 use Rattle.std.specs.Int.{w64}
 use Rattle.std.specs.Int.Signed.{mag}
 use Rattle.protocol.specs.Packet.{digits}
+use Rattle.record_archive.specs.Lengths.{LengthValue}
 use Rattle.slreader.specs.Wants.{WantValue}
 use Rattle.slreader.specs.Tallies.{TallyValue}
 use Rattle.slreader.specs.Lasts.{LastValue, is_named, last_at, lasts_of}
@@ -31,6 +34,33 @@ abbrev pub text_of : List LastValue → List ℕ
 text_of [] = []
 text_of (l ∷ ls) = line_of l ++ text_of ls
 
+-- the line of a file, without its end
+abbrev pub file_words : LengthValue → List ℕ
+file_words f = f.name ++ 32 ∷ decimal f.count
+
+-- the line of a file
+abbrev pub file_line : LengthValue → List ℕ
+file_line f = file_words f ++ 10 ∷ []
+
+-- the lines of files
+abbrev pub files_text : List LengthValue → List ℕ
+files_text [] = []
+files_text (f ∷ fs) = file_line f ++ files_text fs
+
+-- what follows the lines of stations
+abbrev pub files_part : List LengthValue → List ℕ
+files_part [] = []
+files_part (f ∷ fs) = 35 ∷ (10 ∷ files_text (f ∷ fs))
+
+-- what a state says
+pub record StateValue : Type 0 where
+  pub lasts : List LastValue
+  pub files : List LengthValue
+
+-- its text
+abbrev pub state_text : StateValue → List ℕ
+state_text s = text_of s.lasts ++ files_part s.files
+
 -- It can be read back: it is of 64 bits.
 abbrev pub IsEnd : Option ℤ → Type 0
 IsEnd None = Unit {0}
@@ -47,6 +77,22 @@ abbrev pub AreLast : List LastValue → Type 0
 AreLast [] = Unit {0}
 AreLast (l ∷ ls) = IsLast l × AreLast ls
 
+-- the byte stands nowhere in the text
+abbrev pub Lacks : ℕ → List ℕ → Type 0
+Lacks b [] = Unit {0}
+Lacks b (x ∷ xs) = (x ≢ b) × Lacks b xs
+
+-- A length that can be read back: the name has no space and no end of a line, and the count is of 64 bits.
+pub record IsLength (f : LengthValue) : Type 0 where
+  pub space : Lacks 32 f.name
+  pub end : Lacks 10 f.name
+  pub count : f.count < 2 ^ 64
+
+-- all of them can
+abbrev pub AreLengths : List LengthValue → Type 0
+AreLengths [] = Unit {0}
+AreLengths (f ∷ fs) = IsLength f × AreLengths fs
+
 -- no station of these is the one of that last packet
 abbrev pub is_of_another : List LastValue → LastValue → Bool
 is_of_another lasts l = is_none (last_at l.network l.station lasts)
@@ -60,7 +106,13 @@ others_of lasts (b ∷ bs) = if is_of_another lasts b then b ∷ others_of lasts
 abbrev pub lasts_after : TallyValue → List WantValue → List LastValue → List LastValue
 lasts_after t wants before = lasts_of t wants ++ others_of (lasts_of t wants) before
 
--- the byte stands nowhere in the text
-abbrev pub Lacks : ℕ → List ℕ → Type 0
-Lacks b [] = Unit {0}
-Lacks b (x ∷ xs) = (x ≢ b) × Lacks b xs
+-- No two of them are of one station.
+abbrev pub are_apart : List LastValue → Bool
+are_apart [] = true
+are_apart (l ∷ ls) = is_of_another ls l && are_apart ls
+
+-- a state that can be read back
+pub record IsState (s : StateValue) : Type 0 where
+  pub lasts : AreLast s.lasts
+  pub apart : are_apart s.lasts ≡ true
+  pub files : AreLengths s.files

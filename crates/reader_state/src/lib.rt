@@ -1,10 +1,14 @@
 //! The file in which a reader keeps how far it is, for one that is begun later: for each station the number and the end
-//! of its last packet. What the file's text says, and the text that is written.
+//! of its last packet, and for each file that it writes how many of its records these numbers count. What the file's
+//! text says, and the text that is written.
 #![tactic(auto)]
 
+mod files;
 mod line;
 mod reading;
+mod state;
 mod writing;
 
 pub use reading::{StateFault, read_state};
+pub use state::State;
 pub use writing::write_state;

@@ -1,5 +1,6 @@
 //! The line of a station.
 ghost use Rattle.std.specs.Prelude.{◌≡◌, ◌++◌, ◌∷◌, [], OnOk};
+ghost use Rattle.std.specs.Fmt.{decimal};
 ghost use Rattle.reader_state.specs.States.{end_text, line_of, words_of};
 
 use itoa::Buffer;
@@ -8,12 +9,20 @@ use slreader::LastPacket;
 use std::alloc::AllocError;
 
 /// Adds a text and a space.
-fn put_word(text: &mut Vec<u8>, word: &[u8]) -> Result<(), AllocError>
+pub(crate) fn put_word(text: &mut Vec<u8>, word: &[u8]) -> Result<(), AllocError>
     ensures { OnOk result (text.new.items ≡ text.old.items ++ (word.now ++ 32 ∷ [])) }
 {
     text.extend_from_slice(word)?;
     text.push(b' ')?;
     Ok(())
+}
+
+/// Adds a number in decimal digits.
+pub(crate) fn put_count(text: &mut Vec<u8>, count: u64) -> Result<(), AllocError>
+    ensures { OnOk result (text.new.items ≡ text.old.items ++ decimal count) }
+{
+    let mut buffer = Buffer::new();
+    text.extend_from_slice(buffer.format(count).as_bytes())
 }
 
 /// Adds the end of a record, or `-` if it is not known.

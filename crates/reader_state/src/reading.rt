@@ -7,13 +7,17 @@ ghost use Rattle.std.specs.Fmt.{signed_decimal};
 ghost use Rattle.protocol.specs.Packet.{digits};
 ghost use Rattle.slreader.specs.Tallies.{ReachedValue};
 ghost use Rattle.slreader.specs.Lasts.{LastValue};
-ghost use Rattle.reader_state.specs.States.{AreLast, IsEnd, IsLast, Lacks, end_text, text_of, words_of};
+ghost use Rattle.std.specs.Prelude.{true};
+ghost use Rattle.reader_state.specs.States.{AreLast, IsEnd, IsLast, IsState, Lacks, StateValue, are_apart, end_text, files_text};
+ghost use Rattle.reader_state.specs.States.{state_text, text_of, words_of};
 ghost use Rattle.reader_state.specs.declared.reading.StateFault.TheVariants.{OutOfMemory};
 
-use crate::writing::put_lines;
+use crate::files::files_in;
+use crate::state::State;
+use crate::writing::put_state;
 use sl_packet::Seq;
 use sl_time::Tick;
-use slreader::{LastPacket, Reached};
+use slreader::{LastPacket, Reached, last_at};
 use std::alloc::Global;
 use text_parts::separators::cut_at;
 
@@ -28,16 +32,17 @@ pub enum StateFault {
 
 /// A text cut at its first separator.
 #[derive(Clone, Copy)]
-struct Halves<'a> {
-    front: &'a [u8],
-    rest: &'a [u8],
+pub(crate) struct Halves<'a> {
+    pub front: &'a [u8],
+    pub rest: &'a [u8],
 }
 
 /// What stands before the first separator of a text, and what stands behind it. None where it has none.
-fn cut(text: &[u8], separator: u8) -> Option<Halves<'_>>
+pub(crate) fn cut(text: &[u8], separator: u8) -> Option<Halves<'_>>
     ensures smaller { IfSome result (λ c. length c.rest.now < length text.now) }
     ensures back { (xs ys : List ℕ) → Lacks separator xs → text.now ≡ xs ++ separator ∷ ys
         → MatchOption result ⊥ (λ c. (c.front.now ≡ xs) × (c.rest.now ≡ ys)) }
+    ensures none { Lacks separator text.now → result ≡ None }
 {
     match cut_at(text, separator) {
         Some((front, rest)) => Some(Halves { front, rest }),
@@ -156,28 +161,103 @@ fn lasts_in(alloc: Global, bytes: &[u8]) -> Result<Vec<LastPacket>, StateFault>
     Ok(lasts)
 }
 
-/// Reads the text of a state, exactly as it is written: for each station a line `NET STA NUMBER END`, with codes of
-/// 1 to 2 and 1 to 5 bytes of `A` to `Z` and `0` to `9`, the number in six hexadecimal digits in upper case, and the
-/// end in decimal ticks of 0.0001 s since 1970 or `-`.
-///
-/// It fails with Invalid where the text is none that is written, and with OutOfMemory only where memory lacks. What was
-/// written is read back.
-pub fn read_state(alloc: Global, bytes: &[u8]) -> Result<Vec<LastPacket>, StateFault>
-    ensures text { IfOk result (λ lasts. bytes.now ≡ text_of lasts.items) }
-    ensures back { (ls : List LastValue) → AreLast ls → bytes.now ≡ text_of ls
+/// Whether no two of them are of one station.
+fn are_apart(lasts: &[LastPacket]) -> bool
+    ensures { result ≡ are_apart lasts.now }
+{
+    for (place, last) in lasts.iter().enumerate() {
+        if last_at(last.network(), last.station(), &lasts[place + 1..]).is_some() {
+            return false;
+        }
+    }
+    true
+}
+
+/// The last packets that lines tell of, no two of which are of one station.
+fn stations_in(alloc: Global, bytes: &[u8]) -> Result<Vec<LastPacket>, StateFault>
+    ensures apart { IfOk result (λ lasts. are_apart lasts.items ≡ true) }
+    ensures back { (ls : List LastValue) → AreLast ls → are_apart ls ≡ true → bytes.now ≡ text_of ls
         → MatchResult result (λ lasts. lasts.items ≡ ls) (λ fault. fault ≡ OutOfMemory) }
 {
     let lasts = match lasts_in(alloc, bytes) {
         Ok(lasts) => lasts,
         Err(fault) => return Err(fault),
     };
+    if are_apart(&lasts) {
+        Ok(lasts)
+    } else {
+        Err(StateFault::Invalid)
+    }
+}
+
+/// The text that follows the end of a line.
+fn after_end(text: &[u8]) -> &[u8]
+    ensures { (rest : List ℕ) → text.now ≡ 10 ∷ rest → result.now ≡ rest }
+{
+    match text {
+        [_, rest @ ..] => rest,
+        [] => text,
+    }
+}
+
+/// The lines of stations, and those of files.
+fn parts_of(bytes: &[u8]) -> Halves<'_>
+    ensures { (s : StateValue) → IsState s → bytes.now ≡ state_text s
+        → (result.front.now ≡ text_of s.lasts) × (result.rest.now ≡ files_text s.files) }
+{
+    match cut(bytes, b'#') {
+        Some(halves) => Halves {
+            front: halves.front,
+            rest: after_end(halves.rest),
+        },
+        None => Halves {
+            front: bytes,
+            rest: b"",
+        },
+    }
+}
+
+/// What a text says, in whatever form it may be.
+fn state_in(alloc: Global, bytes: &[u8]) -> Result<State, StateFault>
+    ensures apart { IfOk result (λ state. are_apart state.lasts ≡ true) }
+    ensures back { (s : StateValue) → IsState s → bytes.now ≡ state_text s
+        → MatchResult result (λ state. state ≡ s) (λ fault. fault ≡ OutOfMemory) }
+{
+    let parts = parts_of(bytes);
+    let lasts = match stations_in(alloc, parts.front) {
+        Ok(lasts) => lasts,
+        Err(fault) => return Err(fault),
+    };
+    match files_in(alloc, parts.rest) {
+        Ok(files) => Ok(State { lasts, files }),
+        Err(fault) => Err(fault),
+    }
+}
+
+/// Reads the text of a state, exactly as it is written: for each station a line `NET STA NUMBER END`, with codes of
+/// 1 to 2 and 1 to 5 bytes of `A` to `Z` and `0` to `9`, the number in six hexadecimal digits in upper case, and the
+/// end in decimal ticks of 0.0001 s since 1970 or `-`. No two of them are of one station. If there are lengths of
+/// files, a line `#` follows, and then for each of them a line `NAME COUNT`, with the count in decimal digits.
+///
+/// It fails with Invalid where the text is none that is written, and with OutOfMemory only where memory lacks. What was
+/// written is read back.
+pub fn read_state(alloc: Global, bytes: &[u8]) -> Result<State, StateFault>
+    ensures text { IfOk result (λ state. bytes.now ≡ state_text state) }
+    ensures apart { IfOk result (λ state. are_apart state.lasts ≡ true) }
+    ensures back { (s : StateValue) → IsState s → bytes.now ≡ state_text s
+        → MatchResult result (λ state. state ≡ s) (λ fault. fault ≡ OutOfMemory) }
+{
+    let state = match state_in(alloc, bytes) {
+        Ok(state) => state,
+        Err(fault) => return Err(fault),
+    };
     let mut text = Vec::new(alloc);
-    match put_lines(&mut text, &lasts) {
+    match put_state(&mut text, state.lasts(), state.files()) {
         Ok(()) => {}
         Err(_) => return Err(StateFault::OutOfMemory),
     }
     if text.as_slice() == bytes {
-        Ok(lasts)
+        Ok(state)
     } else {
         Err(StateFault::Invalid)
     }

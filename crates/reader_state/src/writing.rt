@@ -1,8 +1,10 @@
 //! The text that a reader keeps.
 ghost use Rattle.std.specs.Prelude.{◌≡◌, ◌++◌, OnOk};
-ghost use Rattle.reader_state.specs.States.{lasts_after, others_of, text_of};
+ghost use Rattle.reader_state.specs.States.{files_part, lasts_after, others_of, state_text, text_of};
 
+use crate::files::put_files;
 use crate::line::put_line;
+use record_archive::FileLength;
 use slreader::{LastPacket, Tally, Want, last_at};
 use std::alloc::{AllocError, Global};
 
@@ -32,9 +34,8 @@ fn put_others(
     Ok(())
 }
 
-/// The text of what is kept takes the place of another text: the last packet of each want's station, in the order of
-/// the wants, and then those of other stations that were kept before. Only memory can lack.
-pub fn write_state(
+/// The lines of stations take the place of another text.
+fn put_stations(
     alloc: Global,
     text: &mut Vec<u8>,
     tally: &Tally,
@@ -47,4 +48,45 @@ pub fn write_state(
     text.clear();
     put_lines(text, &lasts)?;
     put_others(text, &lasts, before)
+}
+
+/// Adds what follows the lines of stations.
+fn put_files_part(text: &mut Vec<u8>, files: &[FileLength]) -> Result<(), AllocError>
+    ensures { OnOk result (text.new.items ≡ text.old.items ++ files_part files.now) }
+{
+    if files.is_empty() {
+        return Ok(());
+    }
+    text.extend_from_slice(b"#\n")?;
+    put_files(text, files)
+}
+
+/// Adds the text of a state.
+pub(crate) fn put_state(
+    text: &mut Vec<u8>,
+    lasts: &[LastPacket],
+    files: &[FileLength],
+) -> Result<(), AllocError>
+    ensures { OnOk result
+        (text.new.items ≡ text.old.items ++ state_text (record { lasts = lasts.now; files = files.now })) }
+{
+    put_lines(text, lasts)?;
+    put_files_part(text, files)
+}
+
+/// The text of what is kept takes the place of another text: the last packet of each want's station, in the order of
+/// the wants, then those of other stations that were kept before, and the lengths of files. Only memory can lack.
+pub fn write_state(
+    alloc: Global,
+    text: &mut Vec<u8>,
+    tally: &Tally,
+    wants: &[Want<'_>],
+    before: &[LastPacket],
+    files: &[FileLength],
+) -> Result<(), AllocError>
+    ensures { OnOk result (text.new.items
+        ≡ state_text (record { lasts = lasts_after tally.now wants.now before.now; files = files.now })) }
+{
+    put_stations(alloc, text, tally, wants, before)?;
+    put_files_part(text, files)
 }

@@ -1,1 +1,4 @@
 mod PutLemmas
+mod WalkLemmas
+mod RunLemmas
+mod MemoryLemmas

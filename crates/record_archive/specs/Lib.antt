@@ -2,3 +2,9 @@ pub mod Paths
 pub mod Stations
 pub mod Archives
 pub mod Stores
+pub mod Files
+pub mod Lengths
+pub mod Puts
+pub mod MemoryRecords
+pub mod Walks
+pub mod Runs

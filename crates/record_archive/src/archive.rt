@@ -3,13 +3,21 @@ ghost use Rattle.std.specs.Prelude.{◌≡◌, ◌≢◌, ◌≤◌, ◌<◌, �
 ghost use Rattle.std.specs.Io.{WritesAtMost};
 ghost use Rattle.std.specs.Io.KnownBytes.{WriteAppends};
 ghost use Rattle.sl_io.specs.Counts.{IsMore, CountsFailure, CountsEmptyWrite};
+ghost use Rattle.record_archive.specs.Files.{MakesSafe};
 ghost use Rattle.record_archive.specs.Archives.{CountsAll, CountsUnplaced, HoldsMore, IsWhy, held_with, whole_with};
 
-use crate::folders::Folders;
+use crate::continued::ContinuedFiles;
+use crate::disk_files::DiskFiles;
+use crate::files::RecordFiles;
+use crate::folders::{FolderFault, Folders};
+use crate::lengths::FileLength;
 use crate::placing::{ArchiveFault, Place, Placed, put_record};
 use crate::stations::StationCodes;
 use sl_io::{DeviceFault, Sink};
 use std::alloc::Global;
+use std::fs::File;
+use std::io;
+use std::rt::{Clock, Files};
 use unfinished::Unfinished;
 
 /// An archive of some stations in folders, to which the bytes of records are written, in whatever pieces. A record is
@@ -108,6 +116,29 @@ impl<F: Folders> Archive<F> {
                 Err(DeviceFault)
             }
         }
+    }
+}
+
+impl<F: RecordFiles> Archive<ContinuedFiles<F>> {
+    /// Makes all records last that were put so far, and then tells how many records of each file don't come again.
+    pub fn last(&mut self) -> Result<Vec<FileLength>, FolderFault>
+        ensures safe { OnOk result (MakesSafe (F.records self.new.folders.files) (F.safe self.new.folders.files)) }
+        ensures failures { self.new.failures ≡ self.old.failures }
+        ensures calls { self.new.calls ≡ self.old.calls }
+    {
+        self.folders.last()
+    }
+}
+
+impl<'a, R: Files<File = File> + Clock> Archive<ContinuedFiles<DiskFiles<'a, R>>> {
+    /// The path of a file whose torn end was put aside, once.
+    pub fn take_torn(&mut self) -> Option<String> {
+        self.folders.take_torn()
+    }
+
+    /// What the system says of the last call that failed, once.
+    pub fn take_reason(&mut self) -> Option<io::Error> {
+        self.folders.take_reason()
     }
 }
 

@@ -35,6 +35,25 @@ impl StationCodes {
         })
     }
 
+    /// The network's code.
+    pub fn network(&self) -> &[u8]
+        ensures { result.now ≡ self.now.network }
+    {
+        self.network.as_slice()
+    }
+
+    /// The station's code.
+    pub fn station(&self) -> &[u8]
+        ensures { result.now ≡ self.now.station }
+    {
+        self.station.as_slice()
+    }
+
+    /// Whether they are the same codes.
+    pub(crate) fn is_same(&self, other: &StationCodes) -> bool {
+        self.network() == other.network() && self.station() == other.station()
+    }
+
     /// Whether a record is of that station.
     fn are_of(&self, header: &Header<'_>) -> bool
         ensures { result ≡ is_of header.now self.now }

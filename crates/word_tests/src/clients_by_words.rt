@@ -167,7 +167,8 @@ fn locked<R: Files<File = File>>(rt: &R, path: &str) -> Result<File, Fail> {
     Ok(file)
 }
 
-/// What a reader's job comes to once another one, which ended well, has made an archive, while somebody else adds to it.
+/// What a reader's job comes to once another one, which ended well, has made an archive, while somebody else adds
+/// records of its station to it.
 fn read_beside_another<R>(rt: &R, centre: &mut Centre, line: &str) -> Result<Outcome, Fail>
 where
     R: Files<File = File> + Net + AllocGlobal,
@@ -176,14 +177,14 @@ where
     if !read_of_two(rt, centre, line)?.is_success() {
         return Err(Fail::from("the first job failed"));
     }
-    let _lock = locked(rt, "shared/.lock")?;
+    let _lock = locked(rt, "shared/.GE_APE.lock")?;
     read_of(rt, centre, line)
 }
 
-/// What is told of an archive that is locked.
+/// What is told of an archive of which a station is locked.
 static SHARED_ARCHIVE: &str =
     "seedlinkd: 44 File\n  cause: a file could not be opened\n  file: shared\n  \
-    reason: another reader adds to it\n";
+    reason: another reader adds records of one of these stations\n";
 
 #[test]
 fn read_fails_at_an_archive_that_somebody_else_adds_to(rt: HostRuntime) -> Result<(), Fail> {
@@ -197,8 +198,9 @@ fn read_fails_at_an_archive_that_somebody_else_adds_to(rt: HostRuntime) -> Resul
 /// The state of a reader that has the first of two records.
 static STATE: &[u8] = b"GE APE 000000 17091648000100\nXX OLD 0000A3 -\n";
 
-/// The same once it has the second, and the line of that.
-static LATER_STATE: &[u8] = b"GE APE 000001 17091648000200\nXX OLD 0000A3 -\n";
+/// The same once it has the second, with the file to which that was added, and the line of it.
+static LATER_STATE: &[u8] = b"GE APE 000001 17091648000200\nXX OLD 0000A3 -\n#\n\
+    2024/GE/APE/BHZ.D/GE.APE..BHZ.D.2024.060 1\n";
 
 static SECOND_LINE: &[u8] = b"000001 GE APE -- BHZ D 17091648000000 17091648000200 2\n";
 
@@ -270,12 +272,25 @@ fn read_fails_where_a_state_has_no_folder(rt: HostRuntime) -> Result<(), Fail> {
 #[test]
 fn read_fails_where_no_state_can_be_kept(rt: HostRuntime) -> Result<(), Fail> {
     fs::create_dir(&rt, "kept.state.new")?;
-    let line = "seedlinkd read 127.0.0.1:PORT GE_APE --fetch --state kept.state --output all.mseed";
+    let line = "seedlinkd read 127.0.0.1:PORT GE_APE --fetch --state kept.state --archive all";
     let read = read(&rt, line)?;
     assert!(rt; !read.is_success());
     assert_eq!(rt; read.errors.as_str(), "seedlinkd: 53 State\n");
     drop(read);
-    assert!(rt; holds_two_behind(&rt, "all.mseed", b"")?);
+    let path = "all/2024/GE/APE/BHZ.D/GE.APE..BHZ.D.2024.060";
+    assert!(rt; holds_two_behind(&rt, path, b"")?);
+    Ok(())
+}
+
+/// With one file nothing is read: its length is kept before the first record.
+#[test]
+fn read_fails_where_the_length_of_its_file_is_not_kept(rt: HostRuntime) -> Result<(), Fail> {
+    fs::create_dir(&rt, "named.state.new")?;
+    let line =
+        "seedlinkd read 127.0.0.1:PORT GE_APE --fetch --state named.state --output one.mseed";
+    let read = read(&rt, line)?;
+    assert!(rt; read.has_failed_at_once());
+    assert_eq!(rt; read.errors.as_str(), "seedlinkd: 53 State\n");
     Ok(())
 }
 

@@ -174,7 +174,7 @@ fn each_record_is_read_once_though_servers_end(rt: HostRuntime) -> Result<(), Fa
     assert!(rt; has_followed(&read), "{}", read.errors);
     drop(read);
     assert!(rt; holds_three(&rt, "followed.mseed")?);
-    assert!(rt; holds(&rt, "read.state", b"GE APE 000002 17091648000300\n")?);
+    assert!(rt; holds(&rt, "read.state", b"GE APE 000002 17091648000300\n#\n- 3\n")?);
     Ok(())
 }
 

@@ -1,5 +1,5 @@
 -- What is cut off lacks the separator.
-use Rattle.reader_state.proofs.CutLemmas.{cut-back, cut-smaller, no-cut}
+use Rattle.reader_state.proofs.CutLemmas.{cut-back, cut-smaller, no-cut, nothing-cut}
 use Rattle.reader_state.proofs.reading.cut.Goals as goal
 
 pub returns-in-Some-clause-back : goal.returns-in-Some-clause-back
@@ -11,3 +11,6 @@ returns-in-None-clause-back c = λ xs ys lacks is. no-cut _ _ xs ys c.in-None.en
 
 pub returns-in-Some-clause-smaller : goal.returns-in-Some-clause-smaller
 returns-in-Some-clause-smaller c = cut-smaller _ _ _ _ c.in-Some.ensures.place c.in-Some.ensures.sides.1
+
+pub returns-in-Some-clause-none : goal.returns-in-Some-clause-none
+returns-in-Some-clause-none c = λ lacks. nothing-cut _ _ _ c.in-Some.ensures.place lacks

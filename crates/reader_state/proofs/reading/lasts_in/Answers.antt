@@ -1,7 +1,6 @@
 -- One line more, or none.
-use Rattle.std.proofs.Common.{◌≡◌, ◌++◌, ◌∷◌, [], List, None, Some, refl, sym, ap, ◌∙◌, append_assoc, append-nil}
+use Rattle.std.proofs.Common.{◌≡◌, ◌++◌, ◌∷◌, [], None, Some, refl, sym, ap, ◌∙◌, append_assoc, append-nil}
 use Rattle.std.specs.Prelude.{MatchOption, Option}
-use Rattle.slreader.specs.Lasts.{LastValue}
 use Rattle.reader_state.proofs.TextLemmas.{line-first, no-line}
 use Rattle.reader_state.proofs.reading.lasts_in.Goals as goal
 

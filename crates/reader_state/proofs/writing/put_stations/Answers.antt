@@ -1,7 +1,7 @@
 use Rattle.std.proofs.Common.{◌∙◌, Ok, Err}
 use Rattle.std.specs.Prelude.{OnOk, Result}
 use Rattle.reader_state.proofs.TextLemmas.{two-texts}
-use Rattle.reader_state.proofs.writing.write_state.Goals as goal
+use Rattle.reader_state.proofs.writing.put_stations.Goals as goal
 
 on-ok : {T E : Type 0} → (P Q : Type 0) → (r : Result T E) → OnOk r P → (P → Q) → OnOk r Q
 on-ok P Q (Ok x) h f = f h

@@ -1,0 +1,82 @@
+//! The lines of files.
+ghost use Rattle.std.specs.Prelude.{◌≡◌, ◌++◌, ◌<◌, ◌^◌, ℕ, List, MatchResult, OnOk, Some};
+ghost use Rattle.std.specs.Fmt.{decimal};
+ghost use Rattle.record_archive.specs.Lengths.{LengthValue};
+ghost use Rattle.reader_state.specs.States.{AreLengths, IsLength, file_line, file_words, files_text};
+ghost use Rattle.reader_state.specs.declared.reading.StateFault.TheVariants.{OutOfMemory};
+
+use crate::line::{put_count, put_word};
+use crate::reading::{StateFault, cut};
+use record_archive::FileLength;
+use std::alloc::{AllocError, Global};
+
+/// Adds the line of a file.
+fn put_file(text: &mut Vec<u8>, file: &FileLength) -> Result<(), AllocError>
+    ensures { OnOk result (text.new.items ≡ text.old.items ++ file_line file.now) }
+{
+    put_word(text, file.name())?;
+    put_count(text, file.count())?;
+    text.push(b'\n')?;
+    Ok(())
+}
+
+/// Adds the lines of files.
+pub(crate) fn put_files(text: &mut Vec<u8>, files: &[FileLength]) -> Result<(), AllocError>
+    ensures { OnOk result (text.new.items ≡ text.old.items ++ files_text files.now) }
+{
+    for file in files {
+        put_file(text, file)?;
+    }
+    Ok(())
+}
+
+/// The number that a text spells in decimal digits.
+fn count_of(text: &[u8]) -> Option<u64>
+    ensures { (count : ℕ) → count < 2 ^ 64 → text.now ≡ decimal count → result ≡ Some count }
+{
+    let text = match str::from_utf8(text) {
+        Ok(text) => text,
+        Err(_) => return None,
+    };
+    text.parse::<u64>().ok()
+}
+
+/// The length that a line tells of, without its end.
+fn file_of(alloc: Global, line: &[u8]) -> Result<FileLength, StateFault>
+    ensures { (f : LengthValue) → IsLength f → line.now ≡ file_words f
+        → MatchResult result (λ file. file ≡ f) (λ fault. fault ≡ OutOfMemory) }
+{
+    let words = match cut(line, b' ') {
+        Some(words) => words,
+        None => return Err(StateFault::Invalid),
+    };
+    let count = match count_of(words.rest) {
+        Some(count) => count,
+        None => return Err(StateFault::Invalid),
+    };
+    match FileLength::new(alloc, words.front, count) {
+        Ok(file) => Ok(file),
+        Err(_) => Err(StateFault::OutOfMemory),
+    }
+}
+
+/// The lengths that lines tell of. What stands behind the last end of a line is passed over.
+pub(crate) fn files_in(alloc: Global, bytes: &[u8]) -> Result<Vec<FileLength>, StateFault>
+    ensures { (fs : List LengthValue) → AreLengths fs → bytes.now ≡ files_text fs
+        → MatchResult result (λ files. files.items ≡ fs) (λ fault. fault ≡ OutOfMemory) }
+{
+    let mut files = Vec::new(alloc);
+    let mut left = bytes;
+    'lines: while let Some(line) = cut(left, b'\n') {
+        let file = match file_of(alloc, line.front) {
+            Ok(file) => file,
+            Err(fault) => return Err(fault),
+        };
+        match files.push(file) {
+            Ok(()) => {}
+            Err(_) => return Err(StateFault::OutOfMemory),
+        }
+        left = line.rest;
+    }
+    Ok(files)
+}

@@ -1,0 +1,275 @@
+//! Files in which readers go on one after the other.
+ghost use Rattle.std.specs.Prelude.{◌≡◌, None, OnErr, OnOk};
+ghost use Rattle.sl_io.specs.Counts.{CountsFailure};
+ghost use Rattle.record_archive.specs.Archives.{PutsNothing, PutsOne};
+ghost use Rattle.record_archive.specs.Files.{MakesSafe, TellsOthers, TellsSame};
+ghost use Rattle.record_archive.specs.Puts.{StandsAfter};
+
+use crate::disk_files::DiskFiles;
+use crate::files::RecordFiles;
+use crate::folders::{FolderFault, Folders};
+use crate::lengths::FileLength;
+use crate::walk::Walk;
+use std::alloc::{AllocError, Global};
+use std::collections::HashMap;
+use std::fs::File;
+use std::io;
+use std::rt::{Clock, Files};
+
+/// For how many syncs a file is remembered to which nothing was handed.
+const REMEMBERED: u64 = 3_600;
+
+/// What stands in a file that the state does not name.
+#[derive(Clone, Copy, Drop)]
+pub enum Unnamed {
+    /// Records that are not handed again.
+    Kept,
+    /// Records that may be handed again: the file was made after the state was kept.
+    Tail,
+}
+
+/// How far the walk in a file is, and how many records it has.
+#[derive(Clone, Copy, Drop)]
+struct Progress {
+    walk: Walk,
+    count: u64,
+    /// How many syncs there had been when a record of it was handed last.
+    syncs: u64,
+}
+
+/// Files of records to which each record is added once, though it is handed again to a reader that goes on after one
+/// that was stopped.
+#[derive(Drop)]
+pub struct ContinuedFiles<F: RecordFiles> {
+    alloc: Global,
+    files: F,
+    /// What the state says of files, when the reader begins.
+    named: Vec<FileLength>,
+    unnamed: Unnamed,
+    all: HashMap<String, Progress>,
+    syncs: u64,
+    failures: u64,
+}
+
+/// The length that is named of a file.
+fn named_count(named: &[FileLength], name: &str) -> Option<u64> {
+    for length in named {
+        if length.name() == name.as_bytes() {
+            return Some(length.count());
+        }
+    }
+    None
+}
+
+/// A text of bytes.
+fn text_of(bytes: &[u8]) -> Result<&str, FolderFault> {
+    match str::from_utf8(bytes) {
+        Ok(text) => Ok(text),
+        Err(_) => Err(FolderFault),
+    }
+}
+
+/// The name of a file in a folder.
+fn name_of(alloc: Global, folder: &[u8], file: &[u8]) -> Result<String, FolderFault> {
+    let folder = text_of(folder)?;
+    let file = text_of(file)?;
+    match format!(in alloc; "{folder}/{file}") {
+        Ok(name) => Ok(name),
+        Err(_) => Err(FolderFault),
+    }
+}
+
+impl<F: RecordFiles> ContinuedFiles<F> {
+    /// These files, of which a state names some.
+    pub fn new(
+        alloc: Global,
+        files: F,
+        named: Vec<FileLength>,
+        unnamed: Unnamed,
+    ) -> ContinuedFiles<F>
+        ensures { result.files ≡ files }
+    {
+        ContinuedFiles {
+            alloc,
+            files,
+            named,
+            unnamed,
+            all: HashMap::new(alloc),
+            syncs: 0,
+            failures: 0,
+        }
+    }
+
+    /// The files.
+    pub fn files(&self) -> &F
+        ensures { result.now ≡ self.now.files }
+    {
+        &self.files
+    }
+
+    /// The files, to which nothing more is handed.
+    pub fn into_files(self) -> F
+        ensures { result ≡ self.files }
+    {
+        self.files
+    }
+
+    /// How many records of a file with so many don't come again, by the state.
+    fn kept_of(&self, name: &str, count: u64) -> u64 {
+        match (named_count(&self.named, name), self.unnamed) {
+            (Some(kept), _) => kept,
+            (None, Unnamed::Kept) => count,
+            (None, Unnamed::Tail) => 0,
+        }
+    }
+
+    /// How far a file is that has so many records. One that has fewer than before was replaced: of that nothing is
+    /// known.
+    fn progress_of(&self, name: &str, count: u64) -> Progress {
+        match self.all.get(name) {
+            Some(progress) if progress.count <= count => *progress,
+            Some(_) => Progress {
+                walk: Walk::new(count, count),
+                count,
+                syncs: self.syncs,
+            },
+            None => Progress {
+                walk: Walk::new(self.kept_of(name, count), count),
+                count,
+                syncs: self.syncs,
+            },
+        }
+    }
+
+    /// Remembers how far a file is.
+    fn remember(&mut self, name: &str, progress: Progress) -> Result<(), FolderFault>
+        ensures same { self.new.files ≡ self.old.files }
+        ensures failures { self.new.failures ≡ self.old.failures }
+    {
+        if let Some(known) = self.all.get_mut(name) {
+            *known = progress;
+            return Ok(());
+        }
+        let Ok(name) = String::from_str(self.alloc, name) else {
+            return Err(FolderFault);
+        };
+        match self.all.insert(name, progress) {
+            Ok(_) => Ok(()),
+            Err(_) => Err(FolderFault),
+        }
+    }
+
+    /// Hands a record to a file: it is added at the end, or passed over if it stands in what an earlier reader left
+    /// there. If it fails, nothing was added, or there is no memory to remember it.
+    pub fn hand(&mut self, name: &str, bytes: &[u8; 512]) -> Result<(), FolderFault>
+        ensures stands { OnOk result
+            (StandsAfter name.now bytes.now (F.records self.old.files) (F.records self.new.files)) }
+        ensures others { TellsOthers name.now (F.records self.old.files) (F.records self.new.files) }
+        ensures safe { TellsSame (F.safe self.old.files) (F.safe self.new.files) }
+        ensures failures { self.new.failures ≡ self.old.failures }
+    {
+        let count = self.files.count(name)?;
+        let mut progress = self.progress_of(name, count);
+        let is_added = progress.walk.offer(&mut self.files, name, bytes)?;
+        progress.count = count.saturating_add(u64::from(is_added));
+        progress.syncs = self.syncs;
+        self.remember(name, progress)
+    }
+
+    /// Files to which nothing was handed for long are forgotten.
+    fn forget(&mut self)
+        ensures same { self.new.files ≡ self.old.files }
+        ensures failures { self.new.failures ≡ self.old.failures }
+    {
+        let syncs = self.syncs;
+        self.all.retain(|_, progress| syncs < progress.syncs.saturating_add(REMEMBERED));
+        if syncs >= REMEMBERED {
+            self.named.clear();
+        }
+    }
+
+    /// Makes all records last that were handed so far.
+    pub fn sync(&mut self) -> Result<(), FolderFault>
+        ensures same { TellsSame (F.records self.old.files) (F.records self.new.files) }
+        ensures safe { OnOk result (MakesSafe (F.records self.new.files) (F.safe self.new.files)) }
+        ensures failures { self.new.failures ≡ self.old.failures }
+    {
+        self.files.sync()?;
+        self.syncs = self.syncs.saturating_add(1);
+        if self.syncs % 64 == 0 {
+            self.forget();
+        }
+        Ok(())
+    }
+
+    /// Makes all records last that were handed so far, and then tells how many records of each file don't come again.
+    pub fn last(&mut self) -> Result<Vec<FileLength>, FolderFault>
+        ensures same { TellsSame (F.records self.old.files) (F.records self.new.files) }
+        ensures safe { OnOk result (MakesSafe (F.records self.new.files) (F.safe self.new.files)) }
+        ensures failures { self.new.failures ≡ self.old.failures }
+    {
+        self.sync()?;
+        match self.lengths() {
+            Ok(lengths) => Ok(lengths),
+            Err(_) => Err(FolderFault),
+        }
+    }
+
+    /// How many records of each file don't come again.
+    fn lengths(&self) -> Result<Vec<FileLength>, AllocError> {
+        let mut lengths = Vec::new(self.alloc);
+        for (name, progress) in &self.all {
+            let count = progress.walk.kept_length(progress.count);
+            lengths.push(FileLength::new(self.alloc, name.as_bytes(), count)?)?;
+        }
+        self.put_named(&mut lengths)?;
+        Ok(lengths)
+    }
+
+    /// Those to which nothing was handed yet are as the state has them.
+    fn put_named(&self, lengths: &mut Vec<FileLength>) -> Result<(), AllocError> {
+        for length in &self.named {
+            let Ok(name) = text_of(length.name()) else {
+                continue;
+            };
+            if !self.all.contains_key(name) {
+                lengths.push(FileLength::new(self.alloc, length.name(), length.count())?)?;
+            }
+        }
+        Ok(())
+    }
+}
+
+impl<'a, R: Files<File = File> + Clock> ContinuedFiles<DiskFiles<'a, R>> {
+    /// The path of a file whose torn end was put aside, once.
+    pub fn take_torn(&mut self) -> Option<String> {
+        self.files.take_torn()
+    }
+
+    /// What the system says of the last call that failed, once.
+    pub fn take_reason(&mut self) -> Option<io::Error> {
+        self.files.take_reason()
+    }
+}
+
+impl<F: RecordFiles> Folders for ContinuedFiles<F> {
+    ghost puts = { λ _. None };
+
+    ghost failures = { λ c. c.failures };
+
+    fn put(&mut self, folder: &[u8], file: &[u8], bytes: &[u8; 512]) -> Result<(), FolderFault>
+        ensures put { OnOk result
+            (PutsOne None None (record { folder = folder.now; file = file.now; bytes = bytes.now })) }
+        ensures refused { OnErr result (PutsNothing None None) }
+        ensures failure { CountsFailure self.old.failures self.new.failures result }
+    {
+        let put = match name_of(self.alloc, folder, file) {
+            Ok(name) => self.hand(name.as_str(), bytes),
+            Err(fault) => Err(fault),
+        };
+        if put.is_err() {
+            self.failures = self.failures.wrapping_add(1);
+        }
+        put
+    }
+}

@@ -1,0 +1,355 @@
+//! Files of records on the disk.
+ghost use Rattle.std.specs.Prelude.{None};
+
+use crate::files::RecordFiles;
+use crate::folders::FolderFault;
+use crate::open_file::{OpenFile, RECORD, identity_of};
+use lru::LruCache;
+use std::alloc::Global;
+use std::fs::{self, File, Metadata, OpenOptions};
+use std::io::{self, ErrorKind};
+use std::num::NonZeroUsize;
+use std::rt::{Clock, Files};
+
+/// After how many milliseconds a file is closed to which nothing was added.
+const IDLE: u64 = 60_000;
+
+/// Where files of records lie.
+#[derive(Clone, Copy, Drop)]
+pub enum FilePlace<'a> {
+    /// Below a folder, under their names.
+    Below(&'a str),
+    /// There is one, at this path, whatever its name is.
+    At(&'a str),
+}
+
+/// Files of records on the disk, which no others write to meanwhile. Those that were written last are kept open.
+#[derive(Drop)]
+pub struct DiskFiles<'a, R: Files<File = File>> {
+    rt: &'a R,
+    alloc: Global,
+    place: FilePlace<'a>,
+    open: LruCache<String, OpenFile>,
+    /// Whether what is added is to last.
+    lasts: bool,
+    /// Something that was added could not be put on the disk.
+    is_lost: bool,
+    /// The path of a file whose torn end was put aside, until it is told.
+    torn: Option<String>,
+    reason: Option<io::Error>,
+}
+
+/// No memory.
+pub(crate) fn no_memory() -> io::Error {
+    io::Error::from(ErrorKind::OutOfMemory)
+}
+
+/// Milliseconds of the system's clock; 0 where it can't be read.
+fn milliseconds<R: Clock>(rt: &R) -> u64 {
+    match rt.monotonic() {
+        Ok(now) => u64::try_from(now.as_millis()).unwrap_or(u64::MAX),
+        Err(_) => 0,
+    }
+}
+
+/// What the system says of a file: none if it is not there. One that is no plain file is refused, and not opened: a
+/// pipe would wait for a reader.
+fn plain_at<R: Files>(rt: &R, path: &str) -> io::Result<Option<Metadata>> {
+    match fs::metadata(rt, path) {
+        Ok(found) if found.is_file() => Ok(Some(found)),
+        Ok(_) => Err(io::Error::from(ErrorKind::InvalidInput)),
+        Err(reason) if reason.kind() == ErrorKind::NotFound => Ok(None),
+        Err(reason) => Err(reason),
+    }
+}
+
+/// A file to which is added and from which is read, which is made if it is not there.
+fn opened_at<R: Files>(rt: &R, path: &str) -> io::Result<R::File> {
+    OpenOptions::new()
+        .read(true)
+        .append(true)
+        .create(true)
+        .open(rt, path)
+}
+
+/// The folder that a path lies in.
+fn folder_of(path: &str) -> Option<&str> {
+    match path.rsplit_once('/') {
+        Some(("", _)) => None,
+        Some((folder, _)) => Some(folder),
+        None => None,
+    }
+}
+
+/// The same, in a folder that is made if it is not there.
+fn made_at<R: Files>(rt: &R, path: &str) -> io::Result<R::File> {
+    match (opened_at(rt, path), folder_of(path)) {
+        (Err(reason), Some(folder)) if reason.kind() == ErrorKind::NotFound => {
+            fs::create_dir_all(rt, folder)?;
+            opened_at(rt, path)
+        }
+        (opened, _) => opened,
+    }
+}
+
+/// Has the system put the folder of a new file on the disk. What fails is passed over, since some systems don't do it
+/// for folders.
+fn sync_folder<R: Files<File = File>>(rt: &R, path: &str) {
+    if let Ok(folder) = fs::open(rt, folder_of(path).unwrap_or(".")) {
+        let _ = folder.sync_all();
+    }
+}
+
+/// Whether no more descriptors can be had.
+fn is_full(reason: &io::Error) -> bool {
+    matches!(reason.raw_os_error(), Some(23 | 24))
+}
+
+impl<'a, R: Files<File = File> + Clock> DiskFiles<'a, R> {
+    /// Files at a place, of which so many are kept open at most. If they are to last, each sync puts on the disk what
+    /// was added; else the system does that when it likes.
+    pub fn new(
+        rt: &'a R,
+        alloc: Global,
+        place: FilePlace<'a>,
+        most: NonZeroUsize,
+        lasts: bool,
+    ) -> io::Result<DiskFiles<'a, R>> {
+        match LruCache::sparse(alloc, most) {
+            Ok(open) => Ok(DiskFiles {
+                rt,
+                alloc,
+                place,
+                open,
+                lasts,
+                is_lost: false,
+                torn: None,
+                reason: None,
+            }),
+            Err(_) => Err(no_memory()),
+        }
+    }
+
+    /// What the system says of the last call that failed, once.
+    pub fn take_reason(&mut self) -> Option<io::Error> {
+        self.reason.take()
+    }
+
+    /// The path of a file whose torn end was put aside, once.
+    pub fn take_torn(&mut self) -> Option<String> {
+        self.torn.take()
+    }
+
+    /// The path of a file.
+    fn path_of(&self, name: &str) -> io::Result<String> {
+        let path = match self.place {
+            FilePlace::Below(top) => format!(in self.alloc; "{top}/{name}"),
+            FilePlace::At(path) => String::from_str(self.alloc, path),
+        };
+        match path {
+            Ok(path) => Ok(path),
+            Err(_) => Err(no_memory()),
+        }
+    }
+
+    /// A file is no more kept open.
+    fn let_go(&mut self, file: OpenFile) {
+        if self.lasts && file.sync().is_err() {
+            self.is_lost = true;
+        }
+    }
+
+    /// The file that was written longest ago is no more kept open. Answers whether there was one.
+    fn let_go_oldest(&mut self) -> bool {
+        match self.open.pop_lru() {
+            Some((_, oldest)) => {
+                self.let_go(oldest);
+                true
+            }
+            None => false,
+        }
+    }
+
+    /// Keeps a file open, in place of the one that was written longest ago.
+    fn keep_open(&mut self, name: &str, file: OpenFile) -> io::Result<()> {
+        let Ok(name) = String::from_str(self.alloc, name) else {
+            return Err(no_memory());
+        };
+        match self.open.push(name, file) {
+            Ok(Some((_, oldest))) => {
+                self.let_go(oldest);
+                Ok(())
+            }
+            Ok(None) => Ok(()),
+            Err(_) => Err(no_memory()),
+        }
+    }
+
+    /// Opens a file. While no descriptor can be had, others are let go.
+    fn open_at(&mut self, path: &str) -> io::Result<File> {
+        for _ in 0..u64::MAX {
+            match made_at(self.rt, path) {
+                Err(reason) if is_full(&reason) => {
+                    if !self.let_go_oldest() {
+                        return Err(reason);
+                    }
+                }
+                opened => return opened,
+            }
+        }
+        Err(io::Error::from(ErrorKind::Other))
+    }
+
+    /// Has a file open.
+    fn have_open(&mut self, name: &str) -> io::Result<()> {
+        if self.open.contains(name) {
+            return Ok(());
+        }
+        let path = self.path_of(name)?;
+        let is_new = plain_at(self.rt, path.as_str())?.is_none();
+        let file = self.open_at(path.as_str())?;
+        if is_new && self.lasts {
+            sync_folder(self.rt, path.as_str());
+        }
+        let opened = OpenFile::new(file, milliseconds(self.rt))?;
+        self.keep_open(name, opened)
+    }
+
+    /// A file is closed that is open, but is no more the one at its path.
+    fn close_other(&mut self, name: &str, found: &Option<Metadata>) {
+        let is_same = match (self.open.peek(name), found) {
+            (Some(open), Some(found)) => open.is_at(identity_of(found)),
+            (Some(_), None) => false,
+            (None, _) => true,
+        };
+        if !is_same {
+            self.close(name);
+        }
+    }
+
+    /// A file is closed, if it is open.
+    fn close(&mut self, name: &str) {
+        if let Some(open) = self.open.pop(name) {
+            self.let_go(open);
+        }
+    }
+
+    /// Puts the end of a file that is no whole record into another one, and cuts it off.
+    fn put_aside(&mut self, path: String, length: u64) -> io::Result<()> {
+        let whole = length - length % RECORD;
+        let Ok(aside) = format!(in self.alloc; "{path}.torn") else {
+            return Err(no_memory());
+        };
+        let mut file = opened_at(self.rt, path.as_str())?;
+        let mut other = opened_at(self.rt, aside.as_str())?;
+        crate::open_file::move_end(&mut file, &mut other, whole, length)?;
+        self.torn = Some(path);
+        Ok(())
+    }
+
+    /// How many whole records stand in a file, whose torn end is put aside.
+    fn count_at(&mut self, name: &str) -> io::Result<u64> {
+        let path = self.path_of(name)?;
+        let found = plain_at(self.rt, path.as_str())?;
+        self.close_other(name, &found);
+        let length = match found {
+            Some(found) => found.len(),
+            None => 0,
+        };
+        if length % RECORD != 0 {
+            self.close(name);
+            self.put_aside(path, length)?;
+        }
+        Ok(length / RECORD)
+    }
+
+    /// Reads the record at a place of a file.
+    fn read_at(&mut self, name: &str, place: u64, bytes: &mut [u8; 512]) -> io::Result<()> {
+        self.have_open(name)?;
+        match self.open.get(name) {
+            Some(file) => file.read(place, bytes),
+            None => Err(io::Error::from(ErrorKind::Other)),
+        }
+    }
+
+    /// Adds a record at the end of a file.
+    fn add_at(&mut self, name: &str, bytes: &[u8; 512]) -> io::Result<()> {
+        self.have_open(name)?;
+        let now = milliseconds(self.rt);
+        match self.open.get_mut(name) {
+            Some(file) => file.add(bytes, now),
+            None => Err(io::Error::from(ErrorKind::Other)),
+        }
+    }
+
+    /// Has the system put on the disk what was added to files that are open.
+    fn sync_open(&self) -> io::Result<()> {
+        for (_, file) in self.open.iter() {
+            file.sync()?;
+        }
+        Ok(())
+    }
+
+    /// Closes files to which nothing was added for a minute.
+    fn close_idle(&mut self) {
+        let now = milliseconds(self.rt);
+        for _ in 0..self.open.len() {
+            let is_idle = match self.open.peek_lru() {
+                Some((_, oldest)) => oldest.is_idle(now, IDLE),
+                None => false,
+            };
+            if !is_idle || !self.let_go_oldest() {
+                return;
+            }
+        }
+    }
+
+    /// Has the system put on the disk what was added, if that is to last.
+    fn sync_all(&mut self) -> io::Result<()> {
+        if self.lasts {
+            if self.is_lost {
+                return Err(io::Error::from(ErrorKind::Other));
+            }
+            self.sync_open()?;
+        }
+        self.close_idle();
+        Ok(())
+    }
+
+    /// A call ended so.
+    fn tell<T: Drop>(&mut self, outcome: io::Result<T>) -> Result<T, FolderFault> {
+        match outcome {
+            Ok(value) => Ok(value),
+            Err(reason) => {
+                self.reason = Some(reason);
+                Err(FolderFault)
+            }
+        }
+    }
+}
+
+impl<'a, R: Files<File = File> + Clock> RecordFiles for DiskFiles<'a, R> {
+    ghost records = { λ _ _. None };
+
+    ghost safe = { λ _ _. None };
+
+    fn count(&mut self, name: &str) -> Result<u64, FolderFault> {
+        let counted = self.count_at(name);
+        self.tell(counted)
+    }
+
+    fn read(&mut self, name: &str, place: u64, bytes: &mut [u8; 512]) -> Result<(), FolderFault> {
+        let read = self.read_at(name, place, bytes);
+        self.tell(read)
+    }
+
+    fn add(&mut self, name: &str, bytes: &[u8; 512]) -> Result<(), FolderFault> {
+        let added = self.add_at(name, bytes);
+        self.tell(added)
+    }
+
+    fn sync(&mut self) -> Result<(), FolderFault> {
+        let synced = self.sync_all();
+        self.tell(synced)
+    }
+}

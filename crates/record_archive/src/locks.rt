@@ -1,0 +1,104 @@
+//! The locks of the stations of an archive.
+use crate::stations::StationCodes;
+use std::alloc::Global;
+use std::fs::{self, File, OpenOptions, TryLockError};
+use std::io::{self, ErrorKind};
+use std::rt::Files;
+
+/// Why nothing can be put below a folder.
+#[derive(Drop)]
+pub enum TopFault {
+    /// The folder can't be made, or a file in it that is locked can't be opened.
+    Unopened(io::Error),
+    /// Somebody else puts records of one of the stations there.
+    Locked,
+}
+
+/// Locks on files below a folder, each of which says that records of a station are put there. They are held until they
+/// are let go.
+#[derive(Drop)]
+pub struct StationLocks {
+    _files: Vec<File>,
+}
+
+/// The path of the file that is locked while records of a station are put below a folder.
+fn lock_path(alloc: Global, top: &str, codes: &StationCodes) -> Option<String> {
+    let network = str::from_utf8(codes.network()).ok()?;
+    let station = str::from_utf8(codes.station()).ok()?;
+    match format!(in alloc; "{top}/.{network}_{station}.lock") {
+        Ok(path) => Some(path),
+        Err(_) => None,
+    }
+}
+
+/// Refuses a file that is there and is no plain file, before it is opened: a pipe would wait for a reader.
+fn plain_or_new<R: Files>(rt: &R, path: &str) -> io::Result<()> {
+    match fs::metadata(rt, path) {
+        Ok(found) if !found.is_file() => Err(io::Error::from(ErrorKind::InvalidInput)),
+        _ => Ok(()),
+    }
+}
+
+/// A file that is opened to be locked.
+fn opened_at<R: Files<File = File>>(rt: &R, path: &str) -> io::Result<File> {
+    plain_or_new(rt, path)?;
+    OpenOptions::new().write(true).create(true).open(rt, path)
+}
+
+/// Locks a file.
+fn locked_at<R: Files<File = File>>(rt: &R, path: &str) -> Result<File, TopFault> {
+    let file = match opened_at(rt, path) {
+        Ok(file) => file,
+        Err(reason) => return Err(TopFault::Unopened(reason)),
+    };
+    match file.try_lock() {
+        Ok(()) => Ok(file),
+        Err(TryLockError::WouldBlock) => Err(TopFault::Locked),
+        Err(TryLockError::Error(reason)) => Err(TopFault::Unopened(reason)),
+    }
+}
+
+/// No memory.
+fn no_memory() -> TopFault {
+    TopFault::Unopened(io::Error::from(ErrorKind::OutOfMemory))
+}
+
+/// Locks a station, unless it is one of those that come before it and are locked.
+fn lock_one<R: Files<File = File>>(
+    rt: &R,
+    alloc: Global,
+    top: &str,
+    before: &[StationCodes],
+    codes: &StationCodes,
+    files: &mut Vec<File>,
+) -> Result<(), TopFault> {
+    if before.iter().any(|other| other.is_same(codes)) {
+        return Ok(());
+    }
+    let Some(path) = lock_path(alloc, top, codes) else {
+        return Err(no_memory());
+    };
+    let file = locked_at(rt, path.as_str())?;
+    match files.push(file) {
+        Ok(()) => Ok(()),
+        Err(_) => Err(no_memory()),
+    }
+}
+
+/// Locks the stations whose records are put below a folder, which is made if it is not there. It fails if somebody else
+/// has locked one of them.
+pub fn lock_stations<R: Files<File = File>>(
+    rt: &R,
+    alloc: Global,
+    top: &str,
+    stations: &[StationCodes],
+) -> Result<StationLocks, TopFault> {
+    if let Err(reason) = fs::create_dir_all(rt, top) {
+        return Err(TopFault::Unopened(reason));
+    }
+    let mut files = Vec::new(alloc);
+    for (place, codes) in stations.iter().enumerate() {
+        lock_one(rt, alloc, top, &stations[..place], codes, &mut files)?;
+    }
+    Ok(StationLocks { _files: files })
+}
