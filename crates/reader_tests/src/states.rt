@@ -98,7 +98,7 @@ fn a_state_keeps_other_stations(rt: HostRuntime) -> Result<(), Fail> {
         before.lasts(),
         before.files(),
     )?;
-    let wanted = b"GE APE 000003 6\nXX B 000001 -\nGE WLF 000002 5\n#\n- 7\n";
+    let wanted = b"GE APE 000003 6\nGE WLF 000002 5\nXX B 000001 -\n#\n- 7\n";
     assert!(rt; text.as_slice() == wanted.as_slice());
     Ok(())
 }

@@ -1,13 +1,12 @@
 -- A state stands for what was counted.
 use Rattle.std.proofs.Common.{◌≡◌, ℕ, zero, suc, ◌+◌, Bool, true, false, ◌&&◌, List, [], ◌∷◌, map, Some, None, refl}
-use Rattle.std.proofs.Common.{sym, ap, ap₂, ◌∙◌, subst, arith, add-one}
+use Rattle.std.proofs.Common.{sym, ap, ap₂, ◌∙◌, subst, arith}
 use Rattle.std.specs.Prelude.{Option, option_map, slice_get, if◌then◌else◌}
-use Rattle.std.specs.Str.{bytes_eq}
 use Rattle.std.proofs.lemmas.Slice.Eq.{bytes_eq-Decides}
 use Rattle.slreader.specs.GoingOn.{plan_on, want_on, wants_on}
-use Rattle.slreader.specs.Lasts.{Differ, GoByStations, IsApart, LastValue, has_number, is_last_of, last_at, last_before}
-use Rattle.slreader.specs.Lasts.{last_for, lasts_from, lasts_of, resume_after, tally_after}
-use Rattle.slreader.specs.Tallies.{ReachedValue, TallyValue, next_of, number_after, reached_of}
+use Rattle.slreader.specs.Lasts.{AreApart, Differ, IsApart, LastValue, is_last_of, last_at, last_before}
+use Rattle.slreader.specs.Lasts.{lasts_from, lasts_of, resume_after, tally_after}
+use Rattle.slreader.specs.Tallies.{ReachedValue, TallyValue, number_after, reached_of}
 use Rattle.slreader.specs.Wants.{WantValue}
 use Rattle.slreader.specs.Wants.PlanValue.{Multi}
 
@@ -80,18 +79,17 @@ skips-on v r lasts before (w ∷ ws) apart h =
     (h.0 ∙ passed-over v w r lasts apart.0, skips-on v r lasts before ws apart.1 h.1)
 
 -- Each want goes on after its own last packet.
-own-lasts : (t : TallyValue) (k : ℕ) (all : List LastValue) (ws : List WantValue) → GoByStations ws
+own-lasts : (t : TallyValue) (k : ℕ) (all : List LastValue) (ws : List WantValue) → AreApart ws
     → Skips all (lasts_from t k ws) ws → (i : ℕ) (w : WantValue) → slice_get ws i ≡ Some w
-    → last_for all w ≡ reached_of t (k + i)
+    → last_at w.network w.station all ≡ reached_of t (k + i)
 own-lasts t k all [] h skips i w is = absurd cc
 own-lasts t k all (v ∷ ws) h skips zero w is =
     let same : v ≡ w = cc in
-    subst (λ x. last_for all x ≡ reached_of t (k + 0)) same
-    (pass-if (has_number v.action) _ _ h.0 ∙ skips.0
-    ∙ first-own v (reached_of t k) (lasts_from t (k + 1) ws) (none-of t (k + 1) v ws h.1)
+    subst (λ (x : WantValue). last_at x.network x.station all ≡ reached_of t (k + 0)) same
+    (skips.0 ∙ first-own v (reached_of t k) (lasts_from t (k + 1) ws) (none-of t (k + 1) v ws h.0)
     ∙ ap (reached_of t) (omega arith))
 own-lasts t k all (v ∷ ws) h skips (suc i) w is =
-    own-lasts t (k + 1) all ws h.2 (skips-on v (reached_of t k) (lasts_from t (k + 1) ws) all ws h.1 skips.1) i w is
+    own-lasts t (k + 1) all ws h.1 (skips-on v (reached_of t k) (lasts_from t (k + 1) ws) all ws h.0 skips.1) i w is
     ∙ ap (reached_of t) (omega arith)
 
 skips-none : (lasts : List LastValue) (ws : List WantValue) → Skips lasts lasts ws
@@ -100,9 +98,10 @@ skips-none lasts (w ∷ ws) = (refl, skips-none lasts ws)
 
 -- what a tally of those says
 reached-after : (all : List LastValue) (wants ws : List WantValue) (i : ℕ) (w : WantValue) → slice_get ws i ≡ Some w
-    → reached_of (record { records = 0; resumes = map (resume_after all) ws }) i ≡ last_for all w
+    → reached_of (record { records = 0; resumes = map (resume_after all) ws }) i ≡ last_at w.network w.station all
 reached-after all wants [] i w is = absurd cc
-reached-after all wants (v ∷ ws) zero w is = let same : v ≡ w = cc in ap (last_for all) same
+reached-after all wants (v ∷ ws) zero w is = let same : v ≡ w = cc in
+    ap (λ (x : WantValue). last_at x.network x.station all) same
 reached-after all wants (v ∷ ws) (suc i) w is = reached-after all wants ws i w is
 
 -- The same wants go on to the same, where the tallies say the same of them.
@@ -118,7 +117,7 @@ same-on t u k (w ∷ ws) same =
     ap (reached_of t) (omega arith) ∙ same (suc i) v is ∙ ap (reached_of u) (omega arith)))
 
 -- A reader that begins with a state asks what one asks that goes on.
-pub state-goes-on : (t : TallyValue) (wants : List WantValue) → GoByStations wants
+pub state-goes-on : (t : TallyValue) (wants : List WantValue) → AreApart wants
     → plan_on (tally_after (lasts_of t wants) wants) wants ≡ plan_on t wants
 state-goes-on t wants h =
     ap Multi (same-on (tally_after (lasts_of t wants) wants) t 0 wants (λ i w is.

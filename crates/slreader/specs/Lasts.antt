@@ -1,10 +1,8 @@
 -- The last packets of stations that an earlier reader was given, and where wants go on after them.
 -- SeedLink 3, DATA, FETCH and TIME. Left out: packets whose records can't be read, which are of no station.
-use Rattle.std.specs.Prelude.{◌≡◌, ℕ, ◌+◌, Bool, false, ◌&&◌, if◌then◌else◌, is_some, List, [], ◌∷◌, map, Option, Some}
-use Rattle.std.specs.Prelude.{None}
+use Rattle.std.specs.Prelude.{◌≡◌, ℕ, ◌+◌, Bool, false, ◌&&◌, if◌then◌else◌, List, [], ◌∷◌, map, Option, Some, None}
 use Rattle.std.specs.Str.{bytes_eq}
-use Rattle.slreader.specs.Wants.{Action, WantValue, is_code}
-use Rattle.slreader.specs.Wants.Action.{Data, Fetch, Time}
+use Rattle.slreader.specs.Wants.{WantValue, is_code}
 use Rattle.slreader.specs.Tallies.{ReachedValue, Resume, TallyValue, reached_of, resume_of}
 
 -- the last packet of a station
@@ -27,18 +25,10 @@ last_at network station [] = None
 last_at network station (l ∷ ls) =
     if is_last_of network station l then Some l.reached else last_at network station ls
 
--- a number is asked for
-abbrev pub has_number : Action → Bool
-has_number (Data number begin) = is_some number
-has_number (Fetch number begin) = is_some number
-has_number (Time begin last) = false
-
--- A want goes on after the last packet of its station, unless it asks for a number of its own.
-abbrev pub last_for : List LastValue → WantValue → Option ReachedValue
-last_for lasts w = if has_number w.action then None else last_at w.network w.station lasts
-
+-- A want goes on after the last packet of its station, if there is one, also if it asks for a number of its own: that
+-- is where it began.
 abbrev pub resume_after : List LastValue → WantValue → Resume
-resume_after lasts w = record (resume_of false w) { last = last_for lasts w }
+resume_after lasts w = record (resume_of false w) { last = last_at w.network w.station lasts }
 
 -- what is counted of several wants before the first packet that comes after those
 abbrev pub tally_after : List LastValue → List WantValue → TallyValue
@@ -70,7 +60,7 @@ abbrev pub IsApart : WantValue → List WantValue → Type 0
 IsApart v [] = Unit {0}
 IsApart v (w ∷ ws) = Differ v w × IsApart v ws
 
--- No two of them are of one station, and none asks for a number of its own.
-abbrev pub GoByStations : List WantValue → Type 0
-GoByStations [] = Unit {0}
-GoByStations (w ∷ ws) = (has_number w.action ≡ false) × IsApart w ws × GoByStations ws
+-- No two of them are of one station.
+abbrev pub AreApart : List WantValue → Type 0
+AreApart [] = Unit {0}
+AreApart (w ∷ ws) = IsApart w ws × AreApart ws

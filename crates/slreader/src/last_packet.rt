@@ -1,11 +1,10 @@
 //! The last packets of stations, after which a later reader goes on.
 ghost use Rattle.std.specs.Prelude.{◌≡◌, ◌++◌, [], OnOk};
-ghost use Rattle.slreader.specs.Lasts.{has_number, last_at, last_before, last_for};
-ghost use Rattle.slreader.specs.WantTexts.{action_value};
+ghost use Rattle.slreader.specs.Lasts.{last_at, last_before};
 
 use crate::spelling::{NETWORK, STATION, is_code};
 use crate::tally::{Reached, Tally};
-use crate::want::{Action, Want};
+use crate::want::Want;
 use std::alloc::{AllocError, Global};
 use std::marker::Model;
 
@@ -92,27 +91,6 @@ pub fn last_at(network: &[u8], station: &[u8], lasts: &[LastPacket]) -> Option<R
         }
     }
     None
-}
-
-/// Whether a number is asked for.
-fn has_number(action: &Action<'_>) -> bool
-    ensures { result ≡ has_number (action_value action.now) }
-{
-    match action {
-        Action::Data { number, .. } => number.is_some(),
-        Action::Fetch { number, .. } => number.is_some(),
-        Action::Time { .. } => false,
-    }
-}
-
-/// The last packet after which a want goes on, if it asks for no number of its own.
-pub(crate) fn last_for(lasts: &[LastPacket], want: &Want<'_>) -> Option<Reached>
-    ensures { result ≡ last_for lasts.now want.now }
-{
-    if has_number(&want.action) {
-        return None;
-    }
-    last_at(want.network, want.station, lasts)
 }
 
 /// Adds the last packet of a want's station, if there is one.

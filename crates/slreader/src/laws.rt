@@ -7,7 +7,7 @@ ghost use Rattle.slreader.specs.Wants.{PlanValue, is_plan};
 ghost use Rattle.slreader.specs.Dialogue.{ReaderValue, asked_of, begun, given_from, read_first, read_on, reader_of};
 ghost use Rattle.slreader.specs.Dialogue.Stage.{Failed};
 ghost use Rattle.slreader.specs.GoingOn.{plan_on};
-ghost use Rattle.slreader.specs.Lasts.{GoByStations, lasts_of, tally_after};
+ghost use Rattle.slreader.specs.Lasts.{AreApart, lasts_of, tally_after};
 ghost use Rattle.slreader.specs.Tallies.{TallyValue};
 ghost use Rattle.slreader.specs.Wants.{WantValue};
 ghost use Rattle.slreader.specs.Parts.{Part, bytes_of, given_of, IsDialogue, BeginsDialogue, HasNegotiated};
@@ -59,8 +59,8 @@ pub fn dialogue_decided()
 {}
 
 /// A reader that begins with the last packets that another one counted asks what that one asks when it goes on after a
-/// break, if each want is of a station of its own and asks for no number of its own.
+/// break, if each want is of a station of its own. This holds of a want that asks for a number, too.
 pub fn state_goes_on()
-    ensures { (t : TallyValue) (wants : List WantValue) → GoByStations wants →
+    ensures { (t : TallyValue) (wants : List WantValue) → AreApart wants →
         plan_on (tally_after (lasts_of t wants) wants) wants ≡ plan_on t wants }
 {}

@@ -6,7 +6,7 @@ ghost use Rattle.slreader.specs.Tallies.{resume_of};
 ghost use Rattle.slreader.specs.Lasts.{resume_after};
 ghost use Rattle.slreader.specs.Tallies.{resumes_of as spec_resumes_of};
 
-use crate::last_packet::{LastPacket, last_for};
+use crate::last_packet::{LastPacket, last_at};
 use crate::want::{Plan, Want};
 use mseed_header::{Header, read};
 use sl_packet::Seq;
@@ -89,13 +89,13 @@ impl Resume {
         })
     }
 
-    /// After the last packet of its station, unless the want asks for a number of its own.
+    /// After the last packet of its station, if there is one, whatever number the want asks for.
     fn after(alloc: Global, want: &Want<'_>, lasts: &[LastPacket]) -> Result<Resume, AllocError>
         ensures { IfOk result (λ r. r ≡ resume_after lasts.now want.now) }
     {
         let first = Resume::new(alloc, false, want)?;
         Ok(Resume {
-            last: last_for(lasts, want),
+            last: last_at(want.network, want.station, lasts),
             ..first
         })
     }
@@ -244,8 +244,8 @@ impl Tally {
     }
 
     /// Before the first packet of several wants that comes after those of an earlier reader, by the last packets of
-    /// stations that it was given: each want goes on after the last packet of its station, unless it asks for a number
-    /// of its own. So a reader begins by it as one that goes on after a break.
+    /// stations that it was given: each want goes on after the last packet of its station. One whose station has none
+    /// asks for its own number, if it has one. So a reader begins by it as one that goes on after a break.
     pub fn after(
         alloc: Global,
         wants: &[Want<'_>],
