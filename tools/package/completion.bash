@@ -16,7 +16,7 @@ _seedlinkd() {
             view) options+=" --strict" ;;
             check) options+=" --iso --summary --quiet --config" ;;
             replay) options+=" --text" ;;
-            read) options+=" --fetch --begin --end --retry --archive --state --iso --output" ;;
+            read) options+=" --fetch --begin --end --retry --timeout --archive --state --iso --output" ;;
         esac
         mapfile -t COMPREPLY < <(compgen -W "$options" -- "$current")
     elif [ -z "$command" ]; then

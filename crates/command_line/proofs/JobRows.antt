@@ -5,7 +5,7 @@ use Rattle.clap.specs.declared.error.ErrorKind.TheVariants.{DisplayVersion, Miss
 use Rattle.clap.specs.declared.error.ErrorKind.TheVariants.{ValueValidation}
 use Rattle.clap.proofs.OnLiterals.{clap_on_literals}
 use Rattle.command_line.specs.declared.job.Every.TheVariants.{Seconds, Turns}
-use Rattle.command_line.specs.Jobs.{every_of, job_of, program_app, verbose_of, ServeAsked}
+use Rattle.command_line.specs.Jobs.{every_of, job_of, program_app, verbose_of, ReadAsked, ServeAsked}
 use Rattle.command_line.specs.Jobs.Asked.{Check, Replay, View, Serve, Feed, Read}
 
 abbrev replay_words : List Text
@@ -173,20 +173,26 @@ pub files_asked : job_of (codes "seedlinkd" ∷ codes "feed" ∷ codes "a" ∷ c
 unfolding clap_on_literals
 files_asked = refl
 
-abbrev read_words : List Text
-read_words = codes "seedlinkd" ∷ codes "read" ∷ codes "a" ∷ codes "GE_WLF" ∷ codes "XX_APE" ∷ codes "--fetch" ∷ []
-
-pub read_asked : job_of read_words ≡ Some (Read (codes "a") (codes "GE_WLF" ∷ codes "XX_APE" ∷ [])
-    (record {
-      fetch = true;
+-- what `read` is asked without options
+abbrev plain_read : ReadAsked
+plain_read =
+    record {
+      fetch = false;
       begin = None;
       last = None;
       retry = None;
+      timeout = None;
       archive = None;
       output = None;
       state = None;
       is_iso = false;
-    }))
+    }
+
+abbrev read_words : List Text
+read_words = codes "seedlinkd" ∷ codes "read" ∷ codes "a" ∷ codes "GE_WLF" ∷ codes "XX_APE" ∷ codes "--fetch" ∷ []
+
+pub read_asked : job_of read_words ≡ Some (Read (codes "a") (codes "GE_WLF" ∷ codes "XX_APE" ∷ [])
+    (record plain_read { fetch = true }))
 unfolding clap_on_literals
 read_asked = refl
 
@@ -199,16 +205,7 @@ output_words =
     codes "seedlinkd" ∷ codes "read" ∷ codes "a" ∷ codes "GE_WLF" ∷ codes "--output" ∷ codes "-" ∷ []
 
 pub output_asked : job_of output_words ≡ Some (Read (codes "a") (codes "GE_WLF" ∷ [])
-    (record {
-      fetch = false;
-      begin = None;
-      last = None;
-      retry = None;
-      archive = None;
-      output = Some (codes "-");
-      state = None;
-      is_iso = false;
-    }))
+    (record plain_read { output = Some (codes "-") }))
 unfolding clap_on_literals
 output_asked = refl
 
@@ -218,16 +215,7 @@ window_words =
     ∷ codes "--end=2024,3,1" ∷ []
 
 pub window_asked : job_of window_words ≡ Some (Read (codes "a") (codes "GE_WLF" ∷ [])
-    (record {
-      fetch = false;
-      begin = Some (codes "2024,2,29");
-      last = Some (codes "2024,3,1");
-      retry = None;
-      archive = None;
-      output = None;
-      state = None;
-      is_iso = false;
-    }))
+    (record plain_read { begin = Some (codes "2024,2,29"); last = Some (codes "2024,3,1") }))
 unfolding clap_on_literals
 window_asked = refl
 
@@ -241,33 +229,23 @@ abbrev retry_words : List Text
 retry_words = codes "seedlinkd" ∷ codes "read" ∷ codes "a,b" ∷ codes "GE_WLF" ∷ codes "--retry" ∷ codes "5" ∷ []
 
 pub retry_asked : job_of retry_words ≡ Some (Read (codes "a,b") (codes "GE_WLF" ∷ [])
-    (record {
-      fetch = false;
-      begin = None;
-      last = None;
-      retry = Some 5;
-      archive = None;
-      output = None;
-      state = None;
-      is_iso = false;
-    }))
+    (record plain_read { retry = Some 5 }))
 unfolding clap_on_literals
 retry_asked = refl
+
+abbrev timeout_words : List Text
+timeout_words = codes "seedlinkd" ∷ codes "read" ∷ codes "a,b" ∷ codes "GE_WLF" ∷ codes "--timeout=30" ∷ []
+
+pub timeout_asked : job_of timeout_words
+    ≡ Some (Read (codes "a,b") (codes "GE_WLF" ∷ []) (record plain_read { timeout = Some 30 }))
+unfolding clap_on_literals
+timeout_asked = refl
 
 abbrev archive_words : List Text
 archive_words = codes "seedlinkd" ∷ codes "read" ∷ codes "a" ∷ codes "GE_WLF" ∷ codes "--archive" ∷ codes "/sds" ∷ []
 
 pub archive_asked : job_of archive_words ≡ Some (Read (codes "a") (codes "GE_WLF" ∷ [])
-    (record {
-      fetch = false;
-      begin = None;
-      last = None;
-      retry = None;
-      archive = Some (codes "/sds");
-      output = None;
-      state = None;
-      is_iso = false;
-    }))
+    (record plain_read { archive = Some (codes "/sds") }))
 unfolding clap_on_literals
 archive_asked = refl
 
@@ -348,15 +326,6 @@ abbrev state_words : List Text
 state_words = codes "seedlinkd" ∷ codes "read" ∷ codes "a" ∷ codes "GE_WLF" ∷ codes "--state" ∷ codes "s" ∷ []
 
 pub state_asked : job_of state_words ≡ Some (Read (codes "a") (codes "GE_WLF" ∷ [])
-    (record {
-      fetch = false;
-      begin = None;
-      last = None;
-      retry = None;
-      archive = None;
-      output = None;
-      state = Some (codes "s");
-      is_iso = false;
-    }))
+    (record plain_read { state = Some (codes "s") }))
 unfolding clap_on_literals
 state_asked = refl

@@ -151,20 +151,24 @@ spanned_app =
 abbrev pub retrying_app : App
 retrying_app = with_rule spanned_app (number_rule (codes "retry"))
 
--- `read A:P,.. WANT.. [--fetch] [--begin TIME] [--end TIME] [--retry N] [--archive DIR]`
-abbrev pub archiving_app : App
-archiving_app = with_rule retrying_app (option false (codes "archive"))
+-- that with `[--timeout N]`
+abbrev pub waiting_app : App
+waiting_app = with_rule retrying_app (number_rule (codes "timeout"))
 
--- `read A:P,.. WANT.. [--fetch] [--begin TIME] [--end TIME] [--retry N] [--archive DIR] [--state FILE]`
+-- that with `[--archive DIR]`
+abbrev pub archiving_app : App
+archiving_app = with_rule waiting_app (option false (codes "archive"))
+
+-- that with `[--state FILE]`
 abbrev pub stating_app : App
 stating_app = with_rule archiving_app (option false (codes "state"))
 
--- `read A:P,.. WANT.. [--fetch] [--begin TIME] [--end TIME] [--retry N] [--archive DIR] [--state FILE] [--iso]`
+-- that with `[--iso]`
 abbrev pub dated_app : App
 dated_app = with_rule stating_app (flag_rule (codes "iso"))
 
--- `read A:P,.. WANT.. [--fetch] [--begin TIME] [--end TIME] [--retry N] [--archive DIR] [--state FILE] [--iso]
--- [--output FILE]`
+-- `read A:P,.. WANT.. [--fetch] [--begin TIME] [--end TIME] [--retry N] [--timeout N] [--archive DIR] [--state FILE]
+-- [--iso] [--output FILE]`
 abbrev pub read_app : App
 read_app = with_verbose (with_rule dated_app (option false (codes "output")))
 
@@ -209,6 +213,7 @@ pub record ReadAsked : Type 0 where
   pub begin : Option (List ℕ)
   pub last : Option (List ℕ)
   pub retry : Option ℕ
+  pub timeout : Option ℕ
   pub archive : Option (List ℕ)
   pub output : Option (List ℕ)
   pub state : Option (List ℕ)
@@ -222,6 +227,7 @@ options_asked o =
       begin = option_map (λ text. text.now) o.begin;
       last = option_map (λ text. text.now) o.last;
       retry = o.retry;
+      timeout = o.timeout;
       archive = option_map (λ text. text.now) o.archive;
       output = option_map (λ text. text.now) o.output;
       state = option_map (λ text. text.now) o.state;
@@ -393,15 +399,17 @@ feed_asked rows = with_files (first_of (codes "SERVER") rows) (all_of (codes "FI
 abbrev pub fetch_in : List Row → Bool
 fetch_in rows = option_map_or (λ text. bytes_eq text (codes "true")) (first_of (codes "fetch") rows) false
 
--- the options of `read`, as they stand there, where the number of seconds is one
-abbrev pub options_with : Option (Option ℕ) → List Row → Option ReadAsked
-options_with None rows = None
-options_with (Some retry) rows =
+-- the options of `read`, as they stand there, if both numbers of seconds are numbers
+abbrev pub options_with : (retry timeout : Option (Option ℕ)) → List Row → Option ReadAsked
+options_with None timeout rows = None
+options_with (Some retry) None rows = None
+options_with (Some retry) (Some timeout) rows =
     Some (record {
       fetch = fetch_in rows;
       begin = first_of (codes "begin") rows;
       last = first_of (codes "end") rows;
       retry = retry;
+      timeout = timeout;
       archive = first_of (codes "archive") rows;
       output = first_of (codes "output") rows;
       state = first_of (codes "state") rows;
@@ -409,7 +417,7 @@ options_with (Some retry) rows =
     })
 
 abbrev pub options_in : List Row → Option ReadAsked
-options_in rows = options_with (number_in (codes "retry") rows) rows
+options_in rows = options_with (number_in (codes "retry") rows) (number_in (codes "timeout") rows) rows
 
 -- They go on by numbers after a break.
 abbrev pub goes_on : ReadAsked → Bool

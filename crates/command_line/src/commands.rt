@@ -10,7 +10,7 @@ ghost use Rattle.command_line.specs.Jobs.{archiving_app, program_app, read_app, 
 ghost use Rattle.command_line.specs.Jobs.{scripted_app, stating_app};
 ghost use Rattle.command_line.specs.Jobs.{serve_app, timed_app};
 ghost use Rattle.command_line.specs.Jobs.{verbose_rule, view_app, viewed_app};
-ghost use Rattle.command_line.specs.Jobs.{wanted, wants_app, wants_rule, with_verbose};
+ghost use Rattle.command_line.specs.Jobs.{waiting_app, wanted, wants_app, wants_rule, with_verbose};
 
 use clap::builder::ValueParser;
 use clap::{Arg, ArgAction, Command};
@@ -397,7 +397,7 @@ fn wants<'a>(alloc: Global) -> Arg<'a>
     wanted(
         alloc,
         "WANT",
-        "NET_STA, NET_STA:PATTERN,.. or NET_STA:PATTERN,..@NUMBER",
+        "NET_STA, NET_STA:PATTERN,.., NET_STA@NUMBER or NET_STA:PATTERN,..@NUMBER",
     )
     .num_args(1..)
 }
@@ -490,6 +490,18 @@ fn retrying_command<'a>(alloc: Global) -> Built<'a>
     )
 }
 
+/// Read's command with how long it waits: `[--timeout N]`.
+fn waiting_command<'a>(alloc: Global) -> Built<'a>
+    ensures { Builds result waiting_app }
+{
+    with_number(
+        alloc,
+        retrying_command(alloc),
+        "timeout",
+        "Leaves a server that owes an answer or the rest of a packet and is silent for N seconds, 1 to 1000000000",
+    )
+}
+
 /// The option `--archive DIR`.
 fn archive<'a>(alloc: Global) -> Arg<'a>
     ensures rule { rule_of result ≡ option false (codes "archive") }
@@ -504,11 +516,11 @@ fn archive<'a>(alloc: Global) -> Arg<'a>
     )
 }
 
-/// `read A:P,.. WANT.. [--fetch] [--begin TIME] [--end TIME] [--retry N] [--archive DIR]`.
+/// Read's command with `[--archive DIR]`.
 fn archiving_command<'a>(alloc: Global) -> Built<'a>
     ensures { Builds result archiving_app }
 {
-    with_argument(retrying_command(alloc), archive(alloc))
+    with_argument(waiting_command(alloc), archive(alloc))
 }
 
 /// The option `--state FILE`.
@@ -525,22 +537,22 @@ fn state<'a>(alloc: Global) -> Arg<'a>
     )
 }
 
-/// `read A:P,.. WANT.. [--fetch] [--begin TIME] [--end TIME] [--retry N] [--archive DIR] [--state FILE]`.
+/// Read's command with `[--state FILE]`.
 fn stating_command<'a>(alloc: Global) -> Built<'a>
     ensures { Builds result stating_app }
 {
     with_argument(archiving_command(alloc), state(alloc))
 }
 
-/// `read A:P,.. WANT.. [--fetch] [--begin TIME] [--end TIME] [--retry N] [--archive DIR] [--state FILE] [--iso]`.
+/// Read's command with `[--iso]`.
 fn dated_command<'a>(alloc: Global) -> Built<'a>
     ensures { Builds result dated_app }
 {
     with_flag(alloc, stating_command(alloc), "iso", ISO_HELP)
 }
 
-/// `read A:P,.. WANT.. [--fetch] [--begin TIME] [--end TIME] [--retry N] [--archive DIR] [--state FILE] [--iso]
-/// [--output FILE]`.
+/// `read A:P,.. WANT.. [--fetch] [--begin TIME] [--end TIME] [--retry N] [--timeout N] [--archive DIR] [--state FILE]
+/// [--iso] [--output FILE]`.
 fn read_command<'a>(alloc: Global) -> Built<'a>
     ensures { Builds result read_app }
 {

@@ -97,6 +97,8 @@ pub struct ReadOptions<'a> {
     pub last: Option<&'a str>,
     /// `--retry N`: a server that is gone is asked again after so many seconds, 1 to 1,000,000,000.
     pub retry: Option<usize>,
+    /// `--timeout N`: a server that owes something is left after so many seconds of silence, 1 to 1,000,000,000.
+    pub timeout: Option<usize>,
     /// `--archive DIR`: each record is added to the file of its stream and day. Not beside `output`.
     pub archive: Option<&'a str>,
     /// `--output FILE`: each record is added to that file.

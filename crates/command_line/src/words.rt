@@ -188,16 +188,18 @@ fn feed_job<'a>(alloc: Global, arguments: &ArgMatches<'a>) -> Result<Option<Job<
     Ok(Some(Job::Feed { server, files }))
 }
 
-/// The options of `read`; None where the text of a number of seconds is none.
+/// The options of `read`; None if the text of a number of seconds is not one.
 fn read_options<'a>(arguments: &ArgMatches<'a>) -> Option<ReadOptions<'a>>
     ensures { option_map options_asked result ≡ options_in (rows_of (found_of arguments.now)) }
 {
     let retry = number_in(arguments, "retry")?;
+    let timeout = number_in(arguments, "timeout")?;
     Some(ReadOptions {
         fetch: text_at(arguments, "fetch") == Some("true"),
         begin: text_at(arguments, "begin"),
         last: text_at(arguments, "end"),
         retry,
+        timeout,
         archive: text_at(arguments, "archive"),
         output: text_at(arguments, "output"),
         state: text_at(arguments, "state"),

@@ -2,7 +2,7 @@
 ghost use Rattle.std.specs.Prelude.{◌≡◌};
 ghost use Rattle.incidents.specs.Faults.{failure_reason};
 
-use crate::faults::{NumbersFault, ReplayFault, StateFault};
+use crate::faults::{NumbersFault, ReplayFault, StateFault, WantsFault};
 use catalog::ConfigFault;
 use feeder::SendFault;
 use packet_listing::ListingFault;
@@ -55,10 +55,16 @@ pub enum Failure {
     Answered,
     /// A word is no time.
     Moment(TimeFault),
+    /// A window ends before it begins.
+    Backwards,
     /// A word is no want, or the plan is outside the reader's limits.
     Want(ReaderFault),
+    /// Wants are not asked for together.
+    Wants(WantsFault),
     /// The server ended the connection before it had answered HELLO.
     Unanswered,
+    /// The server owed a connection, an answer or the rest of a packet, and was silent for too long.
+    Silent,
     /// Not all that was asked for was read.
     Packets(ListingFault),
     /// The numbers of an earlier run were not read.
@@ -92,8 +98,11 @@ impl Failure {
             Failure::Untaken => Reason::Write,
             Failure::Answered => Reason::BadReply,
             Failure::Unanswered => Reason::Read,
+            Failure::Silent => Reason::Read,
             Failure::Moment(fault) => fault.reason(),
+            Failure::Backwards => Reason::Limit,
             Failure::Want(fault) => fault.reason(),
+            Failure::Wants(fault) => fault.reason(),
             Failure::Packets(fault) => fault.reason(),
             Failure::Numbers(fault) => fault.reason(),
             Failure::State(fault) => fault.reason(),
@@ -119,7 +128,17 @@ fn own_cause(failure: Failure) -> Option<&'static str> {
         Failure::Unanswered => {
             "the connection ended before HELLO was answered; perhaps the server takes no client from here now"
         }
+        Failure::Silent => {
+            "the server was silent for too long, though a connection, an answer or the rest of a packet was due"
+        }
+        Failure::Backwards => "the window ends before it begins",
         Failure::Want(ReaderFault::Limit) => "this can't be asked for in SeedLink",
+        Failure::Wants(WantsFault::Clash) => {
+            "a WANT would narrow or move what an earlier one of its station asks for"
+        }
+        Failure::Wants(WantsFault::Stations) => "there are more WANTs than one reader can ask for",
+        Failure::Wants(WantsFault::Patterns) =>
+            "the WANTs have more patterns than one reader can ask for",
         Failure::Packets(ListingFault::Reader(ReaderFault::Limit)) =>
             "this can't be asked for in SeedLink",
         Failure::Packets(ListingFault::Read) =>

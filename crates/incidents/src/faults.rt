@@ -1,4 +1,4 @@
-//! Why a script was not replayed, and why numbers or a state were not read.
+//! Why a script was not replayed, why numbers or a state were not read, and why wants are not asked for together.
 ghost use Rattle.std.specs.Prelude.{◌≡◌};
 ghost use Rattle.std.specs.Prelude.{codes};
 ghost use Rattle.incidents.specs.Faults.{replay_reason};
@@ -65,5 +65,25 @@ impl StateFault {
         ensures { result ≡ Reason.State }
     {
         Reason::State
+    }
+}
+
+/// Why wants are not asked for together, though each of them can be asked for.
+#[derive(Clone, Copy, Drop)]
+pub enum WantsFault {
+    /// A want narrows or moves what an earlier one of its station asks for.
+    Clash,
+    /// There are more than 255.
+    Stations,
+    /// They have more than 1,024 patterns.
+    Patterns,
+}
+
+impl WantsFault {
+    /// The reason by which the program reports it: 22 Limit.
+    pub fn reason(self) -> Reason
+        ensures { result ≡ Reason.Limit }
+    {
+        Reason::Limit
     }
 }

@@ -8,14 +8,15 @@ ghost use Rattle.protocol.specs.declared.reason.Reason.TheVariants.{Different};
 ghost use Rattle.incidents.specs.Faults.{failure_reason};
 ghost use Rattle.incidents.specs.Sites.{IsListSite};
 ghost use Rattle.incidents.specs.declared.failure.Failure.TheVariants.{Config, Listen, OutOfMemory, Records};
-ghost use Rattle.incidents.specs.declared.failure.Failure.TheVariants.{Want as WantFailure};
+ghost use Rattle.incidents.specs.declared.failure.Failure.TheVariants.{Want as WantFailure, Wants};
+ghost use Rattle.incidents.specs.declared.faults.WantsFault.TheVariants.{Clash};
 ghost use Rattle.access_list.specs.declared.fault.AccessFault.TheVariants.{OutOfMemory as AccessMemory};
 ghost use Rattle.catalog.specs.declared.fault.ConfigFault.TheVariants.{Access};
-ghost use Rattle.incidents.specs.declared.incident.Site.TheVariants.{Record};
+ghost use Rattle.incidents.specs.declared.incident.Site.TheVariants.{Clash as ClashSite, Record};
 
 use crate::failure::Failure;
-use crate::faults::ReplayFault;
-use crate::part_texts::{allowed_in, name_of};
+use crate::faults::{ReplayFault, WantsFault};
+use crate::part_texts::{allowed_in, allowed_together, name_of};
 use access_list::{AccessFault, AccessList};
 use catalog::{ConfigError, ConfigFault, Step};
 use config_findings::{Difference, Finding as ConfigFinding, key_of, limit_of};
@@ -52,6 +53,8 @@ pub enum Site<'a> {
     AccessWord(&'a str, Option<&'a [u8]>),
     /// A word of the command line that is no want, and the part of it that is wrong.
     Want(&'a str, Option<WantPart>),
+    /// A word of the command line that can't be asked for beside an earlier one of its station.
+    Clash(&'a str),
     /// The server with that address.
     Server(&'a str),
     /// An address to which no connection could be made, or that can't be listened on, for the system's reason.
@@ -195,6 +198,17 @@ impl<'a> Incident<'a> {
         }
     }
 
+    /// A word of the command line that can't be asked for beside an earlier one of its station.
+    pub fn of_clash(word: &'a str) -> Incident<'a>
+        ensures failure { result.failure ≡ Wants Clash }
+        ensures site { result.site ≡ ClashSite word.entry }
+    {
+        Incident {
+            failure: Failure::Wants(WantsFault::Clash),
+            site: Site::Clash(word),
+        }
+    }
+
     /// Two addresses, for clients and for feeds, of which one can't be listened on.
     pub fn of_listening(clients: &'a str, feeds: &'a str, error: ListenError) -> Incident<'a>
         ensures failure { result.failure ≡ Listen (fault_of error) }
@@ -316,6 +330,8 @@ fn put_allowed<W: Write>(f: &mut Formatter<W>, failure: &Failure) -> fmt::Result
             "  allowed: a time in UTC, as 2024-02-29T00:00:00 or 2024,2,29,0,0,0\n",
         ),
         Failure::Client => f.write_str("  allowed: four numbers joined by dots, as 10.0.0.7\n"),
+        Failure::Wants(fault) => writeln!(f, "  allowed: {}", allowed_together(*fault)),
+        Failure::Backwards => f.write_str("  allowed: the time of --begin, or a later one\n"),
         _ => Ok(()),
     }
 }
@@ -335,6 +351,7 @@ impl Display for Site<'_> {
             Site::Word(word) => put_line(f, "word", *word),
             Site::AccessWord(word, entry) => put_access_word(f, word, entry),
             Site::Want(word, part) => put_want(f, word, part),
+            Site::Clash(word) => put_clash(f, word),
             Site::Server(address) => put_line(f, "address", *address),
             Site::Socket(address, reason) => put_reasoned(f, "address", address, reason),
         }
@@ -399,6 +416,12 @@ fn put_access_word<W: Write>(
 fn put_want<W: Write>(f: &mut Formatter<W>, word: &str, part: &Option<WantPart>) -> fmt::Result {
     put_line(f, "word", word)?;
     put_part(f, part)
+}
+
+/// The lines of a word that clashes with an earlier one of its station.
+fn put_clash<W: Write>(f: &mut Formatter<W>, word: &str) -> fmt::Result {
+    put_line(f, "word", word)?;
+    writeln!(f, "  part: {}", name_of(WantPart::Station))
 }
 
 /// The lines that say which station and key a step reads.

@@ -8,5 +8,5 @@ mod incident;
 mod part_texts;
 
 pub use failure::Failure;
-pub use faults::{NumbersFault, ReplayFault, StateFault};
+pub use faults::{NumbersFault, ReplayFault, StateFault, WantsFault};
 pub use incident::{Incident, Site, Told};

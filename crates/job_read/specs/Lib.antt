@@ -3,5 +3,7 @@ pub mod Endings
 pub mod Hearing
 pub mod Notices
 pub mod Places
+pub mod Together
 pub mod Unplaced
+pub mod Waiting
 pub mod Windows

@@ -1,5 +1,6 @@
 -- The moments of the command line, and the window that they make.
-use Rattle.std.specs.Prelude.{◌≡◌, ◌⊎◌, Bool, true, false, ℕ, List, Option, Some, None, Err, is_some}
+use Rattle.std.specs.Prelude.{◌≡◌, ◌⊎◌, Bool, true, false, ℕ, ℤ, List, Option, Some, None, Err, int_lt, is_some}
+use Rattle.std.specs.Prelude.{option_and_then}
 use Rattle.std.specs.Borrow.{Bor}
 use Rattle.protocol.specs.Time.{time_of}
 use Rattle.sl_time.specs.Parsed.{parsed}
@@ -30,6 +31,16 @@ IsMomentOf (Some word) (Some text) = IsMoment word.now text
 abbrev pub RefusesMoment : Option (Bor (List ℕ)) → Failure → Type 0
 RefusesMoment None failure = ⊥
 RefusesMoment (Some word) failure = IsNoMoment word.now failure
+
+-- The second moment lies before the first.
+abbrev pub is_earlier : Option ℤ → Option ℤ → Bool
+is_earlier None last = false
+is_earlier (Some begin) None = false
+is_earlier (Some begin) (Some last) = int_lt last begin
+
+-- There are texts of a begin and an end, and the window that they make ends before it begins.
+abbrev pub is_backwards : (begin last : Option (List ℕ)) → Bool
+is_backwards begin last = is_earlier (option_and_then time_of begin) (option_and_then time_of last)
 
 -- the window of a begin and an end, and of whether what is held is asked for. An end has a begin.
 abbrev pub window_by : (begin last : Option (List ℕ)) → (is_fetch : Bool) → WindowValue

@@ -1,10 +1,11 @@
 //! When wants that a server refused are asked again: a connection on which one was refused ends after an hour, so that
-//! the next one asks for it once more.
+//! the next one asks for it once more. And how a connection is read that ends so, or for its silence.
 ghost use Rattle.std.specs.Prelude.{◌≡◌};
 ghost use Rattle.std.specs.Io.{ReadsAtMost};
 ghost use Rattle.job_read.specs.Asking.{left_after};
 
 use crate::clock::milliseconds;
+use crate::patience::{Patience, shorter};
 use std::cell::Cell;
 use std::io::{self, ErrorKind, Read};
 use std::net::OpenStream;
@@ -68,12 +69,39 @@ pub struct RenewedReader<'r, R, S> {
     inner: S,
     rt: &'r R,
     renewal: &'r Renewal,
+    patience: &'r Patience,
 }
 
 impl<'r, R, S> RenewedReader<'r, R, S> {
     /// What is read from `inner`.
-    pub fn new(inner: S, rt: &'r R, renewal: &'r Renewal) -> RenewedReader<'r, R, S> {
-        RenewedReader { inner, rt, renewal }
+    pub fn new(
+        inner: S,
+        rt: &'r R,
+        renewal: &'r Renewal,
+        patience: &'r Patience,
+    ) -> RenewedReader<'r, R, S> {
+        RenewedReader {
+            inner,
+            rt,
+            renewal,
+            patience,
+        }
+    }
+}
+
+impl<'r, R: Clock, S> RenewedReader<'r, R, S> {
+    /// How many milliseconds the connection still lasts if nothing has come since a moment.
+    fn left(&self, begun: u64) -> Option<u64> {
+        let silence = self.patience.left(begun, milliseconds(self.rt));
+        shorter(self.renewal.left(self.rt), silence)
+    }
+
+    /// The connection is over.
+    fn give_up(&self) -> io::Error {
+        if !self.renewal.is_over(self.rt) {
+            self.patience.give_up();
+        }
+        io::Error::from(ErrorKind::TimedOut)
     }
 }
 
@@ -94,8 +122,20 @@ fn read_within<S: Read + OpenStream>(
 
 impl<'r, R: Clock, S: Read + OpenStream> Read for RenewedReader<'r, R, S> {
     fn read(&mut self, block: &mut [u8]) -> io::Result<usize> {
+        let count = self.read_in_time(block)?;
+        self.patience.receive(count);
+        Ok(count)
+    }
+}
+
+impl<'r, R: Clock, S: Read + OpenStream> RenewedReader<'r, R, S> {
+    /// Reads what comes before the connection is over.
+    fn read_in_time(&mut self, block: &mut [u8]) -> io::Result<usize>
+        ensures { ReadsAtMost result block.new }
+    {
+        let begun = milliseconds(self.rt);
         for _ in 0..u64::MAX {
-            let left = match self.renewal.left(self.rt) {
+            let left = match self.left(begun) {
                 None => return self.inner.read(block),
                 Some(0) => break,
                 Some(left) => left,
@@ -105,6 +145,6 @@ impl<'r, R: Clock, S: Read + OpenStream> Read for RenewedReader<'r, R, S> {
                 read => return read,
             }
         }
-        Err(io::Error::from(ErrorKind::TimedOut))
+        Err(self.give_up())
     }
 }

@@ -1,17 +1,20 @@
 //! Connections to servers that are asked one after the other.
-use crate::asking::{Renewal, RenewedReader};
-use crate::reading::{Places, Reading, unlisted};
+use crate::asking::RenewedReader;
+use crate::endings::unlisted;
+use crate::places::Places;
+use crate::reading::Reading;
 use crate::sides::{AnswerCounter, CommandWriter};
-use incidents::{Failure, Incident};
+use incidents::{Failure, Incident, Site};
 use job_base::{ServerAddress, connection, unconnected};
 use packet_listing::{ListingFault, Servers};
 use sl_io::Outer;
 use socket_ports::notice_silence;
 use std::cell::RefCell;
-use std::io;
-use std::net::{Net, OpenStream};
+use std::io::{self, ErrorKind};
+use std::net::{Net, OpenStream, SocketAddr, TcpStream};
 use std::os::fd::AsRawFd;
 use std::rt::Clock;
+use std::time::Duration;
 
 /// The servers of a reading, and whose turn it is.
 #[derive(Drop)]
@@ -48,8 +51,7 @@ impl<'r, 'a, 'w, R: Eprint + Clock + Net> Connections<'r, 'a, 'w, R> {
 
     /// The turn passes to the next server after a failure, unless that ends the reading.
     fn pass(&mut self, incident: Incident<'a>) -> Result<(), Incident<'a>> {
-        self.reading
-            .pass_over(self.rt, incident, self.places.is_last())?;
+        self.reading.pass_over(self.rt, incident, &self.places)?;
         self.places.pass();
         Ok(())
     }
@@ -59,7 +61,7 @@ impl<'r, 'a, 'w, R: Eprint + Clock + Net> Connections<'r, 'a, 'w, R> {
 type ConnectionReader<'r, R, S> = Outer<AnswerCounter<RenewedReader<'r, R, S>>>;
 
 /// What comes over a connection, and where commands go.
-type Connected<'r, R, S> = (ConnectionReader<'r, R, S>, Outer<CommandWriter<S>>);
+type Connected<'r, R, S> = (ConnectionReader<'r, R, S>, Outer<CommandWriter<'r, S>>);
 
 /// Keeps a connection as the one that is read. `None` is kept when it is over.
 fn hold<S: Drop>(present: &RefCell<Option<S>>, stream: Option<S>) {
@@ -73,15 +75,36 @@ fn sides<'r, R, S: OpenStream + AsRawFd + Drop>(
     stream: S,
     present: &RefCell<Option<S>>,
     rt: &'r R,
-    renewal: &'r Renewal,
+    reading: &'r Reading<'_, '_>,
 ) -> io::Result<Connected<'r, R, S>> {
     notice_silence(&stream)?;
     let writer = stream.try_clone()?;
     hold(present, Some(stream.try_clone()?));
+    let reader = RenewedReader::new(stream, rt, &reading.renewal, &reading.patience);
     Ok((
-        Outer::new(AnswerCounter::new(RenewedReader::new(stream, rt, renewal))),
-        Outer::new(CommandWriter::new(writer)),
+        Outer::new(AnswerCounter::new(reader)),
+        Outer::new(CommandWriter::new(writer, &reading.patience)),
     ))
+}
+
+/// A connection to a server, if it is made in time.
+fn connection_within<'a, R: Net>(
+    rt: &R,
+    server: ServerAddress<'a>,
+    limit: Option<Duration>,
+) -> Result<R::Stream, Incident<'a>> {
+    let Some(limit) = limit else {
+        return connection(rt, server);
+    };
+    let address = SocketAddr::V4(server.endpoint.socket_address());
+    match TcpStream::connect_timeout(rt, &address, limit) {
+        Ok(stream) => Ok(stream),
+        Err(reason) if reason.kind() == ErrorKind::TimedOut => Err(Incident {
+            failure: Failure::Silent,
+            site: Site::Socket(server.word, reason),
+        }),
+        Err(reason) => Err(unconnected(server, reason)),
+    }
 }
 
 /// A connection to a server.
@@ -89,9 +112,10 @@ fn connected<'r, 'a, R: Net>(
     rt: &'r R,
     server: ServerAddress<'a>,
     present: &RefCell<Option<R::Stream>>,
-    renewal: &'r Renewal,
+    reading: &'r Reading<'_, '_>,
 ) -> Result<Connected<'r, R, R::Stream>, Incident<'a>> {
-    match sides(connection(rt, server)?, present, rt, renewal) {
+    let stream = connection_within(rt, server, reading.patience.limit())?;
+    match sides(stream, present, rt, reading) {
         Ok(sides) => Ok(sides),
         Err(reason) => Err(unconnected(server, reason)),
     }
@@ -100,15 +124,16 @@ fn connected<'r, 'a, R: Net>(
 impl<'r, 'a, 'w, R: Eprint + Clock + Net> Servers for Connections<'r, 'a, 'w, R> {
     type Reader = ConnectionReader<'r, R, R::Stream>;
 
-    type Writer = Outer<CommandWriter<R::Stream>>;
+    type Writer = Outer<CommandWriter<'r, R::Stream>>;
 
     type Fault = Incident<'a>;
 
     fn connect(&mut self) -> Result<Connected<'r, R, R::Stream>, Incident<'a>> {
         self.reading.renewal.begin();
+        self.reading.patience.begin();
         for _ in 0..u64::MAX {
             let server = self.server()?;
-            match connected(self.rt, server, self.present, &self.reading.renewal) {
+            match connected(self.rt, server, self.present, self.reading) {
                 Ok(sides) => return Ok(sides),
                 Err(incident) => self.pass(incident)?,
             }
@@ -120,15 +145,24 @@ impl<'r, 'a, 'w, R: Eprint + Clock + Net> Servers for Connections<'r, 'a, 'w, R>
         &mut self,
         fault: ListingFault,
         reader: ConnectionReader<'r, R, R::Stream>,
-        _writer: Outer<CommandWriter<R::Stream>>,
+        _writer: Outer<CommandWriter<'r, R::Stream>>,
     ) -> Result<(), Incident<'a>> {
         hold(self.present, None);
         if fault == ListingFault::Read && self.reading.renewal.is_over(self.rt) {
             // The same server is asked again, for what was refused too.
             return Ok(());
         }
-        let failure = unlisted(fault, reader.into_inner().is_answered());
-        let server = self.server()?;
-        self.pass(failure.at_server(server.word))
+        let patience = &self.reading.patience;
+        let failure = unlisted(
+            fault,
+            reader.into_inner().is_answered(),
+            patience.is_fault(),
+        );
+        let incident = failure.at_server(self.server()?.word);
+        if patience.is_over() {
+            // Nothing more comes of the window: the reading is at its end.
+            return Err(incident);
+        }
+        self.pass(incident)
     }
 }

@@ -2,15 +2,17 @@
 ghost use Rattle.std.specs.Prelude.{◌≡◌};
 ghost use Rattle.std.specs.Prelude.{is_some};
 ghost use Rattle.job_read.specs.Asking.{is_told};
-ghost use Rattle.job_read.specs.Endings.{goes_on, is_mendable, lost, unlisted};
-ghost use Rattle.job_read.specs.Places.{is_last_place, place_after};
 
 use crate::archiving::{Lasting, WholeFile, archive_at, at_archive, mend_end, output_at};
 use crate::asking::Renewal;
 use crate::connections::Connections;
+use crate::endings::goes_on;
 use crate::hearing::{HeardLines, Listener};
 use crate::notices::{ErrorTeller, RefusalTeller};
+use crate::patience::{Patience, pause, silence_between, time_limit};
+use crate::places::Places;
 use crate::states::{StateFile, StateKeeper};
+use crate::wants::wants_of;
 use crate::windows::Moments;
 use command_line::ReadOptions;
 use incidents::{Failure, Incident, Site};
@@ -22,7 +24,7 @@ use packet_listing::{Break, Keeper, ListingFault, Nowhere, Servers, follow};
 use record_archive::FileLength;
 use record_listing::Times;
 use sl_io::{Outer, Sink};
-use slreader::{ReaderFault, Tally, Want, Window};
+use slreader::{ReaderFault, Tally, Want};
 use std::alloc::{AllocError, Global};
 use std::cell::RefCell;
 use std::fs::{File, OpenOptions};
@@ -48,13 +50,17 @@ fn servers_of<'a>(alloc: Global, word: &'a str) -> Result<Vec<ServerAddress<'a>>
 pub struct Reading<'a, 'w> {
     pub servers: Vec<ServerAddress<'a>>,
     wants: Vec<Want<'w>>,
-    /// After how long the next server is asked, or the first one again, if none is to be left out for good.
-    pause: Option<Duration>,
+    /// After how long the next server is asked, or the first one again.
+    pause: Duration,
+    /// Whether the first one is asked again after the last.
+    is_retried: bool,
     is_verbose: bool,
     /// Whether it is told what is met.
     is_told: bool,
     /// When wants that are refused are asked again.
     pub renewal: Renewal,
+    /// When a server that is silent is left.
+    pub patience: Patience,
     /// How times are written.
     times: Times,
 }
@@ -66,81 +72,14 @@ impl<'a> Reading<'a, '_> {
         &self,
         rt: &R,
         incident: Incident<'a>,
-        is_last: bool,
+        places: &Places,
     ) -> Result<(), Incident<'a>> {
-        if !goes_on(incident.failure, is_last, self.pause.is_some()) {
+        if !goes_on(incident.failure, places, self.is_retried) {
             return Err(incident);
         }
         tell_incident(rt, incident, self.is_verbose);
-        if let Some(pause) = self.pause {
-            thread::sleep(rt, pause);
-        }
+        thread::sleep(rt, self.pause);
         Ok(())
-    }
-}
-
-/// The place of the server that is asked, among so many.
-#[derive(Clone, Copy)]
-pub struct Places {
-    place: usize,
-    count: usize,
-}
-
-impl Places {
-    /// The first.
-    pub fn new(count: usize) -> Places
-        ensures { (result.place ≡ 0) × (result.count ≡ count) }
-    {
-        Places { place: 0, count }
-    }
-
-    /// Its place.
-    pub fn place(&self) -> usize
-        ensures { result ≡ self.now.place }
-    {
-        self.place
-    }
-
-    /// Whether none comes after it.
-    pub fn is_last(&self) -> bool
-        ensures { result ≡ is_last_place self.now.place self.now.count }
-    {
-        self.count.saturating_sub(self.place) <= 1
-    }
-
-    /// The next one, and after the last the first.
-    pub fn pass(&mut self)
-        ensures { self.new ≡ record self.old { place = place_after self.old.place self.old.count } }
-    {
-        self.place = if self.is_last() { 0 } else { self.place + 1 };
-    }
-}
-
-/// What the words of wants ask for.
-fn wants_of<'a: 'w, 'w>(
-    alloc: Global,
-    words: &[&'a str],
-    window: Window<'w>,
-) -> Result<Vec<Want<'w>>, Incident<'a>> {
-    let mut wants = Vec::new(alloc);
-    for word in words {
-        let want = want_of(alloc, word, window)?;
-        wants
-            .push(want)
-            .map_err(|_| Incident::from(Failure::OutOfMemory))?;
-    }
-    Ok(wants)
-}
-
-/// What the word of a want asks for.
-fn want_of<'a: 'w, 'w>(
-    alloc: Global,
-    word: &'a str,
-    window: Window<'w>,
-) -> Result<Want<'w>, Incident<'a>> {
-    match Want::parse(alloc, word.as_bytes(), window) {
-        Ok(want) => Ok(want),
-        Err(fault) => Err(Incident::of_want(word, window, fault)),
     }
 }
 
@@ -168,23 +107,6 @@ fn opened_twice<'a, R: Files<File = File>>(
         Ok(same) => Ok((file, same)),
         Err(reason) => Err(unopened(path, reason)),
     }
-}
-
-/// Whether another connection may mend a failure: none could be made, or it ended before the end of the transfer.
-fn is_mendable(failure: Failure) -> bool
-    ensures { result ≡ is_mendable failure }
-{
-    matches!(
-        failure,
-        Failure::Connect | Failure::Unanswered | Failure::Packets(ListingFault::Read)
-    )
-}
-
-/// Whether another server is asked after a failure, or the first one again.
-fn goes_on(failure: Failure, is_last: bool, is_retried: bool) -> bool
-    ensures { result ≡ goes_on failure is_last is_retried }
-{
-    is_mendable(failure) && (is_retried || !is_last)
 }
 
 /// Asks one server after the other, and the first one again after a pause if there is one, each of them for what comes
@@ -226,6 +148,7 @@ where
     let read = follow_any(rt, reading, tally, &mut servers, out, records, &mut keeper);
     match read {
         Ok(()) => Ok(()),
+        Err(Break::Server(_)) if reading.patience.is_over() => Ok(()),
         Err(end) => Err(ended_by(end, servers.server(), keeper.site())),
     }
 }
@@ -338,27 +261,6 @@ fn tally_after(
     match state {
         Some(state) => Tally::after(alloc, wants, state.before()),
         None => Tally::before(alloc, wants),
-    }
-}
-
-/// Why packets were not listed to the end, by whether HELLO was answered before.
-pub fn unlisted(fault: ListingFault, is_answered: bool) -> Failure
-    ensures { result ≡ unlisted fault is_answered }
-{
-    match fault {
-        ListingFault::Read => lost(is_answered),
-        _ => Failure::Packets(fault),
-    }
-}
-
-/// The connection ended before the end of the transfer, by whether HELLO was answered before.
-fn lost(is_answered: bool) -> Failure
-    ensures { result ≡ lost is_answered }
-{
-    if is_answered {
-        Failure::Packets(ListingFault::Read)
-    } else {
-        Failure::Unanswered
     }
 }
 
@@ -489,6 +391,17 @@ fn is_told(options: ReadOptions<'_>, is_verbose: bool) -> bool
     options.archive.is_some() || options.state.is_some() || options.retry.is_some() || is_verbose
 }
 
+/// When one of so many servers is left for its silence.
+fn patience_of(options: ReadOptions<'_>, count: usize) -> Patience {
+    let limit = time_limit(options.timeout, count, options.retry.is_some());
+    let between = silence_between(
+        options.fetch,
+        options.last.is_some(),
+        options.timeout.is_some(),
+    );
+    Patience::new(limit, between)
+}
+
 /// The state in a file, if one is named.
 fn state_in<'a, R: Files<File = File> + AllocGlobal>(
     rt: &R,
@@ -513,13 +426,17 @@ pub fn read_servers<'a, R: Files<File = File> + Print + Eprint + Clock + Net + A
 ) -> Result<(), Incident<'a>> {
     let servers = servers_of(rt.alloc(), servers)?;
     let moments = Moments::read(rt.alloc(), options)?;
+    let wants = wants_of(rt.alloc(), wants, moments.window(), options)?;
+    let patience = patience_of(options, servers.len());
     let reading = Reading {
         servers,
-        wants: wants_of(rt.alloc(), wants, moments.window())?,
-        pause: options.retry.map(|count| Duration::from_secs(count as u64)),
+        wants,
+        pause: Duration::from_secs(pause(options.retry)),
+        is_retried: options.retry.is_some(),
         is_verbose,
         is_told: is_told(options, is_verbose),
         renewal: Renewal::new(options.retry.is_some()),
+        patience,
         times: times_of(options.is_iso),
     };
     read_to(rt, &reading, options)

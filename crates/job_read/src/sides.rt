@@ -1,4 +1,6 @@
-//! The two sides of a connection that is read: which answers have come, and whether commands still go.
+//! The two sides of a connection that is read: which answers have come, which commands were sent, and whether commands
+//! still go.
+use crate::patience::Patience;
 use std::io;
 use std::io::{Read, Write};
 use std::net::{OpenStream, Shutdown};
@@ -6,28 +8,33 @@ use std::net::{OpenStream, Shutdown};
 /// Passes on commands until one can't be sent. The connection is over then: nothing more is passed on, and the next
 /// read says so.
 #[derive(Drop)]
-pub struct CommandWriter<T> {
+pub struct CommandWriter<'r, T> {
     inner: T,
+    patience: &'r Patience,
     is_over: bool,
 }
 
-impl<T> CommandWriter<T> {
+impl<'r, T> CommandWriter<'r, T> {
     /// What is written to `inner`.
-    pub fn new(inner: T) -> CommandWriter<T> {
+    pub fn new(inner: T, patience: &'r Patience) -> CommandWriter<'r, T> {
         CommandWriter {
             inner,
+            patience,
             is_over: false,
         }
     }
 }
 
-impl<T: Write + OpenStream> Write for CommandWriter<T> {
+impl<'r, T: Write + OpenStream> Write for CommandWriter<'r, T> {
     fn write(&mut self, bytes: &[u8]) -> io::Result<usize> {
         if self.is_over {
             return Ok(bytes.len());
         }
         match self.inner.write(bytes) {
-            Ok(count) => Ok(count),
+            Ok(count) => {
+                self.patience.send(&bytes[..count]);
+                Ok(count)
+            }
             Err(_) => {
                 self.is_over = true;
                 let _ = self.inner.shutdown(Shutdown::Both);

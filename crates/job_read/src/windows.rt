@@ -1,11 +1,14 @@
 //! The moments between which records are wanted.
-ghost use Rattle.std.specs.Prelude.{◌≡◌, ◌⊎◌, option_map, IfErr, IfOk};
+ghost use Rattle.std.specs.Prelude.{◌≡◌, ◌⊎◌, false, option_and_then, option_map, IfErr, IfOk};
+ghost use Rattle.protocol.specs.Time.{time_of};
 ghost use Rattle.slreader.specs.WantTexts.{window_value};
-ghost use Rattle.job_read.specs.Windows.{IsNoMoment, IsMoment, IsMomentOf, RefusesMoment, window_by};
+ghost use Rattle.incidents.specs.declared.failure.Failure.TheVariants.{Backwards};
+ghost use Rattle.job_read.specs.Windows.{IsNoMoment, IsMoment, IsMomentOf, RefusesMoment, is_backwards, window_by};
 
 use command_line::ReadOptions;
-use incidents::{Failure, Incident};
+use incidents::{Failure, Incident, Site};
 use iso_time::command_time;
+use sl_time::Tick;
 use slreader::Window;
 use std::alloc::Global;
 
@@ -39,6 +42,39 @@ fn moment_of<'a>(alloc: Global, word: Option<&'a str>) -> Result<Option<Vec<u8>>
     }
 }
 
+/// The moment that a text spells, if there is one.
+fn tick_of(text: &Option<Vec<u8>>) -> Option<Tick>
+    ensures { result ≡ option_and_then time_of (option_map (λ t. t.items) text.now) }
+{
+    match text {
+        Some(text) => sl_time::parse(text).ok(),
+        None => None,
+    }
+}
+
+/// Whether the window of a begin and an end ends before it begins.
+fn is_backwards(begin: &Option<Vec<u8>>, last: &Option<Vec<u8>>) -> bool
+    ensures { result ≡ is_backwards (option_map (λ t. t.items) begin.now) (option_map (λ t. t.items) last.now) }
+{
+    match (tick_of(begin), tick_of(last)) {
+        (Some(begin), Some(last)) => last.value() < begin.value(),
+        _ => false,
+    }
+}
+
+/// Why a window is refused that ends before it begins.
+fn backwards<'a>(last: Option<&'a str>) -> Incident<'a>
+    ensures { result.failure ≡ Backwards }
+{
+    match last {
+        Some(word) => Failure::Backwards.in_word(word),
+        None => Incident {
+            failure: Failure::Backwards,
+            site: Site::Unnamed,
+        },
+    }
+}
+
 /// The texts of a begin and an end, as commands spell them, and whether what is held is asked for.
 #[derive(Drop)]
 pub struct Moments {
@@ -50,18 +86,24 @@ pub struct Moments {
 impl Moments {
     /// Those of the options.
     ///
-    /// It fails with Moment where a word spells no time, and with OutOfMemory only for want of memory.
+    /// It fails with Moment if a word spells no time, with Backwards if the end lies before the begin, and with
+    /// OutOfMemory only if there is no memory.
     pub fn read<'a>(alloc: Global, options: ReadOptions<'a>) -> Result<Moments, Incident<'a>>
         ensures begin { IfOk result (λ moments.
             IsMomentOf options.entry.begin (option_map (λ text. text.items) moments.begin)) }
         ensures last { IfOk result (λ moments.
             IsMomentOf options.entry.last (option_map (λ text. text.items) moments.last)) }
         ensures fetch { IfOk result (λ moments. moments.is_fetch ≡ options.entry.fetch) }
+        ensures forwards { IfOk result (λ moments. is_backwards (option_map (λ text. text.items) moments.begin)
+            (option_map (λ text. text.items) moments.last) ≡ false) }
         ensures refused { IfErr result (λ incident. RefusesMoment options.entry.begin incident.failure
-            ⊎ RefusesMoment options.entry.last incident.failure) }
+            ⊎ RefusesMoment options.entry.last incident.failure ⊎ (incident.failure ≡ Backwards)) }
     {
         let begin = moment_of(alloc, options.begin)?;
         let last = moment_of(alloc, options.last)?;
+        if is_backwards(&begin, &last) {
+            return Err(backwards(options.last));
+        }
         Ok(Moments {
             begin,
             last,

@@ -190,12 +190,26 @@ impl<'a, R: Files, A: Actor<R>> Files for Stage<'a, R, A> {
     }
 }
 
-/// A connection of a job: while it brings nothing, the actor acts.
+/// A connection of a job: while it brings nothing, the actor acts. A read with a time limit ends once the actor has
+/// acted and nothing came.
 #[derive(Drop)]
 pub struct StageStream<'a, S, R, A> {
     stream: S,
     rt: &'a R,
     actor: &'a RefCell<A>,
+    is_limited: Cell<bool>,
+}
+
+impl<'a, S, R, A> StageStream<'a, S, R, A> {
+    /// A connection without a time limit.
+    fn new(stream: S, rt: &'a R, actor: &'a RefCell<A>) -> StageStream<'a, S, R, A> {
+        StageStream {
+            stream,
+            rt,
+            actor,
+            is_limited: Cell::new(false),
+        }
+    }
 }
 
 impl<'a, S: Read, R, A: Actor<R>> Read for StageStream<'a, S, R, A> {
@@ -207,6 +221,9 @@ impl<'a, S: Read, R, A: Actor<R>> Read for StageStream<'a, S, R, A> {
             }
             if let Ok(mut actor) = self.actor.try_borrow_mut() {
                 actor.serve(self.rt);
+            }
+            if self.is_limited.get() {
+                return self.stream.read(buffer);
             }
         }
         Err(io::Error::from(ErrorKind::TimedOut))
@@ -243,6 +260,11 @@ impl<'a, S: OpenStream, R, A> OpenStream for StageStream<'a, S, R, A> {
         Ok(())
     }
 
+    fn set_read_timeout(&self, dur: Option<Duration>) -> io::Result<()> {
+        self.is_limited.set(dur.is_some());
+        Ok(())
+    }
+
     fn take_error(&self) -> io::Result<Option<io::Error>> {
         self.stream.take_error()
     }
@@ -252,11 +274,8 @@ impl<'a, S: OpenStream, R, A> OpenStream for StageStream<'a, S, R, A> {
     }
 
     fn try_clone(&self) -> io::Result<StageStream<'a, S, R, A>> {
-        Ok(StageStream {
-            stream: self.stream.try_clone()?,
-            rt: self.rt,
-            actor: self.actor,
-        })
+        let stream = self.stream.try_clone()?;
+        Ok(StageStream::new(stream, self.rt, self.actor))
     }
 }
 
@@ -279,12 +298,7 @@ impl<'a, L: OpenListener, R, A> OpenListener for StageListener<'a, L, R, A> {
 
     fn accept(&self) -> io::Result<(StageStream<'a, L::Stream, R, A>, SocketAddr)> {
         let (stream, address) = self.listener.accept()?;
-        let stream = StageStream {
-            stream,
-            rt: self.rt,
-            actor: self.actor,
-        };
-        Ok((stream, address))
+        Ok((StageStream::new(stream, self.rt, self.actor), address))
     }
 }
 
@@ -304,10 +318,16 @@ impl<'a, R: Net, A: Actor<R>> Net for Stage<'a, R, A> {
     fn connect(&self, addr: SocketAddr) -> io::Result<StageStream<'a, R::Stream, R, A>> {
         let stream = self.rt.connect(addr)?;
         stream.set_nonblocking(true)?;
-        Ok(StageStream {
-            stream,
-            rt: self.rt,
-            actor: self.actor,
-        })
+        Ok(StageStream::new(stream, self.rt, self.actor))
+    }
+
+    fn connect_timeout(
+        &self,
+        addr: SocketAddr,
+        timeout: Duration,
+    ) -> io::Result<StageStream<'a, R::Stream, R, A>> {
+        let stream = self.rt.connect_timeout(addr, timeout)?;
+        stream.set_nonblocking(true)?;
+        Ok(StageStream::new(stream, self.rt, self.actor))
     }
 }

@@ -28,6 +28,10 @@ const RECORD_COMES: u32 = 28;
 
 const SECOND_ENDS: u32 = 40;
 
+/// The lines of two records of GE APE.
+static TWO_LINES: &str = "000000 GE APE -- BHZ D 17091648000000 17091648000100 1\n\
+    000001 GE APE -- BHZ D 17091648000000 17091648000200 2\n";
+
 /// The lines of three records of GE APE, and of a station that is refused.
 static LINES: &str = "000000 GE APE -- BHZ D 17091648000000 17091648000100 1\n\
     000001 GE APE -- BHZ D 17091648000000 17091648000200 2\n\
@@ -130,7 +134,7 @@ fn line_of(alloc: Global, servers: &[Centre], more: &str) -> Result<String, Fail
     let second = port_of(servers, 1);
     let last = port_of(servers, 0);
     Ok(format!(in alloc;
-        "seedlinkd read 127.0.0.1:{first},127.0.0.1:{second},127.0.0.1:{last} GE_APE@000000 --retry 1 {more}"
+        "seedlinkd read 127.0.0.1:{first},127.0.0.1:{second},127.0.0.1:{last} GE_APE@000000 {more}"
     )?)
 }
 
@@ -184,5 +188,47 @@ fn each_record_is_archived_once_though_servers_end(rt: HostRuntime) -> Result<()
     assert!(rt; read.output.as_slice() == LINES.as_bytes());
     drop(read);
     assert!(rt; holds_three(&rt, "followed/2024/GE/APE/BHZ.D/GE.APE..BHZ.D.2024.060")?);
+    Ok(())
+}
+
+/// Two servers, of which the first takes connections and says nothing.
+#[derive(Drop)]
+struct SilentFirst {
+    silent: Centre,
+    well: Centre,
+}
+
+impl<R: Net> Actor<R> for SilentFirst {
+    fn act(&mut self, _rt: &R, _opened: u32) {}
+
+    fn serve(&mut self, _rt: &R) {
+        self.well.turns(1);
+    }
+}
+
+/// What a reader makes of both, one after the other.
+fn read_past_a_silent_one<R>(rt: &R) -> Result<Outcome, Fail>
+where
+    R: Files<File = File> + Net + AllocGlobal,
+    R::File: AsRawFd,
+{
+    let mut well = Centre::open(rt, CENTRE)?;
+    feed(rt, &mut well, 1)?;
+    feed(rt, &mut well, 2)?;
+    let silent = Centre::open(rt, CENTRE)?;
+    let first = silent.ports().0;
+    let second = well.ports().0;
+    let line = format!(in rt.alloc();
+        "seedlinkd read 127.0.0.1:{first},127.0.0.1:{second} GE_APE --fetch --timeout 30"
+    )?;
+    let actor = RefCell::new(SilentFirst { silent, well });
+    job_of(rt, &actor, line.as_str())
+}
+
+#[test]
+fn a_silent_server_is_left(rt: HostRuntime) -> Result<(), Fail> {
+    let read = read_past_a_silent_one(&rt)?;
+    assert!(rt; read.has_written(TWO_LINES.as_bytes()), "{}", read.errors);
+    assert!(rt; read.errors.as_str() == "seedlinkd: 42 Read\n");
     Ok(())
 }

@@ -403,6 +403,7 @@ const HELD: ReadOptions<'static> = ReadOptions {
     begin: None,
     last: None,
     retry: None,
+    timeout: None,
     archive: None,
     output: None,
     state: None,
@@ -425,6 +426,88 @@ fn a_want_that_is_refused(rt: HostRuntime) -> Result<(), Fail> {
         )?;
         assert!(rt; unfinished(&rt, read)?.as_str() == wanted.as_str());
     }
+    Ok(())
+}
+
+/// Words that can't be asked for beside `GE_APE:BH?` in an archive, and one that can.
+static BESIDE: [(&str, bool); 4] = [
+    ("GE_APE", false),
+    ("GE_APE:LH?,!E", false),
+    ("GE_APE:LH?@10", false),
+    ("GE_APE:LH?", true),
+];
+
+/// What explains that a word can't be asked for beside an earlier one of its station.
+fn clash_of(alloc: Global, word: &str) -> Result<String, Fail> {
+    Ok(format!(in alloc;
+        "  cause: a WANT would narrow or move what an earlier one of its station asks for\n  word: {word}\n  \
+            part: station\n  \
+            allowed: WANTs of one station that have the same number or none, and of which each adds patterns\n"
+    )?)
+}
+
+#[test]
+fn wants_that_do_not_add_up(rt: HostRuntime) -> Result<(), Fail> {
+    for (word, is_right) in &BESIDE {
+        let mut wants = Vec::new(rt.alloc());
+        wants.push("GE_APE:BH?")?;
+        wants.push(*word)?;
+        let read = Job::Read {
+            server: "127.0.0.1:1",
+            wants,
+            options: ReadOptions {
+                archive: Some("archive_of_wants"),
+                ..HELD
+            },
+        };
+        let clash = clash_of(rt.alloc(), word)?;
+        let is_refused = unfinished(&rt, read)?.as_str() == clash.as_str();
+        assert!(rt; is_refused != *is_right, "{word}");
+    }
+    Ok(())
+}
+
+/// So many wants are refused before a server is asked if it would be asked again.
+#[test]
+fn too_many_wants(rt: HostRuntime) -> Result<(), Fail> {
+    let mut wants = Vec::new(rt.alloc());
+    for _ in 0..256 {
+        wants.push("GE_APE")?;
+    }
+    let read = Job::Read {
+        server: "127.0.0.1:1",
+        wants,
+        options: ReadOptions {
+            retry: Some(1),
+            ..HELD
+        },
+    };
+    assert!(rt;
+        unfinished(&rt, read)?.as_str()
+            == "  cause: there are more WANTs than one reader can ask for\n  allowed: 1 to 255 WANTs\n"
+    );
+    Ok(())
+}
+
+#[test]
+fn a_window_that_ends_before_it_begins(rt: HostRuntime) -> Result<(), Fail> {
+    let mut wants = Vec::new(rt.alloc());
+    wants.push("GE_WLF")?;
+    let read = Job::Read {
+        server: "127.0.0.1:1",
+        wants,
+        options: ReadOptions {
+            fetch: false,
+            begin: Some("2024-02-29T00:00:00"),
+            last: Some("2024-02-28T23:59:59"),
+            ..HELD
+        },
+    };
+    assert!(rt;
+        unfinished(&rt, read)?.as_str()
+            == "  cause: the window ends before it begins\n  word: 2024-02-28T23:59:59\n  \
+                allowed: the time of --begin, or a later one\n"
+    );
     Ok(())
 }
 

@@ -3,6 +3,19 @@ use super::words::{request_of, strings};
 use command_line::{Job, ReadOptions};
 use std::test::Fail;
 
+/// No option.
+const PLAIN: ReadOptions<'static> = ReadOptions {
+    fetch: false,
+    begin: None,
+    last: None,
+    retry: None,
+    timeout: None,
+    archive: None,
+    output: None,
+    state: None,
+    is_iso: false,
+};
+
 /// Whether a word is among the wants.
 fn is_among(wants: &[&str], want: &str) -> bool {
     wants.iter().any(|word| *word == want)
@@ -14,6 +27,7 @@ fn is_same(options: &ReadOptions<'_>, wanted: &ReadOptions<'_>) -> bool {
         && options.begin == wanted.begin
         && options.last == wanted.last
         && options.retry == wanted.retry
+        && options.timeout == wanted.timeout
         && options.archive == wanted.archive
         && options.output == wanted.output
         && options.state == wanted.state
@@ -56,13 +70,8 @@ fn read_has_wants_and_options(rt: HostRuntime) -> Result<(), Fail> {
     let job = request_of(rt.alloc(), &words)?.job;
     let wanted = ReadOptions {
         fetch: true,
-        begin: None,
-        last: None,
-        retry: None,
-        archive: None,
         output: Some("-"),
-        state: None,
-        is_iso: false,
+        ..PLAIN
     };
     assert!(rt; is_read(&job, wanted));
     Ok(())
@@ -85,14 +94,9 @@ fn read_has_a_begin_and_an_end(rt: HostRuntime) -> Result<(), Fail> {
     )?;
     let job = request_of(rt.alloc(), &words)?.job;
     let wanted = ReadOptions {
-        fetch: false,
         begin: Some("2024,2,29"),
         last: Some("2024-03-01T00:00:00"),
-        retry: None,
-        archive: None,
-        output: None,
-        state: None,
-        is_iso: false,
+        ..PLAIN
     };
     assert!(rt; is_read(&job, wanted));
     Ok(())
@@ -110,20 +114,17 @@ fn read_has_seconds_and_a_state(rt: HostRuntime) -> Result<(), Fail> {
             "XX_APE",
             "--retry",
             "5",
+            "--timeout=30",
             "--state",
             "ape.state",
         ],
     )?;
     let job = request_of(rt.alloc(), &words)?.job;
     let wanted = ReadOptions {
-        fetch: false,
-        begin: None,
-        last: None,
         retry: Some(5),
-        archive: None,
-        output: None,
+        timeout: Some(30),
         state: Some("ape.state"),
-        is_iso: false,
+        ..PLAIN
     };
     assert!(rt; is_read(&job, wanted));
     Ok(())

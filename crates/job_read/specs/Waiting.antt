@@ -1,0 +1,100 @@
+-- How far a connection is, by the bytes that went over it, and what it means that the server is silent there.
+-- SeedLink 3: each command but END has an answer; after END data packets of 520 bytes come. Left out: the answer to a
+-- command in more than one line, of which the last one counts.
+use Rattle.std.specs.Prelude.{◌≡◌, ℕ, ◌+◌, ◌-◌, ◌*◌, ◌%◌, Bool, true, false, ◌&&◌, ◌||◌, not, ◌==◌, nat_lt, min}
+use Rattle.std.specs.Prelude.{if◌then◌else◌, List, [], ◌∷◌, Option, Some, None, option_map, is_some}
+use Rattle.job_read.specs.declared.course.Command.{Command}
+use Rattle.job_read.specs.declared.course.Command.TheVariants.{Begun, E, En, End, Other}
+use Rattle.job_read.specs.declared.patience.Silence.{Silence}
+use Rattle.job_read.specs.declared.patience.Silence.TheVariants.{Usual, Fault, Over}
+
+-- ---- the bytes of a connection
+
+-- the command that is being sent, whether the transfer was asked for, and how many bytes of the packet under way came
+pub record CourseValue : Type 0 where
+  pub command : Command
+  pub is_transfer : Bool
+  pub packet : ℕ
+
+-- before the first byte
+abbrev pub started : CourseValue
+started = record { command = Begun; is_transfer = false; packet = 0 }
+
+-- a byte more of a command: `E` is 69, `N` is 78, `D` is 68
+abbrev pub lengthened : Command → ℕ → Command
+lengthened Begun byte = if byte == 69 then E else Other
+lengthened E byte = if byte == 78 then En else Other
+lengthened En byte = if byte == 68 then End else Other
+lengthened End byte = Other
+lengthened Other byte = Other
+
+-- the command asks for the transfer
+abbrev pub is_end : Command → Bool
+is_end End = true
+is_end command = false
+
+-- after a byte that was sent: CR (13) ends a command
+abbrev pub after_sent_byte : CourseValue → ℕ → CourseValue
+after_sent_byte c byte =
+    if byte == 13 then record c { command = Begun; is_transfer = c.is_transfer || is_end c.command }
+    else record c { command = lengthened c.command byte }
+
+-- after bytes that were sent
+abbrev pub after_sent : CourseValue → List ℕ → CourseValue
+after_sent c [] = c
+after_sent c (b ∷ bs) = after_sent (after_sent_byte c b) bs
+
+-- after so many bytes that came
+abbrev pub after_received : CourseValue → ℕ → CourseValue
+after_received c count = if c.is_transfer then record c { packet = (c.packet % 520 + count % 520) % 520 } else c
+
+-- The server owes something: an answer, or the rest of a packet.
+abbrev pub is_owed : CourseValue → Bool
+is_owed c = not c.is_transfer || not (c.packet == 0)
+
+-- ---- silence
+
+-- What it means between two packets: with `--fetch` the server has more to send, or the end; a window is over if a time
+-- limit was asked for; and otherwise there may be no record for long.
+abbrev pub silence_between : (is_fetch is_window has_timeout : Bool) → Silence
+silence_between true is_window has_timeout = Fault
+silence_between false true true = Over
+silence_between false true false = Usual
+silence_between false false has_timeout = Usual
+
+-- what it means now
+abbrev pub silence_now : Silence → CourseValue → Silence
+silence_now between c = if is_owed c then Fault else between
+
+-- the limit that holds for it
+abbrev pub limit_of : Option ℕ → Silence → Option ℕ
+limit_of limit Usual = None
+limit_of limit Fault = limit
+limit_of limit Over = limit
+
+-- ---- time limits
+
+-- After how many seconds of silence a server is left: as asked for, and otherwise after 60 if there is another server
+-- or the same one is asked again.
+abbrev pub time_limit : (timeout : Option ℕ) → (count : ℕ) → (is_retried : Bool) → Option ℕ
+time_limit (Some seconds) count is_retried = Some seconds
+time_limit None count is_retried = if is_retried || nat_lt 1 count then Some 60 else None
+
+-- how many seconds pass before the next server is asked
+abbrev pub pause : (retry : Option ℕ) → ℕ
+pause None = 1
+pause (Some seconds) = seconds
+
+-- how many milliseconds of a limit are left that began at a moment
+abbrev pub left_of : Option ℕ → (begun now : ℕ) → Option ℕ
+left_of limit begun now = option_map (λ l. l - (now - begun)) limit
+
+-- the shorter of two times, if there are some
+abbrev pub shorter : Option ℕ → Option ℕ → Option ℕ
+shorter None b = b
+shorter (Some a) None = Some a
+shorter (Some a) (Some b) = Some (min a b)
+
+-- milliseconds of seconds, at most 2^64 - 1
+abbrev pub milliseconds_of : ℕ → ℕ
+milliseconds_of seconds = min (seconds * 1000) 18446744073709551615

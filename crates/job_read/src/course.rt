@@ -1,0 +1,118 @@
+//! How far a connection is, by the bytes that went over it: whether the server owes something.
+ghost use Rattle.std.specs.Prelude.{◌≡◌};
+ghost use Rattle.job_read.specs.Waiting.{is_end, lengthened};
+
+use std::marker::Model;
+
+/// The length of a packet, in bytes.
+const PACKET: usize = 520;
+
+/// The command that is being sent, as far as it may be END.
+#[derive(Clone, Copy, PartialEq, Eq, Drop)]
+pub enum Command {
+    /// No byte of it yet.
+    Begun,
+    /// `E`.
+    E,
+    /// `EN`.
+    En,
+    /// `END`.
+    End,
+    /// Something else.
+    Other,
+}
+
+impl Command {
+    /// A byte more.
+    fn lengthened(self, byte: u8) -> Command
+        ensures { result ≡ lengthened self byte }
+    {
+        match self {
+            Command::Begun if byte == b'E' => Command::E,
+            Command::E if byte == b'N' => Command::En,
+            Command::En if byte == b'D' => Command::End,
+            _ => Command::Other,
+        }
+    }
+
+    /// Whether it asks for the transfer.
+    fn is_end(self) -> bool
+        ensures { result ≡ is_end self }
+    {
+        match self {
+            Command::End => true,
+            _ => false,
+        }
+    }
+}
+
+/// How far a connection is.
+#[derive(Clone, Copy, Drop)]
+pub struct Course {
+    command: Command,
+    is_transfer: bool,
+    packet: usize,
+}
+
+impl Model for Course {
+    ghost use Rattle.job_read.specs.Waiting.{CourseValue};
+
+    ghost Value = { CourseValue };
+
+    ghost view = { λ c. record { command = c.command; is_transfer = c.is_transfer; packet = c.packet } };
+
+    ghost inverse = { λ c. record { command = c.command; is_transfer = c.is_transfer; packet = c.packet } };
+}
+
+impl Course {
+    ghost use Rattle.std.specs.Prelude.{◌≡◌};
+    ghost use Rattle.job_read.specs.Waiting.{after_received, after_sent, after_sent_byte, is_owed, started};
+
+    /// No byte went over it.
+    pub fn new() -> Course
+        ensures { result ≡ started }
+    {
+        Course {
+            command: Command::Begun,
+            is_transfer: false,
+            packet: 0,
+        }
+    }
+
+    /// A byte was sent.
+    fn send_byte(&mut self, byte: u8)
+        ensures { self.new ≡ after_sent_byte self.old byte }
+    {
+        if byte == b'\r' {
+            self.is_transfer = self.is_transfer || self.command.is_end();
+            self.command = Command::Begun;
+        } else {
+            self.command = self.command.lengthened(byte);
+        }
+    }
+
+    /// Bytes were sent.
+    pub fn send(&mut self, bytes: &[u8])
+        ensures { self.new ≡ after_sent self.old bytes.now }
+    {
+        for byte in bytes {
+            self.send_byte(*byte);
+        }
+    }
+
+    /// So many bytes came.
+    pub fn receive(&mut self, count: usize)
+        ensures { self.new ≡ after_received self.old count }
+    {
+        if self.is_transfer {
+            self.packet = (self.packet % PACKET + count % PACKET) % PACKET;
+        }
+    }
+
+    /// Whether the server owes something: an answer, or the rest of a packet.
+    pub fn is_owed(&self) -> bool
+        ensures { result ≡ is_owed self.now }
+    {
+        !self.is_transfer || self.packet != 0
+    }
+}
