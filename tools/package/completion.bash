@@ -16,14 +16,15 @@ _seedlinkd() {
             view) options+=" --strict" ;;
             check) options+=" --iso --summary --quiet --config" ;;
             replay) options+=" --text" ;;
-            read) options+=" --fetch --begin --end --retry --timeout --archive --state --iso --output" ;;
+            feed) options+=" --from" ;;
+            read) options+=" --wants --fetch --begin --end --retry --timeout --archive --state --iso --output" ;;
         esac
         mapfile -t COMPREPLY < <(compgen -W "$options" -- "$current")
     elif [ -z "$command" ]; then
         mapfile -t COMPREPLY < <(compgen -W "serve feed read view check replay" -- "$current")
     else
         case $command,$previous,$count in
-            *,--output,* | *,--numbers,* | *,--state,* | *,--config,* | serve,serve,0 | view,view,0 | check,* | replay,* | feed,*,[1-9]*)
+            *,--output,* | *,--archive,* | *,--wants,* | *,--numbers,* | *,--state,* | *,--config,* | serve,serve,0 | view,view,0 | check,* | replay,* | feed,*,[1-9]*)
                 mapfile -t COMPREPLY < <(compgen -f -- "$current") ;;
         esac
     fi

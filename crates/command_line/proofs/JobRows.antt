@@ -5,7 +5,7 @@ use Rattle.clap.specs.declared.error.ErrorKind.TheVariants.{DisplayVersion, Miss
 use Rattle.clap.specs.declared.error.ErrorKind.TheVariants.{ValueValidation}
 use Rattle.clap.proofs.OnLiterals.{clap_on_literals}
 use Rattle.command_line.specs.declared.job.Every.TheVariants.{Seconds, Turns}
-use Rattle.command_line.specs.Jobs.{every_of, job_of, program_app, verbose_of, ReadAsked, ServeAsked}
+use Rattle.command_line.specs.Jobs.{every_of, job_of, program_app, verbose_of, CheckAsked, ReadAsked, ServeAsked}
 use Rattle.command_line.specs.Jobs.Asked.{Check, Replay, View, Serve, Feed, Read}
 
 abbrev replay_words : List Text
@@ -26,11 +26,16 @@ pub text_asked : job_of text_words ≡ Some (Replay (codes "c") (codes "s") true
 unfolding clap_on_literals
 text_asked = refl
 
+-- what `check` is asked without options
+abbrev plain_check : CheckAsked
+plain_check =
+    record { is_iso = false; has_summary = false; is_quiet = false; config = None }
+
 abbrev check_words : List Text
 check_words = codes "seedlinkd" ∷ codes "check" ∷ codes "records.mseed" ∷ []
 
 pub check_asked : job_of check_words ≡ Some (Check (codes "records.mseed")
-    (record { is_iso = false; has_summary = false; is_quiet = false; config = None }))
+    plain_check)
 unfolding clap_on_literals
 check_asked = refl
 
@@ -39,7 +44,7 @@ summary_words =
     codes "seedlinkd" ∷ codes "check" ∷ codes "--quiet" ∷ codes "f" ∷ codes "--summary" ∷ codes "--config=c.toml" ∷ []
 
 pub summary_asked : job_of summary_words ≡ Some (Check (codes "f")
-    (record { is_iso = false; has_summary = true; is_quiet = true; config = Some (codes "c.toml") }))
+    (record plain_check { has_summary = true; is_quiet = true; config = Some (codes "c.toml") }))
 unfolding clap_on_literals
 summary_asked = refl
 
@@ -164,12 +169,17 @@ unfolding clap_on_literals
 strict_view_asked = refl
 
 pub feed_asked : job_of (codes "seedlinkd" ∷ codes "feed" ∷ codes "a" ∷ codes "f" ∷ [])
-    ≡ Some (Feed (codes "a") (codes "f" ∷ []))
+    ≡ Some (Feed (codes "a") (codes "f" ∷ []) None)
 unfolding clap_on_literals
 feed_asked = refl
 
+pub rest_asked : job_of (codes "seedlinkd" ∷ codes "feed" ∷ codes "a" ∷ codes "f" ∷ codes "--from=6" ∷ [])
+    ≡ Some (Feed (codes "a") (codes "f" ∷ []) (Some 6))
+unfolding clap_on_literals
+rest_asked = refl
+
 pub files_asked : job_of (codes "seedlinkd" ∷ codes "feed" ∷ codes "a" ∷ codes "f" ∷ codes "-" ∷ [])
-    ≡ Some (Feed (codes "a") (codes "f" ∷ codes "-" ∷ []))
+    ≡ Some (Feed (codes "a") (codes "f" ∷ codes "-" ∷ []) None)
 unfolding clap_on_literals
 files_asked = refl
 
@@ -184,6 +194,7 @@ plain_read =
       timeout = None;
       archive = None;
       output = None;
+      wants_file = None;
       state = None;
       is_iso = false;
     }
@@ -240,6 +251,16 @@ pub timeout_asked : job_of timeout_words
     ≡ Some (Read (codes "a,b") (codes "GE_WLF" ∷ []) (record plain_read { timeout = Some 30 }))
 unfolding clap_on_literals
 timeout_asked = refl
+
+pub listed_asked : job_of (codes "seedlinkd" ∷ codes "read" ∷ codes "a" ∷ codes "--wants=w" ∷ [])
+    ≡ Some (Read (codes "a") [] (record plain_read { wants_file = Some (codes "w") }))
+unfolding clap_on_literals
+listed_asked = refl
+
+-- neither a want nor a file of wants
+pub no_want : job_of (codes "seedlinkd" ∷ codes "read" ∷ codes "a" ∷ []) ≡ None
+unfolding clap_on_literals
+no_want = refl
 
 abbrev archive_words : List Text
 archive_words = codes "seedlinkd" ∷ codes "read" ∷ codes "a" ∷ codes "GE_WLF" ∷ codes "--archive" ∷ codes "/sds" ∷ []
@@ -318,7 +339,7 @@ verbose_is_taken = refl
 
 pub the_job_is_the_same : job_of (words_of (codes "-v" ∷ codes "check" ∷ codes "records.mseed" ∷ []))
     ≡ Some (Check (codes "records.mseed")
-    (record { is_iso = false; has_summary = false; is_quiet = false; config = None }))
+    plain_check)
 unfolding clap_on_literals
 the_job_is_the_same = refl
 

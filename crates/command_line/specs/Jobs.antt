@@ -126,13 +126,17 @@ abbrev pub fed_app : App
 fed_app = with_rule (new_app (codes "feed")) (wanted (codes "SERVER"))
 
 -- `feed A:P FILE..`
-abbrev pub feed_app : App
-feed_app = with_verbose (with_rule fed_app files_rule)
+abbrev pub sending_app : App
+sending_app = with_rule fed_app files_rule
 
--- `WANT..`, one or more
+-- `feed A:P FILE.. [--from N]`
+abbrev pub feed_app : App
+feed_app = with_verbose (with_rule sending_app (number_rule (codes "from")))
+
+-- `WANT..`, one or more, which may be left out
 abbrev pub wants_rule : Rule
 wants_rule =
-    record (wanted (codes "WANT")) { range = Some (record { start_inclusive = 1; end_inclusive = usize_max }) }
+    record (new_rule (codes "WANT")) { range = Some (record { start_inclusive = 1; end_inclusive = usize_max }) }
 
 -- `--fetch`
 abbrev pub fetch_rule : Rule
@@ -155,9 +159,13 @@ retrying_app = with_rule spanned_app (number_rule (codes "retry"))
 abbrev pub waiting_app : App
 waiting_app = with_rule retrying_app (number_rule (codes "timeout"))
 
+-- that with `[--wants FILE]`
+abbrev pub listed_app : App
+listed_app = with_rule waiting_app (option false (codes "wants"))
+
 -- that with `[--archive DIR]`
 abbrev pub archiving_app : App
-archiving_app = with_rule waiting_app (option false (codes "archive"))
+archiving_app = with_rule listed_app (option false (codes "archive"))
 
 -- that with `[--state FILE]`
 abbrev pub stating_app : App
@@ -167,8 +175,8 @@ stating_app = with_rule archiving_app (option false (codes "state"))
 abbrev pub dated_app : App
 dated_app = with_rule stating_app (flag_rule (codes "iso"))
 
--- `read A:P,.. WANT.. [--fetch] [--begin TIME] [--end TIME] [--retry N] [--timeout N] [--archive DIR] [--state FILE]
--- [--iso] [--output FILE]`
+-- `read A:P,.. WANT.. [--fetch] [--begin TIME] [--end TIME] [--retry N] [--timeout N] [--wants FILE] [--archive DIR]
+-- [--state FILE] [--iso] [--output FILE]`
 abbrev pub read_app : App
 read_app = with_verbose (with_rule dated_app (option false (codes "output")))
 
@@ -216,6 +224,7 @@ pub record ReadAsked : Type 0 where
   pub timeout : Option ℕ
   pub archive : Option (List ℕ)
   pub output : Option (List ℕ)
+  pub wants_file : Option (List ℕ)
   pub state : Option (List ℕ)
   pub is_iso : Bool
 
@@ -230,6 +239,7 @@ options_asked o =
       timeout = o.timeout;
       archive = option_map (λ text. text.now) o.archive;
       output = option_map (λ text. text.now) o.output;
+      wants_file = option_map (λ text. text.now) o.wants_file;
       state = option_map (λ text. text.now) o.state;
       is_iso = o.is_iso;
     }
@@ -271,7 +281,7 @@ pub data Asked : Type 0 where
   Replay : (config script : List ℕ) → (is_text : Bool) → Asked
   View : (config : List ℕ) → (address : Option (List ℕ)) → (is_strict : Bool) → Asked
   Serve : (options : ServeAsked) → Asked
-  Feed : (server : List ℕ) → (files : List (List ℕ)) → Asked
+  Feed : (server : List ℕ) → (files : List (List ℕ)) → (from : Option ℕ) → Asked
   Read : (server : List ℕ) → (wants : List (List ℕ)) → (options : ReadAsked) → Asked
 
 -- the job that the code has
@@ -280,7 +290,7 @@ asked (job.Check file options) = Check file.now (check_options_asked options)
 asked (job.Replay config script is_text) = Replay config.now script.now is_text
 asked (job.View config address is_strict) = View config.now (option_map (λ text. text.now) address) is_strict
 asked (job.Serve options) = Serve (serve_options_asked options)
-asked (job.Feed server files) = Feed server.now (map (λ file. file.now) files.items)
+asked (job.Feed server files from) = Feed server.now (map (λ file. file.now) files.items) from
 asked (job.Read server wants options) =
     Read server.now (map (λ want. want.now) wants.items) (options_asked options)
 
@@ -388,12 +398,13 @@ serve_asked rows =
     (number_in (codes "per-address") rows) rows
 
 -- a feeder's job, where all of it is there
-abbrev pub with_files : Option (List ℕ) → Option (List (List ℕ)) → Option Asked
-with_files (Some server) (Some files) = Some (Feed server files)
-with_files _ _ = None
+abbrev pub with_files : Option (List ℕ) → Option (List (List ℕ)) → Option (Option ℕ) → Option Asked
+with_files (Some server) (Some files) (Some from) = Some (Feed server files from)
+with_files _ _ _ = None
 
 abbrev pub feed_asked : List Row → Option Asked
-feed_asked rows = with_files (first_of (codes "SERVER") rows) (all_of (codes "FILE") rows)
+feed_asked rows =
+    with_files (first_of (codes "SERVER") rows) (all_of (codes "FILE") rows) (number_in (codes "from") rows)
 
 -- the flag `--fetch` was given
 abbrev pub fetch_in : List Row → Bool
@@ -412,6 +423,7 @@ options_with (Some retry) (Some timeout) rows =
       timeout = timeout;
       archive = first_of (codes "archive") rows;
       output = first_of (codes "output") rows;
+      wants_file = first_of (codes "wants") rows;
       state = first_of (codes "state") rows;
       is_iso = flag_in (codes "iso") rows;
     })
@@ -438,8 +450,21 @@ with_wants (Some options) (Some server) (Some wants) =
     if is_askable options then Some (Read server wants options) else None
 with_wants _ _ _ = None
 
+-- the words of wants; nothing if there is no word, and no file of wants
+abbrev pub wants_by : (has_file : Bool) → Option (List (List ℕ)) → Option (List (List ℕ))
+wants_by has_file (Some words) = Some words
+wants_by true None = Some []
+wants_by false None = None
+
+-- the words of wants, by the options beside them
+abbrev pub wants_beside : Option ReadAsked → Option (List (List ℕ)) → Option (List (List ℕ))
+wants_beside None words = None
+wants_beside (Some options) words = wants_by (is_some options.wants_file) words
+
 abbrev pub read_asked : List Row → Option Asked
-read_asked rows = with_wants (options_in rows) (first_of (codes "SERVER") rows) (all_of (codes "WANT") rows)
+read_asked rows =
+    with_wants (options_in rows) (first_of (codes "SERVER") rows)
+    (wants_beside (options_in rows) (all_of (codes "WANT") rows))
 
 -- the job of a subcommand with its arguments
 abbrev pub asked_by : Option (Text × List Row) → Option Asked

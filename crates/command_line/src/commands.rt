@@ -4,7 +4,7 @@ ghost use Rattle.clap.specs.Words.{App, app_of, new_app, rule_of, with_rule, wit
 ghost use Rattle.command_line.specs.Building.{Builds};
 ghost use Rattle.command_line.specs.Jobs.{dated_app, fed_app, file_app, files_rule, flag_rule, listing_app};
 ghost use Rattle.command_line.specs.Jobs.{address_rule, addressed_app, bare_app, check_app, feed_app, fetch_rule};
-ghost use Rattle.command_line.specs.Jobs.{limited_app, logged_app, number_rule, numbered_app};
+ghost use Rattle.command_line.specs.Jobs.{limited_app, listed_app, logged_app, number_rule, numbered_app, sending_app};
 ghost use Rattle.command_line.specs.Jobs.{option};
 ghost use Rattle.command_line.specs.Jobs.{archiving_app, program_app, read_app, replay_app, retrying_app, spanned_app};
 ghost use Rattle.command_line.specs.Jobs.{scripted_app, stating_app};
@@ -355,19 +355,6 @@ fn serve_command<'a>(alloc: Global) -> Built<'a>
     with_verbose(alloc, with_strict)
 }
 
-/// The arguments `FILE..`.
-fn files<'a>(alloc: Global) -> Arg<'a>
-    ensures rule { rule_of result ≡ files_rule }
-    ensures own { result.global ≡ false }
-{
-    wanted(
-        alloc,
-        "FILE",
-        "The files, of records of 512 bytes; - is standard input",
-    )
-    .num_args(1..)
-}
-
 /// `feed A:P`.
 fn fed_command<'a>(alloc: Global) -> Built<'a>
     ensures { Builds result fed_app }
@@ -381,12 +368,37 @@ fn fed_command<'a>(alloc: Global) -> Built<'a>
     )
 }
 
+/// The arguments `FILE..`.
+fn files<'a>(alloc: Global) -> Arg<'a>
+    ensures rule { rule_of result ≡ files_rule }
+    ensures own { result.global ≡ false }
+{
+    wanted(
+        alloc,
+        "FILE",
+        "The files, of records of 512 bytes; - is standard input",
+    )
+    .num_args(1..)
+}
+
 /// `feed A:P FILE..`.
+fn sending_command<'a>(alloc: Global) -> Built<'a>
+    ensures { Builds result sending_app }
+{
+    with_argument(fed_command(alloc), files(alloc))
+}
+
+/// `feed A:P FILE.. [--from N]`.
 fn feed_command<'a>(alloc: Global) -> Built<'a>
     ensures { Builds result feed_app }
 {
-    let with_files = with_argument(fed_command(alloc), files(alloc));
-    with_verbose(alloc, with_files)
+    let with_from = with_number(
+        alloc,
+        sending_command(alloc),
+        "from",
+        "Begins at record N of the first FILE, 1 to 1000000000",
+    );
+    with_verbose(alloc, with_from)
 }
 
 /// The arguments `WANT..`.
@@ -394,12 +406,9 @@ fn wants<'a>(alloc: Global) -> Arg<'a>
     ensures rule { rule_of result ≡ wants_rule }
     ensures own { result.global ≡ false }
 {
-    wanted(
-        alloc,
-        "WANT",
-        "NET_STA, NET_STA:PATTERN,.., NET_STA@NUMBER or NET_STA:PATTERN,..@NUMBER",
-    )
-    .num_args(1..)
+    Arg::new(alloc, "WANT")
+        .help("NET_STA, NET_STA:PATTERN,.., NET_STA@NUMBER or NET_STA:PATTERN,..@NUMBER")
+        .num_args(1..)
 }
 
 /// The flag `--fetch`.
@@ -502,6 +511,27 @@ fn waiting_command<'a>(alloc: Global) -> Built<'a>
     )
 }
 
+/// The option `--wants FILE`.
+fn wants_file<'a>(alloc: Global) -> Arg<'a>
+    ensures rule { rule_of result ≡ option false (codes "wants") }
+    ensures own { result.global ≡ false }
+{
+    option(
+        alloc,
+        "wants",
+        "FILE",
+        false,
+        "Asks for the WANTs of FILE too, one a line; empty lines and those that begin with # are passed over",
+    )
+}
+
+/// Read's command with `[--wants FILE]`.
+fn listed_command<'a>(alloc: Global) -> Built<'a>
+    ensures { Builds result listed_app }
+{
+    with_argument(waiting_command(alloc), wants_file(alloc))
+}
+
 /// The option `--archive DIR`.
 fn archive<'a>(alloc: Global) -> Arg<'a>
     ensures rule { rule_of result ≡ option false (codes "archive") }
@@ -520,7 +550,7 @@ fn archive<'a>(alloc: Global) -> Arg<'a>
 fn archiving_command<'a>(alloc: Global) -> Built<'a>
     ensures { Builds result archiving_app }
 {
-    with_argument(waiting_command(alloc), archive(alloc))
+    with_argument(listed_command(alloc), archive(alloc))
 }
 
 /// The option `--state FILE`.
@@ -551,8 +581,8 @@ fn dated_command<'a>(alloc: Global) -> Built<'a>
     with_flag(alloc, stating_command(alloc), "iso", ISO_HELP)
 }
 
-/// `read A:P,.. WANT.. [--fetch] [--begin TIME] [--end TIME] [--retry N] [--timeout N] [--archive DIR] [--state FILE]
-/// [--iso] [--output FILE]`.
+/// `read A:P,.. WANT.. [--fetch] [--begin TIME] [--end TIME] [--retry N] [--timeout N] [--wants FILE] [--archive DIR]
+/// [--state FILE] [--iso] [--output FILE]`.
 fn read_command<'a>(alloc: Global) -> Built<'a>
     ensures { Builds result read_app }
 {

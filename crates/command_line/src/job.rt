@@ -33,12 +33,14 @@ pub enum Job<'a> {
     },
     /// `serve CONFIG --listen A:P --feed A:P ..`: a server over sockets, as its options say.
     Serve(ServeOptions<'a>),
-    /// `feed A:P FILE..`: sends the records of files to a server, one file after the other.
+    /// `feed A:P FILE.. [--from K]`: sends the records of files to a server, one file after the other, of the first one
+    /// from record K on, 1 to 1,000,000,000.
     Feed {
         server: &'a str,
         files: Vec<&'a str>,
+        from: Option<usize>,
     },
-    /// `read A:P WANT.. ..`: asks a server for records, as its options say.
+    /// `read A:P WANT.. ..`: asks a server for records, as its options say. Without a want they name a file of wants.
     Read {
         server: &'a str,
         wants: Vec<&'a str>,
@@ -103,6 +105,8 @@ pub struct ReadOptions<'a> {
     pub archive: Option<&'a str>,
     /// `--output FILE`: each record is added to that file.
     pub output: Option<&'a str>,
+    /// `--wants FILE`: the wants of that file are asked for, too.
+    pub wants_file: Option<&'a str>,
     /// `--state FILE`: it goes on after the packets that FILE tells of, and keeps there how far it is.
     pub state: Option<&'a str>,
     /// `--iso`: times as dates and times of the day.

@@ -1,5 +1,5 @@
 //! The words of the command line.
-ghost use Rattle.std.specs.Prelude.{◌≡◌, ◌||◌, [], Some, false, IfOk, IfErr, map, option_map, string_bytes};
+ghost use Rattle.std.specs.Prelude.{◌≡◌, ◌||◌, [], Some, codes, false, IfOk, IfErr, map, option_map, string_bytes};
 ghost use Rattle.clap.specs.Words.{all_of, fault_of, first_of, found_of, kind_of, rows_of, subcommand_rows_of};
 ghost use Rattle.command_line.specs.Jobs.{check_options_asked, check_options_in, flag_in};
 ghost use Rattle.command_line.specs.Jobs.{HelpIs, IsJob, IsTold, asked, asked_by, check_asked, feed_asked, is_shown};
@@ -7,7 +7,7 @@ ghost use Rattle.command_line.specs.Jobs.{every_in, every_of, goes_on, is_askabl
 ghost use Rattle.command_line.specs.Jobs.{number_of};
 ghost use Rattle.command_line.specs.Jobs.{options_asked, options_in, program_app, read_asked, replay_asked};
 ghost use Rattle.command_line.specs.Jobs.{seconds_if, serve_asked};
-ghost use Rattle.command_line.specs.Jobs.{verbose_by, verbose_in, verbose_of, view_asked};
+ghost use Rattle.command_line.specs.Jobs.{verbose_by, verbose_in, verbose_of, view_asked, wants_by};
 ghost use Rattle.command_line.specs.declared.job.WordsFault.TheVariants.{OutOfMemory};
 
 use crate::commands::program;
@@ -184,8 +184,15 @@ fn feed_job<'a>(alloc: Global, arguments: &ArgMatches<'a>) -> Result<Option<Job<
     let Some(texts) = texts_at(arguments, "FILE") else {
         return Ok(None);
     };
+    let Some(from) = number_in(arguments, "from") else {
+        return Ok(None);
+    };
     let files = texts.to_vec(alloc)?;
-    Ok(Some(Job::Feed { server, files }))
+    Ok(Some(Job::Feed {
+        server,
+        files,
+        from,
+    }))
 }
 
 /// The options of `read`; None if the text of a number of seconds is not one.
@@ -202,6 +209,7 @@ fn read_options<'a>(arguments: &ArgMatches<'a>) -> Option<ReadOptions<'a>>
         timeout,
         archive: text_at(arguments, "archive"),
         output: text_at(arguments, "output"),
+        wants_file: text_at(arguments, "wants"),
         state: text_at(arguments, "state"),
         is_iso: has_flag(arguments, "iso"),
     })
@@ -229,6 +237,22 @@ fn is_askable(options: &ReadOptions<'_>) -> bool
     is_spelled(options) && (options.archive.is_none() || options.output.is_none())
 }
 
+/// The words of wants; None if there is no word, and no file of wants.
+fn wants_in<'a>(
+    alloc: Global,
+    arguments: &ArgMatches<'a>,
+    has_file: bool,
+) -> Result<Option<Vec<&'a str>>, AllocError>
+    ensures { IfOk result (λ wants. option_map (λ w. map (λ want. want.now) w.items) wants
+        ≡ wants_by has_file (all_of (codes "WANT") (rows_of (found_of arguments.now)))) }
+{
+    match texts_at(arguments, "WANT") {
+        Some(texts) => Ok(Some(texts.to_vec(alloc)?)),
+        None if has_file => Ok(Some(Vec::new(alloc))),
+        None => Ok(None),
+    }
+}
+
 fn read_job<'a>(alloc: Global, arguments: &ArgMatches<'a>) -> Result<Option<Job<'a>>, AllocError>
     ensures { IfOk result (λ job. option_map asked job ≡ read_asked (rows_of (found_of arguments.now))) }
 {
@@ -238,10 +262,9 @@ fn read_job<'a>(alloc: Global, arguments: &ArgMatches<'a>) -> Result<Option<Job<
     let Some(server) = text_at(arguments, "SERVER") else {
         return Ok(None);
     };
-    let Some(texts) = texts_at(arguments, "WANT") else {
+    let Some(wants) = wants_in(alloc, arguments, options.wants_file.is_some())? else {
         return Ok(None);
     };
-    let wants = texts.to_vec(alloc)?;
     if !is_askable(&options) {
         return Ok(None);
     }
@@ -324,14 +347,14 @@ fn refused(alloc: Global, error: clap::Error) -> WordsFault
     }
 }
 
-/// What is wrong with words that `clap` takes and that are no job: those of `read` have an end without a begin, or
-/// beside `--fetch`, `--retry` or `--state`, an archive beside an output, or a number with a sign or with leading zeros
-/// beyond ten digits; others have such a number, or a word that doesn't say how often something is done.
+/// What is wrong with words that `clap` takes and that are no job: those of `read` have no want, an end without a
+/// begin, or beside `--fetch`, `--retry` or `--state`, an archive beside an output, or a number with a sign or with
+/// leading zeros beyond ten digits; others have such a number, or a word that doesn't say how often something is done.
 fn mistake_in(matches: &ArgMatches<'_>) -> &'static str {
     match matches.subcommand() {
         Some(("read", _)) =>
-            "error: --end needs --begin, and can't be used with --fetch, --retry or --state; --archive can't be used \
-             with --output; N is 1 to 1000000000 in 1 to 10 decimal digits\n",
+            "error: a WANT or --wants is needed; --end needs --begin, and can't be used with --fetch, --retry or \
+             --state; --archive can't be used with --output; N is 1 to 1000000000 in 1 to 10 decimal digits\n",
         _ =>
             "error: N is 1 to 1000000000 in 1 to 10 decimal digits, and an s behind it stands for seconds\n",
     }

@@ -21,4 +21,5 @@ abbrev pub together_limit : WantsFault → List ℕ
 together_limit wants.Clash =
     codes "WANTs of one station that have the same number or none, and of which each adds patterns"
 together_limit wants.Stations = codes "1 to 255 WANTs"
+together_limit wants.Nothing = codes "1 to 255 WANTs"
 together_limit wants.Patterns = codes "at most 1024 patterns in all WANTs"

@@ -6,6 +6,7 @@ use Rattle.protocol.specs.Reason.{is_memory, is_output}
 use Rattle.incidents.specs.Faults.{failure_reason}
 use Rattle.incidents.specs.declared.failure.Failure.{Failure}
 use Rattle.incidents.specs.declared.incident.Site.{Site}
+use Rattle.incidents.specs.declared.incident.WantPlace.{WantPlace}
 use Rattle.incidents.specs.declared.incident.Site.TheVariants.{Unnamed, File, Setting, Differing, Unread}
 use Rattle.incidents.specs.declared.incident.Site.TheVariants.{Unwritten, Word}
 use Rattle.incidents.specs.declared.incident.Site.TheVariants.{AccessWord, Want, Server, Socket}
@@ -31,10 +32,10 @@ file_site failure path =
 abbrev pub word_site : Failure → Bor (List ℕ) → Site
 word_site failure word = if is_memory (failure_reason failure) then Unnamed else Word word
 
--- of a word that spells no want
-abbrev pub want_site : ReaderFault → WindowValue → Bor (List ℕ) → Site
-want_site reader.OutOfMemory window word = Unnamed
-want_site _ window word = Want word (wrong_part window word.now)
+-- of a text at a place that spells no want
+abbrev pub want_site : ReaderFault → WindowValue → WantPlace → List ℕ → Site
+want_site reader.OutOfMemory window place text = Unnamed
+want_site _ window place text = Want place (wrong_part window text)
 
 -- of a word that spells no access list: that word, and its first entry that is invalid
 abbrev pub IsListSite : Bor (List ℕ) → Site → Type 0

@@ -139,6 +139,7 @@ fn own_cause(failure: Failure) -> Option<&'static str> {
         Failure::Wants(WantsFault::Stations) => "there are more WANTs than one reader can ask for",
         Failure::Wants(WantsFault::Patterns) =>
             "the WANTs have more patterns than one reader can ask for",
+        Failure::Wants(WantsFault::Nothing) => "there is no WANT",
         Failure::Packets(ListingFault::Reader(ReaderFault::Limit)) =>
             "this can't be asked for in SeedLink",
         Failure::Packets(ListingFault::Read) =>

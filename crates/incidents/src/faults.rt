@@ -77,6 +77,8 @@ pub enum WantsFault {
     Stations,
     /// They have more than 1,024 patterns.
     Patterns,
+    /// There is none.
+    Nothing,
 }
 
 impl WantsFault {

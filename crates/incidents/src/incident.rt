@@ -28,6 +28,15 @@ use socket_ports::ListenError;
 use std::fmt::{self, Display, Formatter, Write};
 use std::io;
 
+/// Where a want stands.
+#[derive(Clone, Copy, Drop)]
+pub enum WantPlace<'a> {
+    /// A word of the command line.
+    Word(&'a str),
+    /// A line of a file, from 1 on.
+    Line { path: &'a str, number: u64 },
+}
+
 /// Where a failure happened, as far as the program knows.
 #[derive(Drop)]
 pub enum Site<'a> {
@@ -51,10 +60,10 @@ pub enum Site<'a> {
     Word(&'a str),
     /// A word of the command line that is no access list, and its first entry that is invalid.
     AccessWord(&'a str, Option<&'a [u8]>),
-    /// A word of the command line that is no want, and the part of it that is wrong.
-    Want(&'a str, Option<WantPart>),
-    /// A word of the command line that can't be asked for beside an earlier one of its station.
-    Clash(&'a str),
+    /// What spells no want, and the part of it that is wrong.
+    Want(WantPlace<'a>, Option<WantPart>),
+    /// A want that can't be asked for beside an earlier one of its station.
+    Clash(WantPlace<'a>),
     /// The server with that address.
     Server(&'a str),
     /// An address to which no connection could be made, or that can't be listened on, for the system's reason.
@@ -183,14 +192,19 @@ impl<'a> Incident<'a> {
         }
     }
 
-    /// A word of the command line that is no want in a window.
-    pub fn of_want(word: &'a str, window: Window<'_>, fault: ReaderFault) -> Incident<'a>
+    /// A text at a place that is no want in a window.
+    pub fn of_want(
+        place: WantPlace<'a>,
+        text: &[u8],
+        window: Window<'_>,
+        fault: ReaderFault,
+    ) -> Incident<'a>
         ensures failure { result.failure ≡ WantFailure fault }
-        ensures site { result.site ≡ want_site fault (window_value window.entry) word.entry }
+        ensures site { result.site ≡ want_site fault (window_value window.entry) place.entry text.now }
     {
         let site = match fault {
             ReaderFault::OutOfMemory => Site::Unnamed,
-            _ => Site::Want(word, Want::wrong_part(word.as_bytes(), window)),
+            _ => Site::Want(place, Want::wrong_part(text, window)),
         };
         Incident {
             failure: Failure::Want(fault),
@@ -198,14 +212,14 @@ impl<'a> Incident<'a> {
         }
     }
 
-    /// A word of the command line that can't be asked for beside an earlier one of its station.
-    pub fn of_clash(word: &'a str) -> Incident<'a>
+    /// A want that can't be asked for beside an earlier one of its station.
+    pub fn of_clash(place: WantPlace<'a>) -> Incident<'a>
         ensures failure { result.failure ≡ Wants Clash }
-        ensures site { result.site ≡ ClashSite word.entry }
+        ensures site { result.site ≡ ClashSite place.entry }
     {
         Incident {
             failure: Failure::Wants(WantsFault::Clash),
-            site: Site::Clash(word),
+            site: Site::Clash(place),
         }
     }
 
@@ -350,8 +364,8 @@ impl Display for Site<'_> {
             | Site::Unwritten(path, reason) => put_reasoned(f, "file", path, reason),
             Site::Word(word) => put_line(f, "word", *word),
             Site::AccessWord(word, entry) => put_access_word(f, word, entry),
-            Site::Want(word, part) => put_want(f, word, part),
-            Site::Clash(word) => put_clash(f, word),
+            Site::Want(place, part) => put_want(f, place, part),
+            Site::Clash(place) => put_clash(f, place),
             Site::Server(address) => put_line(f, "address", *address),
             Site::Socket(address, reason) => put_reasoned(f, "address", address, reason),
         }
@@ -412,15 +426,30 @@ fn put_access_word<W: Write>(
     writeln!(f, "  allowed: {}", limit_of(Step::Access))
 }
 
-/// The lines of a word that is no want.
-fn put_want<W: Write>(f: &mut Formatter<W>, word: &str, part: &Option<WantPart>) -> fmt::Result {
-    put_line(f, "word", word)?;
+/// The lines that say where a want stands.
+fn put_place<W: Write>(f: &mut Formatter<W>, place: &WantPlace<'_>) -> fmt::Result {
+    match place {
+        WantPlace::Word(word) => put_line(f, "word", *word),
+        WantPlace::Line { path, number } => {
+            put_line(f, "file", *path)?;
+            writeln!(f, "  line: {number}")
+        }
+    }
+}
+
+/// The lines of what is no want.
+fn put_want<W: Write>(
+    f: &mut Formatter<W>,
+    place: &WantPlace<'_>,
+    part: &Option<WantPart>,
+) -> fmt::Result {
+    put_place(f, place)?;
     put_part(f, part)
 }
 
-/// The lines of a word that clashes with an earlier one of its station.
-fn put_clash<W: Write>(f: &mut Formatter<W>, word: &str) -> fmt::Result {
-    put_line(f, "word", word)?;
+/// The lines of a want that clashes with an earlier one of its station.
+fn put_clash<W: Write>(f: &mut Formatter<W>, place: &WantPlace<'_>) -> fmt::Result {
+    put_place(f, place)?;
     writeln!(f, "  part: {}", name_of(WantPart::Station))
 }
 

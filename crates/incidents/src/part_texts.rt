@@ -37,7 +37,7 @@ pub fn allowed_together(fault: WantsFault) -> &'static str
     match fault {
         WantsFault::Clash =>
             "WANTs of one station that have the same number or none, and of which each adds patterns",
-        WantsFault::Stations => "1 to 255 WANTs",
+        WantsFault::Stations | WantsFault::Nothing => "1 to 255 WANTs",
         WantsFault::Patterns => "at most 1024 patterns in all WANTs",
     }
 }

@@ -1,1 +1,2 @@
 pub mod HandingLaws
+pub mod SkippingLemmas

@@ -1,2 +1,3 @@
 pub mod Feeding
 pub mod Handing
+pub mod Skipping

@@ -7,6 +7,7 @@ mod feeding;
 mod feeds;
 mod looks;
 mod sent;
+mod skipping;
 
 pub use feed::{SentFeed, begin_feed, send_feed};
 pub use feeding::{await_end, feed_records};

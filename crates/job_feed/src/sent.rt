@@ -1,5 +1,5 @@
 //! What a job that feeds has sent, for its user.
-ghost use Rattle.std.specs.Prelude.{◌≡◌, ◌-◌, nat_lt, None, Some, if◌then◌else◌};
+ghost use Rattle.std.specs.Prelude.{◌≡◌, ◌+◌, ◌-◌, ◌^◌, min, nat_lt, None, Some, if◌then◌else◌};
 
 use shown_lines::ShownLine;
 use std::fmt::{self, Display, Formatter, Write};
@@ -19,6 +19,16 @@ pub struct SentRecords<'a> {
     pub last: Option<FileRecord<'a>>,
 }
 
+impl<'a> FileRecord<'a> {
+    /// The first one.
+    pub fn first_of(file: &'a str) -> FileRecord<'a>
+        ensures file { result.file ≡ file.entry }
+        ensures number { result.number ≡ 1 }
+    {
+        FileRecord { file, number: 1 }
+    }
+}
+
 impl<'a> SentRecords<'a> {
     /// Before the first record.
     pub fn new() -> SentRecords<'a>
@@ -31,16 +41,20 @@ impl<'a> SentRecords<'a> {
         }
     }
 
-    /// By now the connection has taken so many. Those that came last are of this file, from its first record on.
-    pub fn reach(&mut self, file: &'a str, count: u64)
+    /// By now the connection has taken so many. Those that came last are of a file, from this record on.
+    pub fn reach(&mut self, first: FileRecord<'a>, count: u64)
         ensures count { self.new.count ≡ count }
         ensures last { self.new.last ≡ (if nat_lt self.old.count count
-            then Some (record { file = file.entry; number = count - self.old.count }) else self.old.last) }
+            then Some (record {
+              file = first.entry.file;
+              number = min (first.entry.number + (count - self.old.count - 1)) (2 ^ 64 - 1);
+            })
+            else self.old.last) }
     {
         if self.count < count {
             self.last = Some(FileRecord {
-                file,
-                number: count - self.count,
+                file: first.file,
+                number: first.number.saturating_add(count - self.count - 1),
             });
         }
         self.count = count;

@@ -1,2 +1,3 @@
 pub mod HearingLemmas
 pub mod TogetherLemmas
+pub mod WantLineLemmas

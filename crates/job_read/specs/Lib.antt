@@ -6,4 +6,5 @@ pub mod Places
 pub mod Together
 pub mod Unplaced
 pub mod Waiting
+pub mod WantLines
 pub mod Windows

@@ -9,7 +9,7 @@ use Rattle.std.specs.Str.{bytes_eq}
 use Rattle.slreader.specs.Wants.{Action, WantValue, patterns_together}
 use Rattle.slreader.specs.Wants.Action.{Data, Fetch, Time}
 use Rattle.job_read.specs.declared.together.Misfit.{Misfit}
-use Rattle.job_read.specs.declared.together.Misfit.TheVariants.{Clash, Stations, Patterns}
+use Rattle.job_read.specs.declared.together.Misfit.TheVariants.{Clash, Nothing, Patterns, Stations}
 
 -- ---- patterns
 
@@ -79,10 +79,11 @@ first_clash wants = clash_from wants 0 wants
 abbrev pub has_few_patterns : List WantValue → Bool
 has_few_patterns wants = nat_le (patterns_together wants) 1024
 
--- more than one reader can ask for
+-- none, or more than one reader can ask for
 abbrev pub excess : List WantValue → Option Misfit
 excess wants =
-    if nat_lt 255 (length wants) then Some Stations
+    if length wants == 0 then Some Nothing
+    else if nat_lt 255 (length wants) then Some Stations
     else if has_few_patterns wants then None else Some Patterns
 
 -- the clash, and otherwise the excess
@@ -96,3 +97,7 @@ abbrev pub misfit_of : (is_kept is_retried : Bool) → List WantValue → Option
 misfit_of true is_retried wants = clash_or (excess wants) (first_clash wants)
 misfit_of false true wants = excess wants
 misfit_of false false wants = None
+
+-- Nobody may look at what becomes of the wants: records or a state are kept, or they come from a file.
+abbrev pub is_kept : (has_archive has_state has_file : Bool) → Bool
+is_kept has_archive has_state has_file = has_archive || has_state || has_file

@@ -19,6 +19,7 @@ mod states;
 mod together;
 mod torn;
 mod unplaced;
+mod want_lines;
 mod wants;
 mod windows;
 

@@ -12,7 +12,7 @@ use crate::notices::{ErrorTeller, RefusalTeller};
 use crate::patience::{Patience, pause, silence_between, time_limit};
 use crate::places::Places;
 use crate::states::{StateFile, StateKeeper};
-use crate::wants::wants_of;
+use crate::wants::{wants_of, wants_text};
 use crate::windows::Moments;
 use command_line::ReadOptions;
 use incidents::{Failure, Incident, Site};
@@ -426,7 +426,14 @@ pub fn read_servers<'a, R: Files<File = File> + Print + Eprint + Clock + Net + A
 ) -> Result<(), Incident<'a>> {
     let servers = servers_of(rt.alloc(), servers)?;
     let moments = Moments::read(rt.alloc(), options)?;
-    let wants = wants_of(rt.alloc(), wants, moments.window(), options)?;
+    let listed = wants_text(rt, options.wants_file)?;
+    let wants = wants_of(
+        rt.alloc(),
+        wants,
+        listed.as_slice(),
+        moments.window(),
+        options,
+    )?;
     let patience = patience_of(options, servers.len());
     let reading = Reading {
         servers,

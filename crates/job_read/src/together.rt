@@ -24,6 +24,8 @@ pub enum Misfit {
     Stations,
     /// They have more than 1,024 patterns.
     Patterns,
+    /// There is none.
+    Nothing,
 }
 
 /// Whether a pattern says what to send, and not what not to send.
@@ -166,11 +168,13 @@ fn has_few_patterns(wants: &[Want<'_>]) -> bool
     true
 }
 
-/// Why there are too many wants, if there are.
+/// Why there are too many wants, if there are, or that there is none.
 fn excess(wants: &[Want<'_>]) -> Option<Misfit>
     ensures { result ≡ excess wants.now }
 {
-    if wants.len() > WANTS {
+    if wants.is_empty() {
+        Some(Misfit::Nothing)
+    } else if wants.len() > WANTS {
         Some(Misfit::Stations)
     } else if has_few_patterns(wants) {
         None

@@ -1,35 +1,108 @@
-//! What the words of wants ask for, each and together.
-use crate::together::{Misfit, misfit_of};
-use command_line::ReadOptions;
-use incidents::{Failure, Incident, WantsFault};
-use slreader::{Want, Window};
-use std::alloc::Global;
+//! What wants ask for, each and together: those of the command line, and those of a file.
+ghost use Rattle.std.specs.Prelude.{◌≡◌, is_some};
+ghost use Rattle.job_read.specs.Together.{is_kept};
 
-/// What the words of wants ask for. Beside options with which nobody may look they have to be fit to be asked for
-/// together.
+use crate::together::{Misfit, misfit_of};
+use crate::want_lines::want_lines;
+use command_line::ReadOptions;
+use incidents::{Failure, Incident, WantPlace, WantsFault};
+use job_base::text_at;
+use slreader::{Want, Window};
+use std::alloc::{AllocError, Global};
+use std::rt::Files;
+
+/// The text of a want, and where it stands.
+#[derive(Clone, Copy)]
+struct WantText<'a, 'w> {
+    place: WantPlace<'a>,
+    text: &'w [u8],
+}
+
+/// The text of the file of wants; empty if there is none.
+pub fn wants_text<'a, R: Files + AllocGlobal>(
+    rt: &R,
+    path: Option<&'a str>,
+) -> Result<Vec<u8>, Incident<'a>> {
+    match path {
+        Some(path) => text_at(rt, path),
+        None => Ok(Vec::new(rt.alloc())),
+    }
+}
+
+/// The texts of the words, and then of the lines of a file.
+fn texts_of<'a: 'w, 'w>(
+    alloc: Global,
+    words: &[&'a str],
+    path: &'a str,
+    listed: &'w [u8],
+) -> Result<Vec<WantText<'a, 'w>>, AllocError> {
+    let mut texts = Vec::new(alloc);
+    for word in words {
+        texts.push(WantText {
+            place: WantPlace::Word(*word),
+            text: word.as_bytes(),
+        })?;
+    }
+    put_lines(alloc, &mut texts, path, listed)?;
+    Ok(texts)
+}
+
+/// Adds the texts of the lines of a file.
+fn put_lines<'a, 'w>(
+    alloc: Global,
+    texts: &mut Vec<WantText<'a, 'w>>,
+    path: &'a str,
+    listed: &'w [u8],
+) -> Result<(), AllocError> {
+    for line in &want_lines(alloc, listed)? {
+        texts.push(WantText {
+            place: WantPlace::Line {
+                path,
+                number: line.number,
+            },
+            text: line.text,
+        })?;
+    }
+    Ok(())
+}
+
+/// What the words of wants ask for, and the lines of a file of wants. Beside options with which nobody may look they
+/// have to be fit to be asked for together.
 pub fn wants_of<'a: 'w, 'w>(
     alloc: Global,
     words: &[&'a str],
+    listed: &'w [u8],
     window: Window<'w>,
-    options: ReadOptions<'_>,
+    options: ReadOptions<'a>,
 ) -> Result<Vec<Want<'w>>, Incident<'a>> {
-    let wants = each_of(alloc, words, window)?;
-    let is_kept = options.archive.is_some() || options.state.is_some();
-    match misfit_of(&wants, is_kept, options.retry.is_some()) {
-        Some(misfit) => Err(refused(words, misfit)),
+    let path = options.wants_file.unwrap_or("");
+    let Ok(texts) = texts_of(alloc, words, path, listed) else {
+        return Err(Incident::from(Failure::OutOfMemory));
+    };
+    let wants = each_of(alloc, &texts, window)?;
+    match misfit_of(&wants, is_kept(options), options.retry.is_some()) {
+        Some(misfit) => Err(refused(&texts, misfit)),
         None => Ok(wants),
     }
 }
 
-/// What each word asks for.
-fn each_of<'a: 'w, 'w>(
+/// Whether nobody may look at what becomes of the wants: records or a state are kept, or they come from a file.
+fn is_kept(options: ReadOptions<'_>) -> bool
+    ensures { result ≡ is_kept (is_some options.entry.archive) (is_some options.entry.state)
+        (is_some options.entry.wants_file) }
+{
+    options.archive.is_some() || options.state.is_some() || options.wants_file.is_some()
+}
+
+/// What each text asks for.
+fn each_of<'a, 'w>(
     alloc: Global,
-    words: &[&'a str],
+    texts: &[WantText<'a, 'w>],
     window: Window<'w>,
 ) -> Result<Vec<Want<'w>>, Incident<'a>> {
     let mut wants = Vec::new(alloc);
-    for word in words {
-        let want = want_of(alloc, word, window)?;
+    for text in texts {
+        let want = want_of(alloc, text, window)?;
         wants
             .push(want)
             .map_err(|_| Incident::from(Failure::OutOfMemory))?;
@@ -37,27 +110,28 @@ fn each_of<'a: 'w, 'w>(
     Ok(wants)
 }
 
-/// What the word of a want asks for.
-fn want_of<'a: 'w, 'w>(
+/// What a text asks for.
+fn want_of<'a, 'w>(
     alloc: Global,
-    word: &'a str,
+    text: &WantText<'a, 'w>,
     window: Window<'w>,
 ) -> Result<Want<'w>, Incident<'a>> {
-    match Want::parse(alloc, word.as_bytes(), window) {
+    match Want::parse(alloc, text.text, window) {
         Ok(want) => Ok(want),
-        Err(fault) => Err(Incident::of_want(word, window, fault)),
+        Err(fault) => Err(Incident::of_want(text.place, text.text, window, fault)),
     }
 }
 
-/// Why words are not asked for together.
-fn refused<'a>(words: &[&'a str], misfit: Misfit) -> Incident<'a> {
+/// Why wants are not asked for together.
+fn refused<'a>(texts: &[WantText<'a, '_>], misfit: Misfit) -> Incident<'a> {
     let fault = match misfit {
-        Misfit::Clash(place) => match words.get(place) {
-            Some(word) => return Incident::of_clash(*word),
+        Misfit::Clash(place) => match texts.get(place) {
+            Some(text) => return Incident::of_clash(text.place),
             None => WantsFault::Clash,
         },
         Misfit::Stations => WantsFault::Stations,
         Misfit::Patterns => WantsFault::Patterns,
+        Misfit::Nothing => WantsFault::Nothing,
     };
     Incident::from(Failure::Wants(fault))
 }

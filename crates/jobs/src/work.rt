@@ -52,7 +52,11 @@ where
                 is_verbose,
             },
         ),
-        Job::Feed { server, files } => feed_files(rt, server, files.as_slice(), is_verbose),
+        Job::Feed {
+            server,
+            files,
+            from,
+        } => feed_files(rt, server, files.as_slice(), from, is_verbose),
         Job::Read {
             server,
             wants,

@@ -110,7 +110,7 @@ fn are_taken<R: Files<File = File> + Eprint + Clock + Net>(
     let mut tally = FeedTally::new();
     let mut sent = SentRecords::new();
     let files = ["first.mseed", "second.mseed"];
-    let Ok(Some(feed)) = send_files(rt, server, &files, &mut tally, &mut sent) else {
+    let Ok(Some(feed)) = send_files(rt, server, &files, 1, &mut tally, &mut sent) else {
         return false;
     };
     centre.turns(3);

@@ -72,6 +72,26 @@ where
     Ok(fed.is_success() && fed.errors.as_str() == "sent 2 records\n")
 }
 
+/// Sends the second of two records alone.
+fn feed_second<R>(rt: &R, centre: &mut Centre) -> Result<Outcome, Fail>
+where
+    R: Files<File = File> + Net + AllocGlobal,
+    R::File: AsRawFd,
+{
+    make_two(rt)?;
+    let (_, feeds) = centre.ports();
+    let line = "seedlinkd feed 127.0.0.1:PORT two.mseed --from 2 -v";
+    outcome_of(rt, centre, line, feeds)
+}
+
+#[test]
+fn feed_begins_at_a_record(rt: HostRuntime) -> Result<(), Fail> {
+    let fed = at_centre(&rt, feed_second)?;
+    assert!(rt; fed.is_success());
+    assert!(rt; fed.errors.as_str() == "sent 1 records\n", "{}", fed.errors);
+    Ok(())
+}
+
 /// Does a reader's job, in which PORT is the server's port for clients.
 pub fn read_of<R>(rt: &R, centre: &mut Centre, line: &str) -> Result<Outcome, Fail>
 where
@@ -209,6 +229,31 @@ fn archive_has_second<R: Files + AllocGlobal>(rt: &R) -> Result<bool, Fail> {
     let second = record(b"APE", b"BHZ", 2)?;
     let path = "longer/2024/GE/APE/BHZ.D/GE.APE..BHZ.D.2024.060";
     holds(rt, path, &second)
+}
+
+/// A file of wants is read like words, and its comments and empty lines are passed over.
+#[test]
+fn read_asks_for_the_wants_of_a_file(rt: HostRuntime) -> Result<(), Fail> {
+    fs::write(&rt, "wants.txt", b"# of the island\n\nGE_APE\r\n")?;
+    let line = "seedlinkd read 127.0.0.1:PORT --wants wants.txt --fetch";
+    assert!(rt; read(&rt, line)?.has_written(LINES.as_bytes()));
+    Ok(())
+}
+
+#[test]
+fn read_names_the_line_of_a_file_that_is_no_want(rt: HostRuntime) -> Result<(), Fail> {
+    fs::write(&rt, "broken.txt", b"GE_APE\n# next\nGE_APE:B?\n")?;
+    let line = "seedlinkd read 127.0.0.1:PORT GE_APE --wants broken.txt -v";
+    let read = read(&rt, line)?;
+    assert!(rt; read.has_failed_at_once());
+    assert!(rt;
+        read.errors
+            .as_str()
+            .contains("  file: broken.txt\n  line: 3\n  part: patterns\n"),
+        "{}",
+        read.errors
+    );
+    Ok(())
 }
 
 /// Whether a reader that has such a state lists the second record alone.

@@ -366,6 +366,7 @@ fn a_word_that_is_refused(rt: HostRuntime) -> Result<(), Fail> {
     let feed = Job::Feed {
         server: "localhost:18001",
         files,
+        from: None,
     };
     assert!(rt;
         unfinished(&rt, feed)?.as_str()
@@ -406,6 +407,7 @@ const HELD: ReadOptions<'static> = ReadOptions {
     timeout: None,
     archive: None,
     output: None,
+    wants_file: None,
     state: None,
     is_iso: false,
 };

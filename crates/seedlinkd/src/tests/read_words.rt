@@ -12,6 +12,7 @@ const PLAIN: ReadOptions<'static> = ReadOptions {
     timeout: None,
     archive: None,
     output: None,
+    wants_file: None,
     state: None,
     is_iso: false,
 };
@@ -30,6 +31,7 @@ fn is_same(options: &ReadOptions<'_>, wanted: &ReadOptions<'_>) -> bool {
         && options.timeout == wanted.timeout
         && options.archive == wanted.archive
         && options.output == wanted.output
+        && options.wants_file == wanted.wants_file
         && options.state == wanted.state
         && options.is_iso == wanted.is_iso
 }
@@ -115,6 +117,8 @@ fn read_has_seconds_and_a_state(rt: HostRuntime) -> Result<(), Fail> {
             "--retry",
             "5",
             "--timeout=30",
+            "--wants",
+            "wants.txt",
             "--state",
             "ape.state",
         ],
@@ -123,6 +127,7 @@ fn read_has_seconds_and_a_state(rt: HostRuntime) -> Result<(), Fail> {
     let wanted = ReadOptions {
         retry: Some(5),
         timeout: Some(30),
+        wants_file: Some("wants.txt"),
         state: Some("ape.state"),
         ..PLAIN
     };

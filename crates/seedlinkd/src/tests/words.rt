@@ -316,11 +316,16 @@ fn a_report_goes_by_turns_or_seconds(rt: HostRuntime) -> Result<(), Fail> {
     Ok(())
 }
 
-/// Whether it is the feeder's job with a file and the standard input after it.
-fn is_feed(job: &Job<'_>) -> bool {
+/// Whether it is the feeder's job with a file and the standard input after it, from that record on.
+fn is_feed(job: &Job<'_>, wanted: Option<usize>) -> bool {
     match job {
-        Job::Feed { server, files } => {
+        Job::Feed {
+            server,
+            files,
+            from,
+        } => {
             *server == "a:1"
+                && *from == wanted
                 && files.len() == 2
                 && files.first() == Some(&"records.mseed")
                 && files.last() == Some(&"-")
@@ -336,7 +341,26 @@ fn feed_has_a_server_and_files(rt: HostRuntime) -> Result<(), Fail> {
         &["seedlinkd", "feed", "a:1", "records.mseed", "-"],
     )?;
     let job = request_of(rt.alloc(), &words)?.job;
-    assert!(rt; is_feed(&job));
+    assert!(rt; is_feed(&job, None));
+    Ok(())
+}
+
+#[test]
+fn feed_may_begin_at_a_record(rt: HostRuntime) -> Result<(), Fail> {
+    let words = strings(
+        rt.alloc(),
+        &[
+            "seedlinkd",
+            "feed",
+            "a:1",
+            "records.mseed",
+            "-",
+            "--from",
+            "6",
+        ],
+    )?;
+    let job = request_of(rt.alloc(), &words)?.job;
+    assert!(rt; is_feed(&job, Some(6)));
     Ok(())
 }
 
