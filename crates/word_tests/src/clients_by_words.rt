@@ -130,12 +130,14 @@ fn holds_two_behind<R: Files + AllocGlobal>(
     Ok(kept.as_slice().strip_prefix(before) == Some(records.as_slice()))
 }
 
+/// A file that ends inside a record is cut to whole ones first, and that end is put aside.
 #[test]
 fn read_lists_packets_and_adds_their_records_to_a_file(rt: HostRuntime) -> Result<(), Fail> {
     fs::write(&rt, "ape.mseed", b"before")?;
     let line = "seedlinkd read 127.0.0.1:PORT GE_APE --fetch --output ape.mseed";
     assert!(rt; read(&rt, line)?.has_written(LINES.as_bytes()));
-    assert!(rt; holds_two_behind(&rt, "ape.mseed", b"before")?);
+    assert!(rt; holds_two_behind(&rt, "ape.mseed", b"")?);
+    assert!(rt; holds(&rt, "ape.mseed.torn", b"before")?);
     Ok(())
 }
 
