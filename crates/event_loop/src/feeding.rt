@@ -17,21 +17,21 @@ use protocol::reason::Reason;
 use server_core::{ArriveFault, Server};
 
 /// The codes of a record's station, as they stand in its header.
-fn codes_in(record: &[u8; 512]) -> RecordCodes
-    ensures { result ≡ codes_in record.now }
+fn codes_in(whole: &[u8; 512]) -> RecordCodes
+    ensures { result ≡ codes_in whole.now }
 {
     RecordCodes {
-        network: [record[18], record[19]],
-        station: [record[8], record[9], record[10], record[11], record[12]],
+        network: [whole[18], whole[19]],
+        station: [whole[8], whole[9], whole[10], whole[11], whole[12]],
     }
 }
 
 /// Why a record is refused, by the fault that answers it.
-fn refusal_of(fault: ArriveFault, record: &[u8; 512]) -> Refusal
-    ensures { result ≡ refusal_of fault record.now }
+fn refusal_of(fault: ArriveFault, whole: &[u8; 512]) -> Refusal
+    ensures { result ≡ refusal_of fault whole.now }
 {
     match fault {
-        ArriveFault::UnknownStation => Refusal::Unknown(codes_in(record)),
+        ArriveFault::UnknownStation => Refusal::Unknown(codes_in(whole)),
         ArriveFault::Record(fault) => Refusal::Other(fault.reason()),
         ArriveFault::Exhausted => Refusal::Other(Reason::Exhausted),
     }
