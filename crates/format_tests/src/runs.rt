@@ -1,5 +1,5 @@
-//! Readers that go on one after the other in an archive in memory, each of them stopped somewhere: each record stands in
-//! its file once.
+//! Readers that go on one after the other in an archive in memory, each of them stopped somewhere: each record
+//! stands in its file once.
 use crate::worked::{HEAD, record_of};
 use record_archive::{
     Archive, ContinuedFiles, FileLength, MemoryFiles, NamedRecord, StationCodes, Unnamed,

@@ -64,8 +64,8 @@ fn open_count(limit: Option<u64>, stations: usize) -> NonZeroUsize {
     NonZeroUsize::new(most).unwrap_or(NonZeroUsize::MIN)
 }
 
-/// Files at a place, in which a reader goes on after what a state says of them. Without a state nothing has to last, and
-/// what stands in a file is not handed again.
+/// Files at a place, in which a reader goes on after what a state says of them. Without a state nothing has to last,
+/// and what stands in a file is not handed again.
 pub fn files_at<'r, 'a: 'r, R: Files<File = File> + Clock + AllocGlobal>(
     rt: &'r R,
     place: FilePlace<'a>,

@@ -1,6 +1,7 @@
 //! When a connection is left that is still there: its server is silent for too long.
 ghost use Rattle.std.specs.Prelude.{◌≡◌};
-ghost use Rattle.job_read.specs.Waiting.{left_of, limit_of, milliseconds_of, pause, shorter, silence_between, silence_now};
+ghost use Rattle.job_read.specs.Waiting.{left_of, limit_of, milliseconds_of, pause, shorter, silence_between};
+ghost use Rattle.job_read.specs.Waiting.{silence_now};
 ghost use Rattle.job_read.specs.Waiting.{time_limit};
 
 use crate::course::Course;

@@ -43,8 +43,8 @@ pub struct StateFile<'a> {
 }
 
 impl<'a> StateFile<'a> {
-    /// Locks a state and reads it. A file that is not there tells of no packet. One that is no plain file is refused, and
-    /// not opened.
+    /// Locks a state and reads it. A file that is not there tells of no packet. One that is no plain file is
+    /// refused, and not opened.
     pub fn open<R: Files<File = File> + AllocGlobal>(
         rt: &R,
         path: &'a str,
@@ -351,7 +351,8 @@ impl<'r, 'a, 'w, R: Clock + Net> StateKeeper<'r, 'a, 'w, R> {
 }
 
 impl<'r, 'a, 'w, R: Files + Clock + Net + AllocGlobal> StateKeeper<'r, 'a, 'w, R> {
-    /// Keeps what was counted in the file, if there is one, with the lengths that files had when they were made to last.
+    /// Keeps what was counted in the file, if there is one, with the lengths that files had when they were made to
+    /// last.
     fn keep_in_file(&mut self, tally: &Tally) -> io::Result<()>
         ensures { self.new.failures ≡ self.old.failures }
     {

@@ -96,7 +96,8 @@ with_more more v = record v { traffic = joined_traffic v.traffic more }
 abbrev with_if : Traffic → Visitor → Bool → Visitor
 with_if more v same = if same then with_more more v else v
 
-traffic-above : (port : ℕ) (more : Traffic) (vs : List Visitor) → AreAbove port vs → map (with_traffic port more) vs ≡ vs
+traffic-above : (port : ℕ) (more : Traffic) (vs : List Visitor) → AreAbove port vs
+    → map (with_traffic port more) vs ≡ vs
 traffic-above port more [] h = refl
 traffic-above port more (v ∷ vs) h =
     ap₂ (λ x xs. x ∷ xs) (ap (with_if more v) (not-above v.port port h.0)) (traffic-above port more vs h.1)
@@ -125,7 +126,8 @@ same-port : (port : ℕ) (more : Traffic) (v : Visitor) (same : Bool) → (with_
 same-port port more v true = refl
 same-port port more v false = refl
 
-above-traffic : (n port : ℕ) (more : Traffic) (vs : List Visitor) → AreAbove n vs → AreAbove n (map (with_traffic port more) vs)
+above-traffic : (n port : ℕ) (more : Traffic) (vs : List Visitor) → AreAbove n vs
+    → AreAbove n (map (with_traffic port more) vs)
 above-traffic n port more [] h = tt
 above-traffic n port more (v ∷ vs) h =
     (subst (λ p. n < p) (sym (same-port port more v (v.port == port))) h.0, above-traffic n port more vs h.1)
@@ -138,7 +140,8 @@ rise-traffic port more (v ∷ vs) h = (
   rise-traffic port more vs h.1,
 )
 
-most-traffic : (n port : ℕ) (more : Traffic) (vs : List Visitor) → AreAtMost n vs → AreAtMost n (map (with_traffic port more) vs)
+most-traffic : (n port : ℕ) (more : Traffic) (vs : List Visitor) → AreAtMost n vs
+    → AreAtMost n (map (with_traffic port more) vs)
 most-traffic n port more [] h = tt
 most-traffic n port more (v ∷ vs) h =
     (subst (λ p. p ≤ n) (sym (same-port port more v (v.port == port))) h.0, most-traffic n port more vs h.1)

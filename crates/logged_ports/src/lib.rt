@@ -1,9 +1,9 @@
-//! Ports over ports that note who comes and goes: each call is passed on as it is, and what is decided of a port is noted
-//! in a journal. A visit is a connection's, from its join to its end.
+//! Ports over ports that note who comes and goes: each call is passed on as it is, and what is decided of a port is
+//! noted in a journal. A visit is a connection's, from its join to its end.
 //!
-//! What is noted is a function of what is decided, of the bytes that go over the ports, of the connections that the inner
-//! ports turned away themselves, and of the addresses from which connections came. Nothing is allocated once the ports
-//! are made. Left out: when something is noted.
+//! What is noted is a function of what is decided, of the bytes that go over the ports, of the connections that the
+//! inner ports turned away themselves, and of the addresses from which connections came. Nothing is allocated once the
+//! ports are made. Left out: when something is noted.
 #![tactic(auto)]
 
 ghost use Rattle.std.specs.Prelude.{ℕ, ◌≡◌, ◌∷◌, [], List};

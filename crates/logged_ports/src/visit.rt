@@ -100,8 +100,8 @@ fn put_refusal<W: Write>(
 
 impl Display for Visit {
     /// As `open 17 10.0.0.7`, `away 10.0.0.7 max_connections`, `close 17 10.0.0.7 bytes 52000`, `feed 3 10.0.0.2`,
-    /// `feed 3 refused 6 Length, first at record 17`, `feed 3 refused GE WLF, an unknown station, first at record 2` and
-    /// `feed 3 over 10.0.0.2 records 120 refused 2`.
+    /// `feed 3 refused 6 Length, first at record 17`, `feed 3 refused GE WLF, an unknown station, first at record 2`
+    /// and `feed 3 over 10.0.0.2 records 120 refused 2`.
     fn fmt<W: Write>(&self, f: &mut Formatter<W>) -> fmt::Result {
         match self {
             Visit::Open { port, address } => write!(f, "open {port} {address}"),

@@ -8,8 +8,8 @@ use crate::visitor::{RECORD, Visitor};
 use std::alloc::{AllocError, Global};
 use std::marker::Model;
 
-/// Who is connected, by rising number of their ports. In a contract it is for how many there is room, the last port that
-/// was added, and who is there. There is room for so many when it is made, and no call allocates.
+/// Who is connected, by rising number of their ports. In a contract it is for how many there is room, the last port
+/// that was added, and who is there. There is room for so many when it is made, and no call allocates.
 #[derive(Drop)]
 pub struct Visitors {
     last: Option<u64>,

@@ -8,7 +8,8 @@ ghost use Rattle.protocol.specs.Packet.{digits};
 ghost use Rattle.slreader.specs.Tallies.{ReachedValue};
 ghost use Rattle.slreader.specs.Lasts.{LastValue};
 ghost use Rattle.std.specs.Prelude.{true};
-ghost use Rattle.reader_state.specs.States.{AreLast, IsEnd, IsLast, IsState, Lacks, StateValue, are_apart, end_text, files_text};
+ghost use Rattle.reader_state.specs.States.{AreLast, IsEnd, IsLast, IsState, Lacks, StateValue, are_apart, end_text};
+ghost use Rattle.reader_state.specs.States.{files_text};
 ghost use Rattle.reader_state.specs.States.{state_text, text_of, words_of};
 ghost use Rattle.reader_state.specs.declared.reading.StateFault.TheVariants.{OutOfMemory};
 

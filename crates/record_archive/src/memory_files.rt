@@ -1,5 +1,6 @@
 //! Files of records in memory.
-ghost use Rattle.std.specs.Prelude.{◌≡◌, ◌<◌, ◌≤◌, ◌++◌, ◌∷◌, [], ℕ, List, length, map, take, true, false, IfOk, OnErr, OnOk, Some};
+ghost use Rattle.std.specs.Prelude.{◌≡◌, ◌<◌, ◌≤◌, ◌++◌, ◌∷◌, [], ℕ, List, length, map, take, true, false, IfOk};
+ghost use Rattle.std.specs.Prelude.{OnErr, OnOk, Some};
 ghost use Rattle.record_archive.specs.Files.{Tells, TellsSame, AddsTo, MakesSafe};
 ghost use Rattle.record_archive.specs.MemoryRecords.{named, records_of};
 ghost use Rattle.record_archive.specs.Walks.{record_at};

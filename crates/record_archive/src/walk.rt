@@ -1,5 +1,6 @@
 //! A walk over what an earlier reader left at the end of a file.
-ghost use Rattle.std.specs.Prelude.{◌≡◌, ◌+◌, ◌<◌, ◌≤◌, if◌then◌else◌, ℕ, List, length, IfOk, IfSome, MatchOption, OnErr, OnOk};
+ghost use Rattle.std.specs.Prelude.{◌≡◌, ◌+◌, ◌<◌, ◌≤◌, if◌then◌else◌, ℕ, List, length, IfOk, IfSome, MatchOption};
+ghost use Rattle.std.specs.Prelude.{OnErr, OnOk};
 ghost use Rattle.record_archive.specs.Files.{Tells, TellsSame, TellsOthers};
 ghost use Rattle.record_archive.specs.Walks.{AreOthers, Offers, kept_length, met, missed, moved, record_at, walk_from};
 

@@ -19,8 +19,8 @@ are_exchanged (a ∷ []) ys = false
 are_exchanged (a ∷ b ∷ xs) [] = false
 are_exchanged (a ∷ b ∷ xs) (c ∷ []) = false
 
--- a text becomes another one by a change at the first byte, after which the rests are as they have to be: a byte is left
--- out, put in or replaced, or two neighbours are exchanged
+-- a text becomes another one by a change at the first byte, after which the rests are as they have to be: a byte is
+-- left out, put in or replaced, or two neighbours are exchanged
 abbrev pub is_changed : (List ℕ → List ℕ → Bool) → List ℕ → List ℕ → Bool
 is_changed are xs ys =
     are (drop 1 xs) ys || (are xs (drop 1 ys) || (are (drop 1 xs) (drop 1 ys)

@@ -31,8 +31,8 @@ struct Row {
 }
 
 /// In each row but those with one fault, a later fault is due as well: the first one is reported. There are
-/// configurations `centre.toml`, `wrong.toml`, which has misspelled keys, and `broken.toml`; files of records `two.mseed`
-/// and `rest.mseed`, of which the second ends inside a record; and no file that begins with `no`.
+/// configurations `centre.toml`, `wrong.toml`, which has misspelled keys, and `broken.toml`; files of records
+/// `two.mseed` and `rest.mseed`, of which the second ends inside a record; and no file that begins with `no`.
 static ROWS: [Row; 29] = [
     // A server: the address for clients, that for feeds, the configuration, and then the ports.
     Row {

@@ -1,4 +1,5 @@
-use Rattle.std.proofs.Common.{◌≡◌, ◌∙◌, ◌++◌, ℕ, List, Option, Some, None, ap, append_assoc, codes, map, option_map, sym}
+use Rattle.std.proofs.Common.{◌≡◌, ◌∙◌, ◌++◌, ℕ, List, Option, Some, None, ap, append_assoc, codes, map, option_map}
+use Rattle.std.proofs.Common.{sym}
 use Rattle.unknown_keys.specs.Nearest.{nearest}
 use Rattle.unknown_keys.specs.Unknown.{hint, keys_of, question, whose}
 use Rattle.unknown_keys.proofs.owner.Owner.put_nearest.Goals as goal
