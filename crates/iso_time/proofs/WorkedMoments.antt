@@ -2,29 +2,56 @@
 use Rattle.std.specs.Prelude.{◌≡◌, refl, codes, None, pos, negsuc}
 use Rattle.std.specs.Fmt.{signed_decimal}
 use Rattle.protocol.specs.Time.{time_of}
-use Rattle.iso_time.specs.Spelled.{command_text}
+use Rattle.iso_time.specs.Spelled.{civil_part, command_text, is_iso}
 use Rattle.iso_time.specs.Written.{moment_text, month_from, year_by, year_of}
 
 pub iso : command_text (codes "2024-02-29T00:00:01") ≡ codes "2024,02,29,00,00,01"
+unfolding civil_part is_iso
 iso = refl
 
 pub zone : command_text (codes "2024-02-29T00:00:01Z") ≡ codes "2024,02,29,00,00,01"
+unfolding civil_part is_iso
 zone = refl
 
 pub seedlink : command_text (codes "2024,2,29,0,0,1") ≡ codes "2024,2,29,0,0,1"
+unfolding civil_part is_iso
 seedlink = refl
 
 pub same_moment : time_of (command_text (codes "2024-02-29T00:00:01Z")) ≡ time_of (codes "2024,2,29,0,0,1")
+unfolding civil_part is_iso
 same_moment = refl
 
 pub no_such_date : time_of (command_text (codes "2023-02-29T00:00:00")) ≡ None
+unfolding civil_part is_iso
 no_such_date = refl
 
 pub no_fraction : time_of (command_text (codes "2024-02-29T00:00:00.5")) ≡ None
+unfolding civil_part is_iso
 no_fraction = refl
 
-pub no_date_alone : time_of (command_text (codes "2024-02-29")) ≡ None
-no_date_alone = refl
+pub no_letter : time_of (command_text (codes "2024-02-29T00:00:00.00A0Z")) ≡ None
+unfolding civil_part is_iso
+no_letter = refl
+
+pub date_alone : command_text (codes "2024-02-29") ≡ codes "2024,02,29"
+unfolding civil_part is_iso
+date_alone = refl
+
+pub to_the_minute : command_text (codes "2024-02-29T12:30") ≡ codes "2024,02,29,12,30"
+unfolding civil_part is_iso
+to_the_minute = refl
+
+pub minute_and_zone : command_text (codes "2024-02-29T12:30Z") ≡ codes "2024,02,29,12,30"
+unfolding civil_part is_iso
+minute_and_zone = refl
+
+pub as_listed : command_text (codes "2024-02-29T00:00:01.0900Z") ≡ codes "2024,02,29,00,00,01"
+unfolding civil_part is_iso
+as_listed = refl
+
+pub hour_alone : time_of (command_text (codes "2024-02-29T12")) ≡ None
+unfolding civil_part is_iso
+hour_alone = refl
 
 -- ---- what is written of a tick
 

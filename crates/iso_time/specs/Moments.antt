@@ -25,3 +25,11 @@ moment_tick m =
 -- the beginning of its second
 abbrev pub whole_second : CivilMoment → CivilMoment
 whole_second m = record m { fraction = 0 }
+
+-- that of its minute
+abbrev pub whole_minute : CivilMoment → CivilMoment
+whole_minute m = record m { second = 0; fraction = 0 }
+
+-- that of its day
+abbrev pub whole_day : CivilMoment → CivilMoment
+whole_day m = record m { hour = 0; minute = 0; second = 0; fraction = 0 }

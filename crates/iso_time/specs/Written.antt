@@ -2,7 +2,7 @@
 -- ISO 8601, date and time in UTC, to the ten-thousandth of a second. Left out: leap seconds, and years before 1 or
 -- after 9999, whose moments are written as ticks.
 use Rattle.std.specs.Prelude.{ℕ, ◌+◌, ◌-◌, ◌*◌, ◌/◌, ◌%◌, zero, suc, nat_le, nat_lt, if◌then◌else◌, List, [], ◌∷◌, ◌++◌}
-use Rattle.std.specs.Prelude.{ℤ, pos, negsuc, ◌+ℤ◌, Option, Some, None, option_map}
+use Rattle.std.specs.Prelude.{ℤ, pos, negsuc, ◌+ℤ◌, Option, Some, None, decimal, option_map}
 use Rattle.std.specs.Option.{option_map_or}
 use Rattle.std.specs.Fmt.{signed_decimal}
 use Rattle.protocol.specs.Time.{days_before, days_in}
@@ -95,6 +95,10 @@ two_digits n = digit 10 n ∷ digit 1 n ∷ []
 
 abbrev pub four_digits : ℕ → List ℕ
 four_digits n = digit 1000 n ∷ digit 100 n ∷ two_digits n
+
+-- so many ticks in seconds, with four decimals: `.` is 46
+abbrev pub seconds_text : ℕ → List ℕ
+seconds_text ticks = decimal (ticks / 10000) ++ 46 ∷ four_digits (ticks % 10000)
 
 -- `2024-02-29T12:30:15.0250Z`: `-` is 45, `T` is 84, `:` is 58, `.` is 46, `Z` is 90
 abbrev pub iso_text : CivilMoment → List ℕ

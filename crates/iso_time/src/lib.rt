@@ -8,4 +8,4 @@ mod written;
 
 pub use command::command_time;
 pub use laws::moments_spelled;
-pub use written::put_moment;
+pub use written::{put_moment, put_seconds};

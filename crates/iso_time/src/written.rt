@@ -3,7 +3,7 @@ ghost use Rattle.std.specs.Prelude.{◌≡◌, ◌≢◌, ◌<◌, ◌*◌, ◌+
 ghost use Rattle.protocol.specs.Time.{days_before as spec_days_before};
 ghost use Rattle.iso_time.specs.Written.{civil_moment as spec_civil_moment, digit as spec_digit};
 ghost use Rattle.iso_time.specs.Written.{iso_text as spec_iso_text, moment_on as spec_moment_on, moment_text};
-ghost use Rattle.iso_time.specs.Written.{ticks_since_year_1 as spec_ticks_since_year_1};
+ghost use Rattle.iso_time.specs.Written.{seconds_text, ticks_since_year_1 as spec_ticks_since_year_1};
 
 use crate::calendar::{date_of, days_before, year_of};
 use itoa::Buffer;
@@ -154,4 +154,21 @@ pub fn put_moment(text: &mut Vec<u8>, moment: Tick) -> Result<(), AllocError>
             text.extend_from_slice(buffer.format(moment.value()).as_bytes())
         }
     }
+}
+
+/// Adds a length of time, so many ticks of 0.0001 s, in seconds with four decimals: `12.0500`.
+pub fn put_seconds(text: &mut Vec<u8>, ticks: u128) -> Result<(), AllocError>
+    ensures { OnOk result (text.new.items ≡ text.old.items ++ seconds_text ticks) }
+{
+    let mut buffer = Buffer::new();
+    text.extend_from_slice(buffer.format(ticks / 10_000).as_bytes())?;
+    let fraction = (ticks % 10_000) as u32;
+    text.extend_from_slice(&[
+        b'.',
+        digit(1000, fraction),
+        digit(100, fraction),
+        digit(10, fraction),
+        digit(1, fraction),
+    ])?;
+    Ok(())
 }

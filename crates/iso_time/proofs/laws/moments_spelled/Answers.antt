@@ -1,6 +1,13 @@
 use Rattle.iso_time.proofs.MomentLemmas.{spelled}
-use Rattle.iso_time.proofs.ReadLemmas.{read_back}
+use Rattle.iso_time.proofs.ReadLemmas.{all_read_back, day_read_back, minute_read_back, read_back}
 use Rattle.iso_time.proofs.laws.moments_spelled.Goals as goal
 
 pub returns : goal.returns
-returns c = record { written = spelled; read_back = read_back }
+returns c =
+    record {
+      written = spelled;
+      all_read_back = all_read_back;
+      read_back = read_back;
+      minute_read_back = minute_read_back;
+      day_read_back = day_read_back;
+    }
