@@ -33,7 +33,7 @@
 //! | `reader asks HELLO\r` | the reader asked this; after a fault perhaps only a beginning of it |
 //! | `reader prints refused GE APE\n` | the reader printed this |
 //! | `reader fault 42` | this fault ended it; 0 for none |
-//! | `records FILE lines LISTING` | a check of a file of records prints what stands in LISTING; `streams` instead of `lines` for the lines of streams alone, `dates` for both with times as dates |
+//! | `records FILE,FILE lines LISTING` | a check of files of records prints what stands in LISTING; `streams` instead of `lines` for the lines of streams alone, `dates` for both with times as dates, `gaps` for gaps and overlaps alone, `all` for all of these with times as dates |
 //! | `records FILE fault 4 2 512` | the first fault is number 4, of the second record, which begins after 512 bytes; or `none` |
 //! | `list admits yes 10.0.0.7 10.0.0.0/8` | this access list admits the address |
 //! | `list refuse 12 10.0.0.0/33` | this access list is refused with that number |

@@ -19,7 +19,9 @@ use Rattle.code_numbers.specs.Spelling.{spelled}
 use Rattle.code_numbers.proofs.SpellingLemmas.{equal_spelled}
 use Rattle.record_listing.specs.Index.{StreamPlaces, name_of, names_eq, place_in}
 use Rattle.record_listing.specs.Index.{AreCodes, Finds, IsAt, IsCode}
-use Rattle.record_listing.specs.Streams.{StreamValue, begun, gone_on, is_known, is_of, on_if, streams_with}
+use Rattle.record_listing.specs.Streams.{StreamValue, begun, gone_on, is_known, is_of, on_if, seam_in, seam_of}
+use Rattle.record_listing.specs.Streams.{streams_with}
+use Rattle.record_listing.specs.declared.streams.Seam.TheVariants.{Even}
 use Rattle.record_listing.specs.Words.{kind_letter}
 use Rattle.record_listing.specs.declared.stream_name.StreamName.{StreamName}
 
@@ -283,3 +285,37 @@ found_nowhere m empty =
       there = λ y are. subst (λ (es : List (StreamName × ℕ)). IfSome (lookup (names_eq (name_of y)) es) (IsAt y []))
           (sym empty) tt;
     }
+
+-- ---- what lies before a record
+
+-- What lies between a record and the last one of the one stream that has it.
+seam_at : (x : Facts) (ss : List StreamValue) (k : ℕ) (d : StreamValue) → k < length ss
+    → is_of x (get_or ss k d) ≡ true
+    → ((j : ℕ) (e : StreamValue) → j < length ss → is_of x (get_or ss j e) ≡ true → j ≡ k)
+    → seam_in ss x ≡ seam_of (get_or ss k d) x.start
+seam_at x [] k d within has one = absurd (omega (arith, within))
+seam_at x (s ∷ ss) zero d within has one = rw has refl
+seam_at x (s ∷ ss) (suc k) d within has one =
+    rw (if_false (is_of x s) (λ is. let no = one 0 s (omega arith) is in absurd (omega (arith, no))))
+    (seam_at x ss k d (omega (arith, within)) has
+    (λ j e h is. let same = one (suc j) e (omega (arith, h)) is in omega (arith, same)))
+
+pub found_seam : (m : StreamPlaces) (ss : List StreamValue) (x : Facts) (k : ℕ) (s : StreamValue) → Finds m ss
+    → AreCodes x → place_in m x ≡ Some k → s ≡ get_or ss k s → seam_of s x.start ≡ seam_in ss x
+found_seam m ss x k s finds are found at =
+    let here : IsAt x ss k = found_at m ss x k finds are found in
+    ap (λ t. seam_of t x.start) at
+    ∙ sym (seam_at x ss k s here.within (here.has s)
+    (λ j e h is. some_same j k (sym (finds.one x are j e h is) ∙ found)))
+
+seam_none : (x : Facts) (ss : List StreamValue)
+    → ((j : ℕ) (d : StreamValue) → j < length ss → is_of x (get_or ss j d) ≡ false) → seam_in ss x ≡ Even
+seam_none x [] none = refl
+seam_none x (s ∷ ss) none =
+    rw (none 0 s (omega arith)) (seam_none x ss (λ j d h. none (suc j) d (omega (arith, h))))
+
+-- Nothing lies before a record that is not found.
+pub begun_seam : (m : StreamPlaces) (ss : List StreamValue) (x : Facts) → Finds m ss → AreCodes x
+    → place_in m x ≡ None → Even ≡ seam_in ss x
+begun_seam m ss x finds are none =
+    sym (seam_none x ss (λ j d h. if_false _ (λ is. some_none j (sym (finds.one x are j d h is) ∙ none))))

@@ -10,7 +10,8 @@ use Rattle.sl_io.specs.declared.faults.StreamFault.TheVariants.{OutOfMemory, Rea
 use Rattle.record_listing.specs.declared.fault.FileFault.{FileFault}
 use Rattle.record_listing.specs.declared.options.ListingOptions.{ListingOptions}
 use Rattle.record_listing.specs.Streams.{StreamValue}
-use Rattle.record_listing.specs.Listing.{Rules, first_of, record_line, refusal, said_of, streams_after}
+use Rattle.record_listing.specs.Listing.{Listed, Rules, first_of, number_after, refusal, said_lines, said_of}
+use Rattle.record_listing.specs.Listing.{streams_after}
 
 -- why a check stopped, by the counts of the reader's failures and calls and of the writer's failures and empty writes,
 -- before and after it: no memory, and nothing had failed; a read, by which the reading stopped; or a write, by which
@@ -24,8 +25,8 @@ StopsChecking Read failures failures' calls calls' write_failures write_failures
 StopsChecking Write failures failures' calls calls' write_failures write_failures' empty empty' =
     (failures' ≡ failures) × StopsWriting write_failures write_failures' empty empty'
 
--- how many records are listed, how many of them were read before one was refused, why the first refused one of them is
--- refused, the lines that are not written yet, and the streams so far
+-- how many records are listed, how many of this file's were read before one was refused, why the first refused one of
+-- them is refused, the lines that are not written yet, and the streams so far
 pub record Progress : Type 0 where
   pub count : ℕ
   pub good : ℕ
@@ -33,9 +34,13 @@ pub record Progress : Type 0 where
   pub lines : List ℕ
   pub streams : List StreamValue
 
--- no record is listed
-abbrev pub nothing_listed : Progress
-nothing_listed = record { count = 0; good = 0; fault = None; lines = []; streams = [] }
+-- no record of a file is listed
+abbrev pub begun_file : Listed → Progress
+begun_file l = record { count = l.count; good = 0; fault = None; lines = []; streams = l.streams }
+
+-- what is known of it between two files
+abbrev pub listed_of : Progress → Listed
+listed_of p = record { count = p.count; streams = p.streams }
 
 -- how many were read before one was refused, with one more where none was refused until then
 abbrev pub good_with : ℕ → Option FileFault → ℕ
@@ -45,10 +50,10 @@ good_with good fault = if is_some fault then good else good + 1
 abbrev pub with_said : ListingOptions → Progress → Result Facts FileFault → Progress
 with_said options p said =
     record {
-      count = p.count + 1;
+      count = number_after p.count;
       good = good_with p.good (first_of p.fault (refusal said));
       fault = first_of p.fault (refusal said);
-      lines = p.lines ++ record_line options (p.count + 1) said;
+      lines = p.lines ++ said_lines options p.streams (number_after p.count) said;
       streams = streams_after options p.streams said;
     }
 

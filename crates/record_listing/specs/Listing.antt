@@ -1,20 +1,22 @@
 -- What the check of a file of records writes: a line a record, one for what is left over, and one for each stream.
 -- SEED Reference Manual 2.4, chapter 8, for what a record says; the lines are this project's own.
-use Rattle.std.specs.Prelude.{ℕ, ◌+◌, ◌==◌, Bool, if◌then◌else◌, List, [], ◌∷◌, ◌++◌, length, codes}
-use Rattle.std.specs.Prelude.{decimal, Option, Some, None, Result, Ok, Err}
+use Rattle.std.specs.Prelude.{ℕ, ℤ, ◌+◌, ◌-◌, ◌^◌, ◌==◌, Bool, ◌||◌, if◌then◌else◌, List, [], ◌∷◌, ◌++◌, length}
+use Rattle.std.specs.Prelude.{codes, decimal, min, Option, Some, None, Result, Ok, Err}
 use Rattle.protocol.specs.declared.record.RecordFault.{RecordFault}
 use Rattle.protocol.specs.declared.reason.Reason.{Reason}
 use Rattle.protocol.specs.declared.reason.Reason.TheVariants as reason
 use Rattle.protocol.specs.Reason.{name_of, number_of}
 use Rattle.protocol.specs.Record.{Facts, header_of, record_reason}
-use Rattle.protocol.specs.Streams.{FeedRead, feed_of}
+use Rattle.protocol.specs.Streams.{feed_of}
 use Rattle.record_listing.specs.declared.fault.FileFault.{FileFault}
 use Rattle.record_listing.specs.declared.fault.FileFault.TheVariants.{Record, Station, Partial}
 use Rattle.record_listing.specs.declared.options.ListingOptions.{ListingOptions}
 use Rattle.record_listing.specs.declared.options.Times.{Times}
 pub use Rattle.record_listing.specs.Words.{kind_letter}
-use Rattle.record_listing.specs.Words.{stream_text, time_text, word_text}
-use Rattle.record_listing.specs.Streams.{StreamValue, streams_with}
+use Rattle.record_listing.specs.Words.{duration_text, stream_text, time_text, word_text}
+use Rattle.record_listing.specs.Streams.{StreamValue, seam_in, streams_with, ticks_after}
+use Rattle.record_listing.specs.declared.streams.Seam.{Seam}
+use Rattle.record_listing.specs.declared.streams.Seam.TheVariants.{Even, Gap, Overlap}
 
 -- ---- what is asked
 
@@ -72,21 +74,48 @@ abbrev pub record_line : ListingOptions → ℕ → Result Facts FileFault → L
 record_line options number said =
     if options.has_lines then word_text (decimal number) ++ record_text options.times said ++ 10 ∷ [] else []
 
--- the lines of records, of which the first has that number
-abbrev pub lines_from : Rules → ℕ → List (List ℕ) → List ℕ
-lines_from r number [] = []
-lines_from r number (bytes ∷ records) =
-    record_line r.options number (said_of r bytes) ++ lines_from r (number + 1) records
+-- the number after that of a record; none is above 2^128 - 1
+abbrev pub number_after : ℕ → ℕ
+number_after number = min (number + 1) (2 ^ 128 - 1)
+
+-- how many records are listed, after so many, with these
+abbrev pub count_after : ℕ → List (List ℕ) → ℕ
+count_after count [] = count
+count_after count (bytes ∷ records) = count_after (number_after count) records
+
+-- ---- the lines of gaps and overlaps
+
+-- the stream of a record, from when to when, how long that is, and the line's end
+abbrev pub span_text : Times → Facts → (from to : ℤ) → List ℕ
+span_text times x from to =
+    stream_text x.network x.station x.location x.channel ++ (word_text (kind_letter x.kind ∷ [])
+    ++ (word_text (time_text times from) ++ (word_text (time_text times to)
+    ++ (duration_text times (ticks_after from to) ++ 10 ∷ []))))
+
+-- the line of what lies before a record
+abbrev pub seam_text : Times → Facts → Seam → List ℕ
+seam_text times x Even = []
+seam_text times x (Gap from to) = codes "gap " ++ span_text times x from to
+seam_text times x (Overlap from to) = codes "overlap " ++ span_text times x from to
+
+-- the same, if it is asked for
+abbrev pub seam_line : ListingOptions → List StreamValue → Result Facts FileFault → List ℕ
+seam_line options streams (Ok x) = if options.has_gaps then seam_text options.times x (seam_in streams x) else []
+seam_line options streams (Err fault) = []
 
 -- ---- the lines of streams
 
--- the streams with a record, if it is read and they are asked for
+-- Streams are noted: they or their gaps are asked for.
+abbrev pub has_streams : ListingOptions → Bool
+has_streams options = options.has_summary || options.has_gaps
+
+-- the streams with a record, if it is read and they are noted
 abbrev pub streams_said : List StreamValue → Result Facts FileFault → List StreamValue
 streams_said streams (Ok x) = streams_with streams x
 streams_said streams (Err fault) = streams
 
 abbrev pub streams_after : ListingOptions → List StreamValue → Result Facts FileFault → List StreamValue
-streams_after options streams said = if options.has_summary then streams_said streams said else streams
+streams_after options streams said = if has_streams options then streams_said streams said else streams
 
 -- the streams of records, after others
 abbrev pub streams_from : Rules → List StreamValue → List (List ℕ) → List StreamValue
@@ -109,6 +138,23 @@ abbrev pub stream_lines : Times → List StreamValue → List ℕ
 stream_lines times [] = []
 stream_lines times (s ∷ streams) = stream_line times s ++ stream_lines times streams
 
+-- those of a list of files, if they are asked for
+abbrev pub streams_text : ListingOptions → List StreamValue → List ℕ
+streams_text options streams = if options.has_summary then stream_lines options.times streams else []
+
+-- ---- the lines of records
+
+-- the lines of a record with that number: of what lies between it and the last one of its stream, and its own
+abbrev pub said_lines : ListingOptions → List StreamValue → (number : ℕ) → Result Facts FileFault → List ℕ
+said_lines options streams number said = seam_line options streams said ++ record_line options number said
+
+-- the lines of records, which come after so many others and the streams of those
+abbrev pub lines_from : Rules → List StreamValue → (count : ℕ) → List (List ℕ) → List ℕ
+lines_from r streams count [] = []
+lines_from r streams count (bytes ∷ records) =
+    said_lines r.options streams (number_after count) (said_of r bytes)
+    ++ lines_from r (streams_after r.options streams (said_of r bytes)) (number_after count) records
+
 -- ---- the whole
 
 -- the line of the bytes that are left over, where there are some
@@ -119,18 +165,36 @@ partial_text count = if count == 0 then [] else codes "partial " ++ word_text (d
 abbrev pub partial_line : ListingOptions → ℕ → List ℕ
 partial_line options count = if options.has_lines then partial_text count else []
 
--- what comes after the lines of records: that line, and those of streams
-abbrev pub end_text : ListingOptions → List StreamValue → ℕ → List ℕ
-end_text options streams count = partial_line options count ++ stream_lines options.times streams
+-- what is known between two files: how many records are listed, and the streams so far
+pub record Listed : Type 0 where
+  pub count : ℕ
+  pub streams : List StreamValue
 
--- the lines of a feed
-abbrev pub lines_of : Rules → FeedRead → List ℕ
-lines_of r feed =
-    lines_from r 1 feed.records ++ end_text r.options (streams_from r [] feed.records) (length feed.rest)
+-- nothing is listed
+abbrev pub nothing_listed : Listed
+nothing_listed = record { count = 0; streams = [] }
 
--- the listing of the bytes of a file
+-- with the records of one file more
+abbrev pub listed_after : Rules → Listed → List ℕ → Listed
+listed_after r l bytes =
+    record {
+      count = count_after l.count (feed_of bytes).records;
+      streams = streams_from r l.streams (feed_of bytes).records;
+    }
+
+-- the lines of a file: those of its records, and of what is left over
+abbrev pub file_text : Rules → Listed → List ℕ → List ℕ
+file_text r l bytes =
+    lines_from r l.streams l.count (feed_of bytes).records ++ partial_line r.options (length (feed_of bytes).rest)
+
+-- the listing of files, one after the other: the lines of each, and then those of the streams
+abbrev pub files_text : Rules → Listed → List (List ℕ) → List ℕ
+files_text r l [] = streams_text r.options l.streams
+files_text r l (bytes ∷ files) = file_text r l bytes ++ files_text r (listed_after r l bytes) files
+
+-- the listing of the bytes of one file
 abbrev pub listing_of : Rules → List ℕ → List ℕ
-listing_of r bytes = lines_of r (feed_of bytes)
+listing_of r bytes = files_text r nothing_listed (bytes ∷ [])
 
 -- ---- the verdict
 

@@ -6,6 +6,8 @@ use Rattle.std.specs.List.{list_any}
 use Rattle.std.specs.Str.{bytes_eq}
 use Rattle.protocol.specs.declared.record.Kind.{Kind}
 use Rattle.protocol.specs.Record.{Facts}
+use Rattle.record_listing.specs.declared.streams.Seam.{Seam}
+use Rattle.record_listing.specs.declared.streams.Seam.TheVariants.{Even, Gap, Overlap}
 use Rattle.record_listing.specs.Words.{kind_letter}
 
 -- ---- gaps and overlaps
@@ -126,3 +128,17 @@ is_known x streams = list_any (is_of x) streams
 -- the streams with one record more: it belongs to one of them, or begins one
 abbrev pub streams_with : List StreamValue → Facts → List StreamValue
 streams_with streams x = if is_known x streams then map (on_if x) streams else streams ++ begun x ∷ []
+
+-- ---- what lies between two records
+
+-- between the last record of a stream and one that starts then
+unfoldable pub seam_of : StreamValue → ℤ → Seam
+seam_of s start =
+    if has_gap_at s start then Gap s.latest.stop start
+    else if has_overlap_at s start then Overlap start s.latest.stop
+    else Even
+
+-- between a record and the last one of its stream; nothing if it begins a stream
+abbrev pub seam_in : List StreamValue → Facts → Seam
+seam_in [] x = Even
+seam_in (s ∷ streams) x = if is_of x s then seam_of s x.start else seam_in streams x

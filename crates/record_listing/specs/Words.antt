@@ -1,9 +1,9 @@
 -- The words of a listing of records. The lines are this project's own.
-use Rattle.std.specs.Prelude.{ℕ, ℤ, ◌&&◌, nat_le, ◌==◌, if◌then◌else◌, List, [], ◌∷◌, ◌++◌, map}
+use Rattle.std.specs.Prelude.{ℕ, ℤ, ◌&&◌, nat_le, ◌==◌, if◌then◌else◌, List, [], ◌∷◌, ◌++◌, decimal, map}
 use Rattle.std.specs.Fmt.{signed_decimal}
 use Rattle.protocol.specs.declared.record.Kind.{Kind}
 use Rattle.protocol.specs.declared.record.Kind.TheVariants.{D, E, C, O, T, L}
-use Rattle.iso_time.specs.Written.{moment_text}
+use Rattle.iso_time.specs.Written.{moment_text, seconds_text}
 use Rattle.record_listing.specs.declared.options.Times.{Times}
 use Rattle.record_listing.specs.declared.options.Times.TheVariants.{Ticks, Iso}
 
@@ -32,6 +32,11 @@ word_text word = word ++ 32 ∷ []
 abbrev pub time_text : Times → ℤ → List ℕ
 time_text Ticks moment = signed_decimal moment
 time_text Iso moment = moment_text moment
+
+-- a length of time, in ticks or in seconds
+abbrev pub duration_text : Times → ℕ → List ℕ
+duration_text Ticks ticks = decimal ticks
+duration_text Iso ticks = seconds_text ticks
 
 -- network, station, location and channel, with a space behind each
 abbrev pub stream_text : (network station location channel : List ℕ) → List ℕ

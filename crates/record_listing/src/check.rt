@@ -1,4 +1,4 @@
-//! The check of a file of records: a line a record, and the first fault.
+//! The check of files of records: a line a record, and the first fault of each file.
 ghost use Rattle.std.specs.Prelude.{◌≡◌, ◌≤◌, ◌<◌, ◌+◌, ◌^◌, ◌++◌, [], List, ℕ, length, take, IfOk, OnOk, IfErr};
 ghost use Rattle.std.specs.Prelude.{OnErr};
 ghost use Rattle.std.specs.Prelude.{IfSome, MatchResult, option_map};
@@ -6,8 +6,9 @@ ghost use Rattle.std.specs.Io.KnownBytes.{Appends, Consumes, IsAtEnd};
 ghost use Rattle.sl_io.specs.Counts.{IsMore, StopsReading, StopsWriting};
 ghost use Rattle.sl_io.specs.Known.{AppendsBeginning, ConsumesSome};
 ghost use Rattle.record_listing.specs.Findings.{FindsFirst, finding_after, finding_of};
-ghost use Rattle.record_listing.specs.Listing.{end_text, listing_of, rules, verdict_by, verdict_of};
-ghost use Rattle.record_listing.specs.Checks.{nothing_listed, piece_read, with_records, StopsChecking};
+ghost use Rattle.record_listing.specs.Listing.{file_text, listed_after, listing_of, partial_line, rules, verdict_by};
+ghost use Rattle.record_listing.specs.Listing.{verdict_of};
+ghost use Rattle.record_listing.specs.Checks.{begun_file, listed_of, piece_read, with_records, StopsChecking};
 
 use crate::finding::Finding;
 use crate::listing::Listing;
@@ -16,6 +17,7 @@ use crate::stations::Stations;
 use feeder::{FeedCutter, Feeding};
 use sl_io::{ReadFault, Sink, Source, StreamFault, WriteFault, write_all};
 use std::alloc::{AllocError, Global};
+use std::marker::Model;
 
 /// How many bytes are read at most by one call.
 const BLOCK: usize = 65_536;
@@ -28,11 +30,11 @@ fn list_piece<S: Stations>(
     listing: &mut Listing,
     piece: &[u8],
 ) -> Result<(), AllocError>
-    requires { listing.old.count + length piece.now < 2 ^ 100 }
+    requires { listing.old.good + length piece.now < 2 ^ 100 }
     ensures listed { OnOk result (listing.new ≡ with_records (rules options (S.has_station stations.now))
         listing.old (piece_read cutter.old piece.now).records) }
     ensures rest { OnOk result (cutter.new ≡ (piece_read cutter.old piece.now).rest) }
-    ensures count { OnOk result (listing.new.count ≤ listing.old.count + length piece.now) }
+    ensures good { OnOk result (listing.new.good ≤ listing.old.good + length piece.now) }
 {
     let mut left = piece;
     'records: while !left.is_empty() {
@@ -56,14 +58,14 @@ fn list_block<S: Stations, R: Source>(
     listing: &mut Listing,
 ) -> Result<usize, ReadFault>
     requires room { 0 < length block.old }
-    requires count { listing.old.count + length block.old < 2 ^ 100 }
+    requires good { listing.old.good + length block.old < 2 ^ 100 }
     ensures consumed { IfOk result (λ n. Consumes (R.left reader.old) (R.left reader.new) (take n block.new)) }
     ensures end { IfOk result (λ n. n ≡ 0 → IsAtEnd (R.left reader.new)) }
     ensures listed { IfOk result (λ n. listing.new
         ≡ with_records (rules options (S.has_station stations.now)) listing.old
         (piece_read cutter.old (take n block.new)).records) }
     ensures rest { IfOk result (λ n. cutter.new ≡ (piece_read cutter.old (take n block.new)).rest) }
-    ensures count { OnOk result (listing.new.count ≤ listing.old.count + length block.new) }
+    ensures good { OnOk result (listing.new.good ≤ listing.old.good + length block.new) }
     ensures lost { OnErr result (ConsumesSome (R.left reader.old) (R.left reader.new)) }
     ensures call { IsMore (R.calls reader.old) (R.calls reader.new) 1 }
     ensures failures { MatchResult result (λ _. R.failures reader.new ≡ R.failures reader.old)
@@ -119,7 +121,7 @@ fn write_many<W: Sink>(writer: &mut W, listing: &mut Listing) -> Result<(), Writ
     }
 }
 
-/// Lists what is left over and the streams, and writes the last lines. Answers what is wrong with the file.
+/// Lists what is left over of a file, and writes the last lines. Answers what is wrong with the file.
 fn finish<W: Sink>(
     options: ListingOptions,
     writer: &mut W,
@@ -130,17 +132,18 @@ fn finish<W: Sink>(
         ≡ option_map (finding_after listing.old.good) (verdict_by listing.old.fault rest)) }
     ensures ok { OnOk result
         (Appends (W.written writer.old) (W.written writer.new)
-        (listing.old.lines ++ end_text options listing.old.streams rest)) }
+        (listing.old.lines ++ partial_line options rest)) }
+    ensures listed { OnOk result (listed_of listing.new ≡ listed_of listing.old) }
     ensures err { OnErr result
         (AppendsBeginning (W.written writer.old) (W.written writer.new)
-        (listing.old.lines ++ end_text options listing.old.streams rest)) }
+        (listing.old.lines ++ partial_line options rest)) }
     ensures same { OnOk result ((W.failures writer.new ≡ W.failures writer.old)
         × (W.empty_writes writer.new ≡ W.empty_writes writer.old)) }
     ensures stopped { IfErr result (λ fault. (failures failures' calls calls' : ℕ) → failures' ≡ failures
         → StopsChecking fault failures failures' calls calls' (W.failures writer.old) (W.failures writer.new)
         (W.empty_writes writer.old) (W.empty_writes writer.new)) }
 {
-    listing.list_end(options, rest)?;
+    listing.list_rest(options, rest)?;
     write_lines(writer, listing)?;
     Ok(listing.verdict(rest))
 }
@@ -155,16 +158,18 @@ fn check_blocks<S: Stations, R: Source, W: Sink>(
     listing: &mut Listing,
 ) -> Result<Option<Finding>, StreamFault>
     requires room { length block.old ≡ 65536 }
-    requires nothing { listing.old ≡ nothing_listed }
+    requires begun { listing.old ≡ begun_file (listed_of listing.old) }
     ensures finding { IfOk result (λ answer. IfSome (R.left reader.old) (λ bytes.
         answer ≡ finding_of (rules options (S.has_station stations.now)) bytes)) }
     ensures written { OnOk result (IfSome (R.left reader.old)
         (λ bytes. Appends (W.written writer.old) (W.written writer.new)
-        (listing_of (rules options (S.has_station stations.now)) bytes))) }
+        (file_text (rules options (S.has_station stations.now)) (listed_of listing.old) bytes))) }
+    ensures listed { OnOk result (IfSome (R.left reader.old) (λ bytes. listed_of listing.new
+        ≡ listed_after (rules options (S.has_station stations.now)) (listed_of listing.old) bytes)) }
     ensures end { OnOk result (IsAtEnd (R.left reader.new)) }
     ensures begun { OnErr result (IfSome (R.left reader.old)
         (λ bytes. AppendsBeginning (W.written writer.old) (W.written writer.new)
-        (listing_of (rules options (S.has_station stations.now)) bytes))) }
+        (file_text (rules options (S.has_station stations.now)) (listed_of listing.old) bytes))) }
     ensures same { OnOk result ((R.failures reader.new ≡ R.failures reader.old)
         × (W.failures writer.new ≡ W.failures writer.old) × (W.empty_writes writer.new ≡ W.empty_writes writer.old)) }
     ensures stopped { IfErr result (λ fault. StopsChecking fault
@@ -181,22 +186,127 @@ fn check_blocks<S: Stations, R: Source, W: Sink>(
     Err(StreamFault::Read)
 }
 
-/// Lists each record of 512 bytes that is left of the reader in a line, and the bytes that are left over in one
-/// more, and answers what is wrong: that a record is refused, with the fault of the first (SEED Reference Manual
-/// 2.4, chapter 8), else that bytes are left over, and nothing where all is well. A record that is read is refused if
-/// its station is not one of those that are expected. A record that is refused is a line of the listing, and the check
-/// goes on. The answer names the first record at which something is wrong: all records before it are read.
-///
-/// A line is `K NET STA LOC CHA TYPE START END SAMPLES`, with the record's number from 1 on, each space of the location
-/// or channel as `-`, and each other byte of a code that is not 33 to 126 as `?`; or `K refused N Name`. Then comes
-/// `partial R bytes`. With a summary each stream has a line after those, in the order of their first records: `NET STA
-/// LOC CHA TYPE RECORDS FIRST LAST GAPS OVERLAPS`, with the earliest start and the latest end of its records. A gap is
-/// counted where a record starts more than half a sample after the end of the one before it in the stream, and an
-/// overlap where it starts more than half a sample before that; both of records of data alone, since others have no
-/// rate or no samples.
-///
-/// The reader is read in blocks of 64 KiB, and never kept as a whole: what is kept grows by streams alone. After a
-/// fault a beginning of the listing is written.
+/// A check of files of records, one after the other, as one list: their records are numbered on from file to file, and
+/// a stream goes on from one file to the next. In a contract it is how many records are listed, and the streams so far.
+#[derive(Drop)]
+pub struct RecordCheck {
+    block: Vec<u8>,
+    listing: Listing,
+}
+
+impl Model for RecordCheck {
+    ghost use Rattle.std.specs.Prelude.{◌≡◌, length};
+    ghost use Rattle.record_listing.specs.Checks.{listed_of};
+    ghost use Rattle.record_listing.specs.Listing.{Listed};
+
+    ghost Value = { Listed };
+
+    ghost view = { λ c. listed_of c.listing };
+
+    ghost invariant = { λ c. length c.block.items ≡ 65536 };
+}
+
+impl RecordCheck {
+    ghost use Rattle.std.specs.Prelude.{◌≡◌, Option, Some, option_map, IfOk, OnOk, IfErr, OnErr, IfSome};
+    ghost use Rattle.std.specs.Io.KnownBytes.{Appends, IsAtEnd};
+    ghost use Rattle.sl_io.specs.Known.{AppendsBeginning};
+    ghost use Rattle.record_listing.specs.Checks.{StopsChecking};
+    ghost use Rattle.record_listing.specs.Findings.{FindsFirst};
+    ghost use Rattle.record_listing.specs.Listing.{file_text, listed_after, nothing_listed, rules, streams_text};
+    ghost use Rattle.record_listing.specs.Listing.{verdict_of};
+
+    /// Nothing is listed. It fails only if memory can't be allocated.
+    pub fn new(alloc: Global) -> Result<RecordCheck, AllocError>
+        ensures { IfOk result (λ check. check ≡ nothing_listed) }
+    {
+        Ok(RecordCheck {
+            block: vec![in alloc; 0; BLOCK]?,
+            listing: Listing::new(alloc)?,
+        })
+    }
+
+    /// Lists each record of 512 bytes that is left of the reader in a line, and the bytes that are left over in one
+    /// more, and answers what is wrong with this file: that a record is refused, with the fault of the first (SEED
+    /// Reference Manual 2.4, chapter 8), else that bytes are left over, and nothing if all is well. A record that is
+    /// read is refused if its station is not one of those that are expected. A record that is refused is a line of the
+    /// listing, and the check goes on. The answer names the first record at which something is wrong by its number in
+    /// this file: all records before it are read.
+    ///
+    /// A line is `K NET STA LOC CHA TYPE START END SAMPLES`, with the record's number in the list from 1 on, each space
+    /// of the location or channel as `-`, and each other byte of a code that is not 33 to 126 as `?`; or `K refused N
+    /// Name`. After the records comes `partial R bytes`. If gaps are asked for, `gap NET STA LOC CHA TYPE FROM TO
+    /// LENGTH` comes before a record that starts more than half a sample after the end of the one before it in the
+    /// stream, in whatever file that stood, and `overlap ..` before one that starts more than half a sample before that
+    /// end; both of records of data alone, since others have no rate or no samples.
+    ///
+    /// The reader is read in blocks of 64 KiB, and never kept as a whole: what is kept grows by streams alone. After a
+    /// fault a beginning of the file's lines is written.
+    pub fn list_file<S: Stations, R: Source, W: Sink>(
+        &mut self,
+        options: ListingOptions,
+        stations: &S,
+        reader: &mut R,
+        writer: &mut W,
+    ) -> Result<Option<Finding>, StreamFault>
+        ensures finding { IfOk result (λ answer. IfSome (R.left reader.old) (λ bytes.
+            answer ≡ finding_of (rules options (S.has_station stations.now)) bytes)) }
+        ensures verdict { IfOk result (λ answer. IfSome (R.left reader.old)
+            (λ bytes. option_map (λ f. f.fault) answer
+            ≡ verdict_of (rules options (S.has_station stations.now)) bytes)) }
+        ensures first { IfOk result (λ answer. IfSome (R.left reader.old) (λ bytes.
+            FindsFirst (rules options (S.has_station stations.now)) bytes answer)) }
+        ensures written { OnOk result (IfSome (R.left reader.old)
+            (λ bytes. Appends (W.written writer.old) (W.written writer.new)
+            (file_text (rules options (S.has_station stations.now)) self.old bytes))) }
+        ensures listed { OnOk result (IfSome (R.left reader.old) (λ bytes.
+            self.new ≡ listed_after (rules options (S.has_station stations.now)) self.old bytes)) }
+        ensures end { OnOk result (IsAtEnd (R.left reader.new)) }
+        ensures begun { OnErr result (IfSome (R.left reader.old)
+            (λ bytes. AppendsBeginning (W.written writer.old) (W.written writer.new)
+            (file_text (rules options (S.has_station stations.now)) self.old bytes))) }
+        ensures same { OnOk result ((R.failures reader.new ≡ R.failures reader.old)
+            × (W.failures writer.new ≡ W.failures writer.old)
+            × (W.empty_writes writer.new ≡ W.empty_writes writer.old)) }
+        ensures stopped { IfErr result (λ fault. StopsChecking fault
+            (R.failures reader.old) (R.failures reader.new) (R.calls reader.old) (R.calls reader.new)
+            (W.failures writer.old) (W.failures writer.new) (W.empty_writes writer.old) (W.empty_writes writer.new)) }
+    {
+        self.listing.begin_file();
+        check_blocks(
+            options,
+            stations,
+            reader,
+            writer,
+            &mut self.block,
+            &mut self.listing,
+        )
+    }
+
+    /// With a summary, lists each stream of all files in a line, in the order of their first records: `NET STA LOC CHA
+    /// TYPE RECORDS FIRST LAST GAPS OVERLAPS`, with the earliest start and the latest end of its records.
+    pub fn list_streams<W: Sink>(
+        &mut self,
+        options: ListingOptions,
+        writer: &mut W,
+    ) -> Result<(), StreamFault>
+        ensures written { OnOk result (Appends (W.written writer.old) (W.written writer.new)
+            (streams_text options self.old.streams)) }
+        ensures begun { OnErr result (AppendsBeginning (W.written writer.old) (W.written writer.new)
+            (streams_text options self.old.streams)) }
+        ensures same { OnOk result ((W.failures writer.new ≡ W.failures writer.old)
+            × (W.empty_writes writer.new ≡ W.empty_writes writer.old)) }
+        ensures stopped { IfErr result (λ fault. (failures failures' calls calls' : ℕ) → failures' ≡ failures
+            → StopsChecking fault failures failures' calls calls' (W.failures writer.old) (W.failures writer.new)
+            (W.empty_writes writer.old) (W.empty_writes writer.new)) }
+    {
+        self.listing.begin_file();
+        self.listing.list_streams(options)?;
+        write_lines(writer, &mut self.listing)?;
+        Ok(())
+    }
+}
+
+/// Lists one file, as `RecordCheck::list_file` does, and then its streams.
 pub fn check_records<S: Stations, R: Source, W: Sink>(
     alloc: Global,
     options: ListingOptions,
@@ -221,11 +331,8 @@ pub fn check_records<S: Stations, R: Source, W: Sink>(
         (R.failures reader.old) (R.failures reader.new) (R.calls reader.old) (R.calls reader.new)
         (W.failures writer.old) (W.failures writer.new) (W.empty_writes writer.old) (W.empty_writes writer.new)) }
 {
-    let Ok(mut block) = vec![in alloc; 0; BLOCK] else {
-        return Err(StreamFault::OutOfMemory);
-    };
-    let Ok(mut listing) = Listing::new(alloc) else {
-        return Err(StreamFault::OutOfMemory);
-    };
-    check_blocks(options, stations, reader, writer, &mut block, &mut listing)
+    let mut check = RecordCheck::new(alloc)?;
+    let finding = check.list_file(options, stations, reader, writer)?;
+    check.list_streams(options, writer)?;
+    Ok(finding)
 }

@@ -14,7 +14,7 @@ mod stream_name;
 mod streams;
 mod texts;
 
-pub use check::check_records;
+pub use check::{RecordCheck, check_records};
 pub use fault::FileFault;
 pub use feed_tally::{FeedTally, RefusedRecord};
 pub use finding::Finding;

@@ -7,7 +7,7 @@ use crate::finding::Finding;
 use crate::options::ListingOptions;
 use crate::stations::Stations;
 use crate::stream_list::StreamList;
-use crate::texts::{put_end, put_line};
+use crate::texts::{put_line, put_rest, put_seam, put_summaries};
 use mseed_header::{Header, read};
 use std::alloc::{AllocError, Global};
 use std::marker::Model;
@@ -44,8 +44,8 @@ fn refusal(said: &Said<'_>) -> Option<FileFault>
     }
 }
 
-/// The records that are listed so far: their number, how many were read before one was refused, why the first refused
-/// one of them is refused, the lines that are not written yet, and the streams.
+/// The records that are listed so far: their number, how many of this file's were read before one was refused, why the
+/// first refused one of them is refused, the lines that are not written yet, and the streams.
 #[derive(Drop)]
 pub(crate) struct Listing {
     count: u128,
@@ -69,19 +69,21 @@ impl Model for Listing {
       streams = s.streams;
     } };
 
-    ghost invariant = { λ s. (s.good ≤ s.count) × (s.count ≤ 2 ^ 100) };
+    ghost invariant = { λ s. s.good ≤ 2 ^ 100 };
 }
 
 impl Listing {
     ghost use Rattle.std.specs.Prelude.{◌≡◌, ◌<◌, ◌^◌, ◌++◌, [], length, nat_le, IfOk, OnOk};
-    ghost use Rattle.std.specs.Prelude.{option_map};
-    ghost use Rattle.record_listing.specs.Listing.{end_text, rules, streams_after, verdict_by};
-    ghost use Rattle.record_listing.specs.Checks.{nothing_listed, with_record, with_said};
+    ghost use Rattle.std.specs.Prelude.{Ok, option_map};
+    ghost use Rattle.record_listing.specs.Streams.{streams_with};
+    ghost use Rattle.record_listing.specs.Listing.{nothing_listed, partial_line, rules, seam_line, streams_after};
+    ghost use Rattle.record_listing.specs.Listing.{streams_text, verdict_by};
+    ghost use Rattle.record_listing.specs.Checks.{begun_file, listed_of, with_record, with_said};
     ghost use Rattle.record_listing.specs.Findings.{finding_after};
 
     /// Nothing is listed.
     pub(crate) fn new(alloc: Global) -> Result<Listing, AllocError>
-        ensures { IfOk result (λ l. l ≡ nothing_listed) }
+        ensures { IfOk result (λ l. l ≡ begun_file nothing_listed) }
     {
         Ok(Listing {
             count: 0,
@@ -92,25 +94,50 @@ impl Listing {
         })
     }
 
-    /// The record belongs to a stream, if it is read and streams are asked for.
+    /// A file begins: nothing of it is listed, and no line waits.
+    pub(crate) fn begin_file(&mut self)
+        ensures { self.new ≡ begun_file (listed_of self.old) }
+    {
+        self.good = 0;
+        self.fault = None;
+        self.lines.clear();
+    }
+
+    /// The record belongs to a stream. What lies between it and the one before it is listed, if that is asked for.
+    fn put_header(&mut self, options: ListingOptions, header: &Header<'_>) -> Result<(), AllocError>
+        ensures { OnOk result (self.new ≡ record self.old {
+          streams = streams_with self.old.streams header.now;
+          lines = self.old.lines ++ seam_line options self.old.streams (Ok header.now);
+        }) }
+    {
+        let seam = self.streams.put(header)?;
+        if options.has_gaps {
+            put_seam(&mut self.lines, options.times, header, seam)?;
+        }
+        Ok(())
+    }
+
+    /// The same, if the record is read and streams are noted.
     fn put_in_stream(&mut self, options: ListingOptions, said: &Said<'_>) -> Result<(), AllocError>
-        ensures { OnOk result (self.new
-            ≡ record self.old { streams = streams_after options self.old.streams said.now }) }
+        ensures { OnOk result (self.new ≡ record self.old {
+          streams = streams_after options self.old.streams said.now;
+          lines = self.old.lines ++ seam_line options self.old.streams said.now;
+        }) }
     {
         match said {
-            Ok(header) if options.has_summary => self.streams.put(header),
+            Ok(header) if options.has_streams() => self.put_header(options, header),
             _ => Ok(()),
         }
     }
 
     /// Lists one record more, by what it is to the check.
     fn list_said(&mut self, options: ListingOptions, said: &Said<'_>) -> Result<(), AllocError>
-        requires { self.old.count < 2 ^ 100 }
+        requires { self.old.good < 2 ^ 100 }
         ensures { OnOk result (self.new ≡ with_said options self.old said.now) }
     {
-        self.count += 1;
-        put_line(&mut self.lines, options, self.count, said)?;
         self.put_in_stream(options, said)?;
+        self.count = self.count.saturating_add(1);
+        put_line(&mut self.lines, options, self.count, said)?;
         self.fault = self.fault.or(refusal(said));
         if self.fault.is_none() {
             self.good += 1;
@@ -125,23 +152,31 @@ impl Listing {
         stations: &S,
         bytes: &[u8; 512],
     ) -> Result<(), AllocError>
-        requires { self.old.count < 2 ^ 100 }
+        requires { self.old.good < 2 ^ 100 }
         ensures { OnOk result
             (self.new ≡ with_record (rules options (S.has_station stations.now)) self.old bytes.now) }
     {
         self.list_said(options, &said_of(stations, bytes))
     }
 
-    /// Lists the bytes that are left over, where there are some, and the streams.
-    pub(crate) fn list_end(
+    /// Lists the bytes that are left over, if there are some.
+    pub(crate) fn list_rest(
         &mut self,
         options: ListingOptions,
         count: usize,
     ) -> Result<(), AllocError>
         ensures { OnOk result (self.new
-            ≡ record self.old { lines = self.old.lines ++ end_text options self.old.streams count }) }
+            ≡ record self.old { lines = self.old.lines ++ partial_line options count }) }
     {
-        put_end(&mut self.lines, options, self.streams.as_slice(), count)
+        put_rest(&mut self.lines, options, count)
+    }
+
+    /// Lists the streams, if they are asked for.
+    pub(crate) fn list_streams(&mut self, options: ListingOptions) -> Result<(), AllocError>
+        ensures { OnOk result (self.new
+            ≡ record self.old { lines = self.old.lines ++ streams_text options self.old.streams }) }
+    {
+        put_summaries(&mut self.lines, options, self.streams.as_slice())
     }
 
     /// What is wrong with a file of the records and of so many bytes that are left over, and where.

@@ -19,17 +19,29 @@ pub struct ListingOptions {
     pub has_lines: bool,
     /// After those a line for each stream.
     pub has_summary: bool,
+    /// A line for each gap and each overlap between two records of a stream, before the line of the second one.
+    pub has_gaps: bool,
 }
 
 impl ListingOptions {
+    ghost use Rattle.record_listing.specs.Listing.{has_streams};
+
     /// A line for each record, with times in ticks.
     pub fn lines() -> ListingOptions
-        ensures { result ≡ record { times = Times.Ticks; has_lines = true; has_summary = false } }
+        ensures { result ≡ record { times = Times.Ticks; has_lines = true; has_summary = false; has_gaps = false } }
     {
         ListingOptions {
             times: Times::Ticks,
             has_lines: true,
             has_summary: false,
+            has_gaps: false,
         }
+    }
+
+    /// Whether it is noted which records belong to a stream.
+    pub(crate) fn has_streams(&self) -> bool
+        ensures { result ≡ has_streams self.now }
+    {
+        self.has_summary || self.has_gaps
     }
 }

@@ -4,7 +4,7 @@ ghost use Rattle.record_listing.specs.Index.{name_of, place_in, AreCodes, Finds}
 ghost use Rattle.record_listing.specs.Streams.{begun};
 
 use crate::stream_name::StreamName;
-use crate::streams::Stream;
+use crate::streams::{Seam, Stream};
 use mseed_header::Header;
 use std::alloc::{AllocError, Global};
 use std::collections::HashMap;
@@ -55,8 +55,8 @@ fn begin(
 }
 
 impl StreamList {
-    ghost use Rattle.std.specs.Prelude.{◌≡◌, [], OnOk};
-    ghost use Rattle.record_listing.specs.Streams.{streams_with};
+    ghost use Rattle.std.specs.Prelude.{◌≡◌, [], IfOk, OnOk};
+    ghost use Rattle.record_listing.specs.Streams.{seam_in, streams_with};
 
     /// There is none.
     pub(crate) fn new(alloc: Global) -> StreamList
@@ -77,24 +77,29 @@ impl StreamList {
     }
 
     /// One record more: it belongs to one of the streams, or begins one. It is found by its name, and no other stream
-    /// is looked at.
-    pub(crate) fn put(&mut self, header: &Header<'_>) -> Result<(), AllocError>
-        ensures { OnOk result (self.new ≡ streams_with self.old header.now) }
+    /// is looked at. It answers what lies between the record and the one before it.
+    pub(crate) fn put(&mut self, header: &Header<'_>) -> Result<Seam, AllocError>
+        ensures put { OnOk result (self.new ≡ streams_with self.old header.now) }
+        ensures seam { IfOk result (λ seam. seam ≡ seam_in self.old header.now) }
     {
         let name = StreamName::of(header);
         match self.places.get(&name) {
             Some(place) => {
                 let stream = &mut self.streams[*place];
+                let seam = stream.seam_at(header.start());
                 stream.go_on(header);
-                Ok(())
+                Ok(seam)
             }
-            None => begin(
-                self.alloc,
-                &mut self.streams,
-                &mut self.places,
-                name,
-                header,
-            ),
+            None => {
+                begin(
+                    self.alloc,
+                    &mut self.streams,
+                    &mut self.places,
+                    name,
+                    header,
+                )?;
+                Ok(Seam::Even)
+            }
         }
     }
 }

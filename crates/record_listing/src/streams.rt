@@ -28,7 +28,7 @@ impl Model for Extent {
 }
 
 /// By how many ticks a moment is after another one; 0 if it is not.
-fn ticks_after(earlier: Tick, later: Tick) -> u128
+pub(crate) fn ticks_after(earlier: Tick, later: Tick) -> u128
     ensures value { result ≡ spec_ticks_after earlier later }
     ensures bound { result < 2 ^ 64 }
 {
@@ -76,6 +76,17 @@ impl Extent {
     {
         self.is_longer(ticks_after(start, self.end))
     }
+}
+
+/// What lies between a record of a stream and the next one.
+#[derive(Clone, Copy)]
+pub enum Seam {
+    /// Nothing: the next one starts where the one before it ends, within half a sample, or they are not of data.
+    Even,
+    /// A time of which there is no record.
+    Gap { from: Tick, to: Tick },
+    /// A time of which there are two.
+    Overlap { from: Tick, to: Tick },
 }
 
 /// The earlier of two moments.
@@ -142,7 +153,7 @@ impl Model for Stream {
 
 impl Stream {
     ghost use Rattle.std.specs.Prelude.{◌≡◌, IfOk};
-    ghost use Rattle.record_listing.specs.Streams.{begun, gone_on, has_gap_at, has_overlap_at, is_data};
+    ghost use Rattle.record_listing.specs.Streams.{begun, gone_on, has_gap_at, has_overlap_at, is_data, seam_of};
 
     /// That of a record which is its first.
     pub(crate) fn new(alloc: Global, header: &Header<'_>) -> Result<Stream, AllocError>
@@ -182,6 +193,26 @@ impl Stream {
         ensures { result ≡ has_overlap_at self.now start }
     {
         self.is_data() && self.latest.is_overlap(start)
+    }
+
+    /// What lies between the last record and one that starts then.
+    #[tactic(auto, unfolding(crate::specs::Streams::seam_of))]
+    pub(crate) fn seam_at(&self, start: Tick) -> Seam
+        ensures { result ≡ seam_of self.now start }
+    {
+        if self.has_gap_at(start) {
+            Seam::Gap {
+                from: self.latest.end,
+                to: start,
+            }
+        } else if self.has_overlap_at(start) {
+            Seam::Overlap {
+                from: start,
+                to: self.latest.end,
+            }
+        } else {
+            Seam::Even
+        }
     }
 
     /// One record more.

@@ -1,14 +1,15 @@
 //! The texts of what a record says, put behind a text.
 ghost use Rattle.std.specs.Prelude.{◌≡◌, ◌∷◌, ◌++◌, [], OnOk, IfOk, map, decimal};
-ghost use Rattle.record_listing.specs.Listing.{end_text, extent_text, header_text, partial_line, partial_text};
-ghost use Rattle.record_listing.specs.Listing.{record_line, record_text, refusal_text, stream_line, stream_lines};
-ghost use Rattle.record_listing.specs.Listing.{summary_text};
-ghost use Rattle.record_listing.specs.Words.{kind_letter, shown_byte, shown_place, stream_text, time_text, word_text};
+ghost use Rattle.record_listing.specs.Listing.{extent_text, header_text, partial_line, partial_text};
+ghost use Rattle.record_listing.specs.Listing.{record_line, record_text, refusal_text, seam_text, span_text};
+ghost use Rattle.record_listing.specs.Listing.{stream_line, stream_lines, streams_text, summary_text};
+ghost use Rattle.record_listing.specs.Words.{duration_text, kind_letter, shown_byte, shown_place, stream_text};
+ghost use Rattle.record_listing.specs.Words.{time_text, word_text};
 
 use crate::fault::FileFault;
 use crate::options::{ListingOptions, Times};
-use crate::streams::Stream;
-use iso_time::put_moment;
+use crate::streams::{Seam, Stream, ticks_after};
+use iso_time::{put_moment, put_seconds};
 use itoa::{Buffer, Integer};
 use mseed_header::{Header, Kind};
 use sl_time::Tick;
@@ -98,6 +99,16 @@ fn put_time(text: &mut Vec<u8>, times: Times, moment: Tick) -> Result<(), AllocE
     }
     text.push(b' ')?;
     Ok(())
+}
+
+/// A length of time.
+fn put_duration(text: &mut Vec<u8>, times: Times, ticks: u128) -> Result<(), AllocError>
+    ensures { OnOk result (text.new.items ≡ text.old.items ++ duration_text times ticks) }
+{
+    match times {
+        Times::Ticks => put_number(text, ticks),
+        Times::Iso => put_seconds(text, ticks),
+    }
 }
 
 /// Network, station, location and channel, each with a space behind it.
@@ -209,7 +220,11 @@ fn put_partial(text: &mut Vec<u8>, count: usize) -> Result<(), AllocError>
 }
 
 /// The same, if lines are asked for.
-fn put_rest(text: &mut Vec<u8>, options: ListingOptions, count: usize) -> Result<(), AllocError>
+pub(crate) fn put_rest(
+    text: &mut Vec<u8>,
+    options: ListingOptions,
+    count: usize,
+) -> Result<(), AllocError>
     ensures { OnOk result (text.new.items ≡ text.old.items ++ partial_line options count) }
 {
     if options.has_lines {
@@ -257,16 +272,63 @@ fn put_streams(text: &mut Vec<u8>, times: Times, streams: &[Stream]) -> Result<(
     Ok(())
 }
 
-/// What comes after the lines of records: that of the bytes that are left over, and those of streams.
-pub(crate) fn put_end(
+/// The same, if they are asked for.
+pub(crate) fn put_summaries(
     text: &mut Vec<u8>,
     options: ListingOptions,
     streams: &[Stream],
-    count: usize,
 ) -> Result<(), AllocError>
-    ensures { OnOk result (text.new.items ≡ text.old.items ++ end_text options streams.now count) }
+    ensures { OnOk result (text.new.items ≡ text.old.items ++ streams_text options streams.now) }
 {
-    put_rest(text, options, count)?;
-    put_streams(text, options.times, streams)?;
+    if options.has_summary {
+        put_streams(text, options.times, streams)?;
+    }
     Ok(())
+}
+
+/// The stream of a record, from when to when, and how long that is.
+fn put_span(
+    text: &mut Vec<u8>,
+    times: Times,
+    header: &Header<'_>,
+    from: Tick,
+    to: Tick,
+) -> Result<(), AllocError>
+    ensures { OnOk result (text.new.items ≡ text.old.items ++ span_text times header.now from to) }
+{
+    put_codes(
+        text,
+        header.network(),
+        header.station(),
+        header.location(),
+        header.channel(),
+    )?;
+    put_kind(text, header.kind())?;
+    put_time(text, times, from)?;
+    put_time(text, times, to)?;
+    put_duration(text, times, ticks_after(from, to))?;
+    text.push(b'\n')?;
+    Ok(())
+}
+
+/// The line of what lies between a record and the one before it in its stream.
+pub(crate) fn put_seam(
+    text: &mut Vec<u8>,
+    times: Times,
+    header: &Header<'_>,
+    seam: Seam,
+) -> Result<(), AllocError>
+    ensures { OnOk result (text.new.items ≡ text.old.items ++ seam_text times header.now seam) }
+{
+    match seam {
+        Seam::Even => Ok(()),
+        Seam::Gap { from, to } => {
+            text.extend_from_slice(b"gap ")?;
+            put_span(text, times, header, from, to)
+        }
+        Seam::Overlap { from, to } => {
+            text.extend_from_slice(b"overlap ")?;
+            put_span(text, times, header, from, to)
+        }
+    }
 }

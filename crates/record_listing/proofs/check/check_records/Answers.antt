@@ -1,18 +1,15 @@
--- Nothing is written where there is no memory for the lines, and what is found is the first that is wrong.
-use Rattle.record_listing.proofs.CheckLemmas.{begun_nothing}
-use Rattle.record_listing.proofs.FindingLemmas.{answers_first, answers_verdict}
+-- A beginning of the lines of the file, or these and a beginning of those of its streams, begin the listing.
+use Rattle.record_listing.proofs.CheckLemmas.{always, begun_file_alone, ended_file}
 use Rattle.record_listing.specs.Listing.{rules}
 use Rattle.record_listing.proofs.check.check_records.Goals as goal
 
-pub returns-in_default-new-clause-begun : goal.returns-in_default-new-clause-begun
-returns-in_default-new-clause-begun g c = begun_nothing _ _ _
+pub returns-in_err-finding-clause-begun : goal.returns-in_err-finding-clause-begun
+returns-in_err-finding-clause-begun g c =
+    always _ _ (begun_file_alone (rules c.args.options (g.S.Stations.has_station c.args.stations.now)) _ _ _ _
+    c.in_ok-check.ensures c.in_err-finding.ensures.begun)
 
-pub returns-clause-verdict : goal.returns-clause-verdict
-returns-clause-verdict g c =
-    answers_verdict (rules c.args.options (g.S.Stations.has_station c.args.stations.now)) _ _
-    c.check_blocks.ensures.finding
-
-pub returns-clause-first : goal.returns-clause-first
-returns-clause-first g c =
-    answers_first (rules c.args.options (g.S.Stations.has_station c.args.stations.now)) _ _
-    c.check_blocks.ensures.finding
+pub returns-in_err-list_streams-clause-begun : goal.returns-in_err-list_streams-clause-begun
+returns-in_err-list_streams-clause-begun g c =
+    always _ _ (ended_file (rules c.args.options (g.S.Stations.has_station c.args.stations.now)) _ _ _ _ _ _
+    c.in_ok-check.ensures c.in_ok-finding.ensures.written c.in_ok-finding.ensures.listed
+    c.in_err-list_streams.ensures.begun)

@@ -5,6 +5,7 @@ use Rattle.std.proofs.lemmas.List.{take_rest}
 use Rattle.feeder.specs.Feedings.{lent_records, left_over}
 use Rattle.record_listing.specs.Checks.{Progress, with_records}
 use Rattle.record_listing.specs.Listing.{rules}
+use Rattle.record_listing.proofs.CheckLemmas.{good_rises}
 use Rattle.record_listing.proofs.PieceLemmas.{listed_by_feeding, rest_by_feeding}
 use Rattle.record_listing.proofs.check.list_piece.Goals as goal
 use Rattle.record_listing.proofs.check.list_piece.Goals.{in-Some+in_ok-list-in-Some, in-None}
@@ -23,19 +24,19 @@ records-preserved g c =
       | in-Some+in_ok-list-in-Some w ↦ rw w.in-Some.is (w.listing-is ∙ w.in_ok-list-in-Some.ensures)
       | in-None w ↦ rw w.in-None.is w.listing-is
     ] in
-    let count : c.match-whole.listing.count ≤ c.records.listing.count + 1 = elim c.match-whole.branch [
-      | in-Some+in_ok-list-in-Some w ↦ let e =
-          ap (λ (p : Progress). p.count) (w.listing-is ∙ w.in_ok-list-in-Some.ensures) in omega arith
-      | in-None w ↦ let e = ap (λ (p : Progress). p.count) w.listing-is in omega arith
+    let good : c.match-whole.listing.good ≤ c.records.listing.good + 1 = elim c.match-whole.branch [
+      | in-Some+in_ok-list-in-Some w ↦ rw (ap (λ (p : Progress). p.good) (w.listing-is ∙ w.in_ok-list-in-Some.ensures))
+          (good_rises c.records.listing.good _)
+      | in-None w ↦ let e = ap (λ (p : Progress). p.good) w.listing-is in omega arith
     ] in
     let rest = take_rest c.records.left.now c.feed.result.used in
     let used = c.feed.ensures.used in
     let bound = c.feed.ensures.bound in
-    let so_far = h.count in
+    let so_far = h.good in
     let size = length-drop c.feed.result.used c.records.left.now in
     record {
       listed = listed_by_feeding _ _ _ _ _ c.feed.result.used whole _ _ c.feed.ensures.read after rest listed
           ∙ h.listed;
       rest = rest_by_feeding _ _ _ _ c.feed.result.used whole c.feed.ensures.read after rest ∙ h.rest;
-      count = rw (rest, size) (grind (arith, common_steps));
+      good = rw (rest, size) (grind (arith, common_steps));
     }

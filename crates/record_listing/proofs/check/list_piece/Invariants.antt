@@ -11,7 +11,7 @@ invariant-records g l = record {
       ≡ with_records (rules l.options (g.S.Stations.has_station l.stations)) l.fn.listing
       (piece_read l.fn.cutter l.piece).records;
   rest : (piece_read l.cutter l.left).rest ≡ (piece_read l.fn.cutter l.piece).rest;
-  count : l.listing.count + length l.left ≤ l.fn.listing.count + length l.piece;
+  good : l.listing.good + length l.left ≤ l.fn.listing.good + length l.piece;
 }
 
 abbrev pub decreases-records : goal.decreases-records
