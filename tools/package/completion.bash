@@ -14,7 +14,7 @@ _seedlinkd() {
             "") options+=" --version" ;;
             serve) options+=" --listen --feed --turns --reread --report --feed-from --per-address --numbers --log --strict" ;;
             view) options+=" --strict" ;;
-            check) options+=" --iso --summary --quiet --config" ;;
+            check) options+=" --iso --summary --gaps --quiet --config" ;;
             replay) options+=" --text" ;;
             feed) options+=" --from" ;;
             read) options+=" --wants --fetch --begin --end --retry --timeout --archive --state --iso --output" ;;

@@ -29,12 +29,12 @@ text_asked = refl
 -- what `check` is asked without options
 abbrev plain_check : CheckAsked
 plain_check =
-    record { is_iso = false; has_summary = false; is_quiet = false; config = None }
+    record { is_iso = false; has_summary = false; is_quiet = false; has_gaps = false; config = None }
 
 abbrev check_words : List Text
 check_words = codes "seedlinkd" ∷ codes "check" ∷ codes "records.mseed" ∷ []
 
-pub check_asked : job_of check_words ≡ Some (Check (codes "records.mseed")
+pub check_asked : job_of check_words ≡ Some (Check (codes "records.mseed" ∷ [])
     plain_check)
 unfolding clap_on_literals
 check_asked = refl
@@ -43,10 +43,19 @@ abbrev summary_words : List Text
 summary_words =
     codes "seedlinkd" ∷ codes "check" ∷ codes "--quiet" ∷ codes "f" ∷ codes "--summary" ∷ codes "--config=c.toml" ∷ []
 
-pub summary_asked : job_of summary_words ≡ Some (Check (codes "f")
+pub summary_asked : job_of summary_words ≡ Some (Check (codes "f" ∷ [])
     (record plain_check { has_summary = true; is_quiet = true; config = Some (codes "c.toml") }))
 unfolding clap_on_literals
 summary_asked = refl
+
+abbrev gaps_words : List Text
+gaps_words =
+    codes "seedlinkd" ∷ codes "check" ∷ codes "archive" ∷ codes "--gaps" ∷ codes "-" ∷ codes "b.mseed" ∷ []
+
+pub gaps_asked : job_of gaps_words ≡ Some (Check (codes "archive" ∷ codes "-" ∷ codes "b.mseed" ∷ [])
+    (record plain_check { has_gaps = true }))
+unfolding clap_on_literals
+gaps_asked = refl
 
 -- what `serve` is asked without options
 abbrev plain : (config listen feed : Text) → ServeAsked
@@ -338,7 +347,7 @@ unfolding clap_on_literals
 verbose_is_taken = refl
 
 pub the_job_is_the_same : job_of (words_of (codes "-v" ∷ codes "check" ∷ codes "records.mseed" ∷ []))
-    ≡ Some (Check (codes "records.mseed")
+    ≡ Some (Check (codes "records.mseed" ∷ [])
     plain_check)
 unfolding clap_on_literals
 the_job_is_the_same = refl

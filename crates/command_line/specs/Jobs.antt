@@ -48,19 +48,28 @@ with_verbose app = with_rule app verbose_rule
 abbrev pub flag_rule : Text → Rule
 flag_rule name = record (new_rule name) { long = Some name; action = Some SetTrue }
 
--- `check FILE`
-abbrev pub file_app : App
-file_app = with_rule (new_app (codes "check")) (wanted (codes "FILE"))
+-- `FILE..`, one or more
+abbrev pub files_rule : Rule
+files_rule =
+    record (wanted (codes "FILE")) { range = Some (record { start_inclusive = 1; end_inclusive = usize_max }) }
 
--- `check FILE [--iso] [--summary] [--quiet]`
+-- `check FILE..`
+abbrev pub file_app : App
+file_app = with_rule (new_app (codes "check")) files_rule
+
+-- `check FILE.. [--iso] [--summary] [--quiet]`
 abbrev pub listing_app : App
 listing_app =
     with_rule (with_rule (with_rule file_app (flag_rule (codes "iso"))) (flag_rule (codes "summary")))
     (flag_rule (codes "quiet"))
 
--- `check FILE [--iso] [--summary] [--quiet] [--config CONFIG]`
+-- `check FILE.. [--iso] [--summary] [--quiet] [--gaps]`
+abbrev pub gaps_app : App
+gaps_app = with_rule listing_app (flag_rule (codes "gaps"))
+
+-- `check FILE.. [--iso] [--summary] [--quiet] [--gaps] [--config CONFIG]`
 abbrev pub check_app : App
-check_app = with_verbose (with_rule listing_app (option false (codes "config")))
+check_app = with_verbose (with_rule gaps_app (option false (codes "config")))
 
 -- `replay CONFIG SCRIPT`
 abbrev pub scripted_app : App
@@ -115,11 +124,6 @@ logged_app = with_rule numbered_app (flag_rule (codes "log"))
 -- [--per-address N] [--numbers FILE] [--log] [--strict]`
 abbrev pub serve_app : App
 serve_app = with_verbose (with_rule logged_app (flag_rule (codes "strict")))
-
--- `FILE..`, one or more
-abbrev pub files_rule : Rule
-files_rule =
-    record (wanted (codes "FILE")) { range = Some (record { start_inclusive = 1; end_inclusive = usize_max }) }
 
 -- `feed A:P`
 abbrev pub fed_app : App
@@ -203,6 +207,7 @@ pub record CheckAsked : Type 0 where
   pub is_iso : Bool
   pub has_summary : Bool
   pub is_quiet : Bool
+  pub has_gaps : Bool
   pub config : Option (List ℕ)
 
 -- those that the code has
@@ -212,6 +217,7 @@ check_options_asked o =
       is_iso = o.is_iso;
       has_summary = o.has_summary;
       is_quiet = o.is_quiet;
+      has_gaps = o.has_gaps;
       config = option_map (λ text. text.now) o.config;
     }
 
@@ -277,7 +283,7 @@ serve_options_asked o =
 
 -- A job as texts and numbers.
 pub data Asked : Type 0 where
-  Check : (file : List ℕ) → (options : CheckAsked) → Asked
+  Check : (files : List (List ℕ)) → (options : CheckAsked) → Asked
   Replay : (config script : List ℕ) → (is_text : Bool) → Asked
   View : (config : List ℕ) → (address : Option (List ℕ)) → (is_strict : Bool) → Asked
   Serve : (options : ServeAsked) → Asked
@@ -286,7 +292,7 @@ pub data Asked : Type 0 where
 
 -- the job that the code has
 abbrev pub asked : Job → Asked
-asked (job.Check file options) = Check file.now (check_options_asked options)
+asked (job.Check files options) = Check (map (λ file. file.now) files.items) (check_options_asked options)
 asked (job.Replay config script is_text) = Replay config.now script.now is_text
 asked (job.View config address is_strict) = View config.now (option_map (λ text. text.now) address) is_strict
 asked (job.Serve options) = Serve (serve_options_asked options)
@@ -305,16 +311,17 @@ check_options_in rows =
       is_iso = flag_in (codes "iso") rows;
       has_summary = flag_in (codes "summary") rows;
       is_quiet = flag_in (codes "quiet") rows;
+      has_gaps = flag_in (codes "gaps") rows;
       config = first_of (codes "config") rows;
     }
 
--- the job of `check`, where its file is there
-abbrev pub with_file : CheckAsked → Option (List ℕ) → Option Asked
-with_file options None = None
-with_file options (Some file) = Some (Check file options)
+-- the job of `check`, if its files are there
+abbrev pub with_checked : CheckAsked → Option (List (List ℕ)) → Option Asked
+with_checked options None = None
+with_checked options (Some files) = Some (Check files options)
 
 abbrev pub check_asked : List Row → Option Asked
-check_asked rows = with_file (check_options_in rows) (first_of (codes "FILE") rows)
+check_asked rows = with_checked (check_options_in rows) (all_of (codes "FILE") rows)
 
 -- the job of `replay`, where its configuration and its script are there
 abbrev pub with_script : Bool → Option (List ℕ) → Option (List ℕ) → Option Asked

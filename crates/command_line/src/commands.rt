@@ -5,7 +5,7 @@ ghost use Rattle.command_line.specs.Building.{Builds};
 ghost use Rattle.command_line.specs.Jobs.{dated_app, fed_app, file_app, files_rule, flag_rule, listing_app};
 ghost use Rattle.command_line.specs.Jobs.{address_rule, addressed_app, bare_app, check_app, feed_app, fetch_rule};
 ghost use Rattle.command_line.specs.Jobs.{limited_app, listed_app, logged_app, number_rule, numbered_app, sending_app};
-ghost use Rattle.command_line.specs.Jobs.{option};
+ghost use Rattle.command_line.specs.Jobs.{gaps_app, option};
 ghost use Rattle.command_line.specs.Jobs.{archiving_app, program_app, read_app, replay_app, retrying_app, spanned_app};
 ghost use Rattle.command_line.specs.Jobs.{scripted_app, stating_app};
 ghost use Rattle.command_line.specs.Jobs.{serve_app, timed_app};
@@ -116,15 +116,24 @@ fn with_flag<'a>(alloc: Global, command: Built<'a>, name: &'a str, help: &'a str
     with_argument(command, flag(alloc, name, help))
 }
 
-/// `check FILE`.
+/// The arguments `FILE..`.
+fn files<'a>(alloc: Global, help: &'a str) -> Arg<'a>
+    ensures rule { rule_of result ≡ files_rule }
+    ensures own { result.global ≡ false }
+{
+    wanted(alloc, "FILE", help).num_args(1..)
+}
+
+/// `check FILE..`.
 fn file_command<'a>(alloc: Global) -> Built<'a>
     ensures { Builds result file_app }
 {
-    let command = started(alloc, "check", "Lists the records of a file, a line each");
-    with_wanted(alloc, command, "FILE", "The file, of records of 512 bytes")
+    let command = started(alloc, "check", "Lists the records of files, a line each");
+    let help = "The files, of records of 512 bytes, and folders of such; - is standard input";
+    with_argument(command, files(alloc, help))
 }
 
-/// `check FILE [--iso] [--summary] [--quiet]`.
+/// `check FILE.. [--iso] [--summary] [--quiet]`.
 fn listing_command<'a>(alloc: Global) -> Built<'a>
     ensures { Builds result listing_app }
 {
@@ -152,11 +161,23 @@ fn config<'a>(alloc: Global) -> Arg<'a>
     )
 }
 
-/// `check FILE [--iso] [--summary] [--quiet] [--config CONFIG]`.
+/// `check FILE.. [--iso] [--summary] [--quiet] [--gaps]`.
+fn gaps_command<'a>(alloc: Global) -> Built<'a>
+    ensures { Builds result gaps_app }
+{
+    with_flag(
+        alloc,
+        listing_command(alloc),
+        "gaps",
+        "Writes a line for each gap and overlap of a stream",
+    )
+}
+
+/// `check FILE.. [--iso] [--summary] [--quiet] [--gaps] [--config CONFIG]`.
 fn check_command<'a>(alloc: Global) -> Built<'a>
     ensures { Builds result check_app }
 {
-    let with_config = with_argument(listing_command(alloc), config(alloc));
+    let with_config = with_argument(gaps_command(alloc), config(alloc));
     with_verbose(alloc, with_config)
 }
 
@@ -368,24 +389,12 @@ fn fed_command<'a>(alloc: Global) -> Built<'a>
     )
 }
 
-/// The arguments `FILE..`.
-fn files<'a>(alloc: Global) -> Arg<'a>
-    ensures rule { rule_of result ≡ files_rule }
-    ensures own { result.global ≡ false }
-{
-    wanted(
-        alloc,
-        "FILE",
-        "The files, of records of 512 bytes; - is standard input",
-    )
-    .num_args(1..)
-}
-
 /// `feed A:P FILE..`.
 fn sending_command<'a>(alloc: Global) -> Built<'a>
     ensures { Builds result sending_app }
 {
-    with_argument(fed_command(alloc), files(alloc))
+    let help = "The files, of records of 512 bytes; - is standard input";
+    with_argument(fed_command(alloc), files(alloc, help))
 }
 
 /// `feed A:P FILE.. [--from N]`.

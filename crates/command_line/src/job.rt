@@ -12,9 +12,9 @@ pub enum Every {
 /// What the program is asked to do, with the texts of the command line as they stand there.
 #[derive(Drop)]
 pub enum Job<'a> {
-    /// `check FILE ..`: a line for each record of a file, as its options say.
+    /// `check FILE.. ..`: a line for each record of files, as its options say.
     Check {
-        file: &'a str,
+        files: Vec<&'a str>,
         options: CheckOptions<'a>,
     },
     /// `replay CONFIG SCRIPT [--text]`: the events of a script at a server with that configuration, with `--text` as a
@@ -57,6 +57,8 @@ pub struct CheckOptions<'a> {
     pub has_summary: bool,
     /// `--quiet`: no lines of records.
     pub is_quiet: bool,
+    /// `--gaps`: a line for each gap and overlap of a stream.
+    pub has_gaps: bool,
     /// `--config CONFIG`: records of stations that CONFIG has not are refused too.
     pub config: Option<&'a str>,
 }

@@ -48,18 +48,22 @@ fn check_options<'a>(arguments: &ArgMatches<'a>) -> CheckOptions<'a>
         is_iso: has_flag(arguments, "iso"),
         has_summary: has_flag(arguments, "summary"),
         is_quiet: has_flag(arguments, "quiet"),
+        has_gaps: has_flag(arguments, "gaps"),
         config: text_at(arguments, "config"),
     }
 }
 
-fn check_job<'a>(arguments: &ArgMatches<'a>) -> Option<Job<'a>>
-    ensures { option_map asked result ≡ check_asked (rows_of (found_of arguments.now)) }
+fn check_job<'a>(alloc: Global, arguments: &ArgMatches<'a>) -> Result<Option<Job<'a>>, AllocError>
+    ensures { IfOk result (λ job. option_map asked job ≡ check_asked (rows_of (found_of arguments.now))) }
 {
-    let file = text_at(arguments, "FILE")?;
-    Some(Job::Check {
-        file,
+    let Some(names) = texts_at(arguments, "FILE") else {
+        return Ok(None);
+    };
+    let files = names.to_vec(alloc)?;
+    Ok(Some(Job::Check {
+        files,
         options: check_options(arguments),
-    })
+    }))
 }
 
 fn replay_job<'a>(arguments: &ArgMatches<'a>) -> Option<Job<'a>>
@@ -282,7 +286,7 @@ fn job_in<'a>(alloc: Global, matches: &ArgMatches<'a>) -> Result<Option<Job<'a>>
         return Ok(None);
     };
     if name == "check" {
-        Ok(check_job(arguments))
+        check_job(alloc, arguments)
     } else if name == "replay" {
         Ok(replay_job(arguments))
     } else if name == "view" {

@@ -37,6 +37,24 @@ pub enum WantPlace<'a> {
     Line { path: &'a str, number: u64 },
 }
 
+/// What went wrong with a file that was found in a folder.
+#[derive(Drop)]
+pub enum FoundFault {
+    /// A record of it is refused, or bytes are left over after its last one.
+    Record(Finding),
+    /// It could not be opened, or not be read to its end, for the system's reason.
+    Device(io::Error),
+    /// It could not be read any more.
+    Unread,
+}
+
+/// A file that was found in a folder, and what went wrong with it.
+#[derive(Drop)]
+pub struct FoundFile {
+    pub path: String,
+    pub fault: FoundFault,
+}
+
 /// Where a failure happened, as far as the program knows.
 #[derive(Drop)]
 pub enum Site<'a> {
@@ -50,6 +68,8 @@ pub enum Site<'a> {
     Differing(&'a str, Difference),
     /// A record of a file, or what is left over after its last one.
     Record(&'a str, Finding),
+    /// A file that was found in a folder.
+    Found(FoundFile),
     /// A file that could not be opened, for the system's reason.
     Unopened(&'a str, io::Error),
     /// A file that could not be read to its end, for the system's reason.
@@ -341,7 +361,7 @@ fn put_allowed<W: Write>(f: &mut Formatter<W>, failure: &Failure) -> fmt::Result
         Failure::Replay(ReplayFault::Script(line)) => writeln!(f, "  line: {line}"),
         Failure::Address => f.write_str("  allowed: an address and a port, as 127.0.0.1:18000\n"),
         Failure::Moment(_) => f.write_str(
-            "  allowed: a time in UTC, as 2024-02-29T00:00:00 or 2024,2,29,0,0,0\n",
+            "  allowed: a time in UTC, as 2024-02-29, 2024-02-29T00:00:00 or 2024,2,29,0,0,0\n",
         ),
         Failure::Client => f.write_str("  allowed: four numbers joined by dots, as 10.0.0.7\n"),
         Failure::Wants(fault) => writeln!(f, "  allowed: {}", allowed_together(*fault)),
@@ -359,6 +379,7 @@ impl Display for Site<'_> {
             Site::Setting(path, error, finding) => put_setting(f, path, error, finding),
             Site::Differing(path, difference) => put_difference(f, path, difference),
             Site::Record(path, finding) => put_record(f, path, finding),
+            Site::Found(found) => put_found(f, found),
             Site::Unopened(path, reason)
             | Site::Unread(path, reason)
             | Site::Unwritten(path, reason) => put_reasoned(f, "file", path, reason),
@@ -413,6 +434,16 @@ fn put_record<W: Write>(f: &mut Formatter<W>, path: &str, finding: &Finding) -> 
     put_line(f, "file", path)?;
     writeln!(f, "  record: {}", finding.number)?;
     writeln!(f, "  offset: {}", finding.offset)
+}
+
+/// The lines of a file that was found in a folder.
+fn put_found<W: Write>(f: &mut Formatter<W>, found: &FoundFile) -> fmt::Result {
+    let path = found.path.as_str();
+    match &found.fault {
+        FoundFault::Record(finding) => put_record(f, path, finding),
+        FoundFault::Device(reason) => put_reasoned(f, "file", path, reason),
+        FoundFault::Unread => put_line(f, "file", path),
+    }
 }
 
 /// The lines of a word that is no access list.

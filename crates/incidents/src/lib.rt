@@ -9,4 +9,4 @@ mod part_texts;
 
 pub use failure::Failure;
 pub use faults::{NumbersFault, ReplayFault, StateFault, WantsFault};
-pub use incident::{Incident, Site, Told, WantPlace};
+pub use incident::{FoundFault, FoundFile, Incident, Site, Told, WantPlace};

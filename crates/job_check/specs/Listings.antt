@@ -3,7 +3,7 @@ use Rattle.std.specs.Prelude.{Bool, not}
 use Rattle.record_listing.specs.declared.options.ListingOptions.{ListingOptions}
 use Rattle.job_base.specs.Times.{times_by}
 
--- what is listed, by `--iso`, `--summary` and `--quiet`
-abbrev pub listing_by : (is_iso has_summary is_quiet : Bool) → ListingOptions
-listing_by is_iso has_summary is_quiet =
-    record { times = times_by is_iso; has_lines = not is_quiet; has_summary = has_summary }
+-- what is listed, by `--iso`, `--summary`, `--quiet` and `--gaps`
+abbrev pub listing_by : (is_iso has_summary is_quiet has_gaps : Bool) → ListingOptions
+listing_by is_iso has_summary is_quiet has_gaps =
+    record { times = times_by is_iso; has_lines = not is_quiet; has_summary = has_summary; has_gaps = has_gaps }

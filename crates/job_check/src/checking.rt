@@ -1,15 +1,16 @@
-//! A file of records is checked: a line goes out for each record, or what else the options ask for. It is read in blocks,
-//! and what is written goes out in as few calls as the system takes.
+//! Files of records are checked as one list: a line goes out for each record, or what else the options ask for. Each is
+//! read in blocks, and what is written goes out in as few calls as the system takes.
 ghost use Rattle.std.specs.Prelude.{◌≡◌};
 ghost use Rattle.job_check.specs.Listings.{listing_by};
 
 use crate::configured::ConfiguredStations;
+use crate::names::{FileLine, FileName, files_of};
 use command_line::CheckOptions;
 use incidents::{Failure, Incident};
 use job_base::{
-    ReasonKeeper, Watched, config_at, is_output_terminal, is_terminal, open, size_of, times_of,
+    ReasonKeeper, Watched, config_at, is_output_terminal, is_terminal, size_of, times_of,
 };
-use record_listing::{AllStations, Finding, ListingOptions, Stations, check_records};
+use record_listing::{AllStations, Finding, ListingOptions, RecordCheck, Stations};
 use sl_io::{Outer, StreamFault};
 use std::fs::File;
 use std::io::{self, Read};
@@ -17,82 +18,176 @@ use std::rt::{Clock, Files};
 
 /// What a check lists, by the options of the command line.
 fn listing_options(options: CheckOptions<'_>) -> ListingOptions
-    ensures { result ≡ listing_by options.entry.is_iso options.entry.has_summary options.entry.is_quiet }
+    ensures { result ≡ listing_by options.entry.is_iso options.entry.has_summary options.entry.is_quiet
+        options.entry.has_gaps }
 {
     ListingOptions {
         times: times_of(options.is_iso),
         has_lines: !options.is_quiet,
         has_summary: options.has_summary,
+        has_gaps: options.has_gaps,
     }
 }
 
-/// Writes a line for each record of a file, or what else the options ask for. It fails where a record is refused, or
-/// where the file ends inside one. With a configuration, records of stations that it has not are refused too.
-pub fn check_file<'a, R: Files<File = File> + Print + Eprint + Clock + AllocGlobal>(
+/// Writes a line for each record of files, or what else the options ask for. The words name files, folders whose files
+/// are checked in the order of their paths, and by `-` the standard input. All are looked at before the first is read.
+///
+/// It fails if in one of them a record is refused, or if one ends inside a record: with what is wrong with the first of
+/// these files, after all were listed. Of several files each one with which something is wrong has a line on the
+/// standard error. With a configuration, records of stations that it has not are refused too.
+pub fn check_files<'a, R: Files<File = File> + Print + Eprint + Clock + AllocGlobal>(
     rt: &R,
-    path: &'a str,
+    words: &[&'a str],
     options: CheckOptions<'a>,
 ) -> Result<(), Incident<'a>> {
     match options.config {
-        Some(config) => check_by(rt, path, options, config),
-        None => check_at(rt, path, options, &AllStations),
+        Some(config) => check_by(rt, words, options, config),
+        None => check_named(rt, words, options, &AllStations),
     }
 }
 
-/// The same, of a file that may have records of the stations of the configuration in another one.
+/// The same, of files that may have records of the stations of the configuration in another one.
 fn check_by<'a, R: Files<File = File> + Print + Eprint + Clock + AllocGlobal>(
     rt: &R,
-    path: &'a str,
+    words: &[&'a str],
     options: CheckOptions<'a>,
     config: &'a str,
 ) -> Result<(), Incident<'a>> {
     match config_at(rt, config) {
-        Ok(config) => check_at(rt, path, options, &ConfiguredStations::new(&config)),
+        Ok(config) => check_named(rt, words, options, &ConfiguredStations::new(&config)),
         Err(incident) => Err(incident),
     }
 }
 
-/// The same, of a file that may have records of these stations.
-fn check_at<'a, R: Files<File = File> + Print + Eprint + Clock + AllocGlobal, S: Stations>(
+/// The same, of files that may have records of these stations.
+fn check_named<'a, R: Files<File = File> + Print + Eprint + Clock + AllocGlobal, S: Stations>(
     rt: &R,
-    path: &'a str,
+    words: &[&'a str],
     options: CheckOptions<'a>,
     stations: &S,
 ) -> Result<(), Incident<'a>> {
-    match open(rt, path) {
-        Ok(file) => check_open(rt, path, options, stations, file),
-        Err(incident) => Err(incident),
+    let names = match files_of(rt, words) {
+        Ok(names) => names,
+        Err(incident) => return Err(incident),
+    };
+    let Ok(mut check) = RecordCheck::new(rt.alloc()) else {
+        return Err(Incident::from(Failure::OutOfMemory));
+    };
+    let first = match check_each(rt, names, options, stations, &mut check) {
+        Ok(first) => first,
+        Err(incident) => return Err(incident),
+    };
+    match list_streams(rt, listing_options(options), &mut check) {
+        Ok(()) => first_of(first),
+        Err(fault) => Err(Incident::from(Failure::Check(fault))),
     }
 }
 
-/// The same, of a file that is open. How far it is is shown at a terminal, unless lines of records show it there.
-fn check_open<'a, R: Print + Eprint + Clock + AllocGlobal, S: Stations>(
+/// Fails with what is wrong with the first file with which something is wrong.
+fn first_of<'a>(first: Option<Incident<'a>>) -> Result<(), Incident<'a>> {
+    match first {
+        Some(incident) => Err(incident),
+        None => Ok(()),
+    }
+}
+
+/// Lists the records of files, one after the other. Answers what is wrong with the first with which something is wrong.
+fn check_each<'a, R: Files<File = File> + Print + Eprint + Clock + AllocGlobal, S: Stations>(
     rt: &R,
-    path: &'a str,
+    names: Vec<FileName<'a>>,
     options: CheckOptions<'a>,
     stations: &S,
+    check: &mut RecordCheck,
+) -> Result<Option<Incident<'a>>, Incident<'a>> {
+    let is_alone = names.len() == 1;
+    let mut first = None;
+    'files: for name in names {
+        match check_file(rt, name, options, stations, check, is_alone) {
+            Ok(refused) => first = first.or(refused),
+            Err(incident) => return Err(incident),
+        }
+    }
+    Ok(first)
+}
+
+/// Lists the records of a file. Answers what is wrong with it, and unless it is alone tells that as well.
+fn check_file<'a, R: Files<File = File> + Print + Eprint + Clock + AllocGlobal, S: Stations>(
+    rt: &R,
+    name: FileName<'a>,
+    options: CheckOptions<'a>,
+    stations: &S,
+    check: &mut RecordCheck,
+    is_alone: bool,
+) -> Result<Option<Incident<'a>>, Incident<'a>> {
+    let file = match name.open(rt) {
+        Ok(file) => file,
+        Err(reason) => return Err(name.unopened(reason)),
+    };
+    let Checked { finding, reason } = check_open(rt, options, stations, check, file);
+    match finding {
+        Ok(None) => Ok(None),
+        Ok(Some(finding)) => {
+            if !is_alone {
+                tell_file(rt, &name, finding);
+            }
+            Ok(Some(name.refused(finding)))
+        }
+        Err(fault) => Err(name.broken(fault, reason)),
+    }
+}
+
+/// Tells that something is wrong with one of several files.
+fn tell_file<R: Eprint>(rt: &R, name: &FileName<'_>, finding: Finding) {
+    let line = FileLine { name, finding };
+    let _ = eprintln!(rt; "{line}");
+}
+
+/// What came of listing a file: what is wrong with it, or why it was not listed to its end, and why it could not be
+/// read if the system said so.
+#[derive(Drop)]
+struct Checked {
+    finding: Result<Option<Finding>, StreamFault>,
+    reason: Option<io::Error>,
+}
+
+/// Lists the records of a file that is open. How far it is is shown at a terminal, unless lines of records show it
+/// there.
+fn check_open<R: Print + Eprint + Clock + AllocGlobal, S: Stations>(
+    rt: &R,
+    options: CheckOptions<'_>,
+    stations: &S,
+    check: &mut RecordCheck,
     file: File,
-) -> Result<(), Incident<'a>> {
+) -> Checked {
     let size = size_of(&file);
     let is_shown = is_terminal() && (options.is_quiet || !is_output_terminal());
     let mut watched = Watched::new(rt, ReasonKeeper::new(file), size, is_shown);
-    let checked = list(rt, listing_options(options), stations, &mut watched);
-    let reason = watched.end().into_reason();
-    match checked {
-        Ok(None) => Ok(()),
-        Ok(Some(finding)) => Err(Incident::of_records(path, finding)),
-        Err(fault) => Err(Failure::Check(fault).in_file(path).at_input(path, reason)),
+    let finding = list_file(rt, listing_options(options), stations, check, &mut watched);
+    Checked {
+        finding,
+        reason: watched.end().into_reason(),
     }
 }
 
-/// Writes what is listed of records to the standard output.
-fn list<R: Print + AllocGlobal, S: Stations, T: Read + Drop>(
+/// Writes what is listed of a file's records to the standard output.
+fn list_file<R: Print, S: Stations, T: Read + Drop>(
     rt: &R,
     options: ListingOptions,
     stations: &S,
+    check: &mut RecordCheck,
     records: &mut T,
 ) -> Result<Option<Finding>, StreamFault> {
     let mut records = Outer::new(records);
     let mut out = Outer::new(io::writer(rt));
-    check_records(rt.alloc(), options, stations, &mut records, &mut out)
+    check.list_file(options, stations, &mut records, &mut out)
+}
+
+/// Writes what is listed of the streams of all files to the standard output.
+fn list_streams<R: Print>(
+    rt: &R,
+    options: ListingOptions,
+    check: &mut RecordCheck,
+) -> Result<(), StreamFault> {
+    let mut out = Outer::new(io::writer(rt));
+    check.list_streams(options, &mut out)
 }

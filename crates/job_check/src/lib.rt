@@ -4,9 +4,11 @@
 
 mod checking;
 mod configured;
+mod folders;
+mod names;
 mod replaying;
 mod viewing;
 
-pub use checking::check_file;
+pub use checking::check_files;
 pub use replaying::{ReplayStyle, replay, replay_files};
 pub use viewing::{list_holders, list_seen, view_file};

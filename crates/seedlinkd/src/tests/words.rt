@@ -49,11 +49,12 @@ fn is_replay(job: &Job<'_>, wanted: (&str, &str), text: bool) -> bool {
 /// Whether it is the job of checking this file with these options.
 fn is_check(job: &Job<'_>, wanted: &str, told: &CheckOptions<'_>) -> bool {
     match job {
-        Job::Check { file, options } => {
-            *file == wanted
+        Job::Check { files, options } => {
+            files.as_slice() == [wanted].as_slice()
                 && options.is_iso == told.is_iso
                 && options.has_summary == told.has_summary
                 && options.is_quiet == told.is_quiet
+                && options.has_gaps == told.has_gaps
                 && options.config == told.config
         }
         _ => false,
@@ -72,7 +73,8 @@ fn is_view(job: &Job<'_>, wanted: &str, seen_by: Option<&str>) -> bool {
     }
 }
 
-/// Whether it is the job of serving C at a:1 with feeds at b:2, for so many turns, with these limits and no other option.
+/// Whether it is the job of serving C at a:1 with feeds at b:2, for so many turns, with these limits and no other
+/// option.
 fn is_serve(job: &Job<'_>, ends: Option<usize>, list: Option<&str>, most: Option<usize>) -> bool {
     match job {
         Job::Serve(
@@ -121,6 +123,7 @@ fn check_has_one_text(rt: HostRuntime) -> Result<(), Fail> {
         is_iso: false,
         has_summary: false,
         is_quiet: false,
+        has_gaps: false,
         config: None,
     };
     assert!(rt; is_check(&job, "records.mseed", &plain));
@@ -137,6 +140,7 @@ fn check_has_options(rt: HostRuntime) -> Result<(), Fail> {
             "--quiet",
             "f",
             "--iso",
+            "--gaps",
             "--config",
             "c",
         ],
@@ -146,6 +150,7 @@ fn check_has_options(rt: HostRuntime) -> Result<(), Fail> {
         is_iso: true,
         has_summary: false,
         is_quiet: true,
+        has_gaps: true,
         config: Some("c"),
     };
     assert!(rt; is_check(&job, "f", &wanted));
@@ -423,7 +428,7 @@ fn other_words_are_refused(rt: HostRuntime) -> Result<(), Fail> {
         ],
         &["seedlinkd", "read", "a:1"],
         &["seedlinkd", "check"],
-        &["seedlinkd", "check", "a", "b"],
+        &["seedlinkd", "replay", "a", "b", "c"],
         &["seedlinkd"],
         &["seedlinkd", "play", "island.toml", "hello.script"],
         &["seedlinkd", "replay"],
