@@ -7,7 +7,7 @@ ghost use Rattle.command_line.specs.Jobs.{IsJob, IsMistake};
 use crate::work::run_job;
 use command_line::{Request, WordsFault, read_words};
 use incidents::{Failure, Incident};
-use job_base::tell_incident;
+use job_base::{is_terminal, tell_incident};
 use shown_lines::ShownText;
 use std::fs::File;
 use std::net::Net;
@@ -62,6 +62,7 @@ pub fn told<R: Print + Eprint>(rt: &R, text: &str, is_help: bool) -> ExitCode
 
 /// Does the job that the words of a command line ask, of which the first is the program's name. If they are a job, the
 /// status is 0 or 1, as `status_of` has it, or 1 if memory for the words ran out. It is never 0 if they are a mistake.
+/// A fault is explained if the words ask for that, or if standard error is a terminal.
 pub fn obey<R: Files<File = File> + Print + Eprint + Clock + Net + AllocGlobal>(
     rt: &R,
     words: &[String],
@@ -74,7 +75,7 @@ where
     match read_words(rt.alloc(), words) {
         Ok(Request { job, is_verbose }) => {
             let outcome = run_job(rt, job, is_verbose);
-            status_of(rt, outcome, is_verbose)
+            status_of(rt, outcome, is_verbose || is_terminal())
         }
         Err(WordsFault::Refused { text, is_help }) => told(rt, text.as_str(), is_help),
         Err(WordsFault::OutOfMemory) => failed(rt, Failure::OutOfMemory),

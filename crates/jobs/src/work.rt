@@ -4,7 +4,8 @@ ghost use Rattle.jobs.specs.Words.{style_by};
 
 use command_line::Job;
 use incidents::Incident;
-use job_check::{ReplayStyle, check_file, replay_files, view_file};
+use job_base::is_terminal;
+use job_check::{ReplayStyle, check_files, replay_files, view_file};
 use job_feed::feed_files;
 use job_read::read_servers;
 use job_serve::{ServeRequest, serve_sockets};
@@ -24,7 +25,7 @@ fn style_of(is_text: bool) -> ReplayStyle
     }
 }
 
-/// Does what a job asks. With `is_verbose` faults that don't end it are explained.
+/// Does what a job asks. With `is_verbose`, or at a terminal, faults that don't end a server are explained.
 pub fn run_job<'a, R: Files<File = File> + Print + Eprint + Clock + Net + AllocGlobal>(
     rt: &R,
     job: Job<'a>,
@@ -34,7 +35,7 @@ where
     R::File: AsRawFd,
 {
     match job {
-        Job::Check { file, options } => check_file(rt, file, options),
+        Job::Check { files, options } => check_files(rt, files.as_slice(), options),
         Job::Replay {
             config,
             script,
@@ -49,7 +50,7 @@ where
             rt,
             ServeRequest {
                 options,
-                is_verbose,
+                is_verbose: is_verbose || is_terminal(),
             },
         ),
         Job::Feed {
