@@ -149,7 +149,7 @@ where
 }
 
 /// What waits for a client is taken. Answers how many bytes it was.
-pub fn take_one(server: &mut Server, client: Client) -> u64 {
+pub fn take_one(server: &mut Server, client: &Client) -> u64 {
     let _ = server.offer(client);
     match server.waiting(client) {
         Ok(bytes) => {
@@ -165,7 +165,7 @@ pub fn take_one(server: &mut Server, client: Client) -> u64 {
 }
 
 /// A client sends a line, and takes its answer.
-pub fn say(server: &mut Server, client: Client, line: &[u8]) {
+pub fn say(server: &mut Server, client: &Client, line: &[u8]) {
     let _ = server.receive(client, line);
     take_one(server, client);
 }
@@ -180,11 +180,11 @@ pub fn asking(
     let client = server.open(alloc, Ipv4Addr::LOCALHOST)?;
     for place in 0..requests {
         let station = format!(in alloc; "STATION {place:05} GE\r")?;
-        say(server, client, station.as_bytes());
-        say(server, client, b"SELECT BHZ\r");
-        say(server, client, action);
+        say(server, &client, station.as_bytes());
+        say(server, &client, b"SELECT BHZ\r");
+        say(server, &client, action);
     }
-    let _ = server.receive(client, b"END\r");
+    let _ = server.receive(&client, b"END\r");
     Ok(client)
 }
 
@@ -196,12 +196,12 @@ pub fn asking_in_vain(
     action: &[u8],
 ) -> anyhow::Result<Client> {
     let client = server.open(alloc, Ipv4Addr::LOCALHOST)?;
-    say(server, client, b"STATION 00000 GE\r");
+    say(server, &client, b"STATION 00000 GE\r");
     for _ in 0..selectors {
-        say(server, client, b"SELECT LH?\r");
+        say(server, &client, b"SELECT LH?\r");
     }
-    say(server, client, action);
-    let _ = server.receive(client, b"END\r");
+    say(server, &client, action);
+    let _ = server.receive(&client, b"END\r");
     Ok(client)
 }
 
@@ -210,13 +210,13 @@ pub fn asking_all(alloc: Global, server: &mut Server) -> anyhow::Result<Client> 
     let client = server.open(alloc, Ipv4Addr::LOCALHOST)?;
     for place in 0..255 {
         let station = format!(in alloc; "STATION {place:05} GE\r")?;
-        say(server, client, station.as_bytes());
+        say(server, &client, station.as_bytes());
         let selectors = if place < 4 { 5 } else { 4 };
         for _ in 0..selectors {
-            say(server, client, b"SELECT BHZ\r");
+            say(server, &client, b"SELECT BHZ\r");
         }
-        say(server, client, b"DATA\r");
+        say(server, &client, b"DATA\r");
     }
-    let _ = server.receive(client, b"END\r");
+    let _ = server.receive(&client, b"END\r");
     Ok(client)
 }

@@ -19,9 +19,9 @@ fn lines_of(alloc: Global, stations: u32) -> anyhow::Result<Vec<String>> {
 fn say_all(alloc: Global, server: &mut Server, lines: &[String]) -> anyhow::Result<()> {
     let client = server.open(alloc, Ipv4Addr::LOCALHOST)?;
     for line in lines {
-        say(server, client, line.as_bytes());
+        say(server, &client, line.as_bytes());
     }
-    let _ = server.close(client);
+    let _ = server.close(&client);
     Ok(())
 }
 
@@ -37,7 +37,7 @@ pub fn named(alloc: Global, stations: u32, clients: u32) -> anyhow::Result<u64> 
 }
 
 /// A client says a line again and again, and takes the answers. Answers how many bytes they had.
-fn ask_often(server: &mut Server, client: Client, line: &[u8], rounds: u32) -> u64 {
+fn ask_often(server: &mut Server, client: &Client, line: &[u8], rounds: u32) -> u64 {
     let mut sum: u64 = 0;
     for _ in 0..rounds {
         let _ = server.receive(client, line);
@@ -46,19 +46,19 @@ fn ask_often(server: &mut Server, client: Client, line: &[u8], rounds: u32) -> u
     sum
 }
 
-/// A client says a line again and again, which asks for a station that it may not use or that is not there. Every second
-/// one of so many stations is hidden from it. Answers how many bytes it was answered.
+/// A client says a line again and again, which asks for a station that it may not use or that is not there. Every
+/// second one of so many stations is hidden from it. Answers how many bytes it was answered.
 pub fn refused(alloc: Global, stations: u32, line: &[u8], rounds: u32) -> anyhow::Result<u64> {
     let mut server = Server::new(alloc, spotted_config(alloc, stations)?)?;
     let client = server.open(alloc, Ipv4Addr::LOCALHOST)?;
     let mut line = line.to_vec(alloc)?;
     line.push(b'\r')?;
-    Ok(ask_often(&mut server, client, line.as_slice(), rounds))
+    Ok(ask_often(&mut server, &client, line.as_slice(), rounds))
 }
 
 /// Records arrive by turns at stations that a client follows. Each is offered to it and taken before the next one
 /// arrives, and so is what comes after it, which is nothing.
-fn follow(server: &mut Server, client: Client, records: &[[u8; 512]], rounds: u32) -> u64 {
+fn follow(server: &mut Server, client: &Client, records: &[[u8; 512]], rounds: u32) -> u64 {
     let mut sum: u64 = 0;
     for _ in 0..rounds {
         for record in records {
@@ -77,6 +77,6 @@ pub fn lone(alloc: Global, stations: u32, rounds: u32) -> anyhow::Result<u64> {
     at_full_server(alloc, 0, stations, 16, |server| {
         let client = asking(alloc, server, stations, b"DATA\r")?;
         arrive_all(server, records.as_slice());
-        Ok(follow(server, client, records.as_slice(), rounds))
+        Ok(follow(server, &client, records.as_slice(), rounds))
     })
 }

@@ -25,7 +25,7 @@ fn take_all(alloc: Global, server: &mut Server, requests: u32, rounds: u32) -> a
     let client = asking(alloc, server, requests, b"FETCH\r")?;
     let mut sum: u64 = 0;
     for _ in 0..rounds {
-        sum = sum.wrapping_add(take_one(server, client));
+        sum = sum.wrapping_add(take_one(server, &client));
     }
     Ok(sum)
 }
@@ -42,7 +42,7 @@ pub fn packets(alloc: Global, requests: u32, capacity: u32, rounds: u32) -> anyh
 }
 
 /// Offers of which none has anything.
-fn offers(server: &mut Server, client: Client, rounds: u32) -> u64 {
+fn offers(server: &mut Server, client: &Client, rounds: u32) -> u64 {
     let mut idle: u64 = 0;
     for _ in 0..rounds {
         if matches!(server.offer(client), Ok(Offer::Idle)) {
@@ -56,7 +56,7 @@ fn offers(server: &mut Server, client: Client, rounds: u32) -> u64 {
 pub fn idle(alloc: Global, requests: u32, capacity: u32, rounds: u32) -> anyhow::Result<u64> {
     at_full_server(alloc, 0, requests, capacity, |server| {
         let client = asking(alloc, server, requests, b"DATA\r")?;
-        Ok(offers(server, client, rounds))
+        Ok(offers(server, &client, rounds))
     })
 }
 
@@ -64,7 +64,7 @@ pub fn idle(alloc: Global, requests: u32, capacity: u32, rounds: u32) -> anyhow:
 /// them had nothing.
 fn offer_between(
     server: &mut Server,
-    client: Client,
+    client: &Client,
     records: &[[u8; 512]],
     each: u32,
     rounds: u32,
@@ -82,7 +82,7 @@ pub fn passed(alloc: Global, each: u32, rounds: u32) -> anyhow::Result<u64> {
     let record = record_of(alloc, 0, b"BHN")?;
     at_full_server(alloc, 0, 1, 4096, |server| {
         let client = asking(alloc, server, 1, b"DATA\r")?;
-        Ok(offer_between(server, client, &[record], each, rounds))
+        Ok(offer_between(server, &client, &[record], each, rounds))
     })
 }
 
@@ -98,8 +98,8 @@ fn ask_in_vain(
     let mut sum: u64 = 0;
     for _ in 0..rounds {
         let client = asking_in_vain(alloc, server, selectors, action)?;
-        sum = sum.wrapping_add(take_one(server, client));
-        let _ = server.close(client);
+        sum = sum.wrapping_add(take_one(server, &client));
+        let _ = server.close(&client);
     }
     Ok(sum)
 }
@@ -124,7 +124,7 @@ pub fn unwanted(alloc: Global, selectors: u32, capacity: u32, rounds: u32) -> an
 }
 
 /// A client sends the same bytes again and again. Answers how often they were taken.
-fn send_often(server: &mut Server, client: Client, bytes: &[u8], rounds: u32) -> u64 {
+fn send_often(server: &mut Server, client: &Client, bytes: &[u8], rounds: u32) -> u64 {
     let mut sum: u64 = 0;
     for _ in 0..rounds {
         if server.receive(client, bytes).is_ok() {
@@ -138,7 +138,7 @@ fn send_often(server: &mut Server, client: Client, bytes: &[u8], rounds: u32) ->
 pub fn garbage(alloc: Global, rounds: u32) -> anyhow::Result<u64> {
     at_full_server(alloc, 1, 0, 1, |server| {
         let client = server.open(alloc, Ipv4Addr::LOCALHOST)?;
-        Ok(send_often(server, client, &[b'x'; 1024], rounds))
+        Ok(send_often(server, &client, &[b'x'; 1024], rounds))
     })
 }
 
@@ -161,7 +161,7 @@ fn open_and_close(alloc: Global, server: &mut Server, rounds: u32) -> anyhow::Re
     for _ in 0..rounds {
         let client = server.open(alloc, Ipv4Addr::LOCALHOST)?;
         last = client.number();
-        let _ = server.close(client);
+        let _ = server.close(&client);
     }
     Ok(last as u64)
 }
@@ -212,7 +212,7 @@ pub fn crowd(alloc: Global, clients: u32) -> anyhow::Result<u64> {
 }
 
 /// A client that waits is asked whether it is ready. Answers how often it was not.
-fn ask_often(server: &mut Server, client: Client, rounds: u32) -> u64 {
+fn ask_often(server: &mut Server, client: &Client, rounds: u32) -> u64 {
     let mut sum: u64 = 0;
     for _ in 0..rounds {
         if server.ready(client) == Ok(false) {
@@ -226,8 +226,8 @@ fn ask_often(server: &mut Server, client: Client, rounds: u32) -> u64 {
 pub fn ready(alloc: Global, rounds: u32) -> anyhow::Result<u64> {
     at_full_server(alloc, 0, 1, 4096, |server| {
         let client = asking(alloc, server, 1, b"DATA\r")?;
-        offers(server, client, 1);
-        Ok(ask_often(server, client, rounds))
+        offers(server, &client, 1);
+        Ok(ask_often(server, &client, rounds))
     })
 }
 
@@ -235,7 +235,7 @@ pub fn ready(alloc: Global, rounds: u32) -> anyhow::Result<u64> {
 fn open_waiting(alloc: Global, server: &mut Server, clients: u32) -> anyhow::Result<()> {
     for _ in 0..clients {
         let client = asking(alloc, server, 1, b"DATA\r")?;
-        offers(server, client, 1);
+        offers(server, &client, 1);
     }
     Ok(())
 }

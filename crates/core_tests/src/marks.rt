@@ -1,5 +1,5 @@
-//! Which clients an offer may find something for: those of a crowd who ask for a record's station; and what is found once
-//! bytes were handed.
+//! Which clients an offer may find something for: those of a crowd who ask for a record's station; and what is found
+//! once bytes were handed.
 use catalog::Config;
 use mseed_header::{ByteOrder, Fields, make};
 use server_core::{Client, Offer, Server};
@@ -50,7 +50,7 @@ where
 }
 
 /// What waits for a client is taken.
-fn take_waiting(server: &mut Server, client: Client) {
+fn take_waiting(server: &mut Server, client: &Client) {
     let Ok(bytes) = server.waiting(client) else {
         return;
     };
@@ -63,22 +63,22 @@ fn take_waiting(server: &mut Server, client: Client) {
 /// A client from an address that does not see GE APE, which sent a text, and took all that it is handed for it.
 fn settled(server: &mut Server, alloc: Global, text: &[u8]) -> Result<Client, Fail> {
     let client = server.open(alloc, Ipv4Addr::new(172, 16, 0, 9))?;
-    server.receive(client, text)?;
+    server.receive(&client, text)?;
     for _ in 0..20 {
-        if server.offer(client)? == Offer::Bytes {
-            take_waiting(server, client);
+        if server.offer(&client)? == Offer::Bytes {
+            take_waiting(server, &client);
         }
     }
     Ok(client)
 }
 
 /// Whether a client is marked, and whether it is ready.
-fn states(server: &mut Server, client: Client) -> Result<(bool, bool), Fail> {
+fn states(server: &mut Server, client: &Client) -> Result<(bool, bool), Fail> {
     Ok((server.marked(client)?, server.ready(client)?))
 }
 
 /// How many bytes wait for a client.
-fn waiting_count(server: &Server, client: Client) -> usize {
+fn waiting_count(server: &Server, client: &Client) -> usize {
     match server.waiting(client) {
         Ok(bytes) => bytes.len(),
         Err(_) => 0,
@@ -86,7 +86,7 @@ fn waiting_count(server: &Server, client: Client) -> usize {
 }
 
 /// What is found once so many bytes of those that wait were handed, and how many wait then.
-fn gone_on(server: &mut Server, client: Client, count: usize) -> Result<(Offer, usize), Fail> {
+fn gone_on(server: &mut Server, client: &Client, count: usize) -> Result<(Offer, usize), Fail> {
     let Ok(bytes) = server.waiting(client) else {
         return Ok((Offer::Ended, 0));
     };
@@ -103,11 +103,11 @@ fn found_going_on(server: &mut Server, alloc: Global) -> Result<([(Offer, usize)
     let client = settled(server, alloc, FOREST)?;
     server.arrive(&record_in(0)?)?;
     server.arrive(&record_in(1)?)?;
-    let _found = server.offer(client)?;
-    let half = gone_on(server, client, 260)?;
-    let rest = gone_on(server, client, 260)?;
-    let second = gone_on(server, client, 520)?;
-    Ok(([half, rest, second], server.marked(client)?))
+    let _found = server.offer(&client)?;
+    let half = gone_on(server, &client, 260)?;
+    let rest = gone_on(server, &client, 260)?;
+    let second = gone_on(server, &client, 520)?;
+    Ok(([half, rest, second], server.marked(&client)?))
 }
 
 #[test]
@@ -135,7 +135,7 @@ fn crowd(server: &mut Server, alloc: Global) -> Result<Vec<Client>, Fail> {
 fn are_ready_by_turns(server: &mut Server, clients: &[Client], first: usize) -> Result<bool, Fail> {
     for (place, client) in clients.iter().enumerate() {
         let is_of_those = place % 2 == first;
-        if states(server, *client)? != (is_of_those, is_of_those) {
+        if states(server, client)? != (is_of_those, is_of_those) {
             return Ok(false);
         }
     }

@@ -20,7 +20,7 @@ fn new_server(alloc: Global) -> Result<Server, Fail> {
 }
 
 /// Whether nothing waits for a client and nothing can be taken of it, since it is gone.
-fn hands_nothing(server: &mut Server, client: Client) -> bool {
+fn hands_nothing(server: &mut Server, client: &Client) -> bool {
     if server.waiting(client).is_ok() {
         return false;
     }
@@ -28,7 +28,7 @@ fn hands_nothing(server: &mut Server, client: Client) -> bool {
 }
 
 /// Whether each call says that a client is gone.
-fn is_gone(server: &mut Server, client: Client) -> bool {
+fn is_gone(server: &mut Server, client: &Client) -> bool {
     server.room(client) == Err(Gone)
         && server.receive(client, b"HELLO\r") == Err(Refusal::Gone)
         && server.offer(client) == Err(Gone)
@@ -41,8 +41,8 @@ fn is_gone(server: &mut Server, client: Client) -> bool {
 /// A client that said HELLO and left, and one that came after it.
 fn left_and_came(server: &mut Server, alloc: Global) -> Result<(Client, Client), Fail> {
     let first = server.open(alloc, address(0))?;
-    server.receive(first, b"HELLO\r")?;
-    server.close(first)?;
+    server.receive(&first, b"HELLO\r")?;
+    server.close(&first)?;
     let second = server.open(alloc, address(1))?;
     Ok((first, second))
 }
@@ -50,7 +50,7 @@ fn left_and_came(server: &mut Server, alloc: Global) -> Result<(Client, Client),
 /// Whether the first is gone, and the second has the next number and all its room.
 fn is_followed(server: &mut Server, alloc: Global) -> Result<bool, Fail> {
     let (first, second) = left_and_came(server, alloc)?;
-    Ok(second.number() == 1 && is_gone(server, first) && server.room(second) == Ok(1024))
+    Ok(second.number() == 1 && is_gone(server, &first) && server.room(&second) == Ok(1024))
 }
 
 #[test]
@@ -89,7 +89,7 @@ fn close_one(draws: &mut Draws, server: &mut Server, plain: &mut Plain) -> bool 
         (Some(client), Some(open)) => {
             let was = *open;
             *open = false;
-            server.close(*client).is_ok() == was
+            server.close(client).is_ok() == was
         }
         _ => true,
     }
@@ -101,7 +101,7 @@ fn has_all(server: &Server, plain: &Plain) -> bool {
         .clients
         .iter()
         .zip(plain.open.iter())
-        .all(|(client, open)| server.room(*client).is_ok() == *open)
+        .all(|(client, open)| server.room(client).is_ok() == *open)
 }
 
 /// A client opens or closes by chance. Whether the server says of it what the plain list says.

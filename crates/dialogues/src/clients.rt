@@ -21,7 +21,7 @@ pub type Answer = Result<Option<String>, Fault>;
 /// Copies and takes the first bytes that wait for a client, at most so many.
 fn take_waiting(
     server: &mut Server,
-    client: Client,
+    client: &Client,
     most: usize,
     hand: &mut Vec<u8>,
 ) -> Result<(), Fault> {
@@ -36,8 +36,8 @@ fn take_waiting(
 
 /// A client takes at most so many bytes. Whether its connection is over.
 fn take(server: &mut Server, caller: &mut Caller, most: usize) -> Result<bool, Fault> {
-    let found = server.offer(caller.client)?;
-    take_waiting(server, caller.client, most, &mut caller.hand)?;
+    let found = server.offer(&caller.client)?;
+    take_waiting(server, &caller.client, most, &mut caller.hand)?;
     Ok(found == Offer::Ended)
 }
 
@@ -116,7 +116,7 @@ pub fn compare_words(alloc: Global, wanted: &str, is_so: bool) -> Answer {
 }
 
 /// The number of the refusal of what a client sends; 0 if it is accepted.
-fn refusal(server: &mut Server, client: Client, bytes: &[u8]) -> usize {
+fn refusal(server: &mut Server, client: &Client, bytes: &[u8]) -> usize {
     match server.receive(client, bytes) {
         Ok(()) => 0,
         Err(refusal) => refusal.reason().number() as usize,
@@ -131,7 +131,7 @@ fn send(
     bytes: &[u8],
     wanted: usize,
 ) -> Answer {
-    let got = refusal(server, caller.client, bytes);
+    let got = refusal(server, &caller.client, bytes);
     compare_numbers(alloc, wanted, got)
 }
 
@@ -143,13 +143,13 @@ fn send_refused(alloc: Global, server: &mut Server, caller: &Caller, text: &str)
 }
 
 fn close(server: &mut Server, caller: &mut Caller) -> Answer {
-    server.close(caller.client)?;
+    server.close(&caller.client)?;
     caller.is_closed = true;
     Ok(None)
 }
 
 /// Whether the server knows no open client with this number, in each call.
-fn is_gone(server: &mut Server, client: Client) -> bool {
+fn is_gone(server: &mut Server, client: &Client) -> bool {
     server.room(client).is_err()
         && server.receive(client, b"HELLO\r") == Err(Refusal::Gone)
         && server.offer(client).is_err()
@@ -190,7 +190,7 @@ fn wanted_by(alloc: Global, records: &[Arrived], line: &Line) -> Result<Option<V
     Ok(Some(bytes))
 }
 
-fn compare_room(alloc: Global, server: &Server, client: Client, text: &str) -> Answer {
+fn compare_room(alloc: Global, server: &Server, client: &Client, text: &str) -> Answer {
     let room = server.room(client)?;
     compare_numbers(alloc, number_of(text)?, room)
 }
@@ -199,7 +199,7 @@ fn compare_room(alloc: Global, server: &Server, client: Client, text: &str) -> A
 fn look(
     alloc: Global,
     server: &mut Server,
-    client: Client,
+    client: &Client,
     line: &Line,
 ) -> Result<Option<Answer>, Fault> {
     let answer = match line.verb {
@@ -241,7 +241,7 @@ pub fn play_client(
     caller: &mut Caller,
     line: &Line,
 ) -> Answer {
-    match look(alloc, server, caller.client, line)? {
+    match look(alloc, server, &caller.client, line)? {
         Some(answer) => answer,
         None => hand_or_act(alloc, server, records, caller, line),
     }

@@ -34,12 +34,12 @@ pub enum Onward {
 }
 
 /// A client's port is shut, it is said why, and the client is closed.
-fn shut<P: Ports>(server: &mut Server, ports: &mut P, client: Client, port: u64, ending: Ending)
+fn shut<P: Ports>(server: &mut Server, ports: &mut P, client: &Client, port: u64, ending: Ending)
     ensures call { Tells (P.calls ports.old) (P.calls ports.new) (Shut port ∷ []) }
     ensures decides { Decides (P.decided ports.old) (P.decided ports.new) ((port, Ends ending) ∷ []) }
     ensures stands { (config : Config) (w : World) → StandsAt server.old config w
-        → StandsAt server.new config (step config w (Close client)) }
-    ensures others { LeavesOthers client server.old server.new }
+        → StandsAt server.new config (step config w (Close client.now)) }
+    ensures others { LeavesOthers client.now server.old server.new }
 {
     end(ports, port, ending);
     let _ = server.close(client);
@@ -49,20 +49,21 @@ fn shut<P: Ports>(server: &mut Server, ports: &mut P, client: Client, port: u64,
 fn read_piece<P: Ports>(
     server: &mut Server,
     ports: &mut P,
-    client: Client,
+    client: &Client,
     seat: &mut Seat,
     piece: &mut [u8],
 ) -> Onward
-    requires role { seat.old.role ≡ Role.Client client }
+    requires role { seat.old.role ≡ Role.Client client.now }
     requires readable { seat.old.readable ≡ true }
     requires some { 0 < length piece.old }
-    requires fits { (config : Config) (w : World) → StandsAt server.old config w → length piece.old ≤ room_in w client }
+    requires fits { (config : Config) (w : World) → StandsAt server.old config w →
+        length piece.old ≤ room_in w client.now }
     ensures goes { (t : Tally) (config : Config) (w : World) → StandsAt server.old config w →
-        Once (ClientReads config client) config w (P.calls ports.old)
+        Once (ClientReads config client.now) config w (P.calls ports.old)
         (P.calls ports.new) server.new t t seat.old seat.new result }
-    ensures role { seat.new.role ≡ Role.Client client }
+    ensures role { seat.new.role ≡ Role.Client client.now }
     ensures port { seat.new.port ≡ seat.old.port }
-    ensures others { LeavesOthers client server.old server.new }
+    ensures others { LeavesOthers client.now server.old server.new }
 {
     match ports.read(seat.port, piece) {
         Ok(Got::Bytes(count)) => {
@@ -88,18 +89,18 @@ fn read_piece<P: Ports>(
 fn read_once<P: Ports>(
     server: &mut Server,
     ports: &mut P,
-    client: Client,
+    client: &Client,
     seat: &mut Seat,
     buffer: &mut [u8],
 ) -> Onward
-    requires role { seat.old.role ≡ Role.Client client }
+    requires role { seat.old.role ≡ Role.Client client.now }
     requires buffer { 0 < length buffer.old }
     ensures goes { (t : Tally) (config : Config) (w : World) → StandsAt server.old config w →
-        Once (ClientReads config client) config w (P.calls ports.old)
+        Once (ClientReads config client.now) config w (P.calls ports.old)
         (P.calls ports.new) server.new t t seat.old seat.new result }
-    ensures role { seat.new.role ≡ Role.Client client }
+    ensures role { seat.new.role ≡ Role.Client client.now }
     ensures port { seat.new.port ≡ seat.old.port }
-    ensures others { LeavesOthers client server.old server.new }
+    ensures others { LeavesOthers client.now server.old server.new }
 {
     if !seat.readable {
         return Onward::Stop;
@@ -115,19 +116,19 @@ fn read_once<P: Ports>(
 pub fn read_client<P: Ports>(
     server: &mut Server,
     ports: &mut P,
-    client: Client,
+    client: &Client,
     seat: &mut Seat,
     buffer: &mut [u8],
     limit: usize,
 ) -> bool
-    requires role { seat.old.role ≡ Role.Client client }
+    requires role { seat.old.role ≡ Role.Client client.now }
     requires buffer { 0 < length buffer.old }
     ensures goes { (t : Tally) (config : Config) (w : World) → StandsAt server.old config w →
-        Whole (ClientReads config client) limit config w (P.calls ports.old) (P.calls ports.new) server.new t t seat.old
-        (if_open result seat.new) }
-    ensures role { seat.new.role ≡ Role.Client client }
+        Whole (ClientReads config client.now) limit config w (P.calls ports.old) (P.calls ports.new) server.new t t
+        seat.old (if_open result seat.new) }
+    ensures role { seat.new.role ≡ Role.Client client.now }
     ensures port { seat.new.port ≡ seat.old.port }
-    ensures others { LeavesOthers client server.old server.new }
+    ensures others { LeavesOthers client.now server.old server.new }
 {
     let mut left = limit;
     'reads: while left > 0 {
@@ -155,19 +156,19 @@ enum Handing {
 fn hand<P: Ports>(
     server: &mut Server,
     ports: &mut P,
-    client: Client,
+    client: &Client,
     seat: &mut Seat,
     found: Result<Offer, Gone>,
 ) -> Handing
-    requires role { seat.old.role ≡ Role.Client client }
+    requires role { seat.old.role ≡ Role.Client client.now }
     requires writable { seat.old.writable ≡ true }
-    ensures hands { (t : Tally) (config : Config) (w : World) → IsOffered config w client found server.old →
-        Hands config client w (P.calls ports.old) (P.calls ports.new) server.new t seat.old seat.new found result }
+    ensures hands { (t : Tally) (config : Config) (w : World) → IsOffered config w client.now found server.old →
+        Hands config client.now w (P.calls ports.old) (P.calls ports.new) server.new t seat.old seat.new found result }
     ensures unchanged { IfTook result (λ count. (server.new ≡ server.old) × (seat.new ≡ seat.old)) }
-    ensures waits { IfTook result (MayTake server.new client) }
-    ensures role { seat.new.role ≡ Role.Client client }
+    ensures waits { IfTook result (MayTake server.new client.now) }
+    ensures role { seat.new.role ≡ Role.Client client.now }
     ensures port { seat.new.port ≡ seat.old.port }
-    ensures others { LeavesOthers client server.old server.new }
+    ensures others { LeavesOthers client.now server.old server.new }
 {
     let Ok(offer) = found else {
         shut(server, ports, client, seat.port, Ending::Complete);
@@ -222,18 +223,18 @@ enum Next {
 fn write_on<P: Ports>(
     server: &mut Server,
     ports: &mut P,
-    client: Client,
+    client: &Client,
     seat: &mut Seat,
     found: Result<Offer, Gone>,
 ) -> Next
-    requires role { seat.old.role ≡ Role.Client client }
+    requires role { seat.old.role ≡ Role.Client client.now }
     requires writable { seat.old.writable ≡ true }
-    ensures goes { (t : Tally) (config : Config) (w : World) → IsOffered config w client found server.old →
-        WritesOn config client w (P.calls ports.old) (P.calls ports.new) server.new t seat.old seat.new result }
-    ensures role { seat.new.role ≡ Role.Client client }
+    ensures goes { (t : Tally) (config : Config) (w : World) → IsOffered config w client.now found server.old →
+        WritesOn config client.now w (P.calls ports.old) (P.calls ports.new) server.new t seat.old seat.new result }
+    ensures role { seat.new.role ≡ Role.Client client.now }
     ensures writable { IfWrites result (seat.new.writable ≡ true) }
     ensures port { seat.new.port ≡ seat.old.port }
-    ensures others { LeavesOthers client server.old server.new }
+    ensures others { LeavesOthers client.now server.old server.new }
 {
     match hand(server, ports, client, seat, found) {
         Handing::Took(count) => Next::Write(server.go_on(client, count)),
@@ -246,18 +247,18 @@ fn write_on<P: Ports>(
 fn write_last<P: Ports>(
     server: &mut Server,
     ports: &mut P,
-    client: Client,
+    client: &Client,
     seat: &mut Seat,
     found: Result<Offer, Gone>,
 ) -> Onward
-    requires role { seat.old.role ≡ Role.Client client }
+    requires role { seat.old.role ≡ Role.Client client.now }
     requires writable { seat.old.writable ≡ true }
-    ensures goes { (t : Tally) (config : Config) (w : World) → IsOffered config w client found server.old →
-        Once (ClientWrites config client) config w (P.calls ports.old)
+    ensures goes { (t : Tally) (config : Config) (w : World) → IsOffered config w client.now found server.old →
+        Once (ClientWrites config client.now) config w (P.calls ports.old)
         (P.calls ports.new) server.new t t seat.old seat.new result }
-    ensures role { seat.new.role ≡ Role.Client client }
+    ensures role { seat.new.role ≡ Role.Client client.now }
     ensures port { seat.new.port ≡ seat.old.port }
-    ensures others { LeavesOthers client server.old server.new }
+    ensures others { LeavesOthers client.now server.old server.new }
 {
     match hand(server, ports, client, seat, found) {
         Handing::Took(count) => {
@@ -271,11 +272,11 @@ fn write_last<P: Ports>(
 
 /// Whether an offer to a client is known to find nothing, so that it may be spared. A client that is marked is offered
 /// something even if its selectors refuse what came: that offer finds nothing and takes the mark away.
-fn finds_nothing(server: &Server, client: Client) -> bool
+fn finds_nothing(server: &Server, client: &Client) -> bool
     ensures idle { result ≡ true → (config : Config) (w : World) → StandsAt server.now config w →
-        Some Idle ≡ option_map (λ c. offer_of (offered w.history c)) (client_at w client) }
+        Some Idle ≡ option_map (λ c. offer_of (offered w.history c)) (client_at w client.now) }
     ensures nothing { result ≡ true → (config : Config) (w : World) → StandsAt server.now config w →
-        step config w (Take client 0) ≡ w }
+        step config w (Take client.now 0) ≡ w }
 {
     match server.marked(client) {
         Ok(marked) => !marked,
@@ -288,20 +289,20 @@ fn finds_nothing(server: &Server, client: Client) -> bool
 fn write_all<P: Ports>(
     server: &mut Server,
     ports: &mut P,
-    client: Client,
+    client: &Client,
     seat: &mut Seat,
     limit: usize,
 ) -> bool
-    requires role { seat.old.role ≡ Role.Client client }
+    requires role { seat.old.role ≡ Role.Client client.now }
     requires writable { seat.old.writable ≡ true }
     requires some { 0 < limit }
     ensures goes { (t : Tally) (config : Config) (w : World) → StandsAt server.old config w →
-        Whole (ClientWrites config client) limit config w (P.calls ports.old)
+        Whole (ClientWrites config client.now) limit config w (P.calls ports.old)
         (P.calls ports.new) server.new t t seat.old
         (if_open result seat.new) }
-    ensures role { seat.new.role ≡ Role.Client client }
+    ensures role { seat.new.role ≡ Role.Client client.now }
     ensures port { seat.new.port ≡ seat.old.port }
-    ensures others { LeavesOthers client server.old server.new }
+    ensures others { LeavesOthers client.now server.old server.new }
 {
     let mut found = server.offer(client);
     let mut left = limit;
@@ -328,18 +329,18 @@ fn write_all<P: Ports>(
 pub fn write_client<P: Ports>(
     server: &mut Server,
     ports: &mut P,
-    client: Client,
+    client: &Client,
     seat: &mut Seat,
     limit: usize,
 ) -> bool
-    requires role { seat.old.role ≡ Role.Client client }
+    requires role { seat.old.role ≡ Role.Client client.now }
     ensures goes { (t : Tally) (config : Config) (w : World) → StandsAt server.old config w →
-        Whole (ClientWrites config client) limit config w (P.calls ports.old)
+        Whole (ClientWrites config client.now) limit config w (P.calls ports.old)
         (P.calls ports.new) server.new t t seat.old
         (if_open result seat.new) }
-    ensures role { seat.new.role ≡ Role.Client client }
+    ensures role { seat.new.role ≡ Role.Client client.now }
     ensures port { seat.new.port ≡ seat.old.port }
-    ensures others { LeavesOthers client server.old server.new }
+    ensures others { LeavesOthers client.now server.old server.new }
 {
     if !seat.writable || limit == 0 {
         return true;

@@ -61,7 +61,7 @@ fn wakefulness(server: &Server, seat: &Seat) -> u8
             if !seat.writable {
                 return 0;
             }
-            match server.marked(*client) {
+            match server.marked(client) {
                 Ok(false) => 0,
                 _ => 1,
             }
@@ -126,8 +126,8 @@ pub fn wake(awake: &mut Vec<u8>, at: usize)
 
 /// The place of a client's seat. It is found by halving, as if the clients' numbers rose with their ports. Where they
 /// do not, it may not be found.
-fn seat_of(seats: &[Seat], client: Client) -> Option<usize>
-    ensures { IfSome result (λ at. IsSeatOfClient seats.now client at) }
+fn seat_of(seats: &[Seat], client: &Client) -> Option<usize>
+    ensures { IfSome result (λ at. IsSeatOfClient seats.now client.now at) }
 {
     let mut low = 0usize;
     let mut high = seats.len();
@@ -151,11 +151,11 @@ fn seat_of(seats: &[Seat], client: Client) -> Option<usize>
 }
 
 /// A client's seat does not sleep any more. It answers whether the seat was found.
-fn wake_client(server: &Server, seats: &[Seat], awake: &mut Vec<u8>, client: Client) -> bool
+fn wake_client(server: &Server, seats: &[Seat], awake: &mut Vec<u8>, client: &Client) -> bool
     requires count { length awake.old.items ≡ length seats.now }
     requires seated { AreSeated server.now seats.now }
     ensures wakes { OnlyWakes awake.old.items awake.new.items }
-    ensures woken { result ≡ true → IsWoken seats.now awake.new.items client }
+    ensures woken { result ≡ true → IsWoken seats.now awake.new.items client.now }
 {
     let _ = server;
     match seat_of(seats, client) {
@@ -175,7 +175,7 @@ fn wake_clients(server: &Server, seats: &[Seat], awake: &mut Vec<u8>, some: &[Cl
     ensures woken { result ≡ true → (k : ℕ) → IsAmong k some.now → IsWoken seats.now awake.new.items k }
 {
     for client in some {
-        if !wake_client(server, seats, awake, *client) {
+        if !wake_client(server, seats, awake, client) {
             return false;
         }
     }

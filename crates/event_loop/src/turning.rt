@@ -83,9 +83,9 @@ fn pass<P: Ports>(
 {
     match &mut seat.role {
         Role::Client(client) => {
-            let client = *client;
-            read_client(server, ports, client, seat, buffer, limit)
-                && write_client(server, ports, client, seat, limit)
+            let client = client.same();
+            read_client(server, ports, &client, seat, buffer, limit)
+                && write_client(server, ports, &client, seat, limit)
         }
         Role::Feed(rest) => read_feed(
             server,

@@ -7,7 +7,7 @@ use std::alloc::Global;
 use test_centre::{CENTRE, GREETING};
 
 /// Takes all that waits for a client.
-fn take(server: &mut Server, client: Client) -> Result<(), Fault> {
+fn take(server: &mut Server, client: &Client) -> Result<(), Fault> {
     if let Ok(waiting) = server.waiting(client) {
         let count = waiting.len();
         if count > 0 {
@@ -18,7 +18,7 @@ fn take(server: &mut Server, client: Client) -> Result<(), Fault> {
 }
 
 /// Whether a client is handed these bytes, up to the length of a packet at once.
-fn takes(server: &mut Server, client: Client, wanted: &[u8]) -> Result<bool, Fault> {
+fn takes(server: &mut Server, client: &Client, wanted: &[u8]) -> Result<bool, Fault> {
     if server.offer(client)? != Offer::Bytes {
         return Ok(wanted.is_empty());
     }
@@ -28,13 +28,13 @@ fn takes(server: &mut Server, client: Client, wanted: &[u8]) -> Result<bool, Fau
 }
 
 /// Whether a client that says HELLO is greeted.
-fn is_greeted(server: &mut Server, client: Client) -> Result<bool, Fault> {
+fn is_greeted(server: &mut Server, client: &Client) -> Result<bool, Fault> {
     server.receive(client, b"HELLO\r")?;
     takes(server, client, GREETING)
 }
 
 /// Whether a client may ask for two stations.
-fn asks_for_both(server: &mut Server, client: Client) -> Result<bool, Fault> {
+fn asks_for_both(server: &mut Server, client: &Client) -> Result<bool, Fault> {
     let mut is_right = true;
     for line in BOTH {
         server.receive(client, line)?;
@@ -57,7 +57,7 @@ fn arrive_all(server: &mut Server) -> Result<(), Fault> {
 }
 
 /// Whether a client is handed them, in order.
-fn is_handed_all(server: &mut Server, client: Client) -> Result<bool, Fault> {
+fn is_handed_all(server: &mut Server, client: &Client) -> Result<bool, Fault> {
     let mut is_right = true;
     for (station, second, number) in ARRIVALS {
         let is_offered = server.offer(client)? == Offer::Bytes;
@@ -69,7 +69,7 @@ fn is_handed_all(server: &mut Server, client: Client) -> Result<bool, Fault> {
 }
 
 /// Whether a client that asks for two stations is handed their records, in order.
-fn is_served(server: &mut Server, client: Client) -> Result<bool, Fault> {
+fn is_served(server: &mut Server, client: &Client) -> Result<bool, Fault> {
     let may_ask = asks_for_both(server, client)?;
     arrive_all(server)?;
     Ok(is_handed_all(server, client)? && may_ask)
@@ -78,7 +78,7 @@ fn is_served(server: &mut Server, client: Client) -> Result<bool, Fault> {
 /// Whether a new client is served.
 fn serves_one(server: &mut Server, alloc: Global) -> Result<bool, Fault> {
     let client = server.open(alloc, inside())?;
-    is_served(server, client)
+    is_served(server, &client)
 }
 
 /// A server of three stations.
@@ -103,7 +103,7 @@ static NEXT: [(&[u8], &[u8]); 5] = [
 ];
 
 /// Whether a client is answered so.
-fn is_answered(server: &mut Server, client: Client) -> Result<bool, Fault> {
+fn is_answered(server: &mut Server, client: &Client) -> Result<bool, Fault> {
     let mut is_right = true;
     for (line, answer) in NEXT.iter() {
         server.receive(client, line)?;
@@ -114,7 +114,7 @@ fn is_answered(server: &mut Server, client: Client) -> Result<bool, Fault> {
 
 /// Whether a client that came before a refused one is served, and the next one has the number of the refused one and is
 /// answered as any other.
-fn is_unharmed(server: &mut Server, first: Client, next: Client) -> Result<bool, Fault> {
+fn is_unharmed(server: &mut Server, first: &Client, next: &Client) -> Result<bool, Fault> {
     let is_right = next.number() == 1 && is_greeted(server, first)? && is_answered(server, next)?;
     Ok(is_right && is_served(server, first)?)
 }
@@ -126,7 +126,7 @@ fn opens_two(server: &mut Server, alloc: Global) -> Result<bool, Fault> {
         Ok(client) => client,
         Err(_) => server.open(alloc, outside())?,
     };
-    is_unharmed(server, first, second)
+    is_unharmed(server, &first, &second)
 }
 
 /// A second client opens. Where it is refused, the next one has its number, and the first one is served all the same.

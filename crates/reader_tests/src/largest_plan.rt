@@ -65,7 +65,7 @@ struct Outcome {
 /// Sends the server what the reader asks.
 fn ask(
     server: &mut Server,
-    client: Client,
+    client: &Client,
     core: &mut ReaderCore,
     outcome: &mut Outcome,
 ) -> Result<(), Fail> {
@@ -82,7 +82,7 @@ fn ask(
 /// Gives the reader what waits for it.
 fn answer(
     server: &mut Server,
-    client: Client,
+    client: &Client,
     core: &mut ReaderCore,
     outcome: &mut Outcome,
 ) -> Result<(), Fail> {
@@ -103,7 +103,7 @@ fn answer(
 }
 
 /// The dialogue, up to the end of the transfer.
-fn outcome_of(server: &mut Server, client: Client, core: &mut ReaderCore) -> Result<Outcome, Fail> {
+fn outcome_of(server: &mut Server, client: &Client, core: &mut ReaderCore) -> Result<Outcome, Fail> {
     let mut outcome = Outcome {
         lines: 0,
         refused: 0,
@@ -121,7 +121,7 @@ fn outcome_of(server: &mut Server, client: Client, core: &mut ReaderCore) -> Res
 fn outcome_at(alloc: Global, server: &mut Server, codes: &[String]) -> Result<Outcome, Fail> {
     let client = server.open(alloc, Ipv4Addr::new(172, 16, 0, 9))?;
     let mut core = ReaderCore::new(alloc, plan_of(alloc, codes)?)?;
-    outcome_of(server, client, &mut core)
+    outcome_of(server, &client, &mut core)
 }
 
 /// What comes of the largest plan at a server that has all its stations.

@@ -20,7 +20,7 @@ use Rattle.session_state.specs.Sessions.{SessionValue}
 use Rattle.server_core.specs.declared.clients.Opened.{Opened}
 use Rattle.server_core.specs.declared.clients.Clients.{Clients}
 use Rattle.server_core.specs.Clients.{AreApart, AreBelow, AreRising, IsNumberAt, IsTable, in_slot, session_of}
-use Rattle.server_core.specs.Clients.{sessions_of, address_in, addresses_of, slot_in}
+use Rattle.server_core.specs.Clients.{sessions_of, address_in, addresses_of, owner_in, slot_in}
 use Rattle.server_core.specs.ServerValues.{AreSettled, IsSettled, OnlyGoesOn, SlotGoesOn, StayOpen, goes_on}
 use Rattle.server_core.specs.ServerValues.{open_client}
 use Rattle.server_core.proofs.NumberLemmas.{below-less, below-more, none-below, rising-less, rising-more, slot_in-below}
@@ -165,19 +165,6 @@ unfolding sessions_of
 sessions-counted c = length-map-range_with_len (session_of c.opened.items c.slots) 0 c.opens
 
 -- Where a client was looked for is no part of what its sessions are.
-pub near-table : (c : Clients) (at : ℕ) → IsTable c → IsTable (record c { near = at })
-near-table c at table = record {
-  rising = table.rising;
-  below = table.below;
-  apart = table.apart;
-  there = table.there;
-  numbered = table.numbered;
-}
-
-pub near-sessions : (c : Clients) (at : ℕ) → sessions_of (record c { near = at }) ≡ sessions_of c
-unfolding sessions_of
-near-sessions c at = refl
-
 -- Nor is how many more would fit.
 pub room-sessions : (c d : Clients) → d.opens ≡ c.opens → d.opened.items ≡ c.opened.items
     → d.slots.slots ≡ c.slots.slots → sessions_of d ≡ sessions_of c
@@ -190,24 +177,17 @@ room-sessions c d opens opened slots =
     (λ slot e. ap (λ (xs : List (Option SessionValue)). slice_index_or xs slot None) slots))
 
 pub room-table : (c d : Clients) → d.opens ≡ c.opens → d.opened.items ≡ c.opened.items → d.slots.slots ≡ c.slots.slots
-    → ((k slot : ℕ) → slot_in c.opened.items k ≡ Some slot → slice_get d.numbers.items slot ≡ Some k)
-    → IsTable c → IsTable d
-room-table c d opens opened slots numbered table = record {
+    → ((slot : ℕ) → owner_in d.numbers.items slot ≡ owner_in c.numbers.items slot) → IsTable c → IsTable d
+room-table c d opens opened slots numbers table = record {
   rising = subst AreRising (sym opened) table.rising;
   below = subst (λ os. AreBelow d.opens os) (sym opened)
       (subst (λ n. AreBelow n c.opened.items) (sym opens) table.below);
   apart = subst AreApart (sym opened) table.apart;
   there = λ k slot e. subst (λ (xs : List (Option SessionValue)). IsSome (slice_index_or xs slot None)) (sym slots)
       (table.there k slot (ap (λ os. slot_in os k) (sym opened) ∙ e));
-  numbered = λ k slot e. numbered k slot (ap (λ os. slot_in os k) (sym opened) ∙ e);
+  numbered = λ k slot e. numbers slot ∙ table.numbered k slot (ap (λ os. slot_in os k) (sym opened) ∙ e);
+  owned = λ k slot e. ap (λ os. slot_in os k) opened ∙ table.owned k slot (sym (numbers slot) ∙ e);
 }
-
--- A number that is put at a vacant slot leaves those of the open clients.
-pub numbers-kept : (c : Clients) (slot : ℕ) (new : List ℕ) → IsTable c → get c.slots slot ≡ None
-    → ((other k : ℕ) → other ≢ slot → slice_get c.numbers.items other ≡ Some k → slice_get new other ≡ Some k)
-    → (k s : ℕ) → slot_in c.opened.items k ≡ Some s → slice_get new s ≡ Some k
-numbers-kept c slot new table vacant others k s e =
-    others s k (vacant-apart c.slots s slot (table.there k s e) vacant) (table.numbered k s e)
 
 -- ---- the sessions in the slots are settled
 
@@ -262,6 +242,7 @@ written-table c new table kept =
       apart = table.apart;
       there = λ k slot e. kept slot (table.there k slot e);
       numbered = table.numbered;
+      owned = table.owned;
     }
 
 -- ---- one more
@@ -272,9 +253,8 @@ module _ (c new : Clients) (slot : ℕ) (address : Ipv4Addr) (s : SessionValue) 
 
   pub opens-table : IsTable c → new.opens ≡ c.opens + 1 → new.opened.items ≡ c.opened.items ++ one ∷ []
       → get c.slots slot ≡ None → Updates c.slots new.slots slot (Some s)
-      → slice_get new.numbers.items slot ≡ Some c.opens
-      → ((other k : ℕ) → other ≢ slot → slice_get c.numbers.items other ≡ Some k
-      → slice_get new.numbers.items other ≡ Some k)
+      → owner_in new.numbers.items slot ≡ Some c.opens
+      → ((other : ℕ) → other ≢ slot → owner_in new.numbers.items other ≡ owner_in c.numbers.items other)
       → IsTable new
   opens-table table opens opened vacant updates put kept = record {
     rising = subst AreRising (sym opened) (rising-more c.opened.items one table.below table.rising);
@@ -283,6 +263,7 @@ module _ (c new : Clients) (slot : ℕ) (address : Ipv4Addr) (s : SessionValue) 
     apart = subst AreApart (sym opened) apart;
     there = λ k s' e. there k s' (ap (λ os. slot_in os k) (sym opened) ∙ e);
     numbered = λ k s' e. numbered k s' (ap (λ os. slot_in os k) (sym opened) ∙ e);
+    owned = λ k s' e. ap (λ os. slot_in os k) opened ∙ owned k s' e;
   }
     where
       os : List Opened
@@ -318,13 +299,24 @@ module _ (c new : Clients) (slot : ℕ) (address : Ipv4Addr) (s : SessionValue) 
           (λ no. let was = table.there k s' (old-slot k s' (eqb-false c.opens k no) e) in
           subst IsSome (sym (updates.others s' (vacant-apart c.slots s' slot was vacant))) was)
 
-      numbered : (k s' : ℕ) → slot_in os k ≡ Some s' → slice_get new.numbers.items s' ≡ Some k
+      numbered : (k s' : ℕ) → slot_in os k ≡ Some s' → owner_in new.numbers.items s' ≡ Some k
       numbered k s' e =
           both (c.opens == k)
           (λ yes. let same = eqb-true c.opens k yes in
-          ap (slice_get new.numbers.items) (new-slot k s' same e) ∙ put ∙ ap Some same)
-          (λ no. numbers-kept c slot new.numbers.items table vacant kept k s'
-          (old-slot k s' (eqb-false c.opens k no) e))
+          ap (owner_in new.numbers.items) (new-slot k s' same e) ∙ put ∙ ap Some same)
+          (λ no. let was = old-slot k s' (eqb-false c.opens k no) e in
+          kept s' (vacant-apart c.slots s' slot (table.there k s' was) vacant) ∙ table.numbered k s' was)
+
+      owned : (k s' : ℕ) → owner_in new.numbers.items s' ≡ Some k → slot_in os k ≡ Some s'
+      owned k s' e =
+          both (s' == slot)
+          (λ yes. let here = eqb-true s' slot yes in
+          let is : Some c.opens ≡ Some k = sym put ∙ ap (owner_in new.numbers.items) (sym here) ∙ e in
+          let same : c.opens ≡ k = cc in
+          ap (slot_in os) (sym same) ∙ slot_in-new c.opened.items one table.below ∙ ap Some (sym here))
+          (λ no. let was = table.owned k s' (sym (kept s' (eqb-false s' slot no)) ∙ e) in
+          let lower = slot_in-below c.opens c.opened.items k s' table.below was in
+          slot_in-more c.opened.items one k (λ q. omega (arith, lower, q)) ∙ was)
 
   pub opens-sessions : IsTable c → new.opens ≡ c.opens + 1 → new.opened.items ≡ c.opened.items ++ one ∷ []
       → get c.slots slot ≡ None → Updates c.slots new.slots slot (Some s)
@@ -352,21 +344,19 @@ module _ (c new : Clients) (slot : ℕ) (address : Ipv4Addr) (s : SessionValue) 
 module _ (c new : Clients) (number at slot : ℕ) where
   pub closes-table : IsTable c → IsNumberAt c.opened.items number at → slot_in c.opened.items number ≡ Some slot
       → new.opens ≡ c.opens → new.opened.items ≡ remove c.opened.items at → Updates c.slots new.slots slot None
-      → new.numbers.items ≡ c.numbers.items → IsTable new
-  closes-table table is here opens opened updates numbers = record {
+      → owner_in new.numbers.items slot ≡ None
+      → ((other : ℕ) → other ≢ slot → owner_in new.numbers.items other ≡ owner_in c.numbers.items other) → IsTable new
+  closes-table table is here opens opened updates freed kept = record {
     rising = subst AreRising (sym opened) (rising-less c.opened.items at table.rising);
     below = subst (λ os. AreBelow new.opens os) (sym opened)
         (subst (λ n. AreBelow n (remove c.opened.items at)) (sym opens)
         (below-less c.opens c.opened.items at table.below));
     apart = subst AreApart (sym opened) (λ j k s' ej ek. table.apart j k s' (old-slot j s' ej) (old-slot k s' ek));
     there = λ k s' e. let e' = ap (λ os. slot_in os k) (sym opened) ∙ e in
-        subst IsSome
-        (sym
-        (updates.others s'
-        (λ same. other k s' e' (table.apart k number slot (old-slot k s' e' ∙ ap Some same) here))))
-        (table.there k s' (old-slot k s' e'));
-    numbered = λ k s' e. ap (λ ns. slice_get ns s') numbers
-        ∙ table.numbered k s' (old-slot k s' (ap (λ os. slot_in os k) (sym opened) ∙ e));
+        subst IsSome (sym (updates.others s' (elsewhere k s' e'))) (table.there k s' (old-slot k s' e'));
+    numbered = λ k s' e. let e' = ap (λ os. slot_in os k) (sym opened) ∙ e in
+        kept s' (elsewhere k s' e') ∙ table.numbered k s' (old-slot k s' e');
+    owned = λ k s' e. ap (λ os. slot_in os k) opened ∙ owned k s' e;
   }
     where
       other : (k s' : ℕ) → slot_in (remove c.opened.items at) k ≡ Some s' → k ≡ number → ⊥
@@ -376,6 +366,20 @@ module _ (c new : Clients) (number at slot : ℕ) where
 
       old-slot : (k s' : ℕ) → slot_in (remove c.opened.items at) k ≡ Some s' → slot_in c.opened.items k ≡ Some s'
       old-slot k s' e = sym (slot_in-less c.opened.items number at k (other k s' e) is) ∙ e
+
+      elsewhere : (k s' : ℕ) → slot_in (remove c.opened.items at) k ≡ Some s' → s' ≢ slot
+      elsewhere k s' e same = other k s' e (table.apart k number slot (old-slot k s' e ∙ ap Some same) here)
+
+      owned : (k s' : ℕ) → owner_in new.numbers.items s' ≡ Some k → slot_in (remove c.opened.items at) k ≡ Some s'
+      owned k s' e =
+          both (s' == slot)
+          (λ yes. absurd (let q : None ≡ Some k = sym freed
+          ∙ ap (owner_in new.numbers.items) (sym (eqb-true s' slot yes)) ∙ e in cc))
+          (λ no. let apart = eqb-false s' slot no in
+          let was = table.owned k s' (sym (kept s' apart) ∙ e) in
+          slot_in-less c.opened.items number at k
+          (λ same. apart (let q : Some s' ≡ Some slot = sym was ∙ ap (slot_in c.opened.items) same ∙ here in cc)) is
+          ∙ was)
 
   pub closes-sessions : IsTable c → IsNumberAt c.opened.items number at → slot_in c.opened.items number ≡ Some slot
       → new.opens ≡ c.opens → new.opened.items ≡ remove c.opened.items at → Updates c.slots new.slots slot None

@@ -1,7 +1,7 @@
 -- The open clients of a server: their numbers, and the slots in which their sessions are. A slot is used again, a
 -- number never. This project's own.
 use Rattle.std.specs.Prelude.{◌≡◌, ℕ, ◌<◌, ◌==◌, if◌then◌else◌, List, [], ◌∷◌, map, length, Option, Some, None, IsSome}
-use Rattle.std.specs.Prelude.{slice_get, slice_index_or}
+use Rattle.std.specs.Prelude.{slice_index_or}
 use Rattle.std.specs.List.{range_with_len}
 use Rattle.std.specs.Net.Addr.{ipv4_bits}
 use Rattle.slab.specs.Slab.{Slab, get}
@@ -68,11 +68,21 @@ pub record IsNumberAt (os : List Opened) (number at : ℕ) : Type 0 where
 abbrev pub AreApart : List Opened → Type 0
 AreApart os = (j k slot : ℕ) → slot_in os j ≡ Some slot → slot_in os k ≡ Some slot → j ≡ k
 
--- Numbers rise, each below the next one that is given; and each has a slot of its own, in which a session is, and at
--- which the number stands.
+-- the client whose session is in a slot, if there is one
+abbrev pub owner_in : List (Option ℕ) → ℕ → Option ℕ
+owner_in numbers slot = slice_index_or numbers slot None
+
+-- a client, if there is one, as a list
+abbrev pub listed : Option ℕ → List ℕ
+listed None = []
+listed (Some k) = k ∷ []
+
+-- Numbers rise, each below the next one that is given; each has a slot of its own, in which a session is; and a number
+-- stands at a slot exactly if that is its client's.
 pub record IsTable (c : Clients) : Type 0 where
   pub rising : AreRising c.opened.items
   pub below : AreBelow c.opens c.opened.items
   pub apart : AreApart c.opened.items
   pub there : (k slot : ℕ) → slot_in c.opened.items k ≡ Some slot → IsSome (get c.slots slot)
-  pub numbered : (k slot : ℕ) → slot_in c.opened.items k ≡ Some slot → slice_get c.numbers.items slot ≡ Some k
+  pub numbered : (k slot : ℕ) → slot_in c.opened.items k ≡ Some slot → owner_in c.numbers.items slot ≡ Some k
+  pub owned : (k slot : ℕ) → owner_in c.numbers.items slot ≡ Some k → slot_in c.opened.items k ≡ Some slot

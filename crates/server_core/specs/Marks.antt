@@ -154,3 +154,9 @@ pub record IsAmong (k : ℕ) (ks : List ℕ) : Type 0 where
   pub place : ℕ
   pub inside : place < length ks
   pub is : slice_index_or ks place 0 ≡ k
+
+-- The number is that of an open client in whose slot the bit is set.
+pub record IsSetIn (os : List Opened) (row : Row) (k : ℕ) : Type 0 where
+  pub slot : ℕ
+  pub has_slot : slot_in os k ≡ Some slot
+  pub is_set : bit_of row slot ≡ true

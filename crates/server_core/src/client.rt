@@ -6,10 +6,12 @@ use protocol::reason::Reason;
 use std::marker::Model;
 
 /// A client of a server: how many opened before it. No server gives a number twice, and one that closed has it for
-/// good.
-#[derive(Clone, Copy)]
+/// good. Contracts see the number alone. Beside it stands the slot in which the client's session should be, so that a
+/// call compares one number and searches for none. A client whose slot is another one's by now is found by its number.
+#[derive(Drop)]
 pub struct Client {
     number: usize,
+    slot: usize,
 }
 
 impl Model for Client {
@@ -18,22 +20,40 @@ impl Model for Client {
     ghost Value = { ℕ };
 
     ghost view = { λ c. c.number };
-
-    ghost inverse = { λ n. record { number = n } };
 }
 
 impl Client {
-    pub(crate) fn new(number: usize) -> Client
+    /// The client with a number, whose session should be in a slot.
+    pub(crate) fn new(number: usize, slot: usize) -> Client
         ensures { result ≡ number }
     {
-        Client { number }
+        Client { number, slot }
+    }
+
+    /// The client with a number. Its slot is a guess: clients are in slots by their numbers until the first one closes.
+    pub(crate) fn numbered(number: usize) -> Client
+        ensures { result ≡ number }
+    {
+        Client::new(number, number)
+    }
+
+    /// The same client.
+    pub fn same(&self) -> Client
+        ensures { result ≡ self.now }
+    {
+        Client::new(self.number, self.slot)
     }
 
     /// Its number.
-    pub fn number(self) -> usize
-        ensures { result ≡ self }
+    pub fn number(&self) -> usize
+        ensures { result ≡ self.now }
     {
         self.number
+    }
+
+    /// The slot in which its session should be.
+    pub(crate) fn slot(&self) -> usize {
+        self.slot
     }
 }
 

@@ -1,12 +1,12 @@
 //! The open clients of a server: their numbers, and the slots in which their sessions are.
 ghost use Rattle.std.specs.Prelude.{◌≡◌, ◌≢◌, ◌+◌, ℕ, ◌∷◌, ◌++◌, [], IfOk, OnOk, OnErr, IfSome, Some, None, true};
-ghost use Rattle.std.specs.Prelude.{is_some};
-ghost use Rattle.std.specs.Prelude.{slice_get, slice_set};
+ghost use Rattle.std.specs.Prelude.{◌<◌, is_some, length, slice_set};
 ghost use Rattle.std.specs.Net.Addr.{ipv4_bits};
 ghost use Rattle.slab.specs.Slab.{get, Updates};
 ghost use Rattle.protocol.specs.Catalog.{Config as ProtocolConfig};
 ghost use Rattle.station_ring.specs.HeldRecords.{RingsValue};
 ghost use Rattle.server_core.specs.Rows.{bit_of};
+ghost use Rattle.server_core.specs.Clients.{AreRising, IsNumberAt, listed, owner_in, slot_in};
 ghost use Rattle.server_core.specs.Marks.{IsAmong};
 
 use crate::client::Client;
@@ -15,8 +15,6 @@ use session_state::Session;
 use slab::Slab;
 use std::alloc::{AllocError, Global};
 use std::net::Ipv4Addr;
-
-mod finding;
 
 /// The number of an open client, the slot in which its session is, and the address from which it came.
 #[derive(Clone, Copy)]
@@ -33,31 +31,59 @@ pub struct Clients {
     pub opens: usize,
     /// The open ones, by rising number.
     pub opened: Vec<Opened>,
-    /// The place among them at which one was found last.
-    pub near: usize,
     /// Their sessions.
     pub slots: Slab<Session>,
-    /// At each slot the number of the client whose session is there, or was last.
-    pub numbers: Vec<usize>,
+    /// At each slot the number of the client whose session is there.
+    pub numbers: Vec<Option<usize>>,
 }
 
-/// The client in a slot has a number from now on. It fails where there is no room for it, and then no other changes.
-fn put_number(numbers: &mut Vec<usize>, slot: usize, number: usize) -> Result<(), AllocError>
-    ensures put { OnOk result (slice_get numbers.new.items slot ≡ Some number) }
-    ensures others { (other k : ℕ) → other ≢ slot → slice_get numbers.old.items other ≡ Some k →
-        slice_get numbers.new.items other ≡ Some k }
+/// Makes room for the number at a slot. It fails only for want of memory, and all numbers stay either way.
+fn make_room(numbers: &mut Vec<Option<usize>>, slot: usize) -> Result<(), AllocError>
+    ensures room { OnOk result (slot < length numbers.new.items) }
+    ensures kept { (other : ℕ) → owner_in numbers.new.items other ≡ owner_in numbers.old.items other }
 {
     if slot < numbers.len() {
-        numbers[slot] = number;
         return Ok(());
     }
-    numbers.resize(slot, 0)?;
-    numbers.push(number)?;
+    numbers.resize(slot, None)?;
+    numbers.push(None)?;
+    Ok(())
+}
+
+/// Whether the session in a slot is that of the client with a number.
+fn is_owner(numbers: &[Option<usize>], slot: usize, number: usize) -> bool
+    ensures { result ≡ true → owner_in numbers.now slot ≡ Some number }
+{
+    match numbers.get(slot) {
+        Some(Some(owner)) => *owner == number,
+        Some(None) => false,
+        None => false,
+    }
+}
+
+/// The place of an open client by its number, found by halving.
+fn place_of(opened: &[Opened], number: usize) -> Option<usize>
+    requires { AreRising opened.now }
+    ensures found { IfSome result (λ at. IsNumberAt opened.now number at) }
+    ensures absent { result ≡ None → slot_in opened.now number ≡ None }
+{
+    opened.binary_search_by_key(&number, |one| one.number).ok()
+}
+
+/// The client in a slot, if there is one, is put to some.
+fn add_owner(some: &mut Vec<Client>, slot: usize, owner: Option<usize>) -> Result<(), AllocError>
+    ensures ok { OnOk result (some.new.items ≡ some.old.items ++ listed owner) }
+    ensures err { OnErr result (some.new.items ≡ some.old.items) }
+{
+    if let Some(number) = owner {
+        some.push(Client::new(number, slot))?;
+    }
     Ok(())
 }
 
 impl Clients {
-    ghost use Rattle.server_core.specs.Clients.{IsTable, slot_in, session_of, sessions_of, addresses_of};
+    ghost use Rattle.server_core.specs.Clients.{IsTable, session_of, sessions_of, addresses_of};
+    ghost use Rattle.server_core.specs.Marks.{IsSetIn};
     ghost use Rattle.server_core.specs.ServerValues.{AreSettled, IsSettled};
 
     /// No client.
@@ -71,47 +97,38 @@ impl Clients {
         Clients {
             opens: 0,
             opened: Vec::new(alloc),
-            near: 0,
             slots: Slab::new(alloc),
             numbers: Vec::new(alloc),
         }
     }
 
-    /// The slot of a client's session, while it is open.
-    pub fn slot_of(&self, number: usize) -> Option<usize>
+    /// The slot of a client's session, while it is open: the one that the client says, if its number stands there.
+    pub fn slot_of(&self, client: &Client) -> Option<usize>
         requires { IsTable self.now }
-        ensures { result ≡ slot_in self.now.opened.items number }
+        ensures { result ≡ slot_in self.now.opened.items client.now }
     {
-        let at = finding::place_of(self.opened.as_slice(), self.near, number)?;
+        let number = client.number();
+        let slot = client.slot();
+        if is_owner(self.numbers.as_slice(), slot, number) {
+            return Some(slot);
+        }
+        let at = place_of(self.opened.as_slice(), number)?;
         Some(self.opened[at].slot)
     }
 
-    /// The same, and what is asked for next is looked for from there on.
-    pub fn seek(&mut self, number: usize) -> Option<usize>
-        requires { IsTable self.old }
-        ensures table { IsTable self.new }
-        ensures slot { result ≡ slot_in self.new.opened.items number }
-        ensures sessions { sessions_of self.new ≡ sessions_of self.old }
-        ensures addresses { addresses_of self.new ≡ addresses_of self.old }
-        ensures slots { self.new.slots ≡ self.old.slots }
-        ensures numbers { (self.new.opens ≡ self.old.opens) × (self.new.opened.items ≡ self.old.opened.items) }
-    {
-        let at = finding::place_of(self.opened.as_slice(), self.near, number)?;
-        self.near = at;
-        Some(self.opened[at].slot)
-    }
-
-    /// The open clients in the slots whose bit is set are added to some, with some that closed perhaps. It fails only
-    /// where there is no room for them.
-    pub fn add_set(&self, row: &Row, some: &mut Vec<Client>) -> Result<(), AllocError>
+    /// The open clients in the slots whose bit is set, and no others, stand in a list from now on. It fails only for
+    /// want of memory.
+    pub fn list_set(&self, row: &Row, some: &mut Vec<Client>) -> Result<(), AllocError>
         requires { IsTable self.now }
-        ensures { OnOk result ((k slot : ℕ) → slot_in self.now.opened.items k ≡ Some slot → bit_of row.now slot ≡ true
-            → IsAmong k some.new.items) }
+        ensures all { OnOk result ((k slot : ℕ) → slot_in self.now.opened.items k ≡ Some slot
+            → bit_of row.now slot ≡ true → IsAmong k some.new.items) }
+        ensures only { (k : ℕ) → IsAmong k some.new.items → IsSetIn self.now.opened.items row.now k }
     {
+        some.clear();
         let end = self.numbers.len();
         let mut slot = row.next_set(0, end);
         'slots: while slot < end {
-            some.push(Client::new(self.numbers[slot]))?;
+            add_owner(some, slot, self.numbers[slot])?;
             slot = row.next_set(slot + 1, end);
         }
         Ok(())
@@ -127,10 +144,10 @@ impl Clients {
 
     /// One more client opens with its session, from an address, and has the next number. It fails where memory lacks,
     /// or once 2^64 - 1 clients opened, and then no client changes.
-    pub fn open(&mut self, session: Session, address: Ipv4Addr) -> Result<usize, AllocError>
+    pub fn open(&mut self, session: Session, address: Ipv4Addr) -> Result<Client, AllocError>
         requires { IsTable self.old }
         ensures table { IsTable self.new }
-        ensures number { IfOk result (λ number. number ≡ self.old.opens) }
+        ensures number { IfOk result (λ client. client ≡ self.old.opens) }
         ensures opened { OnOk result (sessions_of self.new ≡ sessions_of self.old ++ Some session ∷ []) }
         ensures came { OnOk result (addresses_of self.new ≡ addresses_of self.old ++ Some (ipv4_bits address) ∷ []) }
         ensures err { OnErr result (sessions_of self.new ≡ sessions_of self.old) }
@@ -151,15 +168,16 @@ impl Clients {
         }
         self.slots.reserve(1)?;
         let slot = self.slots.vacant_key();
-        put_number(&mut self.numbers, slot, number)?;
+        make_room(&mut self.numbers, slot)?;
         self.opened.push(Opened {
             number,
             slot,
             address,
         })?;
         let _slot = self.slots.insert_reserved(session);
+        self.numbers[slot] = Some(number);
         self.opens = number + 1;
-        Ok(number)
+        Ok(Client::new(number, slot))
     }
 
     /// A client is gone, and its slot is free. It answers the slot, where the client was open.
@@ -178,8 +196,9 @@ impl Clients {
         ensures settled { (config : ProtocolConfig) (rings : RingsValue) → AreSettled config rings self.old.slots →
             AreSettled config rings self.new.slots }
     {
-        let at = finding::place_of(self.opened.as_slice(), self.near, number)?;
+        let at = place_of(self.opened.as_slice(), number)?;
         let gone = self.opened.remove(at);
+        self.numbers[gone.slot] = None;
         let _session = self.slots.try_remove(gone.slot);
         Some(gone.slot)
     }

@@ -50,13 +50,13 @@ pub struct Handed {
 fn front(
     alloc: Global,
     server: &Server,
-    client: Client,
+    client: &Client,
     count: usize,
 ) -> Result<Vec<u8>, AllocError>
-    ensures session { IfOk result (λ bytes. (s : SessionValue) → slice_get server.now.sessions client ≡ Some (Some s) →
-        bytes.items ≡ first count s.waiting) }
+    ensures session { IfOk result (λ bytes. (s : SessionValue) → slice_get server.now.sessions client.now
+        ≡ Some (Some s) → bytes.items ≡ first count s.waiting) }
     ensures answer { IfOk result (λ bytes. (config : ProtocolConfig) (w : World) → StandsAt server.now config w →
-        bytes.items ≡ first_waiting count (client_of (slice_get w.connections client))) }
+        bytes.items ≡ first_waiting count (client_of (slice_get w.connections client.now))) }
 {
     let Ok(waiting) = server.waiting(client) else {
         return Ok(Vec::new(alloc));
@@ -82,13 +82,13 @@ fn is_over(found: Result<Offer, Gone>) -> bool
 fn take(
     alloc: Global,
     server: &mut Server,
-    client: Client,
+    client: &Client,
     count: usize,
 ) -> Result<Handed, AllocError>
     ensures stands { OnOk result ((config : ProtocolConfig) (w : World) → StandsAt server.old config w →
-        StandsAt server.new config (step config w (Take client count))) }
+        StandsAt server.new config (step config w (Take client.now count))) }
     ensures handed { IfOk result (λ x. (config : ProtocolConfig) (w : World) → StandsAt server.old config w →
-        handed_value x ≡ told client (taken_by w.history (client_of (slice_get w.connections client)) count)) }
+        handed_value x ≡ told client.now (taken_by w.history (client_of (slice_get w.connections client.now)) count)) }
 {
     let found = server.offer(client);
     let bytes = front(alloc, server, client, count)?;
@@ -120,16 +120,16 @@ fn act(
             Ok(())
         }
         Event::Bytes(client, bytes) => {
-            let _ = server.receive(Client::new(*client), bytes.as_slice());
+            let _ = server.receive(&Client::numbered(*client), bytes.as_slice());
             Ok(())
         }
         Event::Take(client, count) => {
-            let handed = take(alloc, server, Client::new(*client), *count)?;
+            let handed = take(alloc, server, &Client::numbered(*client), *count)?;
             out.push(handed)?;
             Ok(())
         }
         Event::Close(client) => {
-            let _ = server.close(Client::new(*client));
+            let _ = server.close(&Client::numbered(*client));
             Ok(())
         }
         Event::Arrive(bytes) => {

@@ -92,14 +92,14 @@ impl Server {
         let view = self.config.view(alloc, address)?;
         let session = Session::new(alloc, view)?;
         self.marks.reserve(self.clients.next_slot())?;
-        let number = self.clients.open(session, address)?;
-        Ok(Client::new(number))
+        let client = self.clients.open(session, address)?;
+        Ok(client)
     }
 
     /// How many bytes a client may send: 1,024 less the unread ones.
-    pub fn room(&self, client: Client) -> Result<usize, Gone>
+    pub fn room(&self, client: &Client) -> Result<usize, Gone>
         ensures { (config : ProtocolConfig) (w : World) → StandsAt self.now config w
-            → result_ok result ≡ option_map room_of (client_of (slice_get w.connections client)) }
+            → result_ok result ≡ option_map room_of (client_of (slice_get w.connections client.now)) }
     {
         match self.session(client) {
             Some(session) => Ok(session.room()),
@@ -109,14 +109,14 @@ impl Server {
 
     /// Bytes come from a client, and its lines are obeyed as far as they may be. Bytes that do not fit are refused as a
     /// whole, and nothing changes. In its end they are taken and dropped.
-    pub fn receive(&mut self, client: Client, bytes: &[u8]) -> Result<(), Refusal>
+    pub fn receive(&mut self, client: &Client, bytes: &[u8]) -> Result<(), Refusal>
         ensures stands { (config : ProtocolConfig) (w : World) → StandsAt self.old config w
-            → StandsAt self.new config (step config w (Bytes client bytes.now)) }
+            → StandsAt self.new config (step config w (Bytes client.now bytes.now)) }
         ensures answer { (config : ProtocolConfig) (w : World) → StandsAt self.old config w
-            → result ≡ receipt (length bytes.now) (client_of (slice_get w.connections client)) }
-        ensures others { LeavesOthers client self.old self.new }
+            → result ≡ receipt (length bytes.now) (client_of (slice_get w.connections client.now)) }
+        ensures others { LeavesOthers client.now self.old self.new }
     {
-        match self.clients.seek(client.number()) {
+        match self.clients.slot_of(client) {
             Some(slot) => slots::receive_in(
                 &self.config,
                 &self.rings,
@@ -131,16 +131,16 @@ impl Server {
 
     /// Where nothing waits for a client, what comes next is made to wait, and stays until it is taken. It answers
     /// whether bytes wait then, or the client's connection is over, or neither.
-    pub fn offer(&mut self, client: Client) -> Result<Offer, Gone>
+    pub fn offer(&mut self, client: &Client) -> Result<Offer, Gone>
         ensures stands { (config : ProtocolConfig) (w : World) → StandsAt self.old config w
-            → StandsAt self.new config (step config w (Take client 0)) }
+            → StandsAt self.new config (step config w (Take client.now 0)) }
         ensures answer { (config : ProtocolConfig) (w : World) → StandsAt self.old config w
             → result_ok result ≡ option_map (λ c. offer_of (offered w.history c))
-            (client_of (slice_get w.connections client)) }
-        ensures unmarked { result ≡ Ok Idle → mark_at self.new client ≡ Some false }
-        ensures others { LeavesOthers client self.old self.new }
+            (client_of (slice_get w.connections client.now)) }
+        ensures unmarked { result ≡ Ok Idle → mark_at self.new client.now ≡ Some false }
+        ensures others { LeavesOthers client.now self.old self.new }
     {
-        match self.clients.seek(client.number()) {
+        match self.clients.slot_of(client) {
             Some(slot) => slots::offer_in(
                 &self.config,
                 &self.rings,
@@ -155,14 +155,14 @@ impl Server {
     /// Whether an offer to a client may find something. Where it says no, an offer finds nothing and changes nothing. A
     /// record that arrives marks the clients in a transfer with a request for its station, what a client sends and what
     /// it was handed marks that client, and an offer that finds nothing takes the mark away.
-    pub fn marked(&self, client: Client) -> Result<bool, Gone>
-        ensures value { result_ok result ≡ mark_at self.now client }
+    pub fn marked(&self, client: &Client) -> Result<bool, Gone>
+        ensures value { result_ok result ≡ mark_at self.now client.now }
         ensures open { (config : ProtocolConfig) (w : World) → StandsAt self.now config w →
-            is_ok result ≡ is_some (client_of (slice_get w.connections client)) }
+            is_ok result ≡ is_some (client_of (slice_get w.connections client.now)) }
         ensures spared { result ≡ Ok false → (config : ProtocolConfig) (w : World) → StandsAt self.now config w →
-            IsSpared config w client }
+            IsSpared config w client.now }
     {
-        match self.clients.slot_of(client.number()) {
+        match self.clients.slot_of(client) {
             Some(slot) => Ok(self.marks.is_marked(slot)),
             None => Err(Gone),
         }
@@ -178,28 +178,30 @@ impl Server {
         let _ = &self.clients;
     }
 
-    /// All clients that are marked are added to some. It fails only where there is no room for them.
+    /// All clients that are marked, and no others, stand in a list from now on. It fails only for want of memory, and
+    /// then some of them stand in it.
     pub fn marked_clients(&self, some: &mut Vec<Client>) -> Result<(), AllocError>
-        ensures { OnOk result ((k : ℕ) → mark_at self.now k ≡ Some true → IsAmong k some.new.items) }
+        ensures all { OnOk result ((k : ℕ) → mark_at self.now k ≡ Some true → IsAmong k some.new.items) }
+        ensures only { (k : ℕ) → IsAmong k some.new.items → mark_at self.now k ≡ Some true }
     {
-        self.clients.add_set(&self.marks.marked, some)
+        self.clients.list_set(&self.marks.marked, some)
     }
 
     /// Whether an offer to a client would find something: bytes, or that the connection is over. It is no event: the
     /// server stands for what it stood for, with the same marks. A client that is not marked is answered without a look
     /// at what is held, and for another no record is looked at twice that it doesn't want.
-    pub fn ready(&mut self, client: Client) -> Result<bool, Gone>
+    pub fn ready(&mut self, client: &Client) -> Result<bool, Gone>
         ensures stands { (config : ProtocolConfig) (w : World) → StandsAt self.old config w →
             StandsAt self.new config w }
         ensures answer { (config : ProtocolConfig) (w : World) → StandsAt self.old config w → result_ok result
             ≡ option_map (λ c. not (is_idle (offer_of (offered w.history c))))
-            (client_of (slice_get w.connections client)) }
+            (client_of (slice_get w.connections client.now)) }
         ensures spared { result ≡ Ok false → (config : ProtocolConfig) (w : World) → StandsAt self.old config w →
-            IsSpared config w client }
+            IsSpared config w client.now }
         ensures marks { self.new.marks ≡ self.old.marks }
-        ensures others { LeavesOthers client self.old self.new }
+        ensures others { LeavesOthers client.now self.old self.new }
     {
-        match self.clients.seek(client.number()) {
+        match self.clients.slot_of(client) {
             Some(slot) => slots::is_ready_in(
                 &self.config,
                 &self.rings,
@@ -212,12 +214,12 @@ impl Server {
     }
 
     /// The bytes that wait for a client.
-    pub fn waiting(&self, client: Client) -> Result<&[u8], Gone>
-        ensures session { (s : SessionValue) → slice_get self.now.sessions client ≡ Some (Some s)
+    pub fn waiting(&self, client: &Client) -> Result<&[u8], Gone>
+        ensures session { (s : SessionValue) → slice_get self.now.sessions client.now ≡ Some (Some s)
             → option_map (λ bytes. bytes.now) (result_ok result) ≡ Some s.waiting }
         ensures answer { (config : ProtocolConfig) (w : World) → StandsAt self.now config w
             → option_map (λ bytes. bytes.now) (result_ok result)
-            ≡ option_map (λ c. c.waiting) (client_of (slice_get w.connections client)) }
+            ≡ option_map (λ c. c.waiting) (client_of (slice_get w.connections client.now)) }
     {
         match self.session(client) {
             Some(session) => Ok(session.waiting()),
@@ -227,15 +229,15 @@ impl Server {
 
     /// The first bytes that wait for a client, 1 to all of them, were handed. When none is left, its further lines are
     /// obeyed.
-    pub fn took(&mut self, client: Client, count: usize) -> Result<(), Gone>
-        requires { MayTake self.old client count }
+    pub fn took(&mut self, client: &Client, count: usize) -> Result<(), Gone>
+        requires { MayTake self.old client.now count }
         ensures stands { (config : ProtocolConfig) (w : World) → StandsAt self.old config w
-            → StandsAt self.new config (step config w (Take client count)) }
+            → StandsAt self.new config (step config w (Take client.now count)) }
         ensures answer { (config : ProtocolConfig) (w : World) → StandsAt self.old config w
-            → is_ok result ≡ is_some (client_of (slice_get w.connections client)) }
-        ensures others { LeavesOthers client self.old self.new }
+            → is_ok result ≡ is_some (client_of (slice_get w.connections client.now)) }
+        ensures others { LeavesOthers client.now self.old self.new }
     {
-        match self.clients.seek(client.number()) {
+        match self.clients.slot_of(client) {
             Some(slot) => slots::took_in(
                 &self.config,
                 &self.rings,
@@ -250,17 +252,17 @@ impl Server {
 
     /// The first bytes that wait for a client, 1 to all of them, were handed, and what comes next is made to wait: what
     /// `took` and then `offer` do, of which the latter answers, in one look at the client.
-    pub fn go_on(&mut self, client: Client, count: usize) -> Result<Offer, Gone>
-        requires { MayTake self.old client count }
+    pub fn go_on(&mut self, client: &Client, count: usize) -> Result<Offer, Gone>
+        requires { MayTake self.old client.now count }
         ensures stands { (config : ProtocolConfig) (w : World) → StandsAt self.old config w
-            → StandsAt self.new config (step config (step config w (Take client count)) (Take client 0)) }
+            → StandsAt self.new config (step config (step config w (Take client.now count)) (Take client.now 0)) }
         ensures answer { (config : ProtocolConfig) (w : World) → StandsAt self.old config w
             → result_ok result ≡ option_map (λ c. offer_of (offered w.history c))
-            (client_of (slice_get (step config w (Take client count)).connections client)) }
-        ensures unmarked { result ≡ Ok Idle → mark_at self.new client ≡ Some false }
-        ensures others { LeavesOthers client self.old self.new }
+            (client_of (slice_get (step config w (Take client.now count)).connections client.now)) }
+        ensures unmarked { result ≡ Ok Idle → mark_at self.new client.now ≡ Some false }
+        ensures others { LeavesOthers client.now self.old self.new }
     {
-        match self.clients.seek(client.number()) {
+        match self.clients.slot_of(client) {
             Some(slot) => slots::go_on_in(
                 &self.config,
                 &self.rings,
@@ -342,12 +344,12 @@ impl Server {
     }
 
     /// A client's connection ends, and the client is gone for good.
-    pub fn close(&mut self, client: Client) -> Result<(), Gone>
+    pub fn close(&mut self, client: &Client) -> Result<(), Gone>
         ensures stands { (config : ProtocolConfig) (w : World) → StandsAt self.old config w
-            → StandsAt self.new config (step config w (Close client)) }
+            → StandsAt self.new config (step config w (Close client.now)) }
         ensures answer { (config : ProtocolConfig) (w : World) → StandsAt self.old config w
-            → is_ok result ≡ is_some (client_of (slice_get w.connections client)) }
-        ensures others { LeavesOthers client self.old self.new }
+            → is_ok result ≡ is_some (client_of (slice_get w.connections client.now)) }
+        ensures others { LeavesOthers client.now self.old self.new }
     {
         match self.clients.close(client.number()) {
             Some(slot) => {
@@ -388,10 +390,10 @@ impl Server {
     }
 
     /// The session of a client, while it is open.
-    fn session(&self, client: Client) -> Option<&Session>
-        ensures { option_map (λ session. session.now) result ≡ slice_index_or self.now.sessions client None }
+    fn session(&self, client: &Client) -> Option<&Session>
+        ensures { option_map (λ session. session.now) result ≡ slice_index_or self.now.sessions client.now None }
     {
-        let slot = self.clients.slot_of(client.number())?;
+        let slot = self.clients.slot_of(client)?;
         self.clients.slots.get(slot)
     }
 }

@@ -9,26 +9,26 @@ use Rattle.event_loop.proofs.passes.hand.Goals as goal
 
 pub returns-in-Idle-clause-hands : goal.returns-in-Idle-clause-hands
 returns-in-Idle-clause-hands g c = λ t config w offers.
-    write-idle config w c.args.client
+    write-idle config w c.args.client.now
     (g.P.Ports.calls c.args.ports.now) c.args.server.now t c.args.seat.now c.requires.writable
     (sym (ap result_ok (c.in-Ok.is ∙ ap Ok c.in-Idle.is)) ∙ offers.answer)
     offers.stands
 
 pub returns-in-Ended-clause-hands : goal.returns-in-Ended-clause-hands
 returns-in-Ended-clause-hands g c = λ t config w offers.
-    write-ended config w c.args.client (g.P.Ports.calls c.args.ports.now)
+    write-ended config w c.args.client.now (g.P.Ports.calls c.args.ports.now)
     (g.P.Ports.calls c.shut-in-Ended.new.ports) c.args.server.now c.shut-in-Ended.new.server t c.args.seat.now
     c.requires.writable
-    (ended-over w c.args.client (sym (ap result_ok (c.in-Ok.is ∙ ap Ok c.in-Ended.is))
+    (ended-over w c.args.client.now (sym (ap result_ok (c.in-Ok.is ∙ ap Ok c.in-Ended.is))
     ∙ offers.answer))
     offers.stands c.shut-in-Ended.ensures.call c.shut-in-Ended.ensures.stands
 
 pub returns-in_default-clause-hands : goal.returns-in_default-clause-hands
 returns-in_default-clause-hands g c = λ t config w offers.
-    write-ended config w c.args.client (g.P.Ports.calls c.args.ports.now)
+    write-ended config w c.args.client.now (g.P.Ports.calls c.args.ports.now)
     (g.P.Ports.calls c.shut.new.ports) c.args.server.now c.shut.new.server t c.args.seat.now
     c.requires.writable
-    (gone-over w c.args.client (sym (ap result_ok c.in_default.is) ∙ offers.answer))
+    (gone-over w c.args.client.now (sym (ap result_ok c.in_default.is) ∙ offers.answer))
     offers.stands c.shut.ensures.call c.shut.ensures.stands
 
 pub returns-then-is_empty-clause-hands : goal.returns-then-is_empty-clause-hands
@@ -39,7 +39,7 @@ returns-then-is_empty-clause-hands g c = λ t config w offers.
     let waits = sym (ap (λ r. option_map (λ bytes. bytes.now) (result_ok r)) c.in-Ok-waiting.is)
     ∙ c.waiting.ensures.answer config _ at in
     let none : length c.in-Ok-waiting.bytes.now ≡ 0 = search rules in
-    absurd (never-empty config w c.args.client c.in-Ok-waiting.bytes.now found waits none)
+    absurd (never-empty config w c.args.client.now c.in-Ok-waiting.bytes.now found waits none)
 
 pub returns-in-Err-clause-hands : goal.returns-in-Err-clause-hands
 returns-in-Err-clause-hands g c = λ t config w offers.
@@ -48,7 +48,7 @@ returns-in-Err-clause-hands g c = λ t config w offers.
     ∙ offers.answer in
     let waits = sym (ap (λ r. option_map (λ bytes. bytes.now) (result_ok r)) c.in-Err.is)
     ∙ c.waiting.ensures.answer config _ at in
-    absurd (never-gone config w c.args.client found waits)
+    absurd (never-gone config w c.args.client.now found waits)
 
 pub returns-then-count-eq0-clause-hands : goal.returns-then-count-eq0-clause-hands
 returns-then-count-eq0-clause-hands g c = λ t config w offers.
@@ -57,10 +57,10 @@ returns-then-count-eq0-clause-hands g c = λ t config w offers.
     ∙ offers.answer in
     let waits = sym (ap (λ r. option_map (λ bytes. bytes.now) (result_ok r)) c.in-Ok-waiting.is)
     ∙ c.waiting.ensures.answer config _ at in
-    let lent = lent-waiting config w c.args.client c.in-Ok-waiting.bytes.now waits in
+    let lent = lent-waiting config w c.args.client.now c.in-Ok-waiting.bytes.now waits in
     let some : 0 < length c.in-Ok-waiting.bytes.now = search rules in
     let is : c.write.result ≡ Ok (Took 0) = c.in-Ok-write.is ∙ ap Ok (c.in-Took.is ∙ ap Took c.if-count-eq0.true) in
-    write-none config w c.args.client c.in-Ok-waiting.bytes.now (g.P.Ports.calls c.args.ports.now)
+    write-none config w c.args.client.now c.in-Ok-waiting.bytes.now (g.P.Ports.calls c.args.ports.now)
     (g.P.Ports.calls c.write.new.self) c.args.server.now t c.args.seat.now
     (record { role = c.requires.role; writable = c.requires.writable; some = some; all = lent })
     (subst
@@ -72,7 +72,7 @@ returns-else-count-eq0-clause-hands g c = λ t config w offers.
     let at = offers.stands in
     let waits = sym (ap (λ r. option_map (λ bytes. bytes.now) (result_ok r)) c.in-Ok-waiting.is)
     ∙ c.waiting.ensures.answer config _ at in
-    let lent = lent-waiting config w c.args.client c.in-Ok-waiting.bytes.now waits in
+    let lent = lent-waiting config w c.args.client.now c.in-Ok-waiting.bytes.now waits in
     let some : 0 < length c.in-Ok-waiting.bytes.now = search rules in
     let is : c.write.result ≡ Ok (Took c.in-Took.count) = c.in-Ok-write.is ∙ ap Ok c.in-Took.is in
     let fits : c.in-Took.count ≤ length c.in-Ok-waiting.bytes.now =
@@ -96,10 +96,10 @@ returns-in-Later-clause-hands g c = λ t config w offers.
     ∙ offers.answer in
     let waits = sym (ap (λ r. option_map (λ bytes. bytes.now) (result_ok r)) c.in-Ok-waiting.is)
     ∙ c.waiting.ensures.answer config _ at in
-    let lent = lent-waiting config w c.args.client c.in-Ok-waiting.bytes.now waits in
+    let lent = lent-waiting config w c.args.client.now c.in-Ok-waiting.bytes.now waits in
     let some : 0 < length c.in-Ok-waiting.bytes.now = search rules in
     let is : c.write.result ≡ Ok Later = c.in-Ok-write.is ∙ ap Ok c.in-Later.is in
-    write-later config w c.args.client c.in-Ok-waiting.bytes.now (g.P.Ports.calls c.args.ports.now)
+    write-later config w c.args.client.now c.in-Ok-waiting.bytes.now (g.P.Ports.calls c.args.ports.now)
     (g.P.Ports.calls c.write.new.self) c.args.server.now t c.args.seat.now
     (record { role = c.requires.role; writable = c.requires.writable; some = some; all = lent })
     (subst
@@ -113,9 +113,9 @@ returns-in_default-write-clause-hands g c = λ t config w offers.
     ∙ offers.answer in
     let waits = sym (ap (λ r. option_map (λ bytes. bytes.now) (result_ok r)) c.in-Ok-waiting.is)
     ∙ c.waiting.ensures.answer config _ at in
-    let lent = lent-waiting config w c.args.client c.in-Ok-waiting.bytes.now waits in
+    let lent = lent-waiting config w c.args.client.now c.in-Ok-waiting.bytes.now waits in
     let some : 0 < length c.in-Ok-waiting.bytes.now = search rules in
-    write-failed config w c.args.client c.in-Ok-waiting.bytes.now _ (g.P.Ports.calls c.args.ports.now)
+    write-failed config w c.args.client.now c.in-Ok-waiting.bytes.now _ (g.P.Ports.calls c.args.ports.now)
     (g.P.Ports.calls c.write.new.self)
     (g.P.Ports.calls c.shut-in_default-write.new.ports) c.args.server.now c.shut-in_default-write.new.server t
     c.args.seat.now (record { role = c.requires.role; writable = c.requires.writable; some = some; all = lent })

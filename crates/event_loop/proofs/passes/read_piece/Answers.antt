@@ -8,7 +8,7 @@ pub returns-in-Ok-Bytes-clause-goes : goal.returns-in-Ok-Bytes-clause-goes
 returns-in-Ok-Bytes-clause-goes g c = λ t config w stands.
     let fits = c.requires.fits config w stands in
     let same : length c.read.new.buffer ≡ length c.args.piece.now = search rules in
-    read-piece config w c.args.client (length c.read.new.buffer) (take c.in-Ok-Bytes.count c.read.new.buffer)
+    read-piece config w c.args.client.now (length c.read.new.buffer) (take c.in-Ok-Bytes.count c.read.new.buffer)
     (g.P.Ports.calls c.args.ports.now) (g.P.Ports.calls c.read.new.self) c.receive.new.self t c.args.seat.now
     (c.requires.role, c.requires.readable, omega (arith, fits, c.requires.some)) (omega (arith, fits, same))
     (subst
@@ -21,7 +21,7 @@ pub returns-in-Ok-Later-clause-goes : goal.returns-in-Ok-Later-clause-goes
 returns-in-Ok-Later-clause-goes g c = λ t config w stands.
     let fits = c.requires.fits config w stands in
     let same : length c.read.new.buffer ≡ length c.args.piece.now = search rules in
-    read-later config w c.args.client (length c.read.new.buffer) (g.P.Ports.calls c.args.ports.now)
+    read-later config w c.args.client.now (length c.read.new.buffer) (g.P.Ports.calls c.args.ports.now)
     (g.P.Ports.calls c.read.new.self) c.args.server.now t c.args.seat.now (
       c.requires.role,
       c.requires.readable,
@@ -37,7 +37,7 @@ pub returns-in-Ok-Closed-clause-goes : goal.returns-in-Ok-Closed-clause-goes
 returns-in-Ok-Closed-clause-goes g c = λ t config w stands.
     let fits = c.requires.fits config w stands in
     let same : length c.read.new.buffer ≡ length c.args.piece.now = search rules in
-    read-closed config w c.args.client (length c.read.new.buffer) (g.P.Ports.calls c.args.ports.now)
+    read-closed config w c.args.client.now (length c.read.new.buffer) (g.P.Ports.calls c.args.ports.now)
     (g.P.Ports.calls c.read.new.self) (g.P.Ports.calls c.shut.new.ports) c.shut.new.server t c.args.seat.now
     (c.requires.role, c.requires.readable, omega (arith, fits, c.requires.some)) (omega (arith, fits, same))
     (subst
@@ -50,7 +50,7 @@ pub returns-in-Err-clause-goes : goal.returns-in-Err-clause-goes
 returns-in-Err-clause-goes g c = λ t config w stands.
     let fits = c.requires.fits config w stands in
     let same : length c.read.new.buffer ≡ length c.args.piece.now = search rules in
-    read-failed config w c.args.client (length c.read.new.buffer) (g.P.Ports.calls c.args.ports.now)
+    read-failed config w c.args.client.now (length c.read.new.buffer) (g.P.Ports.calls c.args.ports.now)
     (g.P.Ports.calls c.read.new.self)
     (g.P.Ports.calls c.shut-in-Err.new.ports) c.shut-in-Err.new.server t c.args.seat.now (
       c.requires.role,

@@ -14,7 +14,7 @@ writes-init g c =
       some = omega (arith, c.requires.some);
       others = c.offer-found.ensures.others;
       goes = λ t config w stands.
-          offered-begins config c.args.client c.args.limit w (calls c.args.ports.now) c.offer-found.new.self t
+          offered-begins config c.args.client.now c.args.limit w (calls c.args.ports.now) c.offer-found.new.self t
           c.args.seat.now c.offer-found.result
           (record {
             stands = c.offer-found.ensures.stands config w stands;
@@ -30,10 +30,10 @@ writes-preserved g c =
       writable = c.in-Write.ensures.writable;
       port = c.write_on.ensures.port ∙ c.writes.invariant.port;
       some = let more : 1 < c.writes.left = c.writes-test.true in omega arith;
-      others = leaves_then c.args.client c.args.server.now c.writes.server c.write_on.new.server
+      others = leaves_then c.args.client.now c.args.server.now c.writes.server c.write_on.new.server
           c.writes.invariant.others c.write_on.ensures.others;
       goes = λ t config w stands.
-          offered-goes-on config c.args.client c.args.limit c.writes.left
+          offered-goes-on config c.args.client.now c.args.limit c.writes.left
           (let some = c.writes.invariant.some in omega arith) w (calls c.args.ports.now) (calls c.writes.ports)
           (calls c.write_on.new.ports) c.writes.server c.write_on.new.server t c.args.seat.now c.writes.seat
           c.writes.found (c.writes.invariant.goes t config w stands) c.write_on.new.seat c.in-Write.next
@@ -43,7 +43,7 @@ writes-preserved g c =
 pub returns-in-Stop-clause-goes : goal.returns-in-Stop-clause-goes
 returns-in-Stop-clause-goes g c = λ t config w stands.
     let calls = g.P.Ports.calls in
-    offered-stops config c.args.client c.args.limit c.writes.left
+    offered-stops config c.args.client.now c.args.limit c.writes.left
     (let some = c.writes.invariant.some in omega arith) w (calls c.args.ports.now) (calls c.writes.ports)
     (calls c.write_on.new.ports) c.writes.server c.write_on.new.server t c.args.seat.now c.writes.seat
     c.writes.found (c.writes.invariant.goes t config w stands) c.write_on.new.seat
@@ -52,7 +52,7 @@ returns-in-Stop-clause-goes g c = λ t config w stands.
 pub returns-in-Over-clause-goes : goal.returns-in-Over-clause-goes
 returns-in-Over-clause-goes g c = λ t config w stands.
     let calls = g.P.Ports.calls in
-    offered-over config c.args.client c.args.limit c.writes.left
+    offered-over config c.args.client.now c.args.limit c.writes.left
     (let some = c.writes.invariant.some in omega arith) w (calls c.args.ports.now) (calls c.writes.ports)
     (calls c.write_on.new.ports) c.writes.server c.write_on.new.server t c.args.seat.now c.writes.seat
     c.writes.found (c.writes.invariant.goes t config w stands) c.write_on.new.seat
@@ -61,7 +61,7 @@ returns-in-Over-clause-goes g c = λ t config w stands.
 pub returns-in-On-clause-goes : goal.returns-in-On-clause-goes
 returns-in-On-clause-goes g c = λ t config w stands.
     let calls = g.P.Ports.calls in
-    offered-runs-out config c.args.client c.args.limit c.writes.left
+    offered-runs-out config c.args.client.now c.args.limit c.writes.left
     (let some = c.writes.invariant.some in omega arith) w (calls c.args.ports.now) (calls c.writes.ports)
     (calls c.write_last.new.ports) c.writes.server c.write_last.new.server t c.args.seat.now c.writes.seat
     c.writes.found (c.writes.invariant.goes t config w stands) c.write_last.new.seat
@@ -71,7 +71,7 @@ returns-in-On-clause-goes g c = λ t config w stands.
 pub returns-in-Stop-write_last-clause-goes : goal.returns-in-Stop-write_last-clause-goes
 returns-in-Stop-write_last-clause-goes g c = λ t config w stands.
     let calls = g.P.Ports.calls in
-    offered-stops config c.args.client c.args.limit c.writes.left
+    offered-stops config c.args.client.now c.args.limit c.writes.left
     (let some = c.writes.invariant.some in omega arith) w (calls c.args.ports.now) (calls c.writes.ports)
     (calls c.write_last.new.ports) c.writes.server c.write_last.new.server t c.args.seat.now c.writes.seat
     c.writes.found (c.writes.invariant.goes t config w stands) c.write_last.new.seat
@@ -80,7 +80,7 @@ returns-in-Stop-write_last-clause-goes g c = λ t config w stands.
 pub returns-in-Over-write_last-clause-goes : goal.returns-in-Over-write_last-clause-goes
 returns-in-Over-write_last-clause-goes g c = λ t config w stands.
     let calls = g.P.Ports.calls in
-    offered-over config c.args.client c.args.limit c.writes.left
+    offered-over config c.args.client.now c.args.limit c.writes.left
     (let some = c.writes.invariant.some in omega arith) w (calls c.args.ports.now) (calls c.writes.ports)
     (calls c.write_last.new.ports) c.writes.server c.write_last.new.server t c.args.seat.now c.writes.seat
     c.writes.found (c.writes.invariant.goes t config w stands) c.write_last.new.seat

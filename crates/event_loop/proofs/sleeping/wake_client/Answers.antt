@@ -9,7 +9,7 @@ returns-in-Some-clause-wakes c =
 
 pub returns-in-Some-clause-woken : goal.returns-in-Some-clause-woken
 returns-in-Some-clause-woken c = λ found.
-    woken-at c.args.server.now c.args.seats.now c.wake.new.awake.items c.in-Some.at c.args.client c.requires.seated
+    woken-at c.args.server.now c.args.seats.now c.wake.new.awake.items c.in-Some.at c.args.client.now c.requires.seated
     c.in-Some.ensures.inside c.in-Some.ensures.role c.wake.ensures.here
 
 pub returns-in-None-clause-wakes : goal.returns-in-None-clause-wakes

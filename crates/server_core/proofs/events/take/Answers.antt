@@ -27,17 +27,17 @@ returns-clause-stands c = λ config w stands.
           let count : x.len.result ≡ length c.in_ok-bytes.bytes.items = grind (arith, common_steps) in
           let some : is_nothing c.in_ok-bytes.bytes.items
           ≡ false = some-there c.in_ok-bytes.bytes.items (grind (arith, common_steps)) in
-          subst (λ s. StandsAt s config (step config w (Take c.args.client c.args.count))) (sym x.server-is)
+          subst (λ s. StandsAt s config (step config w (Take c.args.client.now c.args.count))) (sym x.server-is)
           (subst (StandsAt x.took.new.self config)
-          (ap (λ n. step config (step config w (Take c.args.client 0)) (Take c.args.client n)) count
-          ∙ some-taken config w c.args.client c.args.count c.in_ok-bytes.bytes.items bytes some)
+          (ap (λ n. step config (step config w (Take c.args.client.now 0)) (Take c.args.client.now n)) count
+          ∙ some-taken config w c.args.client.now c.args.count c.in_ok-bytes.bytes.items bytes some)
           (x.took.ensures.stands config _ there))
       | else-not-is_empty x ↦
           let none : is_nothing c.in_ok-bytes.bytes.items
           ≡ true = none-there c.in_ok-bytes.bytes.items (grind (arith, common_steps)) in
-          subst (λ s. StandsAt s config (step config w (Take c.args.client c.args.count))) (sym x.server-is)
+          subst (λ s. StandsAt s config (step config w (Take c.args.client.now c.args.count))) (sym x.server-is)
           (subst (StandsAt c.offer-found.new.self config)
-          (none-taken config w c.args.client c.args.count c.in_ok-bytes.bytes.items bytes none) there)
+          (none-taken config w c.args.client.now c.args.count c.in_ok-bytes.bytes.items bytes none) there)
     ]
   where
     some-there : (xs : List ℕ) → 0 < length xs → is_nothing xs ≡ false
@@ -53,5 +53,6 @@ returns-clause-handed c = λ config w stands.
     let bytes = c.in_ok-bytes.ensures.answer config _ (c.offer-found.ensures.stands config w stands) in
     ap₂ (λ n (t : Taken). told n t) c.number.ensures
     (ap (λ (b : Bool). let t : Taken = record { bytes = c.in_ok-bytes.bytes.items; ended = b } in t) c.is_over.ensures
-    ∙ taken-told config w c.args.client c.args.count c.in_ok-bytes.bytes.items (result_ok c.offer-found.result) bytes
+    ∙ taken-told config w c.args.client.now c.args.count c.in_ok-bytes.bytes.items (result_ok c.offer-found.result)
+    bytes
     (c.offer-found.ensures.answer config w stands))

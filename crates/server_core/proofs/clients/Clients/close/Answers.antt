@@ -1,4 +1,7 @@
-use Rattle.std.proofs.Common.{rules, ◌≡◌, ap, sym, subst, None, refl}
+use Rattle.std.proofs.Common.{rules, ◌≡◌, arith, ap, sym, subst, None, refl}
+use Rattle.std.proofs.lemmas.List.{get_or-set_other, get_or-set_same}
+use Rattle.std.specs.Vec.{with_item}
+use Rattle.server_core.proofs.AmongLemmas.{owner-inside}
 use Rattle.std.specs.Prelude.{IsSome}
 use Rattle.server_core.specs.Clients.{IsNumberAt, in_slot, slot_in}
 use Rattle.server_core.proofs.NumberLemmas.{its-slot-at}
@@ -7,6 +10,16 @@ use Rattle.server_core.proofs.SlotLemmas.{closes-table, settled-leaves}
 use Rattle.std.proofs.Common.{◌∙◌}
 use Rattle.server_core.proofs.NumberLemmas.{slot_in-less}
 use Rattle.server_core.proofs.clients.Clients.close.Goals as goal
+
+pub index_mut-requires : goal.index_mut-requires
+index_mut-requires c =
+    let os = c.args.self.now.opened.items in
+    let found : IsNumberAt os c.args.number c.in_ok-at.at = search rules in
+    let its-slot = its-slot-at os c.args.number c.in_ok-at.at c.remove-gone.result c.requires.rising found
+    c.remove-gone.ensures.value in
+    let inside = owner-inside c.args.self.now.numbers.items c.remove-gone.result.slot c.args.number
+    (c.requires.numbered c.args.number c.remove-gone.result.slot its-slot) in
+    omega (arith, inside, c.args.self.now.numbers.ok.0)
 
 pub returns-in_err-at-clause-closed : goal.returns-in_err-at-clause-closed
 returns-in_err-at-clause-closed c =
@@ -23,12 +36,15 @@ returns-clause-table c =
     (record {
       opens = c.args.self.now.opens;
       opened = c.remove-gone.new.self;
-      near = c.args.self.now.near;
       slots = c.try_remove-session.new.self;
-      numbers = c.args.self.now.numbers;
+      numbers = with_item c.args.self.now.numbers c.remove-gone.result.slot None;
     })
     c.args.number c.in_ok-at.at c.remove-gone.result.slot c.requires found its-slot refl c.remove-gone.ensures.items
-    c.try_remove-session.ensures.updates refl
+    c.try_remove-session.ensures.updates
+    (get_or-set_same c.args.self.now.numbers.items c.remove-gone.result.slot None None
+    (owner-inside c.args.self.now.numbers.items c.remove-gone.result.slot c.args.number
+    (c.requires.numbered c.args.number c.remove-gone.result.slot its-slot)))
+    (λ other apart. get_or-set_other c.args.self.now.numbers.items c.remove-gone.result.slot other None None apart)
 
 pub returns-clause-closed : goal.returns-clause-closed
 returns-clause-closed c =
@@ -40,9 +56,8 @@ returns-clause-closed c =
     (record {
       opens = c.args.self.now.opens;
       opened = c.remove-gone.new.self;
-      near = c.args.self.now.near;
       slots = c.try_remove-session.new.self;
-      numbers = c.args.self.now.numbers;
+      numbers = with_item c.args.self.now.numbers c.remove-gone.result.slot None;
     })
     c.args.number c.in_ok-at.at c.remove-gone.result.slot c.requires found its-slot refl c.remove-gone.ensures.items
     c.try_remove-session.ensures.updates
@@ -78,9 +93,8 @@ returns-clause-left c =
     (record {
       opens = c.args.self.now.opens;
       opened = c.remove-gone.new.self;
-      near = c.args.self.now.near;
       slots = c.try_remove-session.new.self;
-      numbers = c.args.self.now.numbers;
+      numbers = with_item c.args.self.now.numbers c.remove-gone.result.slot None;
     })
     c.args.number c.in_ok-at.at c.requires found refl c.remove-gone.ensures.items
 

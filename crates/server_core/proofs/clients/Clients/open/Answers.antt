@@ -1,9 +1,11 @@
 use Rattle.std.proofs.Common.{rules, ◌≡◌, ◌∙◌, ap, sym, refl, Some, None, subst, List, Option}
+use Rattle.std.proofs.lemmas.List.{get_or-set_other, get_or-set_same}
+use Rattle.std.specs.Vec.{with_item}
 use Rattle.std.specs.Prelude.{◌+◌, slice_index_or, ◌∷◌, [], ◌++◌}
 use Rattle.slab.specs.Slab.{Slab, Updates, get}
 use Rattle.session_state.specs.Sessions.{SessionValue}
 use Rattle.server_core.specs.declared.clients.Clients.{Clients}
-use Rattle.server_core.proofs.SlotLemmas.{numbers-kept, opens-addresses, opens-sessions, opens-table}
+use Rattle.server_core.proofs.SlotLemmas.{opens-addresses, opens-sessions, opens-table}
 use Rattle.server_core.proofs.SlotLemmas.{room-sessions, room-table, settled-goes}
 use Rattle.server_core.proofs.NumberLemmas.{slot_in-more}
 use Rattle.server_core.specs.Clients.{IsTable, slot_in}
@@ -22,16 +24,16 @@ returns-in_err-reserve-clause-settled c = λ config rings settled here slot s e.
     ≡ c.args.self.now.slots.slots = ap (λ (s : Slab SessionValue). s.slots) c.reserve.ensures.rest_kept in
     settled slot s (ap (λ (xs : List (Option SessionValue)). slice_index_or xs slot None) (sym same) ∙ e)
 
-pub returns-in_err-put_number-clause-err : goal.returns-in_err-put_number-clause-err
-returns-in_err-put_number-clause-err c =
+pub returns-in_err-make_room-clause-err : goal.returns-in_err-make_room-clause-err
+returns-in_err-make_room-clause-err c =
     let same : c.reserve.new.self.slots
     ≡ c.args.self.now.slots.slots = ap (λ (s : Slab SessionValue). s.slots) c.reserve.ensures.rest_kept in
     let is = room-sessions c.args.self.now
-    (record c.args.self.now { slots = c.reserve.new.self; numbers = c.put_number.new.numbers }) refl refl same in
+    (record c.args.self.now { slots = c.reserve.new.self; numbers = c.make_room.new.numbers }) refl refl same in
     search rules
 
-pub returns-in_err-put_number-clause-settled : goal.returns-in_err-put_number-clause-settled
-returns-in_err-put_number-clause-settled c = λ config rings settled here slot s e.
+pub returns-in_err-make_room-clause-settled : goal.returns-in_err-make_room-clause-settled
+returns-in_err-make_room-clause-settled c = λ config rings settled here slot s e.
     let same : c.reserve.new.self.slots
     ≡ c.args.self.now.slots.slots = ap (λ (s : Slab SessionValue). s.slots) c.reserve.ensures.rest_kept in
     settled slot s (ap (λ (xs : List (Option SessionValue)). slice_index_or xs slot None) (sym same) ∙ e)
@@ -44,7 +46,7 @@ returns-in_err-push-clause-err c =
     (record c.args.self.now {
       opened = c.push.new.self;
       slots = c.reserve.new.self;
-      numbers = c.put_number.new.numbers;
+      numbers = c.make_room.new.numbers;
     }) refl
     c.in_err-push.ensures.items same in
     search rules
@@ -56,48 +58,36 @@ returns-in_err-push-clause-settled c = λ config rings settled here slot s e.
     settled slot s (ap (λ (xs : List (Option SessionValue)). slice_index_or xs slot None) (sym same) ∙ e)
 
 -- the clients once there is room for one more
-abbrev roomy : goal.After-self-1 → Clients
+abbrev roomy : goal.After-new → Clients
 roomy c = record c.args.self.now { slots = c.reserve.new.self }
 
-same-slots : (c : goal.After-self-1) → c.reserve.new.self.slots ≡ c.args.self.now.slots.slots
+same-slots : (c : goal.After-new) → c.reserve.new.self.slots ≡ c.args.self.now.slots.slots
 same-slots c = ap (λ (s : Slab SessionValue). s.slots) c.reserve.ensures.rest_kept
 
-updated : (c : goal.After-self-1)
+updated : (c : goal.After-new)
     → Updates c.reserve.new.self c.insert_reserved-slot.new.self c.vacant_key-slot.result (Some c.args.session)
 updated c = subst (λ k. Updates c.reserve.new.self c.insert_reserved-slot.new.self k (Some c.args.session))
     (c.insert_reserved-slot.ensures.key ∙ sym c.vacant_key-slot.ensures.value) c.insert_reserved-slot.ensures.updates
 
-pub returns-in_err-put_number-clause-table : goal.returns-in_err-put_number-clause-table
-returns-in_err-put_number-clause-table c =
-    let same : c.reserve.new.self.slots
-    ≡ c.args.self.now.slots.slots = ap (λ (s : Slab SessionValue). s.slots) c.reserve.ensures.rest_kept in
-    let vacant : get c.args.self.now.slots c.vacant_key-slot.result ≡ None =
-    ap (λ (xs : List (Option SessionValue)). slice_index_or xs c.vacant_key-slot.result None) (sym same)
-    ∙ c.vacant_key-slot.ensures.vacant in
+pub returns-in_err-make_room-clause-table : goal.returns-in_err-make_room-clause-table
+returns-in_err-make_room-clause-table c =
     room-table c.args.self.now
-    (record c.args.self.now { slots = c.reserve.new.self; numbers = c.put_number.new.numbers }) refl refl same
-    (numbers-kept c.args.self.now c.vacant_key-slot.result c.put_number.new.numbers.items c.requires vacant
-    c.put_number.ensures.others) c.requires
+    (record c.args.self.now { slots = c.reserve.new.self; numbers = c.make_room.new.numbers }) refl refl
+    (ap (λ (s : Slab SessionValue). s.slots) c.reserve.ensures.rest_kept) c.make_room.ensures.kept c.requires
 
 pub returns-in_err-push-clause-table : goal.returns-in_err-push-clause-table
 returns-in_err-push-clause-table c =
-    let same : c.reserve.new.self.slots
-    ≡ c.args.self.now.slots.slots = ap (λ (s : Slab SessionValue). s.slots) c.reserve.ensures.rest_kept in
-    let vacant : get c.args.self.now.slots c.vacant_key-slot.result ≡ None =
-    ap (λ (xs : List (Option SessionValue)). slice_index_or xs c.vacant_key-slot.result None) (sym same)
-    ∙ c.vacant_key-slot.ensures.vacant in
     room-table c.args.self.now
     (record c.args.self.now {
       opened = c.push.new.self;
       slots = c.reserve.new.self;
-      numbers = c.put_number.new.numbers;
-    }) refl c.in_err-push.ensures.items same
-    (numbers-kept c.args.self.now c.vacant_key-slot.result c.put_number.new.numbers.items c.requires vacant
-    c.put_number.ensures.others) c.requires
+      numbers = c.make_room.new.numbers;
+    }) refl c.in_err-push.ensures.items
+    (ap (λ (s : Slab SessionValue). s.slots) c.reserve.ensures.rest_kept) c.make_room.ensures.kept c.requires
 
-roomy-table : (c : goal.After-self-1) → IsTable (roomy c)
+roomy-table : (c : goal.After-new) → IsTable (roomy c)
 roomy-table c =
-    room-table c.args.self.now (roomy c) refl refl (same-slots c) c.requires.numbered c.requires
+    room-table c.args.self.now (roomy c) refl refl (same-slots c) (λ slot. refl) c.requires
 
 pub returns-clause-table : goal.returns-clause-table
 returns-clause-table c =
@@ -105,12 +95,15 @@ returns-clause-table c =
     (record {
       opens = c.args.self.now.opens + 1;
       opened = c.push.new.self;
-      near = c.args.self.now.near;
       slots = c.insert_reserved-slot.new.self;
-      numbers = c.put_number.new.numbers;
+      numbers = with_item c.make_room.new.numbers c.vacant_key-slot.result (Some c.args.self.now.opens);
     }) c.vacant_key-slot.result c.args.address c.args.session
     (roomy-table c) refl c.in_ok-push.ensures.items
-    c.vacant_key-slot.ensures.vacant (updated c) c.in_ok-put_number.ensures.put c.put_number.ensures.others
+    c.vacant_key-slot.ensures.vacant (updated c)
+    (get_or-set_same c.make_room.new.numbers.items c.vacant_key-slot.result (Some c.args.self.now.opens) None
+    c.in_ok-make_room.ensures.room)
+    (λ other apart. get_or-set_other c.make_room.new.numbers.items c.vacant_key-slot.result other
+    (Some c.args.self.now.opens) None apart ∙ c.make_room.ensures.kept other)
 
 pub returns-clause-opened : goal.returns-clause-opened
 returns-clause-opened c =
@@ -118,9 +111,8 @@ returns-clause-opened c =
     (record {
       opens = c.args.self.now.opens + 1;
       opened = c.push.new.self;
-      near = c.args.self.now.near;
       slots = c.insert_reserved-slot.new.self;
-      numbers = c.put_number.new.numbers;
+      numbers = with_item c.make_room.new.numbers c.vacant_key-slot.result (Some c.args.self.now.opens);
     }) c.vacant_key-slot.result c.args.address c.args.session
     (roomy-table c) refl c.in_ok-push.ensures.items
     c.vacant_key-slot.ensures.vacant (updated c)
@@ -140,9 +132,8 @@ returns-clause-came c =
     (record {
       opens = c.args.self.now.opens + 1;
       opened = c.push.new.self;
-      near = c.args.self.now.near;
       slots = c.insert_reserved-slot.new.self;
-      numbers = c.put_number.new.numbers;
+      numbers = with_item c.make_room.new.numbers c.vacant_key-slot.result (Some c.args.self.now.opens);
     }) c.vacant_key-slot.result c.args.address
     c.requires refl c.in_ok-push.ensures.items
 

@@ -10,46 +10,41 @@ use Rattle.server_core.proofs.server.Server.marked.Goals as goal
 
 pub returns-in-Some-clause-value : goal.returns-in-Some-clause-value
 returns-in-Some-clause-value c =
-    rw (← c.number.ensures)
     (ap Some c.is_marked.ensures
     ∙ sym
-    (mark-there c.self.inside.config c.self.inside.rings c.self.inside.clients c.self.inside.marks c.number.result
+    (mark-there c.self.inside.config c.self.inside.rings c.self.inside.clients c.self.inside.marks c.args.client.now
     c.self.invariant.0 c.in-Some.slot (sym c.in-Some.ensures))
-    ∙ ap (λ s. mark_at s c.number.result) c.self.view_is)
+    ∙ ap (λ s. mark_at s c.args.client.now) c.self.view_is)
 
 pub returns-in-Some-clause-open : goal.returns-in-Some-clause-open
 returns-in-Some-clause-open c = λ config w stands.
     let here = found c.self.inside.config c.self.inside.rings c.self.inside.clients c.self.inside.clients
     (marks_of c.self.inside.clients c.self.inside.marks) c.args.self.now config w c.self.view_is refl refl stands in
-    rw (← c.number.ensures)
     (sym
     (subst (λ o. IsSome (in_slot c.self.inside.clients.slots o)) c.in-Some.ensures
-    (c.self.invariant.0.there c.number.result c.in-Some.slot (sym c.in-Some.ensures)))
-    ∙ seen-session c.self.inside.config c.self.inside.rings c.self.inside.clients c.number.result config w
+    (c.self.invariant.0.there c.args.client.now c.in-Some.slot (sym c.in-Some.ensures)))
+    ∙ seen-session c.self.inside.config c.self.inside.rings c.self.inside.clients c.args.client.now config w
     c.self.invariant.0 here)
 
 pub returns-in-Some-clause-spared : goal.returns-in-Some-clause-spared
 returns-in-Some-clause-spared c = λ unmarked config w stands.
     let here = found c.self.inside.config c.self.inside.rings c.self.inside.clients c.self.inside.clients
     (marks_of c.self.inside.clients c.self.inside.marks) c.args.self.now config w c.self.view_is refl refl stands in
-    rw (← c.number.ensures)
-    (spared-there c.self.inside.config c.self.inside.rings c.self.inside.clients c.self.inside.marks c.number.result
+    (spared-there c.self.inside.config c.self.inside.rings c.self.inside.clients c.self.inside.marks c.args.client.now
     c.in-Some.slot config w c.self.invariant.0 (sym c.in-Some.ensures) c.self.invariant.3
     (sym c.is_marked.ensures ∙ bool-inside c.is_marked.result false (ap result_ok unmarked)) here)
 
 pub returns-in-None-clause-value : goal.returns-in-None-clause-value
 returns-in-None-clause-value c =
-    rw (← c.number.ensures)
     (sym
-    (mark-nowhere c.self.inside.config c.self.inside.rings c.self.inside.clients c.self.inside.marks c.number.result
+    (mark-nowhere c.self.inside.config c.self.inside.rings c.self.inside.clients c.self.inside.marks c.args.client.now
     c.self.invariant.0 (sym c.in-None.ensures))
-    ∙ ap (λ s. mark_at s c.number.result) c.self.view_is)
+    ∙ ap (λ s. mark_at s c.args.client.now) c.self.view_is)
 
 pub returns-in-None-clause-open : goal.returns-in-None-clause-open
 returns-in-None-clause-open c = λ config w stands.
     let here = found c.self.inside.config c.self.inside.rings c.self.inside.clients c.self.inside.clients
     (marks_of c.self.inside.clients c.self.inside.marks) c.args.self.now config w c.self.view_is refl refl stands in
-    rw (← c.number.ensures)
     (sym (ap (λ o. is_some (in_slot c.self.inside.clients.slots o)) (sym c.in-None.ensures))
-    ∙ seen-session c.self.inside.config c.self.inside.rings c.self.inside.clients c.number.result config w
+    ∙ seen-session c.self.inside.config c.self.inside.rings c.self.inside.clients c.args.client.now config w
     c.self.invariant.0 here)

@@ -1,132 +1,91 @@
 use Rattle.std.proofs.Common.{refl, ◌∙◌, Some, ap, sym, subst, option_map}
-use Rattle.session_state.specs.Sessions.{SessionValue}
-use Rattle.slab.specs.Slab.{Slab}
-use Rattle.server_core.specs.ServerValues.{AreSettled}
 use Rattle.protocol.specs.Client.{Client, offered}
+use Rattle.protocol.specs.World.{step}
+use Rattle.protocol.specs.World.Event.{Take}
+use Rattle.server_core.specs.ServerValues.{ServerValue, StandsAt}
 use Rattle.server_core.specs.Refusals.{offer_of}
-use Rattle.server_core.specs.Marks.{AreMarked, marks_of}
+use Rattle.server_core.specs.Marks.{marks_of}
 use Rattle.server_core.proofs.SessionLemmas.{found, goes-nowhere, goes-there, seen-nowhere, seen-there, with-marks}
 use Rattle.server_core.proofs.SlotLemmas.{written-table}
 use Rattle.server_core.proofs.SpareLemmas.{mark-there}
-use Rattle.server_core.proofs.CurrentLemmas.{current-goes, current-same, offered-over}
-use Rattle.server_core.specs.Clients.{addresses_of, sessions_of}
+use Rattle.server_core.proofs.CurrentLemmas.{current-goes, offered-over}
 use Rattle.server_core.proofs.SpareLemmas.{bits-elsewhere, leaves-others, serving-with}
 use Rattle.server_core.specs.Marks.{LeavesOthers}
-use Rattle.server_core.specs.Clients.{slot_in}
 use Rattle.server_core.proofs.server.Server.offer.Goals as goal
-
-pub offer_in-requires-clause-settled : goal.offer_in-requires-clause-settled
-offer_in-requires-clause-settled c =
-    subst (λ (slots : Slab SessionValue). AreSettled c.self.inside.config c.self.inside.rings slots)
-    (sym c.seek.ensures.slots) c.self.invariant.1
-
-pub offer_in-requires-clause-marked : goal.offer_in-requires-clause-marked
-offer_in-requires-clause-marked c =
-    subst (λ (slots : Slab SessionValue). AreMarked c.self.inside.config c.self.inside.rings c.self.inside.marks slots)
-    (sym c.seek.ensures.slots) c.self.invariant.3
 
 pub invariant_of-self : goal.invariant_of-self
 invariant_of-self c = (
-  written-table c.seek.new.self c.offer_in.new.slots c.seek.ensures.table c.offer_in.ensures.kept,
+  written-table c.self.inside.clients c.offer_in.new.slots c.self.invariant.0 c.offer_in.ensures.kept,
   c.offer_in.ensures.settled,
   c.self.invariant.2,
   c.offer_in.ensures.marked,
   c.offer_in.ensures.stations ∙ c.self.invariant.4,
   c.self.invariant.5,
-  current-goes c.self.inside.config c.self.invariant.5.history c.seek.new.self c.number.result c.in-Some.slot
+  current-goes c.self.inside.config c.self.invariant.5.history c.self.inside.clients c.args.client.now c.in-Some.slot
       (λ v x. offered c.self.invariant.5.history x) (offered-over c.self.invariant.5.history) c.offer_in.new.slots
-      c.seek.ensures.table (sym c.in-Some.ensures.slot)
+      c.self.invariant.0 (sym c.in-Some.ensures)
       (c.offer_in.ensures.changed c.self.invariant.5.history c.self.invariant.5.holds)
-      (current-same c.self.inside.config (sessions_of c.self.inside.clients) (sessions_of c.seek.new.self)
-      (addresses_of c.self.inside.clients) (addresses_of c.seek.new.self) c.seek.ensures.sessions
-      c.seek.ensures.addresses c.self.invariant.6),
-)
-
-pub invariant_of-self-in-None : goal.invariant_of-self-in-None
-invariant_of-self-in-None c = (
-  c.seek.ensures.table,
-  subst (λ (slots : Slab SessionValue). AreSettled c.self.inside.config c.self.inside.rings slots)
-      (sym c.seek.ensures.slots) c.self.invariant.1,
-  c.self.invariant.2,
-  subst (λ (slots : Slab SessionValue). AreMarked c.self.inside.config c.self.inside.rings c.self.inside.marks slots)
-      (sym c.seek.ensures.slots) c.self.invariant.3,
-  c.self.invariant.4,
-  c.self.invariant.5,
-  current-same c.self.inside.config (sessions_of c.self.inside.clients) (sessions_of c.seek.new.self)
-      (addresses_of c.self.inside.clients) (addresses_of c.seek.new.self) c.seek.ensures.sessions
-      c.seek.ensures.addresses c.self.invariant.6,
+      c.self.invariant.6,
 )
 
 pub returns-in-Some-clause-stands : goal.returns-in-Some-clause-stands
 returns-in-Some-clause-stands c = λ config w stands.
-    let here = found c.self.inside.config c.self.inside.rings c.self.inside.clients c.seek.new.self
+    let here = found c.self.inside.config c.self.inside.rings c.self.inside.clients c.self.inside.clients
     (marks_of c.self.inside.clients c.self.inside.marks) c.args.self.now config w c.self.view_is
-    c.seek.ensures.sessions c.seek.ensures.addresses stands in
-    rw (← c.number.ensures)
-    (with-marks _ (marks_of (record c.seek.new.self { slots = c.offer_in.new.slots }) c.offer_in.new.marks) config _
-    (goes-there c.self.inside.config c.self.inside.rings c.seek.new.self c.number.result config w
-    (λ v x. offered w.history x) c.offer_in.new.slots c.in-Some.slot c.seek.ensures.table
-    (sym c.in-Some.ensures.slot) (c.offer_in.ensures.changed w.history here.holds) here))
+    refl refl stands in
+    (with-marks _ (marks_of (record c.self.inside.clients { slots = c.offer_in.new.slots }) c.offer_in.new.marks)
+    config _
+    (goes-there c.self.inside.config c.self.inside.rings c.self.inside.clients c.args.client.now config w
+    (λ v x. offered w.history x) c.offer_in.new.slots c.in-Some.slot c.self.invariant.0
+    (sym c.in-Some.ensures) (c.offer_in.ensures.changed w.history here.holds) here))
 
 pub returns-in-Some-clause-answer : goal.returns-in-Some-clause-answer
 returns-in-Some-clause-answer c = λ config w stands.
-    let here = found c.self.inside.config c.self.inside.rings c.self.inside.clients c.seek.new.self
+    let here = found c.self.inside.config c.self.inside.rings c.self.inside.clients c.self.inside.clients
     (marks_of c.self.inside.clients c.self.inside.marks) c.args.self.now config w c.self.view_is
-    c.seek.ensures.sessions c.seek.ensures.addresses stands in
-    rw (← c.number.ensures) (c.offer_in.ensures.answer w.history here.holds
+    refl refl stands in
+    (c.offer_in.ensures.answer w.history here.holds
     ∙ ap (option_map (λ (x : Client). offer_of (offered w.history x)))
-    (seen-there c.self.inside.config c.self.inside.rings c.seek.new.self c.number.result config w c.in-Some.slot
-    c.seek.ensures.table (sym c.in-Some.ensures.slot) here))
+    (seen-there c.self.inside.config c.self.inside.rings c.self.inside.clients c.args.client.now config w c.in-Some.slot
+    c.self.invariant.0 (sym c.in-Some.ensures) here))
 
 pub returns-in-None-clause-stands : goal.returns-in-None-clause-stands
 returns-in-None-clause-stands c = λ config w stands.
-    let here = found c.self.inside.config c.self.inside.rings c.self.inside.clients c.seek.new.self
+    let here = found c.self.inside.config c.self.inside.rings c.self.inside.clients c.self.inside.clients
     (marks_of c.self.inside.clients c.self.inside.marks) c.args.self.now config w c.self.view_is
-    c.seek.ensures.sessions c.seek.ensures.addresses stands in
-    rw (← c.number.ensures)
-    (with-marks _ (marks_of c.seek.new.self c.self.inside.marks) config _
-    (goes-nowhere c.self.inside.config c.self.inside.rings c.seek.new.self c.number.result config w
-    (λ v x. offered w.history x) (sym c.in-None.ensures.slot) here))
+    refl refl stands in
+    subst (λ (s : ServerValue). StandsAt s config (step config w (Take c.args.client.now 0))) c.self.view_is
+    (with-marks _ (marks_of c.self.inside.clients c.self.inside.marks) config _
+    (goes-nowhere c.self.inside.config c.self.inside.rings c.self.inside.clients c.args.client.now config w
+    (λ v x. offered w.history x) (sym c.in-None.ensures) here))
 
 pub returns-in-None-clause-answer : goal.returns-in-None-clause-answer
 returns-in-None-clause-answer c = λ config w stands.
-    let here = found c.self.inside.config c.self.inside.rings c.self.inside.clients c.seek.new.self
+    let here = found c.self.inside.config c.self.inside.rings c.self.inside.clients c.self.inside.clients
     (marks_of c.self.inside.clients c.self.inside.marks) c.args.self.now config w c.self.view_is
-    c.seek.ensures.sessions c.seek.ensures.addresses stands in
-    rw (← c.number.ensures)
+    refl refl stands in
     (ap (option_map (λ (x : Client). offer_of (offered w.history x)))
-    (seen-nowhere c.self.inside.config c.self.inside.rings c.seek.new.self c.number.result config w
-    (sym c.in-None.ensures.slot) here))
+    (seen-nowhere c.self.inside.config c.self.inside.rings c.self.inside.clients c.args.client.now config w
+    (sym c.in-None.ensures) here))
 
 pub returns-in-Some-clause-unmarked : goal.returns-in-Some-clause-unmarked
 returns-in-Some-clause-unmarked c = λ idle.
-    rw (← c.number.ensures)
     (mark-there c.self.inside.config c.self.inside.rings
-    (record c.seek.new.self { slots = c.offer_in.new.slots }) c.offer_in.new.marks c.number.result
-    (written-table c.seek.new.self c.offer_in.new.slots c.seek.ensures.table c.offer_in.ensures.kept) c.in-Some.slot
-    (sym c.in-Some.ensures.slot)
+    (record c.self.inside.clients { slots = c.offer_in.new.slots }) c.offer_in.new.marks c.args.client.now
+    (written-table c.self.inside.clients c.offer_in.new.slots c.self.invariant.0 c.offer_in.ensures.kept) c.in-Some.slot
+    (sym c.in-Some.ensures)
     ∙ ap Some (c.offer_in.ensures.idle idle))
 
 pub returns-in-Some-clause-others : goal.returns-in-Some-clause-others
 returns-in-Some-clause-others c =
-    let there = ap (λ os. slot_in os c.number.result) (sym c.seek.ensures.numbers.1) ∙ sym c.in-Some.ensures.slot in
-    rw (← c.number.ensures)
-    (subst (λ s. LeavesOthers c.number.result s (serving-with c.self.inside.config c.self.inside.rings
-    (record c.seek.new.self { slots = c.offer_in.new.slots }) c.offer_in.new.marks)) c.self.view_is
+    let there = sym c.in-Some.ensures in
+    (subst (λ s. LeavesOthers c.args.client.now s (serving-with c.self.inside.config c.self.inside.rings
+    (record c.self.inside.clients { slots = c.offer_in.new.slots }) c.offer_in.new.marks)) c.self.view_is
     (leaves-others c.self.inside.config c.self.inside.rings c.self.inside.clients
-    (record c.seek.new.self { slots = c.offer_in.new.slots }) c.self.inside.marks c.offer_in.new.marks c.number.result
+    (record c.self.inside.clients { slots = c.offer_in.new.slots }) c.self.inside.marks c.offer_in.new.marks
+    c.args.client.now
     c.self.invariant.0
-    (written-table c.seek.new.self c.offer_in.new.slots c.seek.ensures.table c.offer_in.ensures.kept)
-    c.seek.ensures.numbers.0 (λ other apart. ap (λ os. slot_in os other) c.seek.ensures.numbers.1)
-    (bits-elsewhere c.self.inside.clients c.self.inside.marks c.offer_in.new.marks c.number.result c.in-Some.slot
+    (written-table c.self.inside.clients c.offer_in.new.slots c.self.invariant.0 c.offer_in.ensures.kept)
+    refl (λ other apart. refl)
+    (bits-elsewhere c.self.inside.clients c.self.inside.marks c.offer_in.new.marks c.args.client.now c.in-Some.slot
     c.self.invariant.0 there c.offer_in.ensures.others)))
-
-pub returns-in-None-clause-others : goal.returns-in-None-clause-others
-returns-in-None-clause-others c =
-    rw (← c.number.ensures)
-    (subst (λ s. LeavesOthers c.number.result s (serving-with c.self.inside.config c.self.inside.rings c.seek.new.self
-    c.self.inside.marks)) c.self.view_is
-    (leaves-others c.self.inside.config c.self.inside.rings c.self.inside.clients c.seek.new.self c.self.inside.marks
-    c.self.inside.marks c.number.result c.self.invariant.0 c.seek.ensures.table
-    c.seek.ensures.numbers.0 (λ other apart. ap (λ os. slot_in os other) c.seek.ensures.numbers.1)
-    (λ other slot apart e. refl)))

@@ -43,8 +43,8 @@ returns-in_err-reserve-clause-err c =
     (λ slot. c.reserve.ensures.kept.marked slot tt)) ∙ c.self.view_is in
     search rules
 
-pub invariant_of-self-in_err-number : goal.invariant_of-self-in_err-number
-invariant_of-self-in_err-number c =
+pub invariant_of-self-in_err-client : goal.invariant_of-self-in_err-client
+invariant_of-self-in_err-client c =
     let settled : IsSettled c.self.inside.config c.self.inside.rings
     c.in_ok-session.session =
     record {
@@ -59,19 +59,19 @@ invariant_of-self-in_err-number c =
       c.open.ensures.settled c.self.inside.config c.self.inside.rings c.self.invariant.1 settled,
       c.self.invariant.2,
       marked-same c.self.inside.config c.self.inside.rings c.reserve.new.self c.self.inside.clients.slots
-          c.open.new.self.slots c.in_err-number.ensures.refused
+          c.open.new.self.slots c.in_err-client.ensures.refused
           (marked-roomier c.self.inside.config c.self.inside.rings c.self.inside.marks c.reserve.new.self
           c.self.inside.clients.slots c.reserve.ensures.kept c.self.invariant.3),
       c.reserve.ensures.kept.rows.count ∙ c.self.invariant.4,
       c.self.invariant.5,
       current-same c.self.inside.config (sessions_of c.self.inside.clients) (sessions_of c.open.new.self)
-          (addresses_of c.self.inside.clients) (addresses_of c.open.new.self) c.in_err-number.ensures.err
-          (same-addresses c.self.inside.clients c.open.new.self c.in_err-number.ensures.numbers.0
-          c.in_err-number.ensures.numbers.1) c.self.invariant.6,
+          (addresses_of c.self.inside.clients) (addresses_of c.open.new.self) c.in_err-client.ensures.err
+          (same-addresses c.self.inside.clients c.open.new.self c.in_err-client.ensures.numbers.0
+          c.in_err-client.ensures.numbers.1) c.self.invariant.6,
     )
 
-pub returns-in_err-number-clause-err : goal.returns-in_err-number-clause-err
-returns-in_err-number-clause-err c =
+pub returns-in_err-client-clause-err : goal.returns-in_err-client-clause-err
+returns-in_err-client-clause-err c =
     let with : List (Option SessionValue) → List (Option ℕ) → List Bool
     → ServerValue = λ xs from_ ms. record {
       config = c.self.inside.config;
@@ -80,14 +80,14 @@ returns-in_err-number-clause-err c =
       addresses = from_;
       marks = ms;
     } in
-    let addresses = same-addresses c.self.inside.clients c.open.new.self c.in_err-number.ensures.numbers.0
-    c.in_err-number.ensures.numbers.1 in
+    let addresses = same-addresses c.self.inside.clients c.open.new.self c.in_err-client.ensures.numbers.0
+    c.in_err-client.ensures.numbers.1 in
     let marks = marks-same c.self.inside.clients c.open.new.self c.self.inside.marks c.reserve.new.self
-    c.in_err-number.ensures.numbers.0 c.in_err-number.ensures.numbers.1
+    c.in_err-client.ensures.numbers.0 c.in_err-client.ensures.numbers.1
     (λ slot. c.reserve.ensures.kept.marked slot tt) in
     let is : with (sessions_of c.open.new.self) (addresses_of c.open.new.self)
     (marks_of c.open.new.self c.reserve.new.self) ≡ c.args.self.now =
-    (λ i. with (c.in_err-number.ensures.err i) (addresses i) (marks i)) ∙ c.self.view_is in
+    (λ i. with (c.in_err-client.ensures.err i) (addresses i) (marks i)) ∙ c.self.view_is in
     search rules
 
 pub invariant_of-self-2 : goal.invariant_of-self-2
@@ -109,17 +109,17 @@ invariant_of-self-2 c =
           c.open.new.self.slots c.self.inside.clients.slots.vacant_key c.in_ok-session.session
           (marked-roomier c.self.inside.config c.self.inside.rings c.self.inside.marks c.reserve.new.self
           c.self.inside.clients.slots c.reserve.ensures.kept c.self.invariant.3)
-          c.in_ok-number.ensures.vacant
+          c.in_ok-client.ensures.vacant
           (subst (HasRooms c.reserve.new.self) c.next_slot.ensures c.in_ok-reserve.ensures.room)
           c.in_ok-session.ensures.negotiates
           (ap (λ (x : Client). x.waiting) (c.in_ok-session.ensures.client c.self.inside.config []))
-          c.in_ok-number.ensures.slots,
+          c.in_ok-client.ensures.slots,
       c.reserve.ensures.kept.rows.count ∙ c.self.invariant.4,
       c.self.invariant.5,
       current-same c.self.inside.config (sessions_of c.self.inside.clients ++ Some c.in_ok-session.session ∷ [])
           (sessions_of c.open.new.self) (addresses_of c.self.inside.clients ++ Some (ipv4_bits c.args.address) ∷ [])
           (addresses_of c.open.new.self)
-          c.in_ok-number.ensures.opened c.in_ok-number.ensures.came
+          c.in_ok-client.ensures.opened c.in_ok-client.ensures.came
           (current-opens c.self.inside.config (sessions_of c.self.inside.clients) (addresses_of c.self.inside.clients)
           c.in_ok-session.session (ipv4_bits c.args.address)
           (sessions-counted c.self.inside.clients ∙ sym (addresses-counted c.self.inside.clients))
@@ -133,7 +133,7 @@ returns-clause-ok c = λ config w stands.
     with-marks _ (marks_of c.open.new.self c.reserve.new.self) config _
     (open-stands (serving c.self.inside.config c.self.inside.rings c.self.inside.clients)
     (serving c.self.inside.config c.self.inside.rings c.open.new.self) c.in_ok-session.session
-    (ipv4_bits c.args.address) refl refl c.in_ok-number.ensures.opened c.in_ok-number.ensures.came
+    (ipv4_bits c.args.address) refl refl c.in_ok-client.ensures.opened c.in_ok-client.ensures.came
     (addresses-counted c.self.inside.clients ∙ sym (sessions-counted c.self.inside.clients))
     (ap (λ p. view_in c.self.inside.config p) c.in_ok-session.ensures.places ∙ c.in_ok-view.ensures.view)
     (c.in_ok-session.ensures.client c.self.inside.config) config w
@@ -142,7 +142,7 @@ returns-clause-ok c = λ config w stands.
 
 pub returns-clause-number : goal.returns-clause-number
 returns-clause-number c =
-    c.new-2.ensures ∙ c.in_ok-number.ensures.number ∙ sym (sessions-counted c.self.inside.clients)
+    c.in_ok-client.ensures.number ∙ sym (sessions-counted c.self.inside.clients)
     ∙ ap (λ (s : ServerValue). length s.sessions) c.self.view_is
 
 pub returns-clause-others : goal.returns-clause-others
@@ -150,5 +150,5 @@ returns-clause-others c =
     subst (λ s. OpensNext s (serving-with c.self.inside.config c.self.inside.rings c.open.new.self
     c.reserve.new.self)) c.self.view_is
     (opens-next c.self.inside.config c.self.inside.rings c.self.inside.clients c.open.new.self c.self.inside.marks
-    c.reserve.new.self c.self.invariant.0 c.open.ensures.table c.in_ok-number.ensures.opens
-    c.in_ok-number.ensures.others (λ slot. c.reserve.ensures.kept.marked slot tt))
+    c.reserve.new.self c.self.invariant.0 c.open.ensures.table c.in_ok-client.ensures.opens
+    c.in_ok-client.ensures.others (λ slot. c.reserve.ensures.kept.marked slot tt))

@@ -7,15 +7,13 @@ use Rattle.server_core.proofs.server.Server.session.Goals as goal
 pub returns-in_err-slot : goal.returns-in_err-slot
 returns-in_err-slot c =
     ap (option_map (λ session. session.now)) c.from_residual.ensures
-    ∙ sym (ap (λ (x : ServerValue). slice_index_or x.sessions c.args.client None) (sym c.self.view_is)
-    ∙ ap (λ n. slice_index_or (sessions_of c.self.inside.clients) n None) (sym c.number.ensures)
-    ∙ session-is c.self.inside.clients c.number.result c.self.invariant.0
+    ∙ sym (ap (λ (x : ServerValue). slice_index_or x.sessions c.args.client.now None) (sym c.self.view_is)
+    ∙ session-is c.self.inside.clients c.args.client.now c.self.invariant.0
     ∙ ap (in_slot c.self.inside.clients.slots) (sym c.in_err-slot.ensures))
 
 pub returns : goal.returns
 returns c =
     c.get.ensures
-    ∙ sym (ap (λ (x : ServerValue). slice_index_or x.sessions c.args.client None) (sym c.self.view_is)
-    ∙ ap (λ n. slice_index_or (sessions_of c.self.inside.clients) n None) (sym c.number.ensures)
-    ∙ session-is c.self.inside.clients c.number.result c.self.invariant.0
+    ∙ sym (ap (λ (x : ServerValue). slice_index_or x.sessions c.args.client.now None) (sym c.self.view_is)
+    ∙ session-is c.self.inside.clients c.args.client.now c.self.invariant.0
     ∙ ap (in_slot c.self.inside.clients.slots) (sym c.in_ok-slot.ensures))

@@ -1,130 +1,86 @@
-use Rattle.std.proofs.Common.{refl, ◌∙◌, ap, sym, subst, List, Option, Some, is_some, slice_get}
-use Rattle.session_state.specs.Sessions.{SessionValue}
-use Rattle.slab.specs.Slab.{Slab}
-use Rattle.server_core.specs.ServerValues.{AreSettled}
-use Rattle.server_core.specs.ServerValues.{ServerValue}
-use Rattle.server_core.specs.Clients.{addresses_of, sessions_of}
-use Rattle.server_core.specs.Marks.{AreMarked, marks_of}
+use Rattle.std.proofs.Common.{refl, ◌∙◌, ap, sym, subst, Some, is_some, slice_get}
+use Rattle.protocol.specs.World.{step}
+use Rattle.protocol.specs.World.Event.{Take}
+use Rattle.server_core.specs.ServerValues.{ServerValue, StandsAt}
+use Rattle.server_core.specs.Marks.{marks_of}
 use Rattle.server_core.proofs.SessionLemmas.{found, seen-nowhere, seen-there, took-nowhere, took-there, with-marks}
 use Rattle.server_core.proofs.SlotLemmas.{session-there, written-table}
-use Rattle.server_core.proofs.CurrentLemmas.{current-goes, current-same, taken-over}
+use Rattle.server_core.proofs.CurrentLemmas.{current-goes, taken-over}
 use Rattle.server_core.specs.ServerValues.{taking}
 use Rattle.server_core.proofs.SpareLemmas.{bits-elsewhere, leaves-others, serving-with}
 use Rattle.server_core.specs.Marks.{LeavesOthers}
-use Rattle.server_core.specs.Clients.{slot_in}
 use Rattle.server_core.proofs.server.Server.took.Goals as goal
-
-pub took_in-requires-clause-settled : goal.took_in-requires-clause-settled
-took_in-requires-clause-settled c =
-    subst (λ (slots : Slab SessionValue). AreSettled c.self.inside.config c.self.inside.rings slots)
-    (sym c.seek.ensures.slots) c.self.invariant.1
 
 pub took_in-requires-clause-count : goal.took_in-requires-clause-count
 took_in-requires-clause-count c = λ s there.
     c.requires s
-    (ap (λ (x : ServerValue). slice_get x.sessions c.args.client) (sym c.self.view_is)
-    ∙ ap (λ (xs : List (Option SessionValue)). slice_get xs c.args.client) (sym c.seek.ensures.sessions)
-    ∙ ap (slice_get (sessions_of c.seek.new.self)) (sym c.number.ensures)
-    ∙ session-there c.seek.new.self c.number.result c.in-Some.slot c.seek.ensures.table (sym c.in-Some.ensures.slot)
+    (ap (λ (x : ServerValue). slice_get x.sessions c.args.client.now) (sym c.self.view_is)
+    ∙ session-there c.self.inside.clients c.args.client.now c.in-Some.slot c.self.invariant.0 (sym c.in-Some.ensures)
     ∙ ap Some there)
-
-pub took_in-requires-clause-marked : goal.took_in-requires-clause-marked
-took_in-requires-clause-marked c =
-    subst (λ (slots : Slab SessionValue). AreMarked c.self.inside.config c.self.inside.rings c.self.inside.marks slots)
-    (sym c.seek.ensures.slots) c.self.invariant.3
 
 pub invariant_of-self : goal.invariant_of-self
 invariant_of-self c = (
-  written-table c.seek.new.self c.took_in.new.slots c.seek.ensures.table c.took_in.ensures.kept,
+  written-table c.self.inside.clients c.took_in.new.slots c.self.invariant.0 c.took_in.ensures.kept,
   c.took_in.ensures.settled,
   c.self.invariant.2,
   c.took_in.ensures.marked,
   c.took_in.ensures.stations ∙ c.self.invariant.4,
   c.self.invariant.5,
-  current-goes c.self.inside.config c.self.invariant.5.history c.seek.new.self c.number.result c.in-Some.slot
+  current-goes c.self.inside.config c.self.invariant.5.history c.self.inside.clients c.args.client.now c.in-Some.slot
       (taking c.self.invariant.5.history c.args.count) (taken-over c.self.invariant.5.history c.args.count)
-      c.took_in.new.slots c.seek.ensures.table (sym c.in-Some.ensures.slot)
+      c.took_in.new.slots c.self.invariant.0 (sym c.in-Some.ensures)
       (c.took_in.ensures.changed c.self.invariant.5.history c.self.invariant.5.holds)
-      (current-same c.self.inside.config (sessions_of c.self.inside.clients) (sessions_of c.seek.new.self)
-      (addresses_of c.self.inside.clients) (addresses_of c.seek.new.self) c.seek.ensures.sessions
-      c.seek.ensures.addresses c.self.invariant.6),
-)
-
-pub invariant_of-self-in-None : goal.invariant_of-self-in-None
-invariant_of-self-in-None c = (
-  c.seek.ensures.table,
-  subst (λ (slots : Slab SessionValue). AreSettled c.self.inside.config c.self.inside.rings slots)
-      (sym c.seek.ensures.slots) c.self.invariant.1,
-  c.self.invariant.2,
-  subst (λ (slots : Slab SessionValue). AreMarked c.self.inside.config c.self.inside.rings c.self.inside.marks slots)
-      (sym c.seek.ensures.slots) c.self.invariant.3,
-  c.self.invariant.4,
-  c.self.invariant.5,
-  current-same c.self.inside.config (sessions_of c.self.inside.clients) (sessions_of c.seek.new.self)
-      (addresses_of c.self.inside.clients) (addresses_of c.seek.new.self) c.seek.ensures.sessions
-      c.seek.ensures.addresses c.self.invariant.6,
+      c.self.invariant.6,
 )
 
 pub returns-in-Some-clause-stands : goal.returns-in-Some-clause-stands
 returns-in-Some-clause-stands c = λ config w stands.
-    let here = found c.self.inside.config c.self.inside.rings c.self.inside.clients c.seek.new.self
+    let here = found c.self.inside.config c.self.inside.rings c.self.inside.clients c.self.inside.clients
     (marks_of c.self.inside.clients c.self.inside.marks) c.args.self.now config w c.self.view_is
-    c.seek.ensures.sessions c.seek.ensures.addresses stands in
-    rw (← c.number.ensures)
-    (with-marks _ (marks_of (record c.seek.new.self { slots = c.took_in.new.slots }) c.took_in.new.marks) config _
-    (took-there c.self.inside.config c.self.inside.rings c.seek.new.self c.number.result config w c.args.count
-    c.took_in.new.slots c.in-Some.slot c.seek.ensures.table (sym c.in-Some.ensures.slot)
+    refl refl stands in
+    (with-marks _ (marks_of (record c.self.inside.clients { slots = c.took_in.new.slots }) c.took_in.new.marks) config _
+    (took-there c.self.inside.config c.self.inside.rings c.self.inside.clients c.args.client.now config w c.args.count
+    c.took_in.new.slots c.in-Some.slot c.self.invariant.0 (sym c.in-Some.ensures)
     (c.took_in.ensures.changed w.history here.holds) here))
 
 pub returns-in-Some-clause-answer : goal.returns-in-Some-clause-answer
 returns-in-Some-clause-answer c = λ config w stands.
-    let here = found c.self.inside.config c.self.inside.rings c.self.inside.clients c.seek.new.self
+    let here = found c.self.inside.config c.self.inside.rings c.self.inside.clients c.self.inside.clients
     (marks_of c.self.inside.clients c.self.inside.marks) c.args.self.now config w c.self.view_is
-    c.seek.ensures.sessions c.seek.ensures.addresses stands in
-    rw (← c.number.ensures) (c.took_in.ensures.answer w.history
+    refl refl stands in
+    (c.took_in.ensures.answer w.history
     ∙ ap is_some
-    (seen-there c.self.inside.config c.self.inside.rings c.seek.new.self c.number.result config w c.in-Some.slot
-    c.seek.ensures.table (sym c.in-Some.ensures.slot) here))
+    (seen-there c.self.inside.config c.self.inside.rings c.self.inside.clients c.args.client.now config w c.in-Some.slot
+    c.self.invariant.0 (sym c.in-Some.ensures) here))
 
 pub returns-in-None-clause-stands : goal.returns-in-None-clause-stands
 returns-in-None-clause-stands c = λ config w stands.
-    let here = found c.self.inside.config c.self.inside.rings c.self.inside.clients c.seek.new.self
+    let here = found c.self.inside.config c.self.inside.rings c.self.inside.clients c.self.inside.clients
     (marks_of c.self.inside.clients c.self.inside.marks) c.args.self.now config w c.self.view_is
-    c.seek.ensures.sessions c.seek.ensures.addresses stands in
-    rw (← c.number.ensures)
-    (with-marks _ (marks_of c.seek.new.self c.self.inside.marks) config _
-    (took-nowhere c.self.inside.config c.self.inside.rings c.seek.new.self c.number.result config w c.args.count
-    (sym c.in-None.ensures.slot) here))
+    refl refl stands in
+    subst (λ (s : ServerValue). StandsAt s config (step config w (Take c.args.client.now c.args.count))) c.self.view_is
+    (with-marks _ (marks_of c.self.inside.clients c.self.inside.marks) config _
+    (took-nowhere c.self.inside.config c.self.inside.rings c.self.inside.clients c.args.client.now config w c.args.count
+    (sym c.in-None.ensures) here))
 
 pub returns-in-None-clause-answer : goal.returns-in-None-clause-answer
 returns-in-None-clause-answer c = λ config w stands.
-    let here = found c.self.inside.config c.self.inside.rings c.self.inside.clients c.seek.new.self
+    let here = found c.self.inside.config c.self.inside.rings c.self.inside.clients c.self.inside.clients
     (marks_of c.self.inside.clients c.self.inside.marks) c.args.self.now config w c.self.view_is
-    c.seek.ensures.sessions c.seek.ensures.addresses stands in
-    rw (← c.number.ensures)
-    (ap is_some (seen-nowhere c.self.inside.config c.self.inside.rings c.seek.new.self c.number.result config w
-    (sym c.in-None.ensures.slot) here))
+    refl refl stands in
+    (ap is_some (seen-nowhere c.self.inside.config c.self.inside.rings c.self.inside.clients c.args.client.now config w
+    (sym c.in-None.ensures) here))
 
 pub returns-in-Some-clause-others : goal.returns-in-Some-clause-others
 returns-in-Some-clause-others c =
-    let there = ap (λ os. slot_in os c.number.result) (sym c.seek.ensures.numbers.1) ∙ sym c.in-Some.ensures.slot in
-    rw (← c.number.ensures)
-    (subst (λ s. LeavesOthers c.number.result s (serving-with c.self.inside.config c.self.inside.rings
-    (record c.seek.new.self { slots = c.took_in.new.slots }) c.took_in.new.marks)) c.self.view_is
+    let there = sym c.in-Some.ensures in
+    (subst (λ s. LeavesOthers c.args.client.now s (serving-with c.self.inside.config c.self.inside.rings
+    (record c.self.inside.clients { slots = c.took_in.new.slots }) c.took_in.new.marks)) c.self.view_is
     (leaves-others c.self.inside.config c.self.inside.rings c.self.inside.clients
-    (record c.seek.new.self { slots = c.took_in.new.slots }) c.self.inside.marks c.took_in.new.marks c.number.result
+    (record c.self.inside.clients { slots = c.took_in.new.slots }) c.self.inside.marks c.took_in.new.marks
+    c.args.client.now
     c.self.invariant.0
-    (written-table c.seek.new.self c.took_in.new.slots c.seek.ensures.table c.took_in.ensures.kept)
-    c.seek.ensures.numbers.0 (λ other apart. ap (λ os. slot_in os other) c.seek.ensures.numbers.1)
-    (bits-elsewhere c.self.inside.clients c.self.inside.marks c.took_in.new.marks c.number.result c.in-Some.slot
+    (written-table c.self.inside.clients c.took_in.new.slots c.self.invariant.0 c.took_in.ensures.kept)
+    refl (λ other apart. refl)
+    (bits-elsewhere c.self.inside.clients c.self.inside.marks c.took_in.new.marks c.args.client.now c.in-Some.slot
     c.self.invariant.0 there c.took_in.ensures.others)))
-
-pub returns-in-None-clause-others : goal.returns-in-None-clause-others
-returns-in-None-clause-others c =
-    rw (← c.number.ensures)
-    (subst (λ s. LeavesOthers c.number.result s (serving-with c.self.inside.config c.self.inside.rings c.seek.new.self
-    c.self.inside.marks)) c.self.view_is
-    (leaves-others c.self.inside.config c.self.inside.rings c.self.inside.clients c.seek.new.self c.self.inside.marks
-    c.self.inside.marks c.number.result c.self.invariant.0 c.seek.ensures.table
-    c.seek.ensures.numbers.0 (λ other apart. ap (λ os. slot_in os other) c.seek.ensures.numbers.1)
-    (λ other slot apart e. refl)))

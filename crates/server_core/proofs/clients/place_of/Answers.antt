@@ -3,7 +3,7 @@ use Rattle.std.specs.Prelude.{IfSome}
 use Rattle.std.proofs.lemmas.List.Sorted.{answers_always}
 use Rattle.server_core.specs.Clients.{IsNumberAt}
 use Rattle.server_core.proofs.NumberLemmas.{searched}
-use Rattle.server_core.proofs.clients.finding.place_of.Goals as goal
+use Rattle.server_core.proofs.clients.place_of.Goals as goal
 
 pub returns-clause-found : goal.returns-clause-found
 returns-clause-found c =
