@@ -21,6 +21,11 @@ abbrev pub is_client : Role → Bool
 is_client (ClientRole k) = true
 is_client (FeedRole rest) = false
 
+-- It is the client's with a number.
+abbrev pub is_of : ℕ → Role → Bool
+is_of number (ClientRole k) = k == number
+is_of number (FeedRole rest) = false
+
 -- how many clients' ports, and how many feeds' ports, are open
 abbrev pub clients_in : List Seat → ℕ
 clients_in seats = count_by (λ s. is_client s.role) seats

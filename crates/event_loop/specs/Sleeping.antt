@@ -62,6 +62,17 @@ pub record IsSeatOfClient (ss : List Seat) (k at : ℕ) : Type 0 where
   pub inside : at < length ss
   pub role : role_at ss at ≡ ClientRole k
 
+-- The seat at a place is that of such a client.
+pub record IsSeatOfOne (Of : ℕ → Type 0) (ss : List Seat) (at : ℕ) : Type 0 where
+  pub client : ℕ
+  pub is_one : Of client
+  pub role : role_at ss at ≡ ClientRole client
+
+-- Only bytes of the seats of such clients change.
+abbrev pub WakesOnly : (ℕ → Type 0) → List Seat → (awake awake' : List ℕ) → Type 0
+WakesOnly Of ss awake awake' =
+    (at : ℕ) → slice_index_or awake' at 0 ≢ slice_index_or awake at 0 → IsSeatOfOne Of ss at
+
 -- What a loop keeps true of its seats: they rise by port, those of sleeping ports are known, no client has two, and so
 -- many are feeds'.
 pub record IsLoop (max_clients : ℕ) (server : ServerValue) (ss : List Seat) (awake : List ℕ) (feeds : ℕ) : Type 0 where

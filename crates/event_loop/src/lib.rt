@@ -9,6 +9,7 @@ pub mod seat;
 mod sleeping;
 mod table;
 mod turning;
+mod waking;
 
 pub use seat::{Role, Seat};
 pub use turning::{Loop, LoopFault, Turned};

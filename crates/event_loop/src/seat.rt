@@ -1,6 +1,6 @@
 //! Ports that are open, and whose they are.
 ghost use Rattle.std.specs.Prelude.{◌≡◌, [], true, IfOk};
-ghost use Rattle.event_loop.specs.Hearing.{is_client, joining};
+ghost use Rattle.event_loop.specs.Hearing.{is_client, is_of, joining};
 
 use feeder::FeedCutter;
 use server_core::Client;
@@ -50,6 +50,16 @@ impl Role {
             Role::Client(_) => true,
             Role::Feed(_) => false,
         }
+    }
+
+    /// Whether the port is that of the client with a number.
+    pub fn is_of(&self, number: usize) -> bool
+        ensures { result ≡ is_of number self.now }
+    {
+        if let Role::Client(client) = self {
+            return client.number() == number;
+        }
+        false
     }
 }
 

@@ -8,16 +8,13 @@ ghost use Rattle.protocol.specs.World.{World};
 ghost use Rattle.ports.specs.Calls.{Call};
 ghost use Rattle.event_loop.specs.Deeds.{Tally};
 ghost use Rattle.event_loop.specs.Hearing.{feeds_in};
-ghost use Rattle.event_loop.specs.Sleeping.{AreKnown, AreSeated, AreWoken, IsAsleep, IsSeatOfClient, IsWoken};
-ghost use Rattle.event_loop.specs.Sleeping.{OnlyWakes, seat_at};
-ghost use Rattle.server_core.specs.Marks.{IsAmong};
-ghost use Rattle.std.specs.Prelude.{IfSome};
+ghost use Rattle.event_loop.specs.Sleeping.{AreKnown, IsAsleep, seat_at};
 ghost use Rattle.event_loop.specs.Tables.{PassesSoFar};
 
 use crate::seat::{Role, Seat};
 use crate::table;
 use memchr::memchr;
-use server_core::{Client, Server};
+use server_core::Server;
 
 /// The place of the first byte from a place on that is 1, or how many there are.
 fn next_awake(awake: &[u8], from: usize) -> usize
@@ -122,99 +119,4 @@ pub fn wake(awake: &mut Vec<u8>, at: usize)
     ensures others { (i : ℕ) → i ≢ at → slice_index awake.new.items i ≡ slice_index awake.old.items i }
 {
     awake[at] = 1;
-}
-
-/// The place of a client's seat. It is found by halving, as if the clients' numbers rose with their ports. Where they
-/// do not, it may not be found.
-fn seat_of(seats: &[Seat], client: &Client) -> Option<usize>
-    ensures { IfSome result (λ at. IsSeatOfClient seats.now client.now at) }
-{
-    let mut low = 0usize;
-    let mut high = seats.len();
-    while low < high {
-        let middle = low + (high - low) / 2;
-        match &seats[middle].role {
-            Role::Client(other) => {
-                if other.number() == client.number() {
-                    return Some(middle);
-                }
-                if other.number() < client.number() {
-                    low = middle + 1;
-                } else {
-                    high = middle;
-                }
-            }
-            Role::Feed(_) => low = middle + 1,
-        }
-    }
-    None
-}
-
-/// A client's seat does not sleep any more. It answers whether the seat was found.
-fn wake_client(server: &Server, seats: &[Seat], awake: &mut Vec<u8>, client: &Client) -> bool
-    requires count { length awake.old.items ≡ length seats.now }
-    requires seated { AreSeated server.now seats.now }
-    ensures wakes { OnlyWakes awake.old.items awake.new.items }
-    ensures woken { result ≡ true → IsWoken seats.now awake.new.items client.now }
-{
-    let _ = server;
-    match seat_of(seats, client) {
-        Some(at) => {
-            wake(awake, at);
-            true
-        }
-        None => false,
-    }
-}
-
-/// The seats of some clients do not sleep any more. It answers whether all were found.
-fn wake_clients(server: &Server, seats: &[Seat], awake: &mut Vec<u8>, some: &[Client]) -> bool
-    requires count { length awake.old.items ≡ length seats.now }
-    requires seated { AreSeated server.now seats.now }
-    ensures wakes { OnlyWakes awake.old.items awake.new.items }
-    ensures woken { result ≡ true → (k : ℕ) → IsAmong k some.now → IsWoken seats.now awake.new.items k }
-{
-    for client in some {
-        if !wake_client(server, seats, awake, client) {
-            return false;
-        }
-    }
-    true
-}
-
-/// The seats of all clients that are marked do not sleep any more. It answers whether that could be told.
-fn wakes_marked(
-    server: &Server,
-    seats: &[Seat],
-    awake: &mut Vec<u8>,
-    marked: &mut Vec<Client>,
-) -> bool
-    requires count { length awake.old.items ≡ length seats.now }
-    requires seated { AreSeated server.now seats.now }
-    ensures wakes { OnlyWakes awake.old.items awake.new.items }
-    ensures woken { result ≡ true → AreWoken server.now seats.now awake.new.items }
-{
-    marked.clear();
-    match server.marked_clients(marked) {
-        Ok(()) => wake_clients(server, seats, awake, marked.as_slice()),
-        Err(_) => false,
-    }
-}
-
-/// Where records came by a pass, the seats of all clients that are marked do not sleep any more.
-pub fn wake_after(
-    server: &Server,
-    seats: &[Seat],
-    awake: &mut Vec<u8>,
-    marked: &mut Vec<Client>,
-    brought: bool,
-)
-    requires count { length awake.old.items ≡ length seats.now }
-    requires seated { AreSeated server.now seats.now }
-    ensures wakes { OnlyWakes awake.old.items awake.new.items }
-    ensures woken { brought ≡ true → AreWoken server.now seats.now awake.new.items }
-{
-    if brought && !wakes_marked(server, seats, awake, marked) {
-        wake_if(awake, true);
-    }
 }
