@@ -5,6 +5,7 @@ use Rattle.server_core.specs.ServerValues.{ServerValue, mark_at}
 use Rattle.event_loop.specs.declared.seat.Role.{Role}
 use Rattle.event_loop.specs.declared.seat.Role.TheVariants.{Client as ClientRole}
 use Rattle.event_loop.specs.declared.seat.Seat.{Seat}
+use Rattle.event_loop.specs.declared.seats.Seats.{Seats}
 use Rattle.event_loop.specs.Hearing.{feeds_in}
 use Rattle.event_loop.specs.Tables.{IsTable, no_seat}
 
@@ -73,10 +74,10 @@ abbrev pub WakesOnly : (ℕ → Type 0) → List Seat → (awake awake' : List �
 WakesOnly Of ss awake awake' =
     (at : ℕ) → slice_index_or awake' at 0 ≢ slice_index_or awake at 0 → IsSeatOfOne Of ss at
 
--- What a loop keeps true of its seats: they rise by port, those of sleeping ports are known, no client has two, and so
--- many are feeds'.
-pub record IsLoop (max_clients : ℕ) (server : ServerValue) (ss : List Seat) (awake : List ℕ) (feeds : ℕ) : Type 0 where
-  pub table : IsTable max_clients ss
-  pub known : AreKnown server ss awake
-  pub seated : AreSeated server ss
-  pub count : feeds ≡ feeds_in ss
+-- What a loop keeps true of its seats: they rise by port and are not too many, those of sleeping ports are known, no
+-- client has two, and so many are feeds'.
+pub record AreKept (server : ServerValue) (seats : Seats) : Type 0 where
+  pub table : IsTable seats.max_clients seats.all.items
+  pub known : AreKnown server seats.all.items seats.awake.items
+  pub seated : AreSeated server seats.all.items
+  pub feeds : seats.feeds ≡ feeds_in seats.all.items

@@ -6,6 +6,7 @@ mod feeding;
 mod hearing;
 mod passes;
 pub mod seat;
+pub mod seats;
 mod sleeping;
 mod table;
 mod turning;

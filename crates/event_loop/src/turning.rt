@@ -13,8 +13,8 @@ ghost use Rattle.event_loop.specs.Feeding.{feed_tally};
 ghost use Rattle.event_loop.specs.Going.{Whole, if_open};
 ghost use Rattle.event_loop.specs.Hearing.{clients_in, feeds_in};
 ghost use Rattle.event_loop.specs.Loops.{TurnMade, TurnFailed};
-ghost use Rattle.event_loop.specs.Sleeping.{AreKnown, AreSeated, LeavesRest};
-ghost use Rattle.event_loop.specs.Tables.{IsTable, IsSameSeat, PassesAll, PassesSoFar};
+ghost use Rattle.event_loop.specs.Sleeping.{AreKept, LeavesRest};
+ghost use Rattle.event_loop.specs.Tables.{IsSameSeat, PassesAll, PassesSoFar};
 ghost use Rattle.event_loop.specs.Turns.{SeatPass};
 ghost use Rattle.ports.specs.Calls.{Call};
 ghost use Rattle.event_loop.specs.declared.seat.Role.TheVariants.{Client as ClientRole};
@@ -23,13 +23,14 @@ use crate::feeding::read_feed;
 use crate::hearing::hear;
 use crate::passes::{read_client, write_client};
 use crate::seat::{Role, Seat};
+use crate::seats::Seats;
 use crate::sleeping::{go, settle, skip, wake_if};
 use crate::table::clients;
 use crate::waking::wake_after;
 use catalog::Config;
 use ports::Ports;
 use protocol::reason::Reason;
-use server_core::{Client, ReloadFault, Server};
+use server_core::{ReloadFault, Server};
 use station_ring::Rings;
 use std::alloc::{AllocError, Global};
 use std::marker::Model;
@@ -106,47 +107,46 @@ fn pass<P: Ports>(
 fn pass_at<P: Ports>(
     server: &mut Server,
     ports: &mut P,
-    seats: &mut Vec<Seat>,
-    awake: &mut Vec<u8>,
-    marked: &mut Vec<Client>,
-    feeds: &mut usize,
+    seats: &mut Seats,
     at: usize,
     buffer: &mut [u8; CLIENT_READ],
     limit: usize,
     refused: &mut u64,
 ) -> usize
-    requires inside { at < length seats.old.items }
-    requires known { AreKnown server.old seats.old.items awake.old.items }
-    requires seated { AreSeated server.old seats.old.items }
-    requires feeds { feeds.old ≡ feeds_in seats.old.items }
-    ensures known { AreKnown server.new seats.new.items awake.new.items }
-    ensures seated { AreSeated server.new seats.new.items }
-    ensures feeds { feeds.new ≡ feeds_in seats.new.items }
-    ensures within { result ≤ length seats.new.items }
-    ensures fewer { length seats.new.items + at < length seats.old.items + result }
+    requires inside { at < length seats.old.all.items }
+    requires kept { AreKept server.old seats.old }
+    ensures kept { AreKept server.new seats.new }
+    ensures limit { seats.new.max_clients ≡ seats.old.max_clients }
+    ensures within { result ≤ length seats.new.all.items }
+    ensures fewer { length seats.new.all.items + at < length seats.old.all.items + result }
     ensures goes { (happenings : ℕ) (config : ProtocolConfig) (w : World) (calls : Option (List Call)) (t : Tally)
         (ss : List Seat) → PassesSoFar limit config w calls (P.calls ports.old) server.old t
-        (feed_tally happenings refused.old) ss (take at seats.old.items) (drop at seats.old.items)
+        (feed_tally happenings refused.old) ss (take at seats.old.all.items) (drop at seats.old.all.items)
         → PassesSoFar limit config w calls (P.calls ports.new) server.new t
-        (feed_tally happenings refused.new) ss (take result seats.new.items) (drop result seats.new.items) }
-    ensures table { (max_clients : ℕ) → IsTable max_clients seats.old.items → IsTable max_clients seats.new.items }
+        (feed_tally happenings refused.new) ss (take result seats.new.all.items) (drop result seats.new.all.items) }
 {
     let mut brought = false;
     let stays = pass(
         server,
         ports,
-        &mut seats[at],
+        &mut seats.all[at],
         buffer,
         limit,
         refused,
         &mut brought,
     );
-    wake_after(server, seats.as_slice(), awake, marked, brought);
+    wake_after(
+        server,
+        seats.all.as_slice(),
+        &mut seats.awake,
+        &mut seats.marked,
+        brought,
+    );
     if stays {
-        settle(server, seats.as_slice(), awake, at);
+        settle(server, seats.all.as_slice(), &mut seats.awake, at);
         at + 1
     } else {
-        go(seats, awake, feeds, at);
+        go(&mut seats.all, &mut seats.awake, &mut seats.feeds, at);
         at
     }
 }
@@ -155,65 +155,40 @@ fn pass_at<P: Ports>(
 fn pass_all<P: Ports>(
     server: &mut Server,
     ports: &mut P,
-    seats: &mut Vec<Seat>,
-    awake: &mut Vec<u8>,
-    marked: &mut Vec<Client>,
-    feeds: &mut usize,
+    seats: &mut Seats,
     limit: usize,
     refused: &mut u64,
 )
-    requires known { AreKnown server.old seats.old.items awake.old.items }
-    requires seated { AreSeated server.old seats.old.items }
-    requires feeds { feeds.old ≡ feeds_in seats.old.items }
-    ensures known { AreKnown server.new seats.new.items awake.new.items }
-    ensures seated { AreSeated server.new seats.new.items }
-    ensures feeds { feeds.new ≡ feeds_in seats.new.items }
+    requires { AreKept server.old seats.old }
+    ensures kept { AreKept server.new seats.new }
+    ensures limit { seats.new.max_clients ≡ seats.old.max_clients }
     ensures goes { (happenings : ℕ) (config : ProtocolConfig) (w : World) → StandsAt server.old config w →
         PassesAll limit config w (P.calls ports.old) (P.calls ports.new) server.new
-        (feed_tally happenings refused.old) (feed_tally happenings refused.new) seats.old.items seats.new.items }
-    ensures table { (max_clients : ℕ) → IsTable max_clients seats.old.items → IsTable max_clients seats.new.items }
+        (feed_tally happenings refused.old) (feed_tally happenings refused.new)
+        seats.old.all.items seats.new.all.items }
 {
     let mut buffer = [0u8; CLIENT_READ];
-    let mut at = skip(server, seats.as_slice(), awake.as_slice(), 0);
-    'passes: while at < seats.len() {
-        let next = pass_at(
-            server,
-            ports,
-            seats,
-            awake,
-            marked,
-            feeds,
-            at,
-            &mut buffer,
-            limit,
-            refused,
-        );
-        at = skip(server, seats.as_slice(), awake.as_slice(), next);
+    let mut at = skip(server, seats.all.as_slice(), seats.awake.as_slice(), 0);
+    'passes: while at < seats.all.len() {
+        let next = pass_at(server, ports, seats, at, &mut buffer, limit, refused);
+        at = skip(server, seats.all.as_slice(), seats.awake.as_slice(), next);
     }
 }
 
-/// A server over ports. It goes on by turns, and a turn allocates when a port joins, and where more clients are marked
-/// than ever before; if there is no memory for that, all ports are woken.
+/// A server over ports. It goes on by turns. Only a port that joins makes a turn allocate: room is made then for its
+/// seat, and for as many marked clients as there is room for seats.
 #[derive(Drop)]
 pub struct Loop<P: Ports> {
     server: Server,
     ports: P,
-    /// The open ports, by rising number.
-    seats: Vec<Seat>,
-    /// For each seat a 1, or else the port sleeps: its pass would make no call.
-    awake: Vec<u8>,
-    /// Room for the clients that are marked.
-    marked: Vec<Client>,
-    /// How many of the open ports are feeds'.
-    feeds: usize,
+    seats: Seats,
     alloc: Global,
-    max_clients: usize,
     refused: u64,
 }
 
 impl<P: Ports> Model for Loop<P> {
     ghost use Rattle.event_loop.specs.Loops.{LoopValue};
-    ghost use Rattle.event_loop.specs.Sleeping.{IsLoop};
+    ghost use Rattle.event_loop.specs.Sleeping.{AreKept};
 
     ghost Value = { LoopValue };
 
@@ -221,12 +196,12 @@ impl<P: Ports> Model for Loop<P> {
       server = l.server;
       calls = P.calls l.ports;
       failures = P.failures l.ports;
-      seats = l.seats.items;
-      max_clients = l.max_clients;
+      seats = l.seats.all.items;
+      max_clients = l.seats.max_clients;
       refused = l.refused;
     } };
 
-    ghost invariant = { λ l. IsLoop l.max_clients l.server l.seats.items l.awake.items l.feeds };
+    ghost invariant = { λ l. AreKept l.server l.seats };
 }
 
 impl<P: Ports + Drop> Loop<P> {
@@ -239,17 +214,13 @@ impl<P: Ports + Drop> Loop<P> {
         ensures max_clients { IfOk result (λ made. made.max_clients ≡ config.max_connections) }
         ensures refused { IfOk result (λ made. made.refused ≡ 0) }
     {
-        let max_clients = config.max_connections();
+        let seats = Seats::new(alloc, config.max_connections());
         let server = Server::new(alloc, config)?;
         Ok(Loop {
             server,
             ports,
-            seats: Vec::new(alloc),
-            awake: Vec::new(alloc),
-            marked: Vec::new(alloc),
-            feeds: 0,
+            seats,
             alloc,
-            max_clients,
             refused: 0,
         })
     }
@@ -261,7 +232,7 @@ impl<P: Ports> Loop<P> {
     /// `limit` times. At most `limit` records arrive from each of 16 feeds.
     ///
     /// It fails with 40 Poll only if the ports could not say what happened. What was done before it in the turn stands,
-    /// and a further turn goes on.
+    /// and a further turn goes on. It allocates only as a port joins.
     pub fn turn(&mut self, limit: usize) -> Result<Turned, LoopFault>
         ensures ok { IfOk result (λ turned. (config : ProtocolConfig) (w : World) → StandsAt self.old.server config w →
             TurnMade config limit w self.old self.new turned) }
@@ -278,10 +249,7 @@ impl<P: Ports> Loop<P> {
             &mut self.server,
             &mut self.ports,
             &mut self.seats,
-            &mut self.awake,
-            &mut self.feeds,
             self.alloc,
-            self.max_clients,
             limit,
         ) else {
             return Err(LoopFault);
@@ -291,9 +259,6 @@ impl<P: Ports> Loop<P> {
             &mut self.server,
             &mut self.ports,
             &mut self.seats,
-            &mut self.awake,
-            &mut self.marked,
-            &mut self.feeds,
             limit,
             &mut refused,
         );
@@ -318,7 +283,7 @@ impl<P: Ports> Loop<P> {
     {
         let _ = &self.ports;
         let reloaded = self.server.reload(config);
-        wake_if(&mut self.awake, true);
+        wake_if(&mut self.seats.awake, true);
         reloaded
     }
 
@@ -342,15 +307,14 @@ impl<P: Ports> Loop<P> {
     pub fn clients(&self) -> usize
         ensures { result ≡ clients_in self.now.seats }
     {
-        clients(self.seats.as_slice(), self.feeds)
+        clients(self.seats.all.as_slice(), self.seats.feeds)
     }
 
     /// How many feeds' ports are open.
     pub fn feeds(&self) -> usize
         ensures { result ≡ feeds_in self.now.seats }
     {
-        let _ = &self.seats;
-        self.feeds
+        self.seats.feeds
     }
 
     /// How many records arrived, from all feeds: those that the server accepted.

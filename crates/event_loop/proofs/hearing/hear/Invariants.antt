@@ -4,9 +4,8 @@ use Rattle.protocol.specs.World.{World}
 use Rattle.server_core.specs.ServerValues.{StandsAt}
 use Rattle.event_loop.specs.Deeds.{no_tally}
 use Rattle.event_loop.specs.Going.{SoFar}
-use Rattle.event_loop.specs.Tables.{IsTable, HeardBy, heard_so_far}
-use Rattle.event_loop.specs.Hearing.{feeds_in}
-use Rattle.event_loop.specs.Sleeping.{AreKnown, AreSeated}
+use Rattle.event_loop.specs.Tables.{HeardBy, heard_so_far}
+use Rattle.event_loop.specs.Sleeping.{AreKept}
 use Rattle.event_loop.proofs.hearing.hear.Given as goal
 
 abbrev pub invariant-hearing : goal.invariant-hearing
@@ -14,14 +13,13 @@ invariant-hearing g l =
     let calls = g.P.Ports.calls in
     record {
       fits : l.left ≤ l.limit;
-      table : IsTable l.max_clients l.seats.items;
-      known : AreKnown l.server l.seats.items l.awake.items;
-      seated : AreSeated l.server l.seats.items;
-      count : l.feeds ≡ feeds_in l.seats.items;
+      kept : AreKept l.server l.seats;
+      limit : l.seats.max_clients ≡ l.fn.seats.max_clients;
       failures : g.P.Ports.failures l.ports ≡ g.P.Ports.failures l.fn.ports;
       goes : (config : Config) (w : World) → StandsAt l.fn.server config w
-          → SoFar (HeardBy config l.max_clients) l.limit l.left config w (calls l.fn.ports) (calls l.ports) l.server
-          no_tally (heard_so_far (l.limit - l.left)) l.fn.seats.items l.seats.items;
+          → SoFar (HeardBy config l.fn.seats.max_clients) l.limit l.left config w (calls l.fn.ports) (calls l.ports)
+          l.server
+          no_tally (heard_so_far (l.limit - l.left)) l.fn.seats.all.items l.seats.all.items;
     }
 
 abbrev pub decreases-hearing : goal.decreases-hearing

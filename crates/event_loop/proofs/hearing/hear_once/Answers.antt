@@ -11,80 +11,74 @@ use Rattle.event_loop.specs.Sleeping.{AreSeated}
 use Rattle.event_loop.proofs.AwakeLemmas.{role-readable, role-writable}
 use Rattle.event_loop.proofs.hearing.hear_once.Goals as goal
 
-pub returns-in-Ok-Readable-clause-table : goal.returns-in-Ok-Readable-clause-table
-returns-in-Ok-Readable-clause-table g c =
-    subst (IsTable c.args.max_clients) (sym c.mark_readable.ensures.marks)
-    (table-map (readable_at c.in-Ok-Readable.port)
-    (readable-same c.in-Ok-Readable.port) c.args.max_clients c.args.seats.now.items c.requires.table)
-
 pub returns-in-Ok-Readable-clause-goes : goal.returns-in-Ok-Readable-clause-goes
 returns-in-Ok-Readable-clause-goes g c = λ t config w stands.
-    hears-old config c.args.max_clients w (g.P.Ports.calls c.args.ports.now)
-    (g.P.Ports.calls c.next.new.self) c.args.server.now t c.args.seats.now.items
+    hears-old config c.args.seats.now.max_clients w (g.P.Ports.calls c.args.ports.now)
+    (g.P.Ports.calls c.next.new.self) c.args.server.now t c.args.seats.now.all.items
     c.mark_readable.new.seats.items (Readable c.in-Ok-Readable.port) refl refl c.mark_readable.ensures.marks
     (subst (λ r. Tells (g.P.Ports.calls c.args.ports.now) (g.P.Ports.calls c.next.new.self) (Next r ∷ []))
     (c.in-Ok-Readable.is ∙ ap Ok c.in-Ok-Readable.field-0-is) c.next.ensures.call) stands
 
-pub returns-in-Ok-Writable-clause-table : goal.returns-in-Ok-Writable-clause-table
-returns-in-Ok-Writable-clause-table g c =
-    subst (IsTable c.args.max_clients) (sym c.mark_writable.ensures.marks)
-    (table-map (writable_at c.in-Ok-Writable.port)
-    (writable-same c.in-Ok-Writable.port) c.args.max_clients c.args.seats.now.items c.requires.table)
-
 pub returns-in-Ok-Writable-clause-goes : goal.returns-in-Ok-Writable-clause-goes
 returns-in-Ok-Writable-clause-goes g c = λ t config w stands.
-    hears-old config c.args.max_clients w (g.P.Ports.calls c.args.ports.now)
-    (g.P.Ports.calls c.next.new.self) c.args.server.now t c.args.seats.now.items
+    hears-old config c.args.seats.now.max_clients w (g.P.Ports.calls c.args.ports.now)
+    (g.P.Ports.calls c.next.new.self) c.args.server.now t c.args.seats.now.all.items
     c.mark_writable.new.seats.items (Writable c.in-Ok-Writable.port) refl refl c.mark_writable.ensures.marks
     (subst (λ r. Tells (g.P.Ports.calls c.args.ports.now) (g.P.Ports.calls c.next.new.self) (Next r ∷ []))
     (c.in-Ok-Writable.is ∙ ap Ok c.in-Ok-Writable.field-0-is) c.next.ensures.call) stands
 
 pub returns-in-Ok-Quiet-clause-goes : goal.returns-in-Ok-Quiet-clause-goes
 returns-in-Ok-Quiet-clause-goes g c = λ t config w stands.
-    hears-quiet config c.args.max_clients w (g.P.Ports.calls c.args.ports.now)
-    (g.P.Ports.calls c.next.new.self) c.args.server.now t c.args.seats.now.items
+    hears-quiet config c.args.seats.now.max_clients w (g.P.Ports.calls c.args.ports.now)
+    (g.P.Ports.calls c.next.new.self) c.args.server.now t c.args.seats.now.all.items
     (subst (λ r. Tells (g.P.Ports.calls c.args.ports.now) (g.P.Ports.calls c.next.new.self) (Next r ∷ []))
     (c.in-Ok-Quiet.is ∙ ap Ok c.in-Ok-Quiet.field-0-is) c.next.ensures.call) stands
 
 pub returns-in-Err-clause-goes : goal.returns-in-Err-clause-goes
 returns-in-Err-clause-goes g c = λ t config w stands.
-    hears-fault config c.args.max_clients w (g.P.Ports.calls c.args.ports.now)
-    (g.P.Ports.calls c.next.new.self) c.args.server.now t c.args.seats.now.items _
+    hears-fault config c.args.seats.now.max_clients w (g.P.Ports.calls c.args.ports.now)
+    (g.P.Ports.calls c.next.new.self) c.args.server.now t c.args.seats.now.all.items _
     (subst (λ r. Tells (g.P.Ports.calls c.args.ports.now) (g.P.Ports.calls c.next.new.self) (Next r ∷ [])) c.in-Err.is
     c.next.ensures.call) stands
 
-pub returns-in-Ok-Readable-clause-known : goal.returns-in-Ok-Readable-clause-known
-returns-in-Ok-Readable-clause-known g c =
-    known-told c.args.server.now c.args.seats.now.items c.mark_readable.new.seats.items c.args.awake.now.items
-    c.mark_readable.new.awake.items (ap length c.mark_readable.ensures.marks
-    ∙ length-told (readable_at c.in-Ok-Readable.port) c.args.seats.now.items) c.mark_readable.ensures.count
-    c.mark_readable.ensures.others c.requires.known
+pub returns-in-Ok-Readable-clause-kept : goal.returns-in-Ok-Readable-clause-kept
+returns-in-Ok-Readable-clause-kept g c = record {
+  table =
+      subst (IsTable c.args.seats.now.max_clients) (sym c.mark_readable.ensures.marks)
+      (table-map (readable_at c.in-Ok-Readable.port)
+      (readable-same c.in-Ok-Readable.port) c.args.seats.now.max_clients c.args.seats.now.all.items c.requires.table);
+  known =
+      known-told c.args.server.now c.args.seats.now.all.items c.mark_readable.new.seats.items
+      c.args.seats.now.awake.items
+      c.mark_readable.new.awake.items (ap length c.mark_readable.ensures.marks
+      ∙ length-told (readable_at c.in-Ok-Readable.port) c.args.seats.now.all.items) c.mark_readable.ensures.count
+      c.mark_readable.ensures.others c.requires.known;
+  seated =
+      subst (AreSeated c.args.server.now) (sym c.mark_readable.ensures.marks)
+      (seated-told c.args.server.now (readable_at c.in-Ok-Readable.port) c.args.seats.now.all.items
+      (role-readable c.in-Ok-Readable.port) c.requires.seated);
+  feeds =
+      c.requires.feeds ∙ sym (ap feeds_in c.mark_readable.ensures.marks
+      ∙ feeds-map (readable_at c.in-Ok-Readable.port) (readable-same c.in-Ok-Readable.port) c.args.seats.now.all.items);
+}
 
-pub returns-in-Ok-Readable-clause-seated : goal.returns-in-Ok-Readable-clause-seated
-returns-in-Ok-Readable-clause-seated g c =
-    subst (AreSeated c.args.server.now) (sym c.mark_readable.ensures.marks)
-    (seated-told c.args.server.now (readable_at c.in-Ok-Readable.port) c.args.seats.now.items
-    (role-readable c.in-Ok-Readable.port) c.requires.seated)
-
-pub returns-in-Ok-Writable-clause-known : goal.returns-in-Ok-Writable-clause-known
-returns-in-Ok-Writable-clause-known g c =
-    known-told c.args.server.now c.args.seats.now.items c.mark_writable.new.seats.items c.args.awake.now.items
-    c.mark_writable.new.awake.items (ap length c.mark_writable.ensures.marks
-    ∙ length-told (writable_at c.in-Ok-Writable.port) c.args.seats.now.items) c.mark_writable.ensures.count
-    c.mark_writable.ensures.others c.requires.known
-
-pub returns-in-Ok-Writable-clause-seated : goal.returns-in-Ok-Writable-clause-seated
-returns-in-Ok-Writable-clause-seated g c =
-    subst (AreSeated c.args.server.now) (sym c.mark_writable.ensures.marks)
-    (seated-told c.args.server.now (writable_at c.in-Ok-Writable.port) c.args.seats.now.items
-    (role-writable c.in-Ok-Writable.port) c.requires.seated)
-
-pub returns-in-Ok-Readable-clause-feeds : goal.returns-in-Ok-Readable-clause-feeds
-returns-in-Ok-Readable-clause-feeds g c =
-    c.requires.feeds ∙ sym (ap feeds_in c.mark_readable.ensures.marks
-    ∙ feeds-map (readable_at c.in-Ok-Readable.port) (readable-same c.in-Ok-Readable.port) c.args.seats.now.items)
-
-pub returns-in-Ok-Writable-clause-feeds : goal.returns-in-Ok-Writable-clause-feeds
-returns-in-Ok-Writable-clause-feeds g c =
-    c.requires.feeds ∙ sym (ap feeds_in c.mark_writable.ensures.marks
-    ∙ feeds-map (writable_at c.in-Ok-Writable.port) (writable-same c.in-Ok-Writable.port) c.args.seats.now.items)
+pub returns-in-Ok-Writable-clause-kept : goal.returns-in-Ok-Writable-clause-kept
+returns-in-Ok-Writable-clause-kept g c = record {
+  table =
+      subst (IsTable c.args.seats.now.max_clients) (sym c.mark_writable.ensures.marks)
+      (table-map (writable_at c.in-Ok-Writable.port)
+      (writable-same c.in-Ok-Writable.port) c.args.seats.now.max_clients c.args.seats.now.all.items c.requires.table);
+  known =
+      known-told c.args.server.now c.args.seats.now.all.items c.mark_writable.new.seats.items
+      c.args.seats.now.awake.items
+      c.mark_writable.new.awake.items (ap length c.mark_writable.ensures.marks
+      ∙ length-told (writable_at c.in-Ok-Writable.port) c.args.seats.now.all.items) c.mark_writable.ensures.count
+      c.mark_writable.ensures.others c.requires.known;
+  seated =
+      subst (AreSeated c.args.server.now) (sym c.mark_writable.ensures.marks)
+      (seated-told c.args.server.now (writable_at c.in-Ok-Writable.port) c.args.seats.now.all.items
+      (role-writable c.in-Ok-Writable.port) c.requires.seated);
+  feeds =
+      c.requires.feeds ∙ sym (ap feeds_in c.mark_writable.ensures.marks
+      ∙ feeds-map (writable_at c.in-Ok-Writable.port) (writable-same c.in-Ok-Writable.port) c.args.seats.now.all.items);
+}

@@ -18,7 +18,7 @@ pub wake_after-requires-clause-seated : goal.wake_after-requires-clause-seated
 wake_after-requires-clause-seated g c =
     let a = c.args.server.now in
     let b = c.pass-stays.new.server in
-    let ss = c.args.seats.now.items in
+    let ss = c.args.seats.now.all.items in
     let s' = c.pass-stays.new.seat in
     let here : c.index_mut.result.now ≡ get_or ss c.args.at no_seat = c.index_mut.ensures.value
     ∙ get_or_default ss c.args.at c.index_mut.result.now no_seat c.requires.inside in
@@ -26,43 +26,12 @@ wake_after-requires-clause-seated g c =
     let whose : (k : ℕ) → s'.role ≡ ClientRole k → role_at ss c.args.at ≡ ClientRole k = λ k is.
     ap (λ (s : Seat). s.role) (sym here) ∙ c.pass-stays.ensures.whose k is in
     subst (AreSeated b) (sym c.as_slice.ensures.value)
-    (seated-set a b ss c.args.at s' c.pass-stays.new.brought c.requires.inside c.requires.seated leaves whose)
-
-pub returns-then-stays-clause-known : goal.returns-then-stays-clause-known
-returns-then-stays-clause-known g c =
-    let a = c.args.server.now in
-    let b = c.pass-stays.new.server in
-    let ss = c.args.seats.now.items in
-    let s' = c.pass-stays.new.seat in
-    let here : c.index_mut.result.now ≡ get_or ss c.args.at no_seat = c.index_mut.ensures.value
-    ∙ get_or_default ss c.args.at c.index_mut.result.now no_seat c.requires.inside in
-    let leaves = subst (λ s. LeavesRest s c.pass-stays.new.brought a b) here c.pass-stays.ensures.leaves in
-    let whose : (k : ℕ) → s'.role ≡ ClientRole k → role_at ss c.args.at ≡ ClientRole k = λ k is.
-    ap (λ (s : Seat). s.role) (sym here) ∙ c.pass-stays.ensures.whose k is in
-    known-stays a b ss c.args.awake.now.items c.wake_after.new.awake.items c.args.at s' c.pass-stays.new.brought
-    c.requires.inside c.requires.known c.requires.seated leaves whose c.wake_after.ensures.wakes
-    (subst (λ (xs : List Seat). c.pass-stays.new.brought ≡ true → AreWoken b xs c.wake_after.new.awake.items)
-    c.as_slice.ensures.value c.wake_after.ensures.woken) c.settle.new.awake.items c.settle.ensures.count
-    (subst (λ xs. slice_index c.settle.new.awake.items c.args.at ≢ 1 → IsAsleep b (seat_at xs c.args.at))
-    c.as_slice-then-stays.ensures.value c.settle.ensures.here) c.settle.ensures.others
-
-pub returns-then-stays-clause-seated : goal.returns-then-stays-clause-seated
-returns-then-stays-clause-seated g c =
-    let a = c.args.server.now in
-    let b = c.pass-stays.new.server in
-    let ss = c.args.seats.now.items in
-    let s' = c.pass-stays.new.seat in
-    let here : c.index_mut.result.now ≡ get_or ss c.args.at no_seat = c.index_mut.ensures.value
-    ∙ get_or_default ss c.args.at c.index_mut.result.now no_seat c.requires.inside in
-    let leaves = subst (λ s. LeavesRest s c.pass-stays.new.brought a b) here c.pass-stays.ensures.leaves in
-    let whose : (k : ℕ) → s'.role ≡ ClientRole k → role_at ss c.args.at ≡ ClientRole k = λ k is.
-    ap (λ (s : Seat). s.role) (sym here) ∙ c.pass-stays.ensures.whose k is in
-    seated-set a b ss c.args.at s' c.pass-stays.new.brought c.requires.inside c.requires.seated leaves whose
+    (seated-set a b ss c.args.at s' c.pass-stays.new.brought c.requires.inside c.requires.kept.seated leaves whose)
 
 pub returns-then-stays-clause-goes : goal.returns-then-stays-clause-goes
 returns-then-stays-clause-goes g c = λ happenings config w calls t opened so_far.
     let all = g.P.Ports.calls in
-    let ss = c.args.seats.now.items in
+    let ss = c.args.seats.now.all.items in
     let here : c.index_mut.result.now ≡ get_or ss c.args.at no_seat = c.index_mut.ensures.value
     ∙ get_or_default ss c.args.at c.index_mut.result.now no_seat c.requires.inside in
     passes-stay c.args.limit config w calls (all c.args.ports.now) (all c.pass-stays.new.ports) c.args.server.now
@@ -74,51 +43,10 @@ returns-then-stays-clause-goes g c = λ happenings config w calls t opened so_fa
     (feed_tally happenings c.pass-stays.new.refused) c.index_mut.result.now (if_open b c.pass-stays.new.seat))
     c.if-stays.true (c.pass-stays.ensures.goes happenings config v there))
 
-pub returns-then-stays-clause-table : goal.returns-then-stays-clause-table
-returns-then-stays-clause-table g c = λ max_clients table.
-    let ss = c.args.seats.now.items in
-    let here : c.index_mut.result.now ≡ get_or ss c.args.at no_seat = c.index_mut.ensures.value
-    ∙ get_or_default ss c.args.at c.index_mut.result.now no_seat c.requires.inside in
-    table-set max_clients ss c.args.at c.pass-stays.new.seat
-    (subst (λ s. IsSameSeat s c.pass-stays.new.seat) here c.pass-stays.ensures.same) table
-
-pub returns-else-stays-clause-known : goal.returns-else-stays-clause-known
-returns-else-stays-clause-known g c =
-    let a = c.args.server.now in
-    let b = c.pass-stays.new.server in
-    let ss = c.args.seats.now.items in
-    let s' = c.pass-stays.new.seat in
-    let here : c.index_mut.result.now ≡ get_or ss c.args.at no_seat = c.index_mut.ensures.value
-    ∙ get_or_default ss c.args.at c.index_mut.result.now no_seat c.requires.inside in
-    let leaves = subst (λ s. LeavesRest s c.pass-stays.new.brought a b) here c.pass-stays.ensures.leaves in
-    let whose : (k : ℕ) → s'.role ≡ ClientRole k → role_at ss c.args.at ≡ ClientRole k = λ k is.
-    ap (λ (s : Seat). s.role) (sym here) ∙ c.pass-stays.ensures.whose k is in
-    subst (λ xs. AreKnown b xs c.go.new.awake.items) (sym c.go.ensures.seats)
-    (subst (AreKnown b (remove (set ss c.args.at s') c.args.at)) (sym c.go.ensures.awake)
-    (known-gone a b ss c.args.awake.now.items c.wake_after.new.awake.items c.args.at s' c.pass-stays.new.brought
-    c.requires.inside c.requires.known c.requires.seated leaves whose c.wake_after.ensures.wakes
-    (subst (λ (xs : List Seat). c.pass-stays.new.brought ≡ true → AreWoken b xs c.wake_after.new.awake.items)
-    c.as_slice.ensures.value c.wake_after.ensures.woken)))
-
-pub returns-else-stays-clause-seated : goal.returns-else-stays-clause-seated
-returns-else-stays-clause-seated g c =
-    let a = c.args.server.now in
-    let b = c.pass-stays.new.server in
-    let ss = c.args.seats.now.items in
-    let s' = c.pass-stays.new.seat in
-    let here : c.index_mut.result.now ≡ get_or ss c.args.at no_seat = c.index_mut.ensures.value
-    ∙ get_or_default ss c.args.at c.index_mut.result.now no_seat c.requires.inside in
-    let leaves = subst (λ s. LeavesRest s c.pass-stays.new.brought a b) here c.pass-stays.ensures.leaves in
-    let whose : (k : ℕ) → s'.role ≡ ClientRole k → role_at ss c.args.at ≡ ClientRole k = λ k is.
-    ap (λ (s : Seat). s.role) (sym here) ∙ c.pass-stays.ensures.whose k is in
-    subst (AreSeated b) (sym c.go.ensures.seats)
-    (seated-remove b (set ss c.args.at s') c.args.at (inside-set ss c.args.at s' c.requires.inside)
-    (seated-set a b ss c.args.at s' c.pass-stays.new.brought c.requires.inside c.requires.seated leaves whose))
-
 pub returns-else-stays-clause-goes : goal.returns-else-stays-clause-goes
 returns-else-stays-clause-goes g c = λ happenings config w calls t opened so_far.
     let all = g.P.Ports.calls in
-    let ss = c.args.seats.now.items in
+    let ss = c.args.seats.now.all.items in
     let here : c.index_mut.result.now ≡ get_or ss c.args.at no_seat = c.index_mut.ensures.value
     ∙ get_or_default ss c.args.at c.index_mut.result.now no_seat c.requires.inside in
     subst (λ l. PassesSoFar c.args.limit config w calls (all c.pass-stays.new.ports) c.pass-stays.new.server t
@@ -133,28 +61,95 @@ returns-else-stays-clause-goes g c = λ happenings config w calls t opened so_fa
     (feed_tally happenings c.pass-stays.new.refused) c.index_mut.result.now (if_open b c.pass-stays.new.seat))
     c.if-stays.false (c.pass-stays.ensures.goes happenings config v there)))
 
-pub returns-else-stays-clause-table : goal.returns-else-stays-clause-table
-returns-else-stays-clause-table g c = λ max_clients table.
-    let ss = c.args.seats.now.items in
-    let here : c.index_mut.result.now ≡ get_or ss c.args.at no_seat = c.index_mut.ensures.value
-    ∙ get_or_default ss c.args.at c.index_mut.result.now no_seat c.requires.inside in
-    subst (IsTable max_clients) (sym c.go.ensures.seats)
-    (table-remove max_clients (set ss c.args.at c.pass-stays.new.seat) c.args.at
-    (table-set max_clients ss c.args.at c.pass-stays.new.seat
-    (subst (λ s. IsSameSeat s c.pass-stays.new.seat) here c.pass-stays.ensures.same) table))
-
 pub go-requires-clause-feeds : goal.go-requires-clause-feeds
 go-requires-clause-feeds g c =
-    let ss = c.args.seats.now.items in
+    let ss = c.args.seats.now.all.items in
     let here : c.index_mut.result.now ≡ get_or ss c.args.at no_seat = c.index_mut.ensures.value
     ∙ get_or_default ss c.args.at c.index_mut.result.now no_seat c.requires.inside in
-    c.requires.feeds ∙ sym (feeds-set ss c.args.at c.pass-stays.new.seat
+    c.requires.kept.feeds ∙ sym (feeds-set ss c.args.at c.pass-stays.new.seat
     (subst (λ s. IsSameSeat s c.pass-stays.new.seat) here c.pass-stays.ensures.same))
 
-pub returns-then-stays-clause-feeds : goal.returns-then-stays-clause-feeds
-returns-then-stays-clause-feeds g c =
-    let ss = c.args.seats.now.items in
-    let here : c.index_mut.result.now ≡ get_or ss c.args.at no_seat = c.index_mut.ensures.value
-    ∙ get_or_default ss c.args.at c.index_mut.result.now no_seat c.requires.inside in
-    c.requires.feeds ∙ sym (feeds-set ss c.args.at c.pass-stays.new.seat
-    (subst (λ s. IsSameSeat s c.pass-stays.new.seat) here c.pass-stays.ensures.same))
+pub returns-then-stays-clause-kept : goal.returns-then-stays-clause-kept
+returns-then-stays-clause-kept g c = record {
+  table =
+      let ss = c.args.seats.now.all.items in
+      let here : c.index_mut.result.now ≡ get_or ss c.args.at no_seat = c.index_mut.ensures.value
+      ∙ get_or_default ss c.args.at c.index_mut.result.now no_seat c.requires.inside in
+      table-set c.args.seats.now.max_clients ss c.args.at c.pass-stays.new.seat
+      (subst (λ s. IsSameSeat s c.pass-stays.new.seat) here c.pass-stays.ensures.same) c.requires.kept.table;
+  known =
+      let a = c.args.server.now in
+      let b = c.pass-stays.new.server in
+      let ss = c.args.seats.now.all.items in
+      let s' = c.pass-stays.new.seat in
+      let here : c.index_mut.result.now ≡ get_or ss c.args.at no_seat = c.index_mut.ensures.value
+      ∙ get_or_default ss c.args.at c.index_mut.result.now no_seat c.requires.inside in
+      let leaves = subst (λ s. LeavesRest s c.pass-stays.new.brought a b) here c.pass-stays.ensures.leaves in
+      let whose : (k : ℕ) → s'.role ≡ ClientRole k → role_at ss c.args.at ≡ ClientRole k = λ k is.
+      ap (λ (s : Seat). s.role) (sym here) ∙ c.pass-stays.ensures.whose k is in
+      known-stays a b ss c.args.seats.now.awake.items c.wake_after.new.awake.items c.args.at s' c.pass-stays.new.brought
+      c.requires.inside c.requires.kept.known c.requires.kept.seated leaves whose c.wake_after.ensures.wakes
+      (subst (λ (xs : List Seat). c.pass-stays.new.brought ≡ true → AreWoken b xs c.wake_after.new.awake.items)
+      c.as_slice.ensures.value c.wake_after.ensures.woken) c.settle.new.awake.items c.settle.ensures.count
+      (subst (λ xs. slice_index c.settle.new.awake.items c.args.at ≢ 1 → IsAsleep b (seat_at xs c.args.at))
+      c.as_slice-then-stays.ensures.value c.settle.ensures.here) c.settle.ensures.others;
+  seated =
+      let a = c.args.server.now in
+      let b = c.pass-stays.new.server in
+      let ss = c.args.seats.now.all.items in
+      let s' = c.pass-stays.new.seat in
+      let here : c.index_mut.result.now ≡ get_or ss c.args.at no_seat = c.index_mut.ensures.value
+      ∙ get_or_default ss c.args.at c.index_mut.result.now no_seat c.requires.inside in
+      let leaves = subst (λ s. LeavesRest s c.pass-stays.new.brought a b) here c.pass-stays.ensures.leaves in
+      let whose : (k : ℕ) → s'.role ≡ ClientRole k → role_at ss c.args.at ≡ ClientRole k = λ k is.
+      ap (λ (s : Seat). s.role) (sym here) ∙ c.pass-stays.ensures.whose k is in
+      seated-set a b ss c.args.at s' c.pass-stays.new.brought c.requires.inside c.requires.kept.seated leaves whose;
+  feeds =
+      let ss = c.args.seats.now.all.items in
+      let here : c.index_mut.result.now ≡ get_or ss c.args.at no_seat = c.index_mut.ensures.value
+      ∙ get_or_default ss c.args.at c.index_mut.result.now no_seat c.requires.inside in
+      c.requires.kept.feeds ∙ sym (feeds-set ss c.args.at c.pass-stays.new.seat
+      (subst (λ s. IsSameSeat s c.pass-stays.new.seat) here c.pass-stays.ensures.same));
+}
+
+pub returns-else-stays-clause-kept : goal.returns-else-stays-clause-kept
+returns-else-stays-clause-kept g c = record {
+  table =
+      let ss = c.args.seats.now.all.items in
+      let here : c.index_mut.result.now ≡ get_or ss c.args.at no_seat = c.index_mut.ensures.value
+      ∙ get_or_default ss c.args.at c.index_mut.result.now no_seat c.requires.inside in
+      subst (IsTable c.args.seats.now.max_clients) (sym c.go.ensures.seats)
+      (table-remove c.args.seats.now.max_clients (set ss c.args.at c.pass-stays.new.seat) c.args.at
+      (table-set c.args.seats.now.max_clients ss c.args.at c.pass-stays.new.seat
+      (subst (λ s. IsSameSeat s c.pass-stays.new.seat) here c.pass-stays.ensures.same) c.requires.kept.table));
+  known =
+      let a = c.args.server.now in
+      let b = c.pass-stays.new.server in
+      let ss = c.args.seats.now.all.items in
+      let s' = c.pass-stays.new.seat in
+      let here : c.index_mut.result.now ≡ get_or ss c.args.at no_seat = c.index_mut.ensures.value
+      ∙ get_or_default ss c.args.at c.index_mut.result.now no_seat c.requires.inside in
+      let leaves = subst (λ s. LeavesRest s c.pass-stays.new.brought a b) here c.pass-stays.ensures.leaves in
+      let whose : (k : ℕ) → s'.role ≡ ClientRole k → role_at ss c.args.at ≡ ClientRole k = λ k is.
+      ap (λ (s : Seat). s.role) (sym here) ∙ c.pass-stays.ensures.whose k is in
+      subst (λ xs. AreKnown b xs c.go.new.awake.items) (sym c.go.ensures.seats)
+      (subst (AreKnown b (remove (set ss c.args.at s') c.args.at)) (sym c.go.ensures.awake)
+      (known-gone a b ss c.args.seats.now.awake.items c.wake_after.new.awake.items c.args.at s' c.pass-stays.new.brought
+      c.requires.inside c.requires.kept.known c.requires.kept.seated leaves whose c.wake_after.ensures.wakes
+      (subst (λ (xs : List Seat). c.pass-stays.new.brought ≡ true → AreWoken b xs c.wake_after.new.awake.items)
+      c.as_slice.ensures.value c.wake_after.ensures.woken)));
+  seated =
+      let a = c.args.server.now in
+      let b = c.pass-stays.new.server in
+      let ss = c.args.seats.now.all.items in
+      let s' = c.pass-stays.new.seat in
+      let here : c.index_mut.result.now ≡ get_or ss c.args.at no_seat = c.index_mut.ensures.value
+      ∙ get_or_default ss c.args.at c.index_mut.result.now no_seat c.requires.inside in
+      let leaves = subst (λ s. LeavesRest s c.pass-stays.new.brought a b) here c.pass-stays.ensures.leaves in
+      let whose : (k : ℕ) → s'.role ≡ ClientRole k → role_at ss c.args.at ≡ ClientRole k = λ k is.
+      ap (λ (s : Seat). s.role) (sym here) ∙ c.pass-stays.ensures.whose k is in
+      subst (AreSeated b) (sym c.go.ensures.seats)
+      (seated-remove b (set ss c.args.at s') c.args.at (inside-set ss c.args.at s' c.requires.inside)
+      (seated-set a b ss c.args.at s' c.pass-stays.new.brought c.requires.inside c.requires.kept.seated leaves whose));
+  feeds = c.go.ensures.feeds;
+}

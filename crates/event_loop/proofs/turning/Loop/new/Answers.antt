@@ -5,3 +5,6 @@ use Rattle.event_loop.proofs.turning.Loop.new.Goals as goal
 
 pub returns-clause-server : goal.returns-clause-server
 returns-clause-server g c = search rules
+
+pub invariant_of-result : goal.invariant_of-result
+invariant_of-result g c = c.new-seats.ensures.kept _
