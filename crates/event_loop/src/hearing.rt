@@ -19,8 +19,7 @@ ghost use Rattle.event_loop.specs.Tables.{heard_end};
 
 use crate::deciding::turn_away;
 use crate::seat::{FeedRest, Role, Seat};
-use crate::seats::Seats;
-use crate::table::{clients, mark_readable, mark_writable, place_of};
+use crate::seats::{Seats, clients, mark_readable, mark_writable, place_of};
 use ports::{AwayReason, Decision, Happening, Party, PortFault, Ports};
 use server_core::Server;
 use std::alloc::Global;

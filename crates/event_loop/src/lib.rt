@@ -7,8 +7,6 @@ mod hearing;
 mod passes;
 pub mod seat;
 pub mod seats;
-mod sleeping;
-mod table;
 mod turning;
 mod waking;
 

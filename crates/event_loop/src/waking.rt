@@ -7,7 +7,7 @@ ghost use Rattle.server_core.specs.Marks.{IsAmong};
 ghost use Rattle.server_core.specs.ServerValues.{mark_at};
 
 use crate::seat::{Role, Seat};
-use crate::sleeping::{wake, wake_if};
+use crate::seats::{wake, wake_if};
 use server_core::{Client, Server};
 use std::alloc::AllocError;
 

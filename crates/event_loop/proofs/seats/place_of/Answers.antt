@@ -1,7 +1,7 @@
 use Rattle.std.proofs.Common.{rules}
 use Rattle.std.proofs.lemmas.List.Sorted.{answers_always}
 use Rattle.event_loop.proofs.TableLemmas.{searched}
-use Rattle.event_loop.proofs.table.place_of.Goals as goal
+use Rattle.event_loop.proofs.seats.place_of.Goals as goal
 
 pub returns : goal.returns
 returns c =

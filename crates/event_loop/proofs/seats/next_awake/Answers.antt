@@ -2,7 +2,7 @@ use Rattle.std.proofs.Common.{◌≡◌, ◌∙◌, ◌+◌, ◌-◌, ap, arith,
 use Rattle.std.specs.Prelude.{slice_index}
 use Rattle.std.proofs.lemmas.Bool.{eq-eqb}
 use Rattle.std.proofs.lemmas.List.{get_or-drop, take_rest, length-drop}
-use Rattle.event_loop.proofs.sleeping.next_awake.Goals as goal
+use Rattle.event_loop.proofs.seats.next_awake.Goals as goal
 
 pub returns-in-Some-clause-asleep : goal.returns-in-Some-clause-asleep
 returns-in-Some-clause-asleep c = λ i le lt one.

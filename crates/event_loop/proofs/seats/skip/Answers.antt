@@ -1,6 +1,6 @@
 use Rattle.std.proofs.Common.{◌≤◌, arith, length, rules}
 use Rattle.event_loop.proofs.AwakeLemmas.{passes-skip-to}
-use Rattle.event_loop.proofs.sleeping.skip.Goals as goal
+use Rattle.event_loop.proofs.seats.skip.Goals as goal
 
 pub returns-clause-goes : goal.returns-clause-goes
 returns-clause-goes c = λ limit config w calls calls' t t' ss so_far.
