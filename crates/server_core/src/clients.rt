@@ -1,6 +1,6 @@
 //! The open clients of a server: their numbers, and the slots in which their sessions are.
 ghost use Rattle.std.specs.Prelude.{◌≡◌, ◌≢◌, ◌+◌, ℕ, ◌∷◌, ◌++◌, [], IfOk, OnOk, OnErr, IfSome, Some, None, true};
-ghost use Rattle.std.specs.Prelude.{◌<◌, is_some, length, slice_set};
+ghost use Rattle.std.specs.Prelude.{◌<◌, false, is_some, length, slice_set};
 ghost use Rattle.std.specs.Net.Addr.{ipv4_bits};
 ghost use Rattle.slab.specs.Slab.{get, Updates};
 ghost use Rattle.protocol.specs.Catalog.{Config as ProtocolConfig};
@@ -52,7 +52,8 @@ fn make_room(numbers: &mut Vec<Option<usize>>, slot: usize) -> Result<(), AllocE
 
 /// Whether the session in a slot is that of the client with a number.
 fn is_owner(numbers: &[Option<usize>], slot: usize, number: usize) -> bool
-    ensures { result ≡ true → owner_in numbers.now slot ≡ Some number }
+    ensures so { result ≡ true → owner_in numbers.now slot ≡ Some number }
+    ensures else_not { result ≡ false → owner_in numbers.now slot ≢ Some number }
 {
     match numbers.get(slot) {
         Some(Some(owner)) => *owner == number,
@@ -102,7 +103,8 @@ impl Clients {
         }
     }
 
-    /// The slot of a client's session, while it is open: the one that the client says, if its number stands there.
+    /// The slot of a client's session, while it is open: the one that the client says, if its number stands there, and
+    /// else the one that is found by its number.
     pub fn slot_of(&self, client: &Client) -> Option<usize>
         requires { IsTable self.now }
         ensures { result ≡ slot_in self.now.opened.items client.now }
