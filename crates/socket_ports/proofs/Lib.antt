@@ -1,6 +1,9 @@
 pub mod ConnectionLemmas
+pub mod HeldLemmas
 pub mod HostLemmas
 pub mod PeerLemmas
+pub mod PlaceLemmas
 pub mod ReadLemmas
 pub mod SocketLemmas
+pub mod TableLemmas
 pub mod WaitingLemmas

@@ -1,13 +1,15 @@
 -- What connections hold, from one step of a call to the next.
 use Rattle.std.proofs.Common.{◌≡◌, ℕ, ◌-◌, ◌==◌, Bool, true, false, if◌then◌else◌, List, [], ◌∷◌, ◌++◌}
-use Rattle.std.proofs.Common.{length, map, take, Result, Ok, refl, ap, subst, ◌∙◌, arith}
+use Rattle.std.proofs.Common.{length, map, take, Result, Ok, refl, sym, ap, subst, ◌∙◌, arith}
 use Rattle.std.specs.List.{Contains}
-use Rattle.std.proofs.lemmas.List.{length_push, map_push, take_at}
+use Rattle.std.proofs.lemmas.List.{append-nil, length_push, map_push, take_at}
 use Rattle.mio.specs.declared.net.stream.TcpStream.{TcpStream}
 use Rattle.std.specs.declared.net.ipv4_addr.Ipv4Addr.{Ipv4Addr}
 use Rattle.ports.specs.declared.answers.Got.{Got}
+use Rattle.ports.specs.declared.answers.Got.TheVariants.{Closed}
 use Rattle.ports.specs.declared.answers.PortFault.{PortFault}
 use Rattle.ports.specs.declared.answers.Put.{Put}
+use Rattle.ports.specs.declared.answers.Put.TheVariants.{Later}
 use Rattle.socket_ports.specs.declared.listeners.Kind.{Kind}
 use Rattle.socket_ports.specs.declared.listeners.Kind.TheVariants.{Client, Feed}
 use Rattle.socket_ports.specs.Connections.{ConnectionValue, KeepsSockets, OnlySends, Opens, ReadsFrom, WritesTo}
@@ -50,6 +52,24 @@ reads_on n answer given a b c first same second = record {
   others = λ m other. second.others m other ∙ first.ahead m;
   waiting = λ m. gone_over (waiting_at m a) (waiting_at m b) (waiting_at m c) (first.waiting m) (second.waiting m);
   closed = λ none. second.closed (λ there. none (open-as n a b same there));
+}
+
+-- a port that is not open gives nothing, and takes nothing
+pub reads_nothing : (n : ℕ) (a b : List ConnectionValue) → OnlySends a b → ReadsFrom n (Ok Closed) [] a b
+reads_nothing n a b sent = record {
+  gives = record { received = []; in_order = sent.ahead n ∙ sym (append-nil (ahead_at n a)) };
+  others = λ m other. sent.ahead m;
+  waiting = sent.waiting;
+  closed = λ none. refl;
+}
+
+pub writes_nothing : (n : ℕ) (bytes : List ℕ) (a b : List ConnectionValue) → OnlySends a b
+    → WritesTo n bytes (Ok Later) a b
+writes_nothing n bytes a b sent = record {
+  takes = sent.waiting n;
+  others = λ m other. sent.waiting m;
+  ahead = sent.ahead;
+  closed = λ none. refl;
 }
 
 -- ---- a new connection

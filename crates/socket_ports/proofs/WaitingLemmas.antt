@@ -1,6 +1,6 @@
 -- Bytes that wait, from one step of a write to the next.
-use Rattle.std.proofs.Common.{◌≡◌, ℕ, ◌+◌, ◌-◌, ◌++◌, List, length, take, drop, ap, sym, ◌∙◌, arith, length-append, length-drop}
-use Rattle.std.proofs.Common.{Result, Ok, Err}
+use Rattle.std.proofs.Common.{◌≡◌, ℕ, ◌+◌, ◌-◌, ◌++◌, List, length, take, drop, ap, sym, ◌∙◌, arith}
+use Rattle.std.proofs.Common.{length-append, length-drop, Result, Ok, Err}
 use Rattle.std.proofs.lemmas.List.{drop-append-le, drop-drop}
 use Rattle.ports.specs.declared.answers.Put.{Put}
 use Rattle.ports.specs.declared.answers.Put.TheVariants.{Took, Later}

@@ -1,8 +1,8 @@
 -- What the connections of ports hold: the bytes that wait to be sent, and those that were read ahead.
 -- Ports are this project's own. Left out: whether the bytes that wait no longer went to the system, and what comes from
 -- it.
-use Rattle.std.specs.Prelude.{◌≡◌, ◌≢◌, ℕ, ◌==◌, ◌<◌, ◌++◌, not, if◌then◌else◌, List, [], ◌∷◌, filter, map, length}
-use Rattle.std.specs.Prelude.{slice_index, Option, Some, None, Result, Ok, Err}
+use Rattle.std.specs.Prelude.{◌≡◌, ◌≢◌, ℕ, ◌==◌, ◌++◌, not, if◌then◌else◌, List, [], ◌∷◌, filter, map, Option}
+use Rattle.std.specs.Prelude.{Some, None, Result, Ok, Err}
 use Rattle.std.specs.List.{Contains}
 use Rattle.mio.specs.declared.net.stream.TcpStream.{TcpStream}
 use Rattle.ports.specs.declared.answers.Got.{Got}
@@ -45,29 +45,6 @@ sockets_of connections = map (λ c. (c.number, c.stream)) connections
 -- the numbers of connections
 abbrev pub numbers : List ConnectionValue → List ℕ
 numbers connections = map (λ s. s.0) (sockets_of connections)
-
--- All numbers are above one.
-abbrev pub AreAbove : ℕ → List Connection → Type 0
-AreAbove n [] = Unit {0}
-AreAbove n (c ∷ cs) = (n < c.number) × AreAbove n cs
-
--- The numbers rise.
-abbrev pub Rise : List Connection → Type 0
-Rise [] = Unit {0}
-Rise (c ∷ cs) = AreAbove c.number cs × Rise cs
-
--- the number of the connection at a place
-abbrev pub number_at : List Connection → ℕ → ℕ
-number_at connections at = slice_index (map (λ c. c.number) connections) at
-
--- All numbers are below one.
-abbrev pub AreBelow : ℕ → List Connection → Type 0
-AreBelow n connections = (j : ℕ) → j < length connections → number_at connections j < n
-
--- The connection with a number is at a place.
-pub record IsPlaceOf (number : ℕ) (connections : List Connection) (at : ℕ) : Type 0 where
-  pub inside : at < length connections
-  pub has_number : number_at connections at ≡ number
 
 -- the connections but one
 abbrev pub all_but : ℕ → List ConnectionValue → List ConnectionValue

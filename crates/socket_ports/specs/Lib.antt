@@ -7,6 +7,7 @@ pub mod Faults
 pub mod Hosts
 pub mod Numbers
 pub mod Peers
+pub mod Places
 pub mod Rations
 pub mod Reads
 pub mod Receipts

@@ -401,11 +401,6 @@ impl Connection {
         }
     }
 
-    /// Whether bytes wait that nothing will send but the next port's turn.
-    pub fn has_gathered(&self) -> bool {
-        self.unsent.is_some() && !self.is_full
-    }
-
     /// Whether bytes wait until the system takes more.
     fn is_stuck(&self) -> bool {
         self.owes_writable || (self.is_full && self.unsent.is_some())

@@ -1,8 +1,14 @@
 //! Connections that the loop has shut, and that stay until their last bytes have gone to the peer.
+ghost use Rattle.std.specs.Prelude.{◌≡◌, ◌==◌, ◌↔◌, ◌∷◌, ◌++◌, [], IfNone, IfOk, IfSome, IsTrue, length};
+ghost use Rattle.std.specs.Prelude.{not, true};
+ghost use Rattle.std.specs.List.{filter};
+
+use crate::ahead::AheadPool;
 use crate::connection::Connection;
 use crate::pool::Pool;
 use crate::socket_io::{Receipt, receive};
-use std::alloc::Global;
+use std::alloc::{AllocError, Global};
+use std::marker::Model;
 use std::net::Shutdown;
 
 /// How many connections linger at most; beyond that the oldest is dropped.
@@ -11,99 +17,83 @@ const MOST: usize = 1_024;
 /// How many blocks of a peer that goes on sending are passed over.
 const BLOCKS: u8 = 16;
 
-/// A connection that lingers, and whether its peer was told the end. That is done once: each time would be an event
-/// again.
+/// A connection where it is kept, from its join until its last bytes have gone.
 #[derive(Drop)]
-struct Ending {
-    connection: Connection,
+pub struct Held {
+    pub connection: Connection,
+    /// The loop has not shut it.
+    pub is_open: bool,
+    /// Its peer was told the end. That is done once: each time would be an event again.
     is_told: bool,
 }
 
-#[derive(Drop)]
-pub struct Lingering {
-    endings: Vec<Ending>,
-}
-
-impl Lingering {
-    pub fn new(alloc: Global) -> Lingering {
-        Lingering {
-            endings: Vec::new(alloc),
-        }
-    }
-
-    /// Keeps a connection that was shut until its bytes are sent and the peer has ended it too.
-    pub fn keep(&mut self, connection: Connection, pool: &mut Pool) {
-        let mut ending = Ending {
+impl Held {
+    /// A connection that joins.
+    pub fn new(connection: Connection) -> Held
+        ensures connection { result.connection ≡ connection }
+        ensures open { result.is_open ≡ true }
+    {
+        Held {
             connection,
+            is_open: true,
             is_told: false,
-        };
-        if !stays(&mut ending, pool) {
-            return;
-        }
-        if self.endings.len() >= MOST {
-            self.drop_oldest();
-        }
-        // Where there is no memory to keep it, it is dropped.
-        let _ = self.endings.push(ending);
-    }
-
-    /// Drops the one that was shut first, so that its descriptor is free.
-    pub fn drop_oldest(&mut self) {
-        if !self.endings.is_empty() {
-            let _oldest = self.endings.remove(0);
         }
     }
 
-    /// An event came of one of them. The system may take bytes again.
-    pub fn mark(&mut self, number: u64, is_writable: bool, pool: &mut Pool) {
-        let Some(at) = self
-            .endings
-            .iter()
-            .position(|e| e.connection.number == number)
-        else {
-            return;
-        };
-        let Some(ending) = self.endings.get_mut(at) else {
-            return;
-        };
+    /// Whether this is the open connection with a number.
+    pub fn is_port(&self, number: u64) -> bool
+        ensures { IsTrue result ↔ ((self.now.is_open ≡ true) × (self.now.connection.number ≡ number)) }
+    {
+        self.is_open && self.connection.number == number
+    }
+
+    /// The loop has shut it. Its room to read ahead is given back. Whether it has something to wait for: one that took
+    /// no bytes has nothing.
+    pub fn end(&mut self, pool: &mut Pool, aheads: &mut AheadPool) -> bool
+        ensures { self.new.is_open ≡ self.old.is_open }
+    {
+        if let Some(ahead) = self.connection.take_ahead() {
+            aheads.take_back(ahead);
+        }
+        self.connection.has_taken() && self.lingers(pool)
+    }
+
+    /// An event came of it once it was shut: the system may take bytes again. Whether it still has something to wait
+    /// for.
+    pub fn go_on(&mut self, is_writable: bool, pool: &mut Pool) -> bool
+        ensures { self.new.is_open ≡ self.old.is_open }
+    {
         if is_writable {
-            let _ = ending.connection.resume(pool);
+            let _ = self.connection.resume(pool);
         }
-        if !stays(ending, pool) && at < self.endings.len() {
-            let _gone = self.endings.remove(at);
-        }
+        self.lingers(pool)
     }
 
-    /// How many bytes they have not sent.
-    pub fn unsent_count(&self) -> usize {
-        let mut count = 0usize;
-        for ending in self.endings.iter() {
-            count = count.saturating_add(ending.connection.unsent_count());
+    /// Whether a connection that was shut still has something to wait for. Once all is sent the peer is told the end,
+    /// and what it sends is passed over: a connection that is closed with bytes unread would lose those that are on
+    /// their way to the peer.
+    fn lingers(&mut self, pool: &mut Pool) -> bool
+        ensures { self.new.is_open ≡ self.old.is_open }
+    {
+        let _ = self.connection.flush(pool);
+        if self.connection.has_failed() {
+            return false;
         }
-        count
+        if self.connection.unsent_count() > 0 {
+            return true;
+        }
+        self.tells_the_end() && goes_on(&self.connection)
     }
-}
 
-/// Whether a connection that was shut still has something to wait for. Once all is sent the peer is told the end, and
-/// what it sends is passed over: a connection that is closed with bytes unread would lose those that are on their way
-/// to the peer.
-fn stays(ending: &mut Ending, pool: &mut Pool) -> bool {
-    let _ = ending.connection.flush(pool);
-    if ending.connection.has_failed() {
-        return false;
+    /// Tells the peer the end, where that was not done yet. Whether it has been told.
+    fn tells_the_end(&mut self) -> bool
+        ensures { self.new.is_open ≡ self.old.is_open }
+    {
+        if !self.is_told {
+            self.is_told = self.connection.stream.shutdown(Shutdown::Write).is_ok();
+        }
+        self.is_told
     }
-    if ending.connection.unsent_count() > 0 {
-        return true;
-    }
-    tells_the_end(ending) && goes_on(&ending.connection)
-}
-
-/// Tells the peer the end, where that was not done yet. Whether it has been told.
-fn tells_the_end(ending: &mut Ending) -> bool {
-    if !ending.is_told {
-        ending.is_told = ending.connection.stream.shutdown(Shutdown::Write).is_ok();
-    }
-    ending.is_told
 }
 
 /// Whether the peer has not ended yet. One that goes on sending is not waited for.
@@ -118,4 +108,65 @@ fn goes_on(connection: &Connection) -> bool {
         }
     }
     false
+}
+
+/// The keys of the connections that linger, in the order in which they were shut. There is room for as many as linger
+/// at most.
+#[derive(Drop)]
+pub struct Lingering {
+    keys: Vec<usize>,
+}
+
+impl Model for Lingering {
+    ghost use Rattle.std.specs.Prelude.{ℕ, ◌≤◌, List, length};
+    ghost use Rattle.std.specs.Vec.{vec_capacity};
+
+    ghost Value = { List ℕ };
+
+    ghost view = { λ l. l.keys.items };
+
+    ghost invariant = { λ l. (1024 ≤ vec_capacity l.keys) × (length l.keys.items ≤ 1024) };
+}
+
+impl Lingering {
+    /// None yet. It fails only for want of memory.
+    pub fn new(alloc: Global) -> Result<Lingering, AllocError>
+        ensures { IfOk result (λ lingering. lingering ≡ []) }
+    {
+        let keys = Vec::with_capacity(alloc, MOST)?;
+        Ok(Lingering { keys })
+    }
+
+    /// One more lingers. If as many do as may, the oldest does no more, and is answered.
+    pub fn add(&mut self, key: usize) -> Option<usize>
+        ensures none { IfNone result (self.new ≡ self.old ++ key ∷ []) }
+        ensures oldest { IfSome result (λ oldest. oldest ∷ self.new ≡ self.old ++ key ∷ []) }
+        ensures full { IfSome result (λ oldest. length self.old ≡ 1024) }
+    {
+        if self.keys.len() < MOST {
+            self.keys.push_reserved(key);
+            return None;
+        }
+        let oldest = self.keys.remove(0);
+        self.keys.push_reserved(key);
+        Some(oldest)
+    }
+
+    /// The oldest, which lingers no more.
+    pub fn take_oldest(&mut self) -> Option<usize>
+        ensures none { IfNone result ((self.old ≡ []) × (self.new ≡ [])) }
+        ensures oldest { IfSome result (λ oldest. oldest ∷ self.new ≡ self.old) }
+    {
+        if self.keys.is_empty() {
+            return None;
+        }
+        Some(self.keys.remove(0))
+    }
+
+    /// One lingers no more.
+    pub fn remove(&mut self, key: usize)
+        ensures { self.new ≡ filter (λ other. not (other == key)) self.old }
+    {
+        self.keys.retain(|other| *other != key);
+    }
 }

@@ -45,23 +45,25 @@ pub struct Listeners {
     pub first: Kind,
 }
 
-/// The number above those of all ports.
-pub const LAST: u64 = (1 << 63) - 1;
+/// The key above those of all ports.
+pub const LAST: usize = (1 << 63) - 1;
 
 /// What an event came of.
 #[derive(Clone, Copy, Drop)]
 pub enum Origin {
     Listener(Kind),
-    Port(u64),
+    /// The connection that is kept under a key.
+    Port(usize),
 }
 
-/// The token under which a port is registered. The sockets that are listened on have those of the last number.
-pub fn token_of(number: u64, kind: Kind) -> Token
-    requires { number < 2 ^ 63 }
+/// The token under which the connection at a key is registered. The sockets that are listened on have those of the last
+/// key.
+pub fn token_of(key: usize, kind: Kind) -> Token
+    requires { key < 2 ^ 63 }
 {
     match kind {
-        Kind::Client => Token((number * 2) as usize),
-        Kind::Feed => Token((number * 2 + 1) as usize),
+        Kind::Client => Token(key * 2),
+        Kind::Feed => Token(key * 2 + 1),
     }
 }
 
@@ -76,11 +78,11 @@ pub fn kind_of(token: Token) -> Kind {
 
 /// What a token is of.
 pub fn origin_of(token: Token) -> Origin {
-    let number = (token.0 / 2) as u64;
-    if number == LAST {
+    let key = token.0 / 2;
+    if key == LAST {
         Origin::Listener(kind_of(token))
     } else {
-        Origin::Port(number)
+        Origin::Port(key)
     }
 }
 

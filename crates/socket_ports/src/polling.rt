@@ -1,4 +1,6 @@
 //! What the system says happened at the sockets.
+ghost use Rattle.std.specs.Prelude.{◌≡◌, ◌+◌, [], IfNone, IfSome, length};
+
 use crate::fault::ListenError;
 use crate::listeners::{Kind, kind_of};
 use mio::event::Event;
@@ -18,7 +20,7 @@ pub struct Polling {
     poll: Poll,
     events: Events,
     /// The events of the last poll that were not answered yet. There is room for all events of a poll.
-    happened: Vec<Event>,
+    pub happened: Vec<Event>,
 }
 
 impl Polling {
@@ -38,8 +40,11 @@ impl Polling {
         &self.poll
     }
 
-    /// Has the system report when a connection can be read or written to. Whether it will.
-    pub fn watch(&self, stream: &mut TcpStream, token: Token) -> bool {
+    /// Has the system report when a connection can be read or written to. Whether it will. All events of the last poll
+    /// are answered by then, so that none is left of a connection that had the token before.
+    pub fn watch(&self, stream: &mut TcpStream, token: Token) -> bool
+        requires { self.now.happened.items ≡ [] }
+    {
         let both = Interest::READABLE | Interest::WRITABLE;
         self.poll.registry().register(stream, token, both).is_ok()
     }
@@ -67,7 +72,10 @@ impl Polling {
     }
 
     /// The next event that was not answered yet. Those of feeds come first.
-    pub fn next(&mut self) -> Option<Event> {
+    pub fn next(&mut self) -> Option<Event>
+        ensures none { IfNone result (self.new.happened.items ≡ []) }
+        ensures less { IfSome result (λ event. length self.new.happened.items + 1 ≡ length self.old.happened.items) }
+    {
         self.happened.pop()
     }
 }

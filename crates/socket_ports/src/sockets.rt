@@ -15,11 +15,10 @@ mod joining;
 use crate::admission::Admission;
 use crate::ahead::AheadPool;
 use crate::connection::{Readiness, Told};
-use crate::connections::Connections;
+use crate::connections::{Connections, Place};
 use crate::departures::Departures;
 use crate::fault::ListenError;
 use crate::joins::Joins;
-use crate::lingering::Lingering;
 use crate::listeners::{Listeners, Origin, origin_of};
 use crate::listing::Listing;
 use crate::peers::Peers;
@@ -50,17 +49,18 @@ pub struct Sockets {
     pub peers: Peers,
     /// How many connections were taken since the last poll.
     pub joins: Joins,
-    /// The open ports' connections.
+    /// The open ports' connections, and those that linger.
     pub connections: Connections,
-    lingering: Lingering,
     pool: Pool,
     aheads: AheadPool,
-    /// The port whose bytes are sent when the next one has its turn.
-    gathering: Option<u64>,
+    /// The port whose turn it is.
+    turn: Option<Place>,
+    /// It was given bytes that are sent when the next one has its turn.
+    is_gathering: bool,
     /// The ports that are told readable though no event comes of them.
     listing: Listing,
     /// A port that is to be told writable next.
-    writable: Option<u64>,
+    writable: Option<Place>,
 }
 
 /// Buffers for bytes that wait to be sent, and for those that are read ahead.
@@ -85,6 +85,7 @@ impl Sockets {
         let Ok((pool, aheads)) = buffers(alloc) else {
             return Err(ListenError::OutOfMemory);
         };
+        let connections = Connections::new(alloc).map_err(|_| ListenError::OutOfMemory)?;
         let polling = Polling::new(rt, alloc)?;
         let listeners = Listeners::listen(rt, polling.poll(), clients, feeds)?;
         Ok(Sockets {
@@ -95,11 +96,11 @@ impl Sockets {
             listeners,
             peers: Peers::new(alloc, admission),
             joins: Joins::new(),
-            connections: Connections::new(alloc),
-            lingering: Lingering::new(alloc),
+            connections,
             pool,
             aheads,
-            gathering: None,
+            turn: None,
+            is_gathering: false,
             listing: Listing::new(alloc),
             writable: None,
         })
@@ -185,58 +186,58 @@ impl Sockets {
         ensures joins { self.new.joins ≡ self.old.joins }
         ensures sends { OnlySends self.old.connections self.new.connections }
         ensures sockets { sockets_of self.new.connections ≡ sockets_of self.old.connections }
+        ensures told { IfNone result (self.new.polling.happened.items ≡ []) }
     {
-        if let Some(number) = self.writable.take() {
-            if self.connections.contains(number) {
-                return Some(Happening::Writable(number));
+        if let Some(place) = self.writable.take() {
+            if self.connections.contains(place) {
+                return Some(Happening::Writable(place.number));
             }
         }
-        if let Some((number, told)) = self.next_told() {
-            return self.tell(number, told);
+        if let Some((place, told)) = self.next_told() {
+            return Some(self.tell(place, told));
         }
-        let number = self.next_due()?;
-        Some(Happening::Readable(number))
+        let place = self.next_due()?;
+        Some(Happening::Readable(place.number))
     }
 
-    /// Tells what an event says of a port.
-    fn tell(&mut self, number: u64, told: Told) -> Option<Happening>
-        ensures some { IfSome result (λ h. TellsOpenPorts self.old.peers.joined self.new.peers.joined
-            (numbers self.new.connections) (Ok h)) }
-        ensures admits { IfSome result (λ h. Admits self.old.peers self.new.peers (Ok h)) }
-        ensures none { IfNone result (self.new.peers ≡ self.old.peers) }
-        ensures no_join { IfSome result (λ h. joins_by (Ok h) ≡ 0) }
+    /// Tells what an event says of an open port, whose turn it is from now on.
+    fn tell(&mut self, place: Place, told: Told) -> Happening
+        requires { Contains (numbers self.old.connections) place.number }
+        ensures open { TellsOpenPorts self.old.peers.joined self.new.peers.joined
+            (numbers self.new.connections) (Ok result) }
+        ensures admits { Admits self.old.peers self.new.peers (Ok result) }
+        ensures no_join { joins_by (Ok result) ≡ 0 }
         ensures polls { self.new.polls ≡ self.old.polls }
         ensures joins { self.new.joins ≡ self.old.joins }
         ensures connections { self.new.connections ≡ self.old.connections }
     {
-        if !self.connections.contains(number) {
-            return None;
+        self.turn = Some(place);
+        if !told.readable {
+            return Happening::Writable(place.number);
         }
-        if told.readable {
-            if told.writable {
-                self.writable = Some(number);
-            }
-            return Some(Happening::Readable(number));
+        if told.writable {
+            self.writable = Some(place);
         }
-        Some(Happening::Writable(number))
+        Happening::Readable(place.number)
     }
 
     /// The next port of which an event tells something.
     #[tactic(auto, using(crate::proofs::SocketLemmas::sends))]
-    fn next_told(&mut self) -> Option<(u64, Told)>
+    fn next_told(&mut self) -> Option<(Place, Told)>
+        ensures open { IfSome result (λ told. Contains (numbers self.new.connections) told.0.number) }
+        ensures none { IfNone result (self.new.polling.happened.items ≡ []) }
         ensures peers { self.new.peers ≡ self.old.peers }
         ensures polls { self.new.polls ≡ self.old.polls }
         ensures joins { self.new.joins ≡ self.old.joins }
         ensures sends { OnlySends self.old.connections self.new.connections }
         ensures sockets { sockets_of self.new.connections ≡ sockets_of self.old.connections }
     {
-        'events: for _ in 0..EVENTS {
-            let event = self.polling.next()?;
+        'events: while let Some(event) = self.polling.next() {
             match origin_of(event.token()) {
                 Origin::Listener(kind) => self.listeners.mark(kind),
-                Origin::Port(number) => {
-                    if let Some(told) = self.mark(number, event) {
-                        return Some((number, told));
+                Origin::Port(key) => {
+                    if let Some(told) = self.mark(key, event) {
+                        return Some(told);
                     }
                 }
             }
@@ -244,9 +245,11 @@ impl Sockets {
         None
     }
 
-    /// An event of a port came.
+    /// An event of the connection under a key came. Where that is, if something is to be told of it.
     #[tactic(auto, using(crate::proofs::SocketLemmas::sends))]
-    fn mark(&mut self, number: u64, event: Event) -> Option<Told>
+    fn mark(&mut self, key: usize, event: Event) -> Option<(Place, Told)>
+        ensures open { IfSome result (λ told. Contains (numbers self.new.connections) told.0.number) }
+        ensures polling { self.new.polling ≡ self.old.polling }
         ensures peers { self.new.peers ≡ self.old.peers }
         ensures polls { self.new.polls ≡ self.old.polls }
         ensures joins { self.new.joins ≡ self.old.joins }
@@ -258,61 +261,51 @@ impl Sockets {
             is_over: event.is_read_closed() || event.is_error(),
             is_writable: event.is_writable(),
         };
-        let Some(told) = self
+        let (place, told) = self
             .connections
-            .mark(number, readiness, self.polls, &mut self.pool)
-        else {
-            self.lingering
-                .mark(number, readiness.is_writable, &mut self.pool);
-            return None;
-        };
+            .mark(key, readiness, self.polls, &mut self.pool)?;
         if told.readable || told.writable {
-            Some(told)
+            Some((place, told))
         } else {
             None
         }
     }
 
     /// The next port that is told though no event came of it.
-    fn next_due(&mut self) -> Option<u64>
-        ensures open { IfSome result (λ number. Contains (numbers self.new.connections) number) }
+    fn next_due(&mut self) -> Option<Place>
+        ensures open { IfSome result (λ place. Contains (numbers self.new.connections) place.number) }
+        ensures polling { self.new.polling ≡ self.old.polling }
         ensures peers { self.new.peers ≡ self.old.peers }
         ensures polls { self.new.polls ≡ self.old.polls }
         ensures joins { self.new.joins ≡ self.old.joins }
         ensures connections { self.new.connections ≡ self.old.connections }
     {
         'due: for _ in 0..self.listing.due() {
-            let number = self.listing.next()?;
-            if self.unlist(number) {
-                return Some(number);
+            let place = self.listing.next()?;
+            // It may be listed again.
+            if self.connections.set_listed(place, false) {
+                return Some(place);
             }
         }
         None
     }
 
-    /// A port is told, and may be listed again. Whether it is open.
-    fn unlist(&mut self, number: u64) -> bool
-        ensures open { result ≡ true → Contains (numbers self.new.connections) number }
-        ensures peers { self.new.peers ≡ self.old.peers }
-        ensures polls { self.new.polls ≡ self.old.polls }
-        ensures joins { self.new.joins ≡ self.old.joins }
-        ensures connections { self.new.connections ≡ self.old.connections }
-    {
-        self.connections.set_listed(number, false);
-        self.connections.contains(number)
-    }
-
-    /// Sends what a port gathered, if it is not this one.
+    /// Where a port's connection is. Its turn begins, and what another one gathered is sent.
     #[tactic(auto, using(crate::proofs::SocketLemmas::sends))]
-    fn turn_to(&mut self, port: u64)
+    fn turn_to(&mut self, port: u64) -> Option<Place>
+        ensures number { IfSome result (λ place. place.number ≡ port) }
         ensures peers { self.new.peers ≡ self.old.peers }
         ensures polls { self.new.polls ≡ self.old.polls }
         ensures sends { OnlySends self.old.connections self.new.connections }
         ensures sockets { sockets_of self.new.connections ≡ sockets_of self.old.connections }
     {
-        match self.gathering {
-            Some(gathering) if gathering == port => {}
-            _ => self.send_gathered(),
+        match self.turn {
+            Some(turn) if turn.number == port => Some(turn),
+            _ => {
+                self.send_gathered();
+                self.turn = self.connections.find(port);
+                self.turn
+            }
         }
     }
 
@@ -325,23 +318,27 @@ impl Sockets {
         ensures sends { OnlySends self.old.connections self.new.connections }
         ensures sockets { sockets_of self.new.connections ≡ sockets_of self.old.connections }
     {
-        let Some(port) = self.gathering.take() else {
+        if !self.is_gathering {
+            return;
+        }
+        self.is_gathering = false;
+        let Some(place) = self.turn else {
             return;
         };
-        self.connections.flush(port, &mut self.pool);
-        self.list_if_due(port);
+        self.connections.flush(place, &mut self.pool);
+        self.list_if_due(place);
     }
 
     /// Has a port told after the next poll, if there may be more to be read by then though no event comes.
-    fn list_if_due(&mut self, port: u64)
+    fn list_if_due(&mut self, place: Place)
         ensures peers { self.new.peers ≡ self.old.peers }
         ensures polls { self.new.polls ≡ self.old.polls }
         ensures joins { self.new.joins ≡ self.old.joins }
         ensures connections { self.new.connections ≡ self.old.connections }
     {
-        if self.connections.is_due(port, self.polls) {
-            let is_listed = self.listing.add(port);
-            self.connections.set_listed(port, is_listed);
+        if self.connections.is_due(place, self.polls) {
+            let is_listed = self.listing.add(place);
+            let _ = self.connections.set_listed(place, is_listed);
         }
     }
 
@@ -355,13 +352,15 @@ impl Sockets {
             self.old.connections self.new.connections }
         ensures sockets { sockets_of self.new.connections ≡ sockets_of self.old.connections }
     {
-        self.turn_to(port);
+        let Some(place) = self.turn_to(port) else {
+            return Ok(Got::Closed);
+        };
         let got = self
             .connections
-            .read(port, buffer, self.polls, &mut self.aheads);
+            .read(place, buffer, self.polls, &mut self.aheads);
         match &got {
             Ok(Got::Bytes(_)) => self.is_busy = true,
-            Ok(Got::Later) => self.list_if_due(port),
+            Ok(Got::Later) => self.list_if_due(place),
             Ok(Got::Closed) | Err(PortFault) => {}
         }
         got
@@ -374,17 +373,14 @@ impl Sockets {
         ensures writes { WritesTo port bytes.now result self.old.connections self.new.connections }
         ensures sockets { sockets_of self.new.connections ≡ sockets_of self.old.connections }
     {
-        self.turn_to(port);
+        let Some(place) = self.turn_to(port) else {
+            return Ok(Put::Later);
+        };
         let put = self
             .connections
-            .write(port, bytes, self.polls, &mut self.pool);
-        match &put {
-            Ok(Put::Took(_)) => self.is_busy = true,
-            Ok(Put::Later) | Err(PortFault) => {}
-        }
-        if self.connections.has_gathered(port) {
-            self.gathering = Some(port);
-        }
+            .write(place, bytes, self.polls, &mut self.pool);
+        self.is_busy = self.is_busy || matches!(&put, Ok(Put::Took(_)));
+        self.is_gathering = true;
         put
     }
 
@@ -394,21 +390,8 @@ impl Sockets {
         ensures connections { self.new.connections ≡ all_but port self.old.connections }
     {
         self.peers.remove(port);
-        let Some(mut connection) = self.connections.remove(port) else {
-            return;
-        };
-        if let Some(ahead) = connection.take_ahead() {
-            self.aheads.take_back(ahead);
-        }
-        if connection.has_taken() {
-            self.lingering.keep(connection, &mut self.pool);
-        }
-    }
-
-    fn unsent_count(&self) -> usize {
-        self.lingering
-            .unsent_count()
-            .saturating_add(self.connections.unsent_count())
+        self.connections
+            .shut(port, &mut self.pool, &mut self.aheads);
     }
 
     /// Takes the events of the last poll, and tells nobody.
@@ -435,7 +418,7 @@ impl Sockets {
     {
         self.send_gathered();
         'polls: for _ in 0..LAST_POLLS {
-            if self.unsent_count() == 0 || self.poll().is_err() {
+            if self.connections.unsent_count() == 0 || self.poll().is_err() {
                 return;
             }
             self.take_events();

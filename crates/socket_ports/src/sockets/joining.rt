@@ -19,6 +19,9 @@ use std::net::{Ipv4Addr, SocketAddr};
 /// How many connections are taken at most between two polls.
 const CONNECTIONS: u8 = 16;
 
+/// How many ports join at most.
+const NUMBERS: u64 = 1 << 63;
+
 /// What came of taking a connection.
 #[derive(Drop)]
 enum Taken {
@@ -66,6 +69,7 @@ impl Sockets {
         ensures polls { self.new.polls ≡ self.old.polls }
         ensures joins { self.new.joins ≡ self.old.joins }
         ensures connections { self.new.connections ≡ self.old.connections }
+        ensures polling { self.new.polling ≡ self.old.polling }
     {
         match self.listeners.accept() {
             Accepted::Connection(kind, stream, peer) => {
@@ -74,7 +78,7 @@ impl Sockets {
             }
             Accepted::Nothing => None,
             Accepted::Refused => {
-                self.lingering.drop_oldest();
+                self.connections.drop_oldest();
                 None
             }
         }
@@ -83,7 +87,8 @@ impl Sockets {
     /// A new port, of a client or of a feed, unless sixteen connections were taken since the last poll. A connection of
     /// somebody who may not join, or that can't be held, is closed with no byte, and told.
     pub(super) fn join(&mut self, away: &mut Departures) -> Option<Happening>
-        requires { away.old ≡ [] }
+        requires none { away.old ≡ [] }
+        requires told { self.old.polling.happened.items ≡ [] }
         ensures reasons { HaveReasons self.old.peers.admission self.old.peers.opened away.new }
         ensures all_told { self.new.joins.away ≡ self.old.joins.away + length away.new }
         ensures some { IfSome result (λ h. TellsOpenPorts self.old.peers.joined self.new.peers.joined
@@ -116,7 +121,8 @@ impl Sockets {
 
     /// Takes the next connection that waits.
     fn take(&mut self) -> Taken
-        requires { self.old.joins.count + self.old.joins.away < 16 }
+        requires room { self.old.joins.count + self.old.joins.away < 16 }
+        requires told { self.old.polling.happened.items ≡ [] }
         ensures joined { IfJoined result (λ h. TellsOpenPorts self.old.peers.joined self.new.peers.joined
             (numbers self.new.connections) (Ok h)) }
         ensures admits { IfJoined result (λ h. Admits self.old.peers self.new.peers (Ok h)) }
@@ -130,6 +136,7 @@ impl Sockets {
         ensures opens { IfJoined result (λ h. KeepsSockets (Ok h) (sockets_of self.old.connections)
             (sockets_of self.new.connections)) }
         ensures no_open { IfNotJoined result (self.new.connections ≡ self.old.connections) }
+        ensures polling { self.new.polling ≡ self.old.polling }
     {
         let Some((kind, stream, peer)) = self.accept() else {
             return Taken::Nothing;
@@ -149,19 +156,22 @@ impl Sockets {
         }
     }
 
-    /// Makes ready for a new connection under a number: the system will report what happens at it, and there is room to
-    /// list it. Whether that is done.
+    /// Makes ready for a new connection under a number: the system will report what happens at it by the key that it
+    /// will have, and there is room to list it. Whether that is done.
     fn prepare(&mut self, number: u64, kind: Kind, stream: &mut TcpStream) -> bool
+        requires told { self.old.polling.happened.items ≡ [] }
         ensures number { result ≡ true → number < 2 ^ 63 }
         ensures peers { self.new.peers ≡ self.old.peers }
         ensures polls { self.new.polls ≡ self.old.polls }
         ensures joins { self.new.joins ≡ self.old.joins }
         ensures connections { self.new.connections ≡ self.old.connections }
+        ensures polling { self.new.polling ≡ self.old.polling }
     {
-        if number >= LAST || stream.set_nodelay(true).is_err() {
+        let key = self.connections.next_key();
+        if number >= NUMBERS || key >= LAST || stream.set_nodelay(true).is_err() {
             return false;
         }
-        if !self.polling.watch(stream, token_of(number, kind)) {
+        if !self.polling.watch(stream, token_of(key, kind)) {
             return false;
         }
         let open = self.connections.len().saturating_add(1);
@@ -172,6 +182,7 @@ impl Sockets {
     fn hold(&mut self, kind: Kind, address: Ipv4Addr, mut stream: TcpStream) -> Option<u64>
         requires room { self.old.joins.count + self.old.joins.away < 16 }
         requires admitted { IsAdmitted self.old.peers.admission self.old.peers.opened kind address }
+        requires told { self.old.polling.happened.items ≡ [] }
         ensures some { IfSome result (λ n. IsJoined kind n address self.old.peers self.new.peers
             × (self.new.joins.count ≡ self.old.joins.count + 1)) }
         ensures away { self.new.joins.away ≡ self.old.joins.away }
@@ -179,6 +190,7 @@ impl Sockets {
         ensures polls { self.new.polls ≡ self.old.polls }
         ensures opens { IfSome result (λ n. Opens n self.old.connections self.new.connections) }
         ensures no_open { IfNone result (self.new.connections ≡ self.old.connections) }
+        ensures polling { self.new.polling ≡ self.old.polling }
     {
         let number = self.peers.joined();
         if !self.prepare(number, kind, &mut stream) {

@@ -1,10 +1,16 @@
-use Rattle.std.proofs.Common.{◌∙◌, sym}
-use Rattle.socket_ports.proofs.ConnectionLemmas.{contains-some}
+use Rattle.std.proofs.Common.{subst, sym}
+use Rattle.std.specs.List.{Contains}
+use Rattle.socket_ports.specs.Connections.{numbers, values}
+use Rattle.socket_ports.specs.Places.{connections_at}
+use Rattle.socket_ports.proofs.HeldLemmas.{open-contains}
 use Rattle.socket_ports.proofs.connections.Connections.contains.Goals as goal
 
-pub returns : goal.returns
-returns c =
-    λ some.
+pub returns-in-Some : goal.returns-in-Some
+returns-in-Some c =
+    λ is.
+    let slots = c.self.inside.slots in
+    let places = c.self.inside.opened.items in
+    let port = c.is_port.ensures.0 is in
     rw (← c.self.view_is)
-    (contains-some c.args.number c.self.inside.open.items c.place_of.result
-    (rw c.as_slice.ensures.value at c.place_of.ensures.found) (sym c.is_some.ensures ∙ some))
+    (subst (λ n. Contains (numbers (values (connections_at slots places))) n) port.1
+    (open-contains slots places c.args.place.key c.in-Some.held.now c.self.invariant (sym c.in-Some.ensures) port.0))

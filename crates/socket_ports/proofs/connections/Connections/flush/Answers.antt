@@ -1,27 +1,33 @@
-use Rattle.socket_ports.proofs.ConnectionLemmas.{changed, rise-set, sends-set, sockets-set}
+use Rattle.std.proofs.Common.{subst, sym, ◌∙◌}
+use Rattle.socket_ports.specs.Connections.{OnlySends}
+use Rattle.socket_ports.proofs.HeldLemmas.{kept-sends, kept-sockets, kept-table, unchanged}
+use Rattle.socket_ports.proofs.SocketLemmas.{sends_none}
 use Rattle.socket_ports.proofs.connections.Connections.flush.Goals as goal
 
-pub invariant_of-self : goal.invariant_of-self
-invariant_of-self c =
-    rise-set c.args.number c.self.inside.open.items c.in-Some.at c.index_mut.result.now c.flush.new.self
-    (changed c.args.number c.self.inside.open.items c.as_slice.result.now c.in-Some.at c.index_mut.result.now
-    c.flush.new.self c.self.invariant c.as_slice.ensures.value c.in-Some.ensures.found c.index_mut.ensures.value
-    c.flush.ensures.socket)
+pub returns-then-not-is_port-clause-sends : goal.returns-then-not-is_port-clause-sends
+returns-then-not-is_port-clause-sends c =
+    let same = unchanged c.self.inside.slots c.self.inside.opened.items c.args.place.key c.in-Some.held.now
+    (sym c.in-Some.ensures.value) ∙ c.self.view_is in
+    subst (λ vs. OnlySends c.args.self.now vs) (sym same) (sends_none c.args.self.now)
 
-pub returns-in-Some-clause-sends : goal.returns-in-Some-clause-sends
-returns-in-Some-clause-sends c =
+pub invariant_of-self-2 : goal.invariant_of-self-2
+invariant_of-self-2 c =
+    let port = c.is_port.ensures.0 c.if-not-is_port.false in
+    kept-table c.self.inside.slots c.self.inside.opened.items c.args.place.key c.in-Some.held.now c.self.invariant
+    (sym c.in-Some.ensures.value) port.0 c.args.place.number port.1 c.flush.new.self c.flush.ensures.socket
+
+pub returns-clause-sends : goal.returns-clause-sends
+returns-clause-sends c =
+    let port = c.is_port.ensures.0 c.if-not-is_port.false in
     rw (← c.self.view_is)
-    (sends-set c.args.number c.self.inside.open.items c.in-Some.at c.index_mut.result.now c.flush.new.self
-    (changed c.args.number c.self.inside.open.items c.as_slice.result.now c.in-Some.at c.index_mut.result.now
-    c.flush.new.self c.self.invariant c.as_slice.ensures.value c.in-Some.ensures.found c.index_mut.ensures.value
-    c.flush.ensures.socket)
+    (kept-sends c.self.inside.slots c.self.inside.opened.items c.args.place.key c.in-Some.held.now c.self.invariant
+    (sym c.in-Some.ensures.value) port.0 c.args.place.number port.1 c.flush.new.self c.flush.ensures.socket
     (record { count = c.flush.result; some = c.flush.ensures.count; others_wait = c.flush.ensures.others_wait })
     c.flush.ensures.ahead)
 
-pub returns-in-Some-clause-sockets : goal.returns-in-Some-clause-sockets
-returns-in-Some-clause-sockets c =
+pub returns-clause-sockets : goal.returns-clause-sockets
+returns-clause-sockets c =
+    let port = c.is_port.ensures.0 c.if-not-is_port.false in
     rw (← c.self.view_is)
-    (sockets-set c.args.number c.self.inside.open.items c.in-Some.at c.index_mut.result.now c.flush.new.self
-    (changed c.args.number c.self.inside.open.items c.as_slice.result.now c.in-Some.at c.index_mut.result.now
-    c.flush.new.self c.self.invariant c.as_slice.ensures.value c.in-Some.ensures.found c.index_mut.ensures.value
-    c.flush.ensures.socket))
+    (kept-sockets c.self.inside.slots c.self.inside.opened.items c.args.place.key c.in-Some.held.now c.self.invariant
+    (sym c.in-Some.ensures.value) port.0 c.args.place.number port.1 c.flush.new.self c.flush.ensures.socket)

@@ -1,10 +1,19 @@
-use Rattle.std.proofs.Common.{List, subst, sym}
-use Rattle.socket_ports.specs.Connections.{Rise}
-use Rattle.socket_ports.specs.declared.connection.Connection.{Connection}
-use Rattle.socket_ports.proofs.ConnectionLemmas.{rise-take}
+use Rattle.std.proofs.Common.{◌≡◌, rules}
+use Rattle.socket_ports.proofs.HeldLemmas.{popped-table, popped-values}
 use Rattle.socket_ports.proofs.connections.Connections.pop.Goals as goal
 
 pub invariant_of-self : goal.invariant_of-self
 invariant_of-self c =
-    subst (λ (l : List Connection). Rise l) (sym c.pop-last.ensures.rest)
-    (rise-take _ c.self.inside.open.items c.self.invariant)
+    let same : c.pop.new.self.items ≡ c.self.inside.opened.items = search rules in
+    rw same c.self.invariant
+
+pub invariant_of-self-2 : goal.invariant_of-self-2
+invariant_of-self-2 c =
+    popped-table c.self.inside.slots c.free.new.slots c.self.inside.opened.items c.pop.new.self.items c.in-Some.place
+    c.self.invariant c.in-Some.ensures.items c.free.ensures
+
+pub returns : goal.returns
+returns c =
+    rw (← c.self.view_is)
+    (popped-values c.self.inside.slots c.free.new.slots c.self.inside.opened.items c.pop.new.self.items c.in-Some.place
+    c.self.invariant c.in-Some.ensures.items c.free.ensures)

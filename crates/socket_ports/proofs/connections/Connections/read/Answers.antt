@@ -1,27 +1,33 @@
-use Rattle.socket_ports.proofs.ConnectionLemmas.{changed, rise-set, reads-set, sockets-set}
+use Rattle.std.proofs.Common.{subst, sym, ◌∙◌}
+use Rattle.socket_ports.specs.Connections.{OnlySends}
+use Rattle.socket_ports.proofs.HeldLemmas.{kept-reads, kept-sockets, kept-table, unchanged}
+use Rattle.socket_ports.proofs.SocketLemmas.{reads_nothing, sends_none}
 use Rattle.socket_ports.proofs.connections.Connections.read.Goals as goal
 
-pub invariant_of-self : goal.invariant_of-self
-invariant_of-self c =
-    rise-set c.args.number c.self.inside.open.items c.in-Some.at c.index_mut.result.now c.read.new.self
-    (changed c.args.number c.self.inside.open.items c.as_slice.result.now c.in-Some.at c.index_mut.result.now
-    c.read.new.self c.self.invariant c.as_slice.ensures.value c.in-Some.ensures.found c.index_mut.ensures.value
-    c.read.ensures.socket)
+pub returns-then-not-is_port-clause-reads : goal.returns-then-not-is_port-clause-reads
+returns-then-not-is_port-clause-reads c =
+    let same = unchanged c.self.inside.slots c.self.inside.opened.items c.args.place.key c.in-Some.held.now
+    (sym c.in-Some.ensures.value) ∙ c.self.view_is in
+    reads_nothing c.args.place.number c.args.self.now _
+    (subst (λ vs. OnlySends c.args.self.now vs) (sym same) (sends_none c.args.self.now))
+
+pub invariant_of-self-2 : goal.invariant_of-self-2
+invariant_of-self-2 c =
+    let port = c.is_port.ensures.0 c.if-not-is_port.false in
+    kept-table c.self.inside.slots c.self.inside.opened.items c.args.place.key c.in-Some.held.now c.self.invariant
+    (sym c.in-Some.ensures.value) port.0 c.args.place.number port.1 c.read.new.self c.read.ensures.socket
 
 pub returns-clause-reads : goal.returns-clause-reads
 returns-clause-reads c =
+    let port = c.is_port.ensures.0 c.if-not-is_port.false in
     rw (← c.self.view_is)
-    (reads-set c.args.number c.self.inside.open.items c.in-Some.at c.index_mut.result.now c.read.new.self
-    c.read.result _
-    (changed c.args.number c.self.inside.open.items c.as_slice.result.now c.in-Some.at c.index_mut.result.now
-    c.read.new.self c.self.invariant c.as_slice.ensures.value c.in-Some.ensures.found c.index_mut.ensures.value
-    c.read.ensures.socket)
-    c.read.ensures.gives c.read.ensures.unsent)
+    (kept-reads c.self.inside.slots c.self.inside.opened.items c.args.place.key c.in-Some.held.now c.self.invariant
+    (sym c.in-Some.ensures.value) port.0 c.args.place.number port.1 c.read.new.self c.read.ensures.socket
+    c.read.result _ c.read.ensures.gives c.read.ensures.unsent)
 
 pub returns-clause-sockets : goal.returns-clause-sockets
 returns-clause-sockets c =
+    let port = c.is_port.ensures.0 c.if-not-is_port.false in
     rw (← c.self.view_is)
-    (sockets-set c.args.number c.self.inside.open.items c.in-Some.at c.index_mut.result.now c.read.new.self
-    (changed c.args.number c.self.inside.open.items c.as_slice.result.now c.in-Some.at c.index_mut.result.now
-    c.read.new.self c.self.invariant c.as_slice.ensures.value c.in-Some.ensures.found c.index_mut.ensures.value
-    c.read.ensures.socket))
+    (kept-sockets c.self.inside.slots c.self.inside.opened.items c.args.place.key c.in-Some.held.now c.self.invariant
+    (sym c.in-Some.ensures.value) port.0 c.args.place.number port.1 c.read.new.self c.read.ensures.socket)

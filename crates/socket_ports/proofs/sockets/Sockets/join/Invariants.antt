@@ -4,6 +4,7 @@ use Rattle.socket_ports.proofs.sockets.Sockets.join.Given as goal
 
 abbrev pub invariant-waiting : goal.invariant-waiting
 invariant-waiting l = record {
+  polling : l.self.polling ≡ l.fn.self.polling;
   peers : l.self.peers ≡ l.fn.self.peers;
   connections : l.self.connections ≡ l.fn.self.connections;
   polls : l.self.polls ≡ l.fn.self.polls;

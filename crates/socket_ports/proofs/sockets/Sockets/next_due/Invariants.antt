@@ -3,6 +3,7 @@ use Rattle.socket_ports.proofs.sockets.Sockets.next_due.Given as goal
 
 abbrev pub invariant-due : goal.invariant-due
 invariant-due l = record {
+  polling : l.self.polling ≡ l.fn.self.polling;
   peers : l.self.peers ≡ l.fn.self.peers;
   polls : l.self.polls ≡ l.fn.self.polls;
   joins : l.self.joins ≡ l.fn.self.joins;

@@ -1,4 +1,4 @@
-use Rattle.std.proofs.Common.{◌≡◌}
+use Rattle.std.proofs.Common.{◌≡◌, length}
 use Rattle.socket_ports.specs.Connections.{OnlySends, sockets_of}
 use Rattle.socket_ports.proofs.sockets.Sockets.next_told.Given as goal
 
@@ -10,3 +10,6 @@ invariant-events l = record {
   sends : OnlySends l.fn.self.connections l.self.connections;
   sockets : sockets_of l.self.connections ≡ sockets_of l.fn.self.connections;
 }
+
+abbrev pub decreases-events : goal.decreases-events
+decreases-events l = length l.self.polling.happened.items
