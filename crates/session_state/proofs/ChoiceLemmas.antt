@@ -22,7 +22,7 @@ use Rattle.session_state.specs.Choices.{action_value, choice_in, choices_in, has
 use Rattle.protocol.proofs.FoundLemmas.{both}
 use Rattle.session_state.specs.Changes.{all_selectors, has_room, outcome_after, selecting_in, widened, widening}
 use Rattle.session_state.proofs.NamedLemmas.{there, with-length, with-push}
-use Rattle.session_state.specs.declared.modes.Change.{Change}
+use Rattle.session_state.specs.declared.negotiation.Change.{Change}
 
 current-there : (config : Config) (cs : List Choice) (i : ℕ) (c : Choice) → slice_get cs i ≡ Some c
     → current_choice (choices_in config cs) (Some i) ≡ Some (choice_in config c)

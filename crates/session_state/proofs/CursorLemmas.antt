@@ -8,8 +8,8 @@ use Rattle.session_state.specs.NamedValues.{Choice}
 use Rattle.session_state.specs.declared.choices.Cursor.{Cursor}
 use Rattle.session_state.specs.NamedValues.{ModeValue}
 use Rattle.session_state.specs.NamedValues.ModeValue.{Uni, Multi}
-use Rattle.session_state.specs.declared.modes.Change.{Change}
-use Rattle.session_state.specs.declared.modes.Change.TheVariants.{Done, Refused, Starts}
+use Rattle.session_state.specs.declared.negotiation.Change.{Change}
+use Rattle.session_state.specs.declared.negotiation.Change.TheVariants.{Done, Refused, Starts}
 use Rattle.session_state.specs.declared.session.State.{State}
 use Rattle.session_state.specs.declared.session.State.TheVariants.{Negotiating, Listing, Starting, Transfer, Ending}
 use Rattle.session_state.specs.Choices.{all_at_start, at_start, chosen_of, passed_at, passed_in}

@@ -9,8 +9,8 @@ use Rattle.std.proofs.lemmas.List.Sums.{position_or_len_is}
 use Rattle.std.proofs.lemmas.Option.{get_or_from_slice_get, slice_get-get_or, slice_get_within}
 use Rattle.protocol.proofs.FoundLemmas.{both}
 use Rattle.session_state.specs.declared.choices.Entry.{Entry}
-use Rattle.session_state.specs.declared.entries.Ahead.{Ahead}
-use Rattle.session_state.specs.declared.entries.Ahead.TheVariants.{Nobody, Only, Several}
+use Rattle.session_state.specs.declared.choices.Ahead.{Ahead}
+use Rattle.session_state.specs.declared.choices.Ahead.TheVariants.{Nobody, Only, Several}
 use Rattle.session_state.specs.NamedValues.{ahead_of}
 use Rattle.session_state.specs.Entries.{IsIndexed, TellsAhead, after_pass}
 
@@ -210,3 +210,15 @@ read-at es i e low is = slice_get-get_or es i e low ∙ ap (λ x. Some x) (sym i
 pub read-same : (es : List Entry) (i : ℕ) (e x : Entry) → i < length es → e ≡ get_or es i e → slice_get es i ≡ Some x
     → x ≡ e
 read-same es i e x low is at = ap (λ o. unwrap_or o x) (sym at ∙ read-at es i e low is)
+
+-- ---- none are there
+
+nothing-at : (es : List Entry) (i : ℕ) (e : Entry) → es ≡ [] → slice_get es i ≡ Some e → ⊥
+nothing-at [] i e none at = absurd cc
+nothing-at (x ∷ xs) i e none at = absurd cc
+
+pub indexed-none : (es : List Entry) (indexes : List ℕ) → es ≡ [] → IsIndexed es indexes
+indexed-none es indexes none = λ i k e at kept. absurd (nothing-at es i e none at)
+
+pub tells-none : (es : List Entry) → es ≡ [] → TellsAhead Nobody es
+tells-none es none = λ j e at. absurd (nothing-at es j e none at)

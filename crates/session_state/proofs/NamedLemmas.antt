@@ -16,8 +16,8 @@ use Rattle.protocol.proofs.FoundLemmas.{both}
 use Rattle.selector.specs.Pools.{list_at, together, HasRoom}
 use Rattle.sl_lines.specs.declared.actions.Action.{Action}
 use Rattle.session_state.specs.declared.choices.Cursor.{Cursor}
-use Rattle.session_state.specs.declared.modes.Change.{Change}
-use Rattle.session_state.specs.declared.modes.Change.TheVariants.{Done, Refused}
+use Rattle.session_state.specs.declared.negotiation.Change.{Change}
+use Rattle.session_state.specs.declared.negotiation.Change.TheVariants.{Done, Refused}
 use Rattle.session_state.specs.declared.choices.Entry.{Entry}
 use Rattle.session_state.specs.NamedValues.{Choice, NamedValue, IsNamed, choice_of, choices_with, entry_of}
 use Rattle.session_state.specs.Choices.{has_action, is_entry_of_station, is_of_station, kept_at, passed_at}

@@ -8,8 +8,8 @@ use Rattle.protocol.specs.Session.{wish_of, with_pattern, together, max_patterns
 use Rattle.protocol.specs.Session.Negotiated.{Uni, Multi}
 use Rattle.protocol.specs.Session.{current_choice}
 use Rattle.protocol.specs.Session.Outcome.{Stays, Starts as StartsOutcome}
-use Rattle.session_state.specs.declared.modes.Change.{Change}
-use Rattle.session_state.specs.declared.modes.Change.TheVariants.{Done, Refused, Starts}
+use Rattle.session_state.specs.declared.negotiation.Change.{Change}
+use Rattle.session_state.specs.declared.negotiation.Change.TheVariants.{Done, Refused, Starts}
 use Rattle.session_state.specs.NamedValues.{Choice as Named}
 
 -- SELECT with a pattern, where a station is current; without a pattern, as for a text that is none, nothing changes

@@ -2,14 +2,9 @@
 use Rattle.std.specs.Prelude.{◌≡◌, ◌≢◌, ◌==◌, ℕ, Bool, true, false, ⊤, List, Some, None, if◌then◌else◌}
 use Rattle.std.specs.Prelude.{slice_get}
 use Rattle.session_state.specs.declared.choices.Entry.{Entry}
-use Rattle.session_state.specs.declared.entries.Ahead.{Ahead}
-use Rattle.session_state.specs.declared.entries.Ahead.TheVariants.{Nobody, Only, Several}
+use Rattle.session_state.specs.declared.choices.Ahead.{Ahead}
+use Rattle.session_state.specs.declared.choices.Ahead.TheVariants.{Nobody, Only, Several}
 use Rattle.session_state.specs.NamedValues.{ahead_of}
-
--- named stations, and for how many there is room
-pub record EntriesValue : Type 0 where
-  pub items : List Entry
-  pub room : ℕ
 
 -- At the place of each that has an index at its place, that is its own.
 abbrev pub IsIndexed : List Entry → List ℕ → Type 0

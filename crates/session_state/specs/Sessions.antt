@@ -13,8 +13,8 @@ use Rattle.catalog.specs.Orders.{Fits}
 use Rattle.catalog.specs.Places.{station_at, view_in, Seen}
 use Rattle.sl_lines.specs.declared.actions.Action.{Action}
 use Rattle.session_state.specs.NamedValues.{Choice, ModeValue}
-use Rattle.session_state.specs.declared.modes.Change.{Change}
-use Rattle.session_state.specs.declared.modes.Change.TheVariants.{Done, Refused, Starts}
+use Rattle.session_state.specs.declared.negotiation.Change.{Change}
+use Rattle.session_state.specs.declared.negotiation.Change.TheVariants.{Done, Refused, Starts}
 use Rattle.session_state.specs.declared.session.State.{State}
 use Rattle.session_state.specs.declared.session.State.TheVariants.{Negotiating, Listing, Starting, Transfer, Ending}
 use Rattle.session_state.specs.declared.session.Settled.{Settled}

@@ -1,6 +1,7 @@
 //! The stations that a client names, and what it asks of each.
-ghost use Rattle.std.specs.Prelude.{◌≡◌, ◌<◌, ◌++◌, ◌∷◌, [], Some, length, slice_get, slice_set};
+ghost use Rattle.std.specs.Prelude.{◌≡◌, ◌<◌, ◌++◌, ◌∷◌, []};
 ghost use Rattle.std.specs.Vec.{vec_capacity, vec_len};
+ghost use Rattle.session_state.specs.Entries.{after_pass};
 ghost use Rattle.session_state.specs.NamedValues.{ahead_of, begun};
 
 use crate::kept_action::KeptAction;
@@ -67,6 +68,40 @@ impl Entry {
     }
 }
 
+/// Which requests of a transfer may have a record ahead.
+#[derive(Clone, Copy)]
+pub enum Ahead {
+    /// None has.
+    Nobody,
+    /// None has but, perhaps, the one with this index.
+    Only(usize),
+    /// Some may.
+    Several,
+}
+
+/// Which may have one once the i-th has a cursor that tells of one, or of none.
+pub(crate) fn after_pass(ahead: Ahead, i: usize, has: bool) -> Ahead
+    ensures { result ≡ after_pass ahead i has }
+{
+    match ahead {
+        Ahead::Nobody => if has { Ahead::Only(i) } else { Ahead::Nobody },
+        Ahead::Only(j) => {
+            if has {
+                if j == i {
+                    Ahead::Only(i)
+                } else {
+                    Ahead::Several
+                }
+            } else if j == i {
+                Ahead::Nobody
+            } else {
+                Ahead::Only(j)
+            }
+        }
+        Ahead::Several => Ahead::Several,
+    }
+}
+
 /// A station after the others.
 pub(crate) fn put(entries: &mut Vec<Entry>, place: usize, action: Option<Action>)
     requires { vec_len entries.old < vec_capacity entries.old }
@@ -76,36 +111,4 @@ pub(crate) fn put(entries: &mut Vec<Entry>, place: usize, action: Option<Action>
     // the toolchain asks that a function names each type that lies in what it moves
     let _none: Option<(Seq, Tick)> = None;
     entries.push_reserved(Entry::new(place, action));
-}
-
-/// The i-th station in place of what it was.
-pub(crate) fn replace(entries: &mut [Entry], i: usize, entry: Entry)
-    requires { i < length entries.old }
-    ensures { entries.new ≡ slice_set entries.old i entry }
-{
-    entries[i] = entry;
-}
-
-pub(crate) fn act_at(entries: &mut [Entry], i: usize, action: Action)
-    requires { i < length entries.old }
-    ensures { (e : Entry) → slice_get entries.old i ≡ Some e
-        → entries.new ≡ slice_set entries.old i (record e { action = Some action }) }
-{
-    entries[i].action = KeptAction::of(Some(action));
-}
-
-pub(crate) fn keep_at(entries: &mut [Entry], i: usize, first: u64)
-    requires { i < length entries.old }
-    ensures { (e : Entry) → slice_get entries.old i ≡ Some e
-        → entries.new ≡ slice_set entries.old i (record e { first = first }) }
-{
-    entries[i].first = first;
-}
-
-pub(crate) fn pass_at(entries: &mut [Entry], i: usize, cursor: Cursor)
-    requires { i < length entries.old }
-    ensures { (e : Entry) → slice_get entries.old i ≡ Some e
-        → entries.new ≡ slice_set entries.old i (record e { cursor = cursor }) }
-{
-    entries[i].cursor = cursor;
 }

@@ -6,18 +6,15 @@
 #![tactic(auto)]
 
 pub mod choices;
-pub mod entries;
 mod instruction;
 mod kept_action;
-mod modes;
 mod named;
+mod negotiation;
 mod refusals;
-mod replies;
 pub mod session;
 mod waiting;
 
-pub use choices::{Cursor, Entry};
-pub use entries::Ahead;
+pub use choices::{Ahead, Cursor, Entry};
 pub use kept_action::KeptAction;
 pub use refusals::NoRoom;
 pub use session::{Session, Settled, State};

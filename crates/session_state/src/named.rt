@@ -1,7 +1,6 @@
 //! The stations that a client named, with the selectors of each.
 ghost use Rattle.std.specs.Prelude.{◌≡◌, ◌≢◌, ◌<◌, ◌∷◌, [], ℕ, None, Some, IfOk, IfSome, length, map, option_map};
-ghost use Rattle.std.specs.Prelude.{slice_get};
-ghost use Rattle.std.specs.Prelude.{slice_set, filter_map, is_some, position};
+ghost use Rattle.std.specs.Prelude.{◌==◌, slice_get, slice_set, filter_map, is_some, position};
 ghost use Rattle.std.specs.List.{list_any};
 ghost use Rattle.protocol.specs.Catalog.{Config as ProtocolConfig, has_codes};
 ghost use Rattle.protocol.specs.Session.{act_multi, choose_known, choose_station, current_choice, end_with};
@@ -13,13 +12,13 @@ ghost use Rattle.catalog.specs.Places.{station_at};
 ghost use Rattle.session_state.specs.NamedValues.{Choice, blank, entry_of, begun, choice_of};
 ghost use Rattle.session_state.specs.Choices.{action_value, choices_in, has_action, is_of_station, is_entry_of_station};
 ghost use Rattle.session_state.specs.Choices.{kept_at, passed_at};
-ghost use Rattle.session_state.specs.Entries.{IsOnlyAt, TellsAhead};
-ghost use Rattle.session_state.specs.declared.entries.Ahead.TheVariants.{Nobody};
+ghost use Rattle.session_state.specs.Entries.{IsIndexed, IsOnlyAt, TellsAhead};
+ghost use Rattle.session_state.specs.declared.choices.Ahead.TheVariants.{Nobody};
 ghost use Rattle.session_state.specs.Changes.{all_selectors, outcome_after, selecting_in, widened, widening};
 
-use crate::choices::{Cursor, Entry};
-use crate::entries::{Ahead, CAPACITY, Entries};
-use crate::modes::Change;
+use crate::choices::{Ahead, Cursor, Entry, after_pass, put};
+use crate::kept_action::KeptAction;
+use crate::negotiation::Change;
 use catalog::Config;
 use protocol::record::Kind;
 use selector::{Pool, Selector};
@@ -48,19 +47,55 @@ fn is_same_station(config: &Config, named: usize, place: usize) -> bool
     other_network == network && other_code == code
 }
 
-/// The place among the entries of the first that is of the station at a place of the configuration. No two stations of
-/// a configuration have the same codes, so that the place of one that is there tells it.
+/// The index of the station at a place, where one can be kept of that place.
+fn set_index(indexes: &mut Vec<u8>, place: usize, index: u8)
+    ensures { indexes.new.items ≡ slice_set indexes.old.items place index }
+{
+    if place < indexes.len() {
+        indexes[place] = index;
+    }
+}
+
+/// Where there can be one station alone at a place, with this index: whether there is.
+fn only_at(entries: &[Entry], place: usize, i: usize) -> Option<usize>
+    requires { (j : ℕ) (e : Entry) → slice_get entries.now j ≡ Some e → e.station ≡ place → j ≡ i }
+    ensures value { result ≡ position (λ e. e.station == place) entries.now }
+    ensures only { IfSome result (λ k. IsOnlyAt entries.now place k) }
+{
+    if i >= entries.len() {
+        return None;
+    }
+    let entry = &entries[i];
+    if entry.station == place {
+        Some(i)
+    } else {
+        None
+    }
+}
+
+/// The index of the first station at a place.
+fn first_at(entries: &[Entry], indexes: &[u8], place: usize) -> Option<usize>
+    requires { IsIndexed entries.now indexes.now }
+    ensures { result ≡ position (λ e. e.station == place) entries.now }
+{
+    match indexes.get(place) {
+        Some(i) => only_at(entries, place, usize::from(*i)),
+        None => entries.iter().position(|entry| entry.station == place),
+    }
+}
+
+/// The index of the first that is of the station at a place of the configuration. No two stations of a configuration
+/// have the same codes, so that the place of one that is there tells it.
 #[tactic(auto, using(crate::proofs::SameLemmas::same_lemmas))]
-fn position_among(entries: &Entries, config: &Config, place: usize) -> Option<usize>
-    ensures { result
-        ≡ position (is_entry_of_station config.now (station_at config.now.entries place)) entries.now.items }
+fn position_among(entries: &[Entry], indexes: &[u8], config: &Config, place: usize) -> Option<usize>
+    requires { IsIndexed entries.now indexes.now }
+    ensures { result ≡ position (is_entry_of_station config.now (station_at config.now.entries place)) entries.now }
 {
     if place < config.stations().len() {
         config.codes_are_distinct();
-        return entries.position_at(place);
+        return first_at(entries, indexes, place);
     }
     entries
-        .as_slice()
         .iter()
         .position(|entry| is_same_station(config, entry.station, place))
 }
@@ -72,23 +107,32 @@ fn are_asked(entries: &[Entry]) -> bool
     entries.iter().any(|entry| entry.action.is_some())
 }
 
+/// How many stations a client may name.
+const CAPACITY: usize = 255;
+
 /// The stations that a client named, each with its selectors, and which of them is the current one. There are at most
 /// 255, with 64 selectors each and 1,024 together. Memory for all of them is taken when it is made, and not later.
 #[derive(Drop)]
 pub struct Named {
-    entries: Entries,
+    entries: Vec<Entry>,
+    // by a place of the configuration, the index of the station that is named there, if one is
+    indexes: Vec<u8>,
+    ahead: Ahead,
     current: Option<usize>,
     pool: Pool,
 }
 
 impl Model for Named {
+    ghost use Rattle.std.specs.Vec.{vec_capacity};
+    ghost use Rattle.session_state.specs.Entries.{IsIndexed, TellsAhead};
     ghost use Rattle.session_state.specs.NamedValues.{NamedValue, IsNamed, choices_with};
 
     ghost Value = { NamedValue };
 
     ghost view = { λ n. record { choices = choices_with n.entries.items n.pool; current = n.current } };
 
-    ghost invariant = { λ n. IsNamed n.entries.items n.current n.pool n.entries.room };
+    ghost invariant = { λ n. IsNamed n.entries.items n.current n.pool (vec_capacity n.entries)
+        × IsIndexed n.entries.items n.indexes.items × TellsAhead n.ahead n.entries.items };
 }
 
 impl Named {
@@ -97,11 +141,16 @@ impl Named {
     pub fn new(alloc: Global, places: usize) -> Result<Named, AllocError>
         ensures { IfOk result (λ n. n ≡ record { choices = blank ∷ []; current = Some 0 }) }
     {
-        let mut entries = Entries::new(alloc, places)?;
+        let mut entries = Vec::with_capacity(alloc, CAPACITY)?;
+        let mut indexes = Vec::new(alloc);
+        indexes.resize(places, 0)?;
         let pool = Pool::new(alloc)?;
-        entries.put(0, None);
+        put(&mut entries, 0, None);
+        set_index(&mut indexes, 0, 0);
         Ok(Named {
             entries,
+            indexes,
+            ahead: Ahead::Nobody,
             current: Some(0),
             pool,
         })
@@ -132,6 +181,7 @@ impl Named {
     {
         self.pool.clear(0);
         self.entries.clear();
+        self.ahead = Ahead::Nobody;
         self.current = None;
     }
 
@@ -142,7 +192,9 @@ impl Named {
             self.new ≡ record { choices = choice_of (begun place (Some action)) c.selectors ∷ []; current = None } }
     {
         let _ = &self.pool;
-        self.entries.replace(place, Some(action));
+        self.entries[0] = Entry::new(place, Some(action));
+        set_index(&mut self.indexes, place, 0);
+        self.ahead = Ahead::Nobody;
         self.current = None;
     }
 
@@ -195,7 +247,8 @@ impl Named {
             self.current = None;
             return Change::Refused;
         }
-        self.entries.put(place, None);
+        put(&mut self.entries, place, None);
+        set_index(&mut self.indexes, place, i as u8);
         self.current = Some(i);
         Change::Done
     }
@@ -205,7 +258,12 @@ impl Named {
         ensures { result ≡ position (is_of_station config.now (station_at config.now.entries place)) self.now.choices }
     {
         let _ = &self.pool;
-        position_among(&self.entries, config, place)
+        position_among(
+            self.entries.as_slice(),
+            self.indexes.as_slice(),
+            config,
+            place,
+        )
     }
 
     /// The station, where one was found, becomes the current one; else none is.
@@ -264,7 +322,7 @@ impl Named {
             self.new ≡ record self.old { choices = slice_set self.old.choices i (record c { action = Some action }) } }
     {
         let _ = &self.pool;
-        self.entries.act(i, action);
+        self.entries[i].action = KeptAction::of(Some(action));
     }
 
     /// The current station's action, in place of an earlier one.
@@ -313,7 +371,7 @@ impl Named {
         } }
     {
         let _ = &self.pool;
-        self.entries.keep(i, first);
+        self.entries[i].first = first;
     }
 
     /// Keeps how far the transfer has come in the ring of the i-th station.
@@ -325,15 +383,16 @@ impl Named {
         } }
     {
         let _ = &self.pool;
-        self.entries.pass(i, cursor);
+        self.ahead = after_pass(self.ahead, i, cursor.ahead().is_some());
+        self.entries[i].cursor = cursor;
     }
 
     /// The index of the station at a place, where it is found at once: there is no other at that place.
     pub fn find(&self, place: usize) -> Option<usize>
         ensures { IfSome result (λ i. IsOnlyAt (map entry_of self.now.choices) place i) }
     {
-        let _ = &self.pool;
-        self.entries.find(place)
+        let i = usize::from(*self.indexes.get(place)?);
+        only_at(self.entries.as_slice(), place, i)
     }
 
     /// Which of the stations' requests may have a record ahead.
@@ -341,7 +400,7 @@ impl Named {
         ensures { TellsAhead result (map entry_of self.now.choices) }
     {
         let _ = &self.pool;
-        self.entries.ahead()
+        self.ahead
     }
 
     /// Keeps that none has a record ahead.
@@ -350,6 +409,6 @@ impl Named {
         ensures { self.new ≡ self.old }
     {
         let _ = &self.pool;
-        self.entries.keep_quiet();
+        self.ahead = Ahead::Nobody;
     }
 }

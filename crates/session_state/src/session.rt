@@ -4,15 +4,13 @@ ghost use Rattle.std.specs.Prelude.{length, drop};
 ghost use Rattle.std.specs.Prelude.{◌↔◌, map, nat_lt, not, is_ok, is_some, true, false, codes, ℕ, Some, slice_get};
 ghost use Rattle.protocol.specs.History.{Arrival};
 ghost use Rattle.session_state.specs.Entries.{IsOnlyAt, TellsAhead};
-ghost use Rattle.session_state.specs.declared.entries.Ahead.TheVariants.{Nobody};
+ghost use Rattle.session_state.specs.declared.choices.Ahead.TheVariants.{Nobody};
 ghost use Rattle.protocol.specs.Client.{read_on, received, offered, after_take, cut, new_client, is_ending, is_nothing};
 
-use crate::choices::{Cursor, Entry};
-use crate::entries::Ahead;
-use crate::modes::Mode;
+use crate::choices::{Ahead, Cursor, Entry};
+use crate::negotiation::Negotiation;
 use crate::refusals::NoRoom;
-use crate::replies::{put_bytes, put_packet};
-use crate::waiting::Waiting;
+use crate::waiting::{Waiting, put_bytes, put_packet};
 use arrayvec::ArrayVec;
 use catalog::{Config, View};
 use protocol::record::Kind;
@@ -22,7 +20,6 @@ use std::alloc::{AllocError, Global};
 use std::marker::Model;
 
 mod reading;
-mod steps;
 
 /// How many unread bytes there may be.
 const INBOX: usize = 1024;
@@ -59,7 +56,7 @@ pub enum Settled {
 #[derive(Drop)]
 pub struct Session {
     view: View,
-    mode: Mode,
+    mode: Negotiation,
     state: State,
     cutter: LineCutter,
     unread: ArrayVec<u8, BUFFER>,
@@ -109,7 +106,7 @@ impl Session {
         ensures settled { IfOk result (λ s. s.state ≢ Starting) }
         ensures negotiates { IfOk result (λ s. s.state ≡ Negotiating) }
     {
-        let mode = Mode::new(alloc, places_of(&view))?;
+        let mode = Negotiation::new(alloc, places_of(&view))?;
         Ok(Session {
             view,
             mode,
@@ -397,7 +394,8 @@ impl Session {
         ensures count { length (chosen_of self.new.mode) ≡ length (chosen_of self.old.mode) }
         ensures looked { self.new.looked ≡ self.old.looked }
     {
-        self.pass_to(i, cursor);
+        let _ = &self.state;
+        self.mode.pass(i, cursor);
     }
 
     /// Keeps that all requests have looked at their rings since so many records had arrived.

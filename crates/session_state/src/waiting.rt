@@ -1,6 +1,13 @@
-//! The bytes that wait for a client.
+//! The bytes that wait for a client: the answers to its commands, the lines of a listing, and packets.
 ghost use Rattle.std.specs.Prelude.{◌≡◌, ◌≤◌, ◌<◌, ◌+◌, ◌++◌, ◌∷◌, [], length};
+ghost use Rattle.protocol.specs.Catalog.{end_line, station_line};
+ghost use Rattle.protocol.specs.Packet.{packet};
+ghost use Rattle.protocol.specs.Record.{padded};
+ghost use Rattle.protocol.specs.Session.{error_line, greeting, ok_line};
+ghost use Rattle.catalog.specs.Places.{view_in};
 
+use catalog::{Config, Station, View};
+use sl_packet::{Seq, header};
 use std::marker::Model;
 
 /// The most bytes that wait: a packet.
@@ -75,4 +82,77 @@ impl Waiting {
         self.bytes[self.length] = byte;
         self.length += 1;
     }
+}
+
+fn extend_padded(out: &mut Waiting, text: &[u8], width: usize)
+    requires room { length out.old + width ≤ 520 }
+    requires fits { length text.now ≤ width }
+    ensures { out.new ≡ out.old ++ padded width text.now }
+{
+    out.extend(text);
+    for _ in text.len()..width {
+        out.push(b' ');
+    }
+}
+
+/// The bytes, at most 520, in place of what waited.
+pub fn put_bytes(out: &mut Waiting, bytes: &[u8])
+    requires { length bytes.now ≤ 520 }
+    ensures { out.new ≡ bytes.now }
+{
+    out.clear();
+    out.extend(bytes);
+}
+
+/// The packet of a record, in place of what waited.
+pub fn put_packet(out: &mut Waiting, number: Seq, record: &[u8; 512])
+    ensures { out.new ≡ packet number «record».now }
+{
+    out.clear();
+    out.extend(&header(number));
+    out.extend(record);
+}
+
+/// The answer to HELLO: who the server is, and its title.
+pub fn put_greeting(out: &mut Waiting, config: &Config, view: &View)
+    ensures { out.new ≡ greeting (view_in config.now view.now) }
+{
+    out.clear();
+    out.extend(b"SeedLink v3.0 (station access)\r\n");
+    out.extend(config.title());
+    out.extend(b"\r\n");
+}
+
+/// The answer to a command that was obeyed.
+pub fn put_ok(out: &mut Waiting)
+    ensures { out.new ≡ ok_line }
+{
+    put_bytes(out, b"OK\r\n");
+}
+
+/// The answer to a command that was not obeyed.
+pub fn put_error(out: &mut Waiting)
+    ensures { out.new ≡ error_line }
+{
+    put_bytes(out, b"ERROR\r\n");
+}
+
+/// A station's line of CAT.
+pub fn put_station_line(out: &mut Waiting, station: &Station)
+    ensures { out.new ≡ station_line station.now.station }
+{
+    out.clear();
+    extend_padded(out, station.network(), 2);
+    out.extend(b" ");
+    extend_padded(out, station.code(), 5);
+    out.extend(b" ");
+    out.extend(station.description());
+    out.extend(b"\r\n");
+}
+
+/// The last line of CAT.
+pub fn put_end_line(out: &mut Waiting)
+    ensures { out.new ≡ end_line }
+{
+    put_bytes(out, b"END\r\n");
 }

@@ -10,7 +10,7 @@ use Rattle.station_ring.specs.HeldRecords.{RingsValue}
 use Rattle.sl_lines.specs.declared.actions.Action.{Action}
 use Rattle.session_state.specs.declared.choices.Cursor.{Cursor}
 use Rattle.session_state.specs.declared.choices.Entry.{Entry}
-use Rattle.session_state.specs.declared.entries.Ahead.TheVariants.{Nobody, Only}
+use Rattle.session_state.specs.declared.choices.Ahead.TheVariants.{Nobody, Only}
 use Rattle.session_state.specs.NamedValues.{Choice, ahead_of, entry_of}
 use Rattle.session_state.specs.Choices.{chosen_of}
 use Rattle.session_state.specs.Entries.{IsOnlyAt, TellsAhead}

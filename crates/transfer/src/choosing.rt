@@ -12,7 +12,7 @@ ghost use Rattle.station_ring.specs.HeldRecords.{RingsValue, holdings_of};
 ghost use Rattle.sl_lines.specs.declared.actions.Action.TheVariants.{Time};
 ghost use Rattle.session_state.specs.NamedValues.{Choice, entry_of};
 ghost use Rattle.session_state.specs.Entries.{TellsAhead};
-ghost use Rattle.session_state.specs.declared.entries.Ahead.TheVariants.{Nobody, Only};
+ghost use Rattle.session_state.specs.declared.choices.Ahead.TheVariants.{Nobody, Only};
 ghost use Rattle.session_state.specs.Choices.{all_at_start, chosen_of, request_in};
 ghost use Rattle.session_state.specs.Sessions.{client_in, but_for_cursors};
 ghost use Rattle.session_state.specs.declared.session.State.TheVariants.{Starting, Transfer, Ending};

@@ -1,7 +1,7 @@
 use Rattle.std.proofs.Common.{◌<◌, ◌∙◌, ap, arith, length, subst, sym}
 use Rattle.std.proofs.lemmas.Option.{slice_get_within}
 use Rattle.session_state.specs.declared.choices.Entry.{Entry}
-use Rattle.session_state.specs.declared.entries.Ahead.TheVariants.{Only}
+use Rattle.session_state.specs.declared.choices.Ahead.TheVariants.{Only}
 use Rattle.session_state.specs.Entries.{TellsAhead}
 use Rattle.session_state.specs.NamedValues.{ahead_of, entry_of}
 use Rattle.transfer.proofs.AloneLemmas.{glance-one, glance-quiet, quiet-all, quiet-others}

@@ -1,25 +1,34 @@
-use Rattle.session_state.specs.NamedValues.{IsNamed}
-use Rattle.session_state.specs.Entries.{EntriesValue}
-use Rattle.std.proofs.Common.{sym, subst, ap}
-use Rattle.std.specs.Prelude.{Some}
-use Rattle.session_state.proofs.NamedLemmas.{acted-there, below, there, naming-entry}
+use Rattle.std.proofs.Common.{◌∙◌, refl, sym, ap, arith, slice_set, Option, Some}
+use Rattle.sl_lines.specs.declared.actions.Action.{Action}
+use Rattle.session_state.specs.declared.choices.Entry.{Entry}
+use Rattle.session_state.proofs.EntryLemmas.{indexed-set, read-at, read-same, tells-set}
+use Rattle.session_state.proofs.NamedLemmas.{acted-there, below, naming-entry}
 use Rattle.session_state.proofs.named.Named.act_for.Goals as goal
 
-pub act-requires : goal.act-requires
-act-requires c = below _ _ _ c.args.i _ c.self.view_is c.requires
+pub index_mut-requires : goal.index_mut-requires
+index_mut-requires c =
+    let low = below _ _ _ c.args.i _ c.self.view_is c.requires in
+    omega (arith, low, c.self.inside.entries.ok.0)
 
 pub invariant_of-self : goal.invariant_of-self
 invariant_of-self c =
-    let old = c.self.inside.entries in
-    let e = there old.items c.args.i (below _ _ _ c.args.i _ c.self.view_is c.requires) in
-    subst (λ (v : EntriesValue). IsNamed v.items c.self.inside.current c.self.inside.pool v.room)
-    (sym (c.act.ensures e.0 e.1))
-    (naming-entry old.items c.self.inside.current c.self.inside.pool old.room c.args.i
-    (record (e.0) { action = Some c.args.action })
-    c.self.invariant)
+    let es = c.self.inside.entries.items in
+    let low = below _ _ _ c.args.i _ c.self.view_is c.requires in
+    let e : Entry = c.index_mut.result.now in
+    let f : Entry = record e { action = c.of.result } in
+    let at = read-at es c.args.i e low c.index_mut.ensures.value in (
+      naming-entry es c.self.inside.current c.self.inside.pool _ c.args.i f c.self.invariant.0,
+      indexed-set es c.self.inside.indexes.items c.args.i e f c.self.invariant.1 at refl,
+      tells-set c.self.inside.ahead es c.args.i e f c.self.invariant.2 at refl,
+    )
 
 pub returns : goal.returns
 returns c = λ choice there.
-    acted-there c.self.inside.entries.items _ c.self.inside.current c.self.inside.pool c.args.i c.args.action _ choice
-    c.self.view_is c.requires there
-    (λ e at. ap (λ (v : EntriesValue). v.items) (c.act.ensures e at))
+    let es = c.self.inside.entries.items in
+    let low = below _ _ _ c.args.i _ c.self.view_is c.requires in
+    let e : Entry = c.index_mut.result.now in
+    acted-there es (slice_set es c.args.i (record e { action = c.of.result })) c.self.inside.current c.self.inside.pool
+    c.args.i c.args.action _ choice c.self.view_is c.requires there
+    (λ x at. ap (λ (a : Option Action). slice_set es c.args.i (record e { action = a })) c.of.ensures
+    ∙ ap (λ (y : Entry). slice_set es c.args.i (record y { action = Some c.args.action }))
+    (sym (read-same es c.args.i e x low c.index_mut.ensures.value at)))

@@ -4,24 +4,27 @@ use Rattle.session_state.proofs.named.Named.add_at.Goals.{in-Ok, in-Err}
 use Rattle.session_state.proofs.named.Named.add_at.Goals as goal
 
 pub add-requires : goal.add-requires
-add-requires c = below-all _ _ _ _ c.args.i _ c.self.invariant c.self.view_is c.requires
+add-requires c = below-all _ _ _ _ c.args.i _ c.self.invariant.0 c.self.view_is c.requires
 
 pub invariant_of-self : goal.invariant_of-self
-invariant_of-self c =
-    added-naming c.add.result c.self.inside.entries.items c.self.inside.current c.self.inside.pool _ _ c.args.i
-    c.args.selector c.add.ensures.added c.add.ensures.unchanged c.self.invariant
-    (below _ _ _ c.args.i _ c.self.view_is c.requires)
+invariant_of-self c = (
+  added-naming c.add.result c.self.inside.entries.items c.self.inside.current c.self.inside.pool _ _ c.args.i
+      c.args.selector c.add.ensures.added c.add.ensures.unchanged c.self.invariant.0
+      (below _ _ _ c.args.i _ c.self.view_is c.requires),
+  c.self.invariant.1,
+  c.self.invariant.2,
+)
 
 pub returns-clause-new : goal.returns-clause-new
 returns-clause-new c =
     λ choice there. list-widened c.add.result c.self.inside.entries.items c.self.inside.current c.self.inside.pool _ _
-    c.args.i c.args.selector _ choice c.add.ensures.room c.add.ensures.added c.add.ensures.unchanged c.self.invariant
+    c.args.i c.args.selector _ choice c.add.ensures.room c.add.ensures.added c.add.ensures.unchanged c.self.invariant.0
     c.self.view_is c.requires there
 
 pub returns-clause-change : goal.returns-clause-change
 returns-clause-change c = λ choice there.
     let led = list-widening c.add.result c.self.inside.entries.items c.self.inside.current c.self.inside.pool _ c.args.i
-    _ choice c.add.ensures.room c.self.invariant c.self.view_is there in
+    _ choice c.add.ensures.room c.self.invariant.0 c.self.view_is there in
     elim c.match-add.branch [
       | in-Ok w ↦ w.result-is ∙ ap change_of (sym w.in-Ok.is) ∙ led
       | in-Err w ↦ w.result-is ∙ ap change_of (sym w.in-Err.is) ∙ led

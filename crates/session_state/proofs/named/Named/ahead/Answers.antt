@@ -5,6 +5,6 @@ use Rattle.session_state.proofs.named.Named.ahead.Goals as goal
 
 pub returns : goal.returns
 returns c =
-    subst (TellsAhead c.ahead.result)
+    subst (TellsAhead c.self.inside.ahead)
     (naming-entries c.self.inside.entries.items c.self.inside.current c.self.inside.pool c.args.self.now
-    c.self.view_is) c.ahead.ensures
+    c.self.view_is) c.self.invariant.2

@@ -1,10 +1,9 @@
-use Rattle.std.proofs.Common.{map, ap, ◌∙◌}
-use Rattle.session_state.specs.NamedValues.{NamedValue, entry_of}
-use Rattle.session_state.proofs.NamedLemmas.{with-entries}
+use Rattle.std.proofs.Common.{◌∙◌}
+use Rattle.session_state.proofs.NamedLemmas.{naming-entries}
 use Rattle.session_state.proofs.named.Named.choices.Goals as goal
 
 pub returns : goal.returns
 returns c =
-    c.as_slice.ensures
-    ∙ with-entries c.self.inside.entries.items c.self.inside.pool
-    ∙ ap (λ (n : NamedValue). map entry_of n.choices) c.self.view_is
+    c.as_slice.ensures.value
+    ∙ naming-entries c.self.inside.entries.items c.self.inside.current c.self.inside.pool c.args.self.now
+    c.self.view_is

@@ -1,24 +1,32 @@
-use Rattle.session_state.specs.NamedValues.{IsNamed}
-use Rattle.session_state.specs.Entries.{EntriesValue}
-use Rattle.std.proofs.Common.{sym, subst, ap}
-use Rattle.session_state.proofs.NamedLemmas.{below, kept-there, there, naming-entry}
+use Rattle.std.proofs.Common.{refl, sym, ap, arith, slice_set}
+use Rattle.session_state.specs.declared.choices.Entry.{Entry}
+use Rattle.session_state.proofs.EntryLemmas.{indexed-set, read-at, read-same, tells-set}
+use Rattle.session_state.proofs.NamedLemmas.{below, kept-there, naming-entry}
 use Rattle.session_state.proofs.named.Named.keep.Goals as goal
 
-pub keep-requires : goal.keep-requires
-keep-requires c = below _ _ _ c.args.i _ c.self.view_is c.requires
+pub index_mut-requires : goal.index_mut-requires
+index_mut-requires c =
+    let low = below _ _ _ c.args.i _ c.self.view_is c.requires in
+    omega (arith, low, c.self.inside.entries.ok.0)
 
 pub invariant_of-self : goal.invariant_of-self
 invariant_of-self c =
-    let old = c.self.inside.entries in
-    let e = there old.items c.args.i (below _ _ _ c.args.i _ c.self.view_is c.requires) in
-    subst (λ (v : EntriesValue). IsNamed v.items c.self.inside.current c.self.inside.pool v.room)
-    (sym (c.keep.ensures e.0 e.1))
-    (naming-entry old.items c.self.inside.current c.self.inside.pool old.room c.args.i
-    (record (e.0) { first = c.args.first })
-    c.self.invariant)
+    let es = c.self.inside.entries.items in
+    let low = below _ _ _ c.args.i _ c.self.view_is c.requires in
+    let e : Entry = c.index_mut.result.now in
+    let f : Entry = record e { first = c.args.first } in
+    let at = read-at es c.args.i e low c.index_mut.ensures.value in (
+      naming-entry es c.self.inside.current c.self.inside.pool _ c.args.i f c.self.invariant.0,
+      indexed-set es c.self.inside.indexes.items c.args.i e f c.self.invariant.1 at refl,
+      tells-set c.self.inside.ahead es c.args.i e f c.self.invariant.2 at refl,
+    )
 
 pub returns : goal.returns
 returns c =
-    kept-there c.self.inside.entries.items _ c.self.inside.current c.self.inside.pool c.args.i c.args.first _
-    c.self.view_is c.requires
-    (λ e at. ap (λ (v : EntriesValue). v.items) (c.keep.ensures e at))
+    let es = c.self.inside.entries.items in
+    let low = below _ _ _ c.args.i _ c.self.view_is c.requires in
+    let e : Entry = c.index_mut.result.now in
+    kept-there es (slice_set es c.args.i (record e { first = c.args.first })) c.self.inside.current c.self.inside.pool
+    c.args.i c.args.first _ c.self.view_is c.requires
+    (λ x at. ap (λ (y : Entry). slice_set es c.args.i (record y { first = c.args.first }))
+    (sym (read-same es c.args.i e x low c.index_mut.ensures.value at)))

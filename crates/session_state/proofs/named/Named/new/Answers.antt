@@ -1,13 +1,25 @@
-use Rattle.std.proofs.Common.{ap, ◌∙◌, ◌++◌, ◌∷◌, [], None}
+use Rattle.std.proofs.Common.{rules, ◌≡◌, ◌∙◌, ◌++◌, ◌∷◌, [], List, None, ap, refl, subst, sym}
+use Rattle.std.specs.Vec.{vec_capacity}
+use Rattle.session_state.specs.declared.choices.Ahead.TheVariants.{Nobody}
+use Rattle.session_state.specs.declared.choices.Entry.{Entry}
+use Rattle.session_state.specs.Entries.{IsIndexed, TellsAhead}
 use Rattle.session_state.specs.NamedValues.{begun}
-use Rattle.session_state.specs.Entries.{EntriesValue}
+use Rattle.session_state.proofs.EntryLemmas.{indexed-none, indexed-push, tells-none, tells-push}
 use Rattle.session_state.proofs.NamedLemmas.{naming-new}
 use Rattle.session_state.proofs.named.Named.new.Goals as goal
 
 pub invariant_of-result : goal.invariant_of-result
 invariant_of-result c =
-    naming-new _ _ _ (begun 0 None)
-    (ap (λ (v : EntriesValue). v.items) c.put.ensures
-    ∙ ap (λ (v : EntriesValue). v.items ++ begun 0 None ∷ []) c.in_ok-entries.ensures)
-    c.in_ok-pool.ensures
-    (ap (λ (v : EntriesValue). v.room) c.put.ensures ∙ ap (λ (v : EntriesValue). v.room) c.in_ok-entries.ensures)
+    let f : Entry = begun 0 None in
+    let only : c.put.new.entries.items ≡ f ∷ [] =
+    c.put.ensures.items ∙ ap (λ l. l ++ f ∷ []) c.in_ok-entries.ensures.items in
+    let spare : vec_capacity c.in_ok-entries.entries ≡ 255 = search rules in
+    let indexed : IsIndexed (f ∷ []) c.set_index.new.indexes.items =
+    subst (IsIndexed (f ∷ [])) (sym c.set_index.ensures)
+    (indexed-push [] c.resize.new.self.items f 0 (indexed-none [] c.resize.new.self.items refl)
+    (λ i e at. absurd cc) refl) in (
+      naming-new c.put.new.entries.items c.in_ok-pool.pool (vec_capacity c.put.new.entries) f only c.in_ok-pool.ensures
+          (c.put.ensures.capacity ∙ spare),
+      subst (λ (l : List Entry). IsIndexed l c.set_index.new.indexes.items) (sym only) indexed,
+      subst (TellsAhead Nobody) (sym only) (tells-push Nobody [] f (tells-none [] refl) refl),
+    )

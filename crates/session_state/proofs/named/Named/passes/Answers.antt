@@ -4,7 +4,7 @@ use Rattle.session_state.proofs.NamedLemmas.{below-all, selectors-at}
 use Rattle.session_state.proofs.named.Named.passes.Goals as goal
 
 pub passes-requires : goal.passes-requires
-passes-requires c = below-all _ _ _ _ c.args.i _ c.self.invariant c.self.view_is c.requires
+passes-requires c = below-all _ _ _ _ c.args.i _ c.self.invariant.0 c.self.view_is c.requires
 
 pub returns : goal.returns
 returns c = λ choice x there location channel kind.

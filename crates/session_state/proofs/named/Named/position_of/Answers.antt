@@ -10,5 +10,6 @@ returns c =
     let s = station_at c.args.config.now.entries c.args.place in
     let entries = naming-entries c.self.inside.entries.items c.self.inside.current c.self.inside.pool c.args.self.now
     c.self.view_is in
-    c.position_among.ensures ∙ ap (position (is_entry_of_station c.args.config.now s)) entries
+    c.position_among.ensures
+    ∙ ap (position (is_entry_of_station c.args.config.now s)) (c.as_slice.ensures.value ∙ entries)
     ∙ position-entries c.args.config.now s c.args.self.now.choices

@@ -1,7 +1,7 @@
 use Rattle.session_state.specs.NamedValues.{Choice}
 use Rattle.session_state.specs.Changes.{all_selectors, widened}
 use Rattle.session_state.proofs.ModeLemmas.{alone-changed}
-use Rattle.session_state.proofs.modes.Mode.add.Goals as goal
+use Rattle.session_state.proofs.negotiation.Negotiation.add.Goals as goal
 
 pub invariant_of-self-else-self : goal.invariant_of-self-else-self
 invariant_of-self-else-self c = λ e.

@@ -4,7 +4,7 @@ use Rattle.protocol.specs.Session.{select}
 use Rattle.session_state.specs.NamedValues.{Choice}
 use Rattle.session_state.specs.Choices.{negotiated_in}
 use Rattle.session_state.proofs.ModeLemmas.{alone-changed, alone-cleared}
-use Rattle.session_state.proofs.modes.Mode.clear.Goals as goal
+use Rattle.session_state.proofs.negotiation.Negotiation.clear.Goals as goal
 
 pub invariant_of-self-else-self : goal.invariant_of-self-else-self
 invariant_of-self-else-self c =

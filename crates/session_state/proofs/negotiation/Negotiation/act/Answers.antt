@@ -4,7 +4,7 @@ use Rattle.protocol.specs.Session.{act}
 use Rattle.catalog.specs.Places.{view_in}
 use Rattle.session_state.specs.Choices.{action_value, negotiated_in}
 use Rattle.session_state.proofs.ModeLemmas.{alone-acted}
-use Rattle.session_state.proofs.modes.Mode.act.Goals as goal
+use Rattle.session_state.proofs.negotiation.Negotiation.act.Goals as goal
 
 pub returns-in-Some : goal.returns-in-Some
 returns-in-Some c = λ config.

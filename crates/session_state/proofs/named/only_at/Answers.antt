@@ -2,7 +2,7 @@ use Rattle.std.proofs.Common.{◌<◌, ◌∙◌, ap, arith, length, sym}
 use Rattle.std.proofs.lemmas.Option.{slice_get_within}
 use Rattle.session_state.specs.declared.choices.Entry.{Entry}
 use Rattle.session_state.proofs.EntryLemmas.{none-there, only-there, read-at, read-same}
-use Rattle.session_state.proofs.entries.only_at.Goals as goal
+use Rattle.session_state.proofs.named.only_at.Goals as goal
 
 pub returns-then-i-entries : goal.returns-then-i-entries
 returns-then-i-entries c = record {

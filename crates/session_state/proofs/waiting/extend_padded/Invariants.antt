@@ -1,5 +1,5 @@
 use Rattle.std.proofs.Common.{◌≡◌, ◌≤◌, ◌-◌, ◌++◌, length, replicate}
-use Rattle.session_state.proofs.replies.extend_padded.Given as goal
+use Rattle.session_state.proofs.waiting.extend_padded.Given as goal
 
 -- So many spaces stand behind the text.
 abbrev pub invariant-loop : goal.invariant-loop

@@ -5,11 +5,10 @@ ghost use Rattle.protocol.specs.Session.{act, choices_of, choose_station, end_mu
 ghost use Rattle.catalog.specs.Places.{station_at, view_in};
 ghost use Rattle.session_state.specs.Choices.{action_value, negotiated_in};
 ghost use Rattle.session_state.specs.Entries.{IsOnlyAt, TellsAhead};
-ghost use Rattle.session_state.specs.declared.entries.Ahead.TheVariants.{Nobody};
+ghost use Rattle.session_state.specs.declared.choices.Ahead.TheVariants.{Nobody};
 ghost use Rattle.session_state.specs.Changes.{outcome_after, selecting};
 
-use crate::choices::{Cursor, Entry};
-use crate::entries::Ahead;
+use crate::choices::{Ahead, Cursor, Entry};
 use crate::named::Named;
 use catalog::{Config, View};
 use protocol::record::Kind;
@@ -32,12 +31,12 @@ pub enum Change {
 /// What was negotiated: in uni-station mode the selectors of one station, the first that the client sees; in
 /// multi-station mode the stations that the client named.
 #[derive(Drop)]
-pub struct Mode {
+pub struct Negotiation {
     is_multi: bool,
     named: Named,
 }
 
-impl Model for Mode {
+impl Model for Negotiation {
     ghost use Rattle.std.specs.Prelude.{◌≡◌, false};
     ghost use Rattle.session_state.specs.NamedValues.{IsAlone, ModeValue, mode_of};
 
@@ -48,7 +47,7 @@ impl Model for Mode {
     ghost invariant = { λ m. m.is_multi ≡ false → IsAlone m.named };
 }
 
-impl Mode {
+impl Negotiation {
     ghost use Rattle.protocol.specs.Record.{Facts};
     ghost use Rattle.protocol.specs.Pattern.{passes};
     ghost use Rattle.session_state.specs.NamedValues.{Choice as ChoiceValue, entry_of};
@@ -57,10 +56,10 @@ impl Mode {
 
     /// Uni-station mode without selectors. Memory is taken here alone, and only for want of it this fails.
     /// Stations at places below `places` are found at once when they were named.
-    pub fn new(alloc: Global, places: usize) -> Result<Mode, AllocError>
+    pub fn new(alloc: Global, places: usize) -> Result<Negotiation, AllocError>
         ensures { IfOk result (λ m. m ≡ Uni []) }
     {
-        Ok(Mode {
+        Ok(Negotiation {
             is_multi: false,
             named: Named::new(alloc, places)?,
         })
@@ -141,7 +140,7 @@ impl Mode {
 }
 
 /// What commands change of it.
-impl Mode {
+impl Negotiation {
     /// STATION: the station that was found becomes the current one; without one, none is.
     pub fn name(&mut self, config: &Config, found: Option<usize>) -> Change
         ensures { outcome_after result (negotiated_in config.now self.new)
