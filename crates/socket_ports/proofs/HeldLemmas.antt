@@ -9,7 +9,7 @@ use Rattle.ports.specs.declared.answers.Put.{Put}
 use Rattle.slab.specs.Slab.{Slab, Updates, get, with_value}
 use Rattle.socket_ports.specs.declared.connection.Connection.{Connection}
 use Rattle.socket_ports.specs.declared.connections.Place.{Place}
-use Rattle.socket_ports.specs.declared.lingering.Held.{Held}
+use Rattle.socket_ports.specs.declared.connection.Held.{Held}
 use Rattle.socket_ports.specs.Connections.{OnlySends, ReadsFrom, WritesTo, ahead_in, numbers, socket_of, sockets_of}
 use Rattle.socket_ports.specs.Connections.{value_of, values}
 use Rattle.socket_ports.specs.Places.{IsTable, connections_at}

@@ -14,8 +14,8 @@ use Rattle.socket_ports.specs.Hosts.{Parts, clients_of, is_client_of, one_if}
 use Rattle.socket_ports.specs.Peers.{no_peer}
 use Rattle.std.specs.declared.net.ipv4_addr.Ipv4Addr.{Ipv4Addr}
 use Rattle.socket_ports.specs.declared.admission.Admission.{Admission}
-use Rattle.socket_ports.specs.declared.listeners.Kind.{Kind}
-use Rattle.socket_ports.specs.declared.listeners.Kind.TheVariants.{Client, Feed}
+use Rattle.socket_ports.specs.declared.peer.Kind.{Kind}
+use Rattle.socket_ports.specs.declared.peer.Kind.TheVariants.{Client, Feed}
 use Rattle.socket_ports.specs.declared.peer.Peer.{Peer}
 
 -- ---- numbers that do not fall

@@ -3,8 +3,8 @@ use Rattle.std.proofs.Common.{◌≡◌, ℕ, ◌++◌, List, [], true, is_none,
 use Rattle.socket_ports.specs.Admissions.{is_client}
 use Rattle.socket_ports.specs.Connections.{ahead_in}
 use Rattle.socket_ports.specs.Reads.{GivesInOrder}
-use Rattle.socket_ports.specs.declared.listeners.Kind.{Kind}
-use Rattle.socket_ports.specs.declared.listeners.Kind.TheVariants.{Client}
+use Rattle.socket_ports.specs.declared.peer.Kind.{Kind}
+use Rattle.socket_ports.specs.declared.peer.Kind.TheVariants.{Client}
 
 -- Nothing was ahead.
 gives_new : (given after : List ℕ) → GivesInOrder [] given after

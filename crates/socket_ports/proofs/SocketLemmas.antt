@@ -10,8 +10,8 @@ use Rattle.ports.specs.declared.answers.Got.TheVariants.{Closed}
 use Rattle.ports.specs.declared.answers.PortFault.{PortFault}
 use Rattle.ports.specs.declared.answers.Put.{Put}
 use Rattle.ports.specs.declared.answers.Put.TheVariants.{Later}
-use Rattle.socket_ports.specs.declared.listeners.Kind.{Kind}
-use Rattle.socket_ports.specs.declared.listeners.Kind.TheVariants.{Client, Feed}
+use Rattle.socket_ports.specs.declared.peer.Kind.{Kind}
+use Rattle.socket_ports.specs.declared.peer.Kind.TheVariants.{Client, Feed}
 use Rattle.socket_ports.specs.Connections.{ConnectionValue, KeepsSockets, OnlySends, Opens, ReadsFrom, WritesTo}
 use Rattle.socket_ports.specs.Connections.{ahead_at, held_at, numbers, sockets_of, waiting_at}
 use Rattle.socket_ports.specs.Peers.{happening_of}

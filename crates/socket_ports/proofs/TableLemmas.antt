@@ -10,7 +10,7 @@ use Rattle.slab.specs.Slab.{Slab, Updates, get, with_value}
 use Rattle.slab.proofs.SlabLemmas.{Updates-with_value}
 use Rattle.socket_ports.specs.declared.connection.Connection.{Connection}
 use Rattle.socket_ports.specs.declared.connections.Place.{Place}
-use Rattle.socket_ports.specs.declared.lingering.Held.{Held}
+use Rattle.socket_ports.specs.declared.connection.Held.{Held}
 use Rattle.socket_ports.specs.Places.{AreAbove, AreBelow, AreThere, IsAmong, IsPlaceOf, IsTable, IsThere, Rise}
 use Rattle.socket_ports.specs.Places.{closed_from, connections_at, numbers_of, with_held}
 use Rattle.socket_ports.proofs.PlaceLemmas.{above-at, long, number-read, rise-push, rise-remove}

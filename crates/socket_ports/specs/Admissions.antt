@@ -6,8 +6,8 @@ use Rattle.std.specs.Net.Addr.{ipv4_bits}
 use Rattle.std.specs.declared.net.ipv4_addr.Ipv4Addr.{Ipv4Addr}
 use Rattle.protocol.specs.Access.{Token, allows}
 use Rattle.socket_ports.specs.declared.admission.Admission.{Admission}
-use Rattle.socket_ports.specs.declared.listeners.Kind.{Kind}
-use Rattle.socket_ports.specs.declared.listeners.Kind.TheVariants.{Client, Feed}
+use Rattle.socket_ports.specs.declared.peer.Kind.{Kind}
+use Rattle.socket_ports.specs.declared.peer.Kind.TheVariants.{Client, Feed}
 use Rattle.socket_ports.specs.declared.peer.Peer.{Peer}
 
 -- Feeds are taken from an address: there is no list, or the list allows it.

@@ -8,8 +8,8 @@ use Rattle.logged_ports.specs.declared.visit.Away.{Away}
 use Rattle.ports.specs.declared.decisions.AwayReason.{AwayReason}
 use Rattle.ports.specs.declared.decisions.AwayReason.TheVariants.{MaxConnections, Feeds, Memory, FeedFrom, PerAddress}
 use Rattle.socket_ports.specs.declared.admission.Admission.{Admission}
-use Rattle.socket_ports.specs.declared.listeners.Kind.{Kind}
-use Rattle.socket_ports.specs.declared.listeners.Kind.TheVariants.{Client, Feed}
+use Rattle.socket_ports.specs.declared.peer.Kind.{Kind}
+use Rattle.socket_ports.specs.declared.peer.Kind.TheVariants.{Client, Feed}
 use Rattle.socket_ports.specs.declared.peer.Peer.{Peer}
 use Rattle.socket_ports.specs.declared.sockets.joining.Taken.{Taken}
 use Rattle.socket_ports.specs.declared.sockets.joining.Taken.TheVariants as taken

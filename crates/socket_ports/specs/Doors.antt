@@ -4,8 +4,8 @@ use Rattle.std.specs.Prelude.{◌≡◌, ℕ, ◌+◌, ◌≤◌, false, Result,
 use Rattle.ports.specs.declared.answers.Happening.{Happening}
 use Rattle.ports.specs.declared.answers.Happening.TheVariants.{Joined, JoinedFeed}
 use Rattle.ports.specs.declared.answers.PortFault.{PortFault}
-use Rattle.socket_ports.specs.declared.listeners.Kind.{Kind}
-use Rattle.socket_ports.specs.declared.listeners.Kind.TheVariants.{Client, Feed}
+use Rattle.socket_ports.specs.declared.peer.Kind.{Kind}
+use Rattle.socket_ports.specs.declared.peer.Kind.TheVariants.{Client, Feed}
 use Rattle.socket_ports.specs.declared.listeners.Accepted.{Accepted}
 use Rattle.socket_ports.specs.declared.listeners.Accepted.TheVariants.{Connection, Nothing, Refused}
 use Rattle.socket_ports.specs.declared.listeners.Listener.{Listener}

@@ -4,7 +4,7 @@ use Rattle.std.specs.Prelude.{◌≡◌, ℕ, ◌+◌, ◌<◌, ◌≤◌, Optio
 use Rattle.ports.specs.declared.answers.Put.{Put}
 use Rattle.ports.specs.declared.answers.Put.TheVariants.{Took, Later}
 use Rattle.ports.specs.declared.answers.PortFault.{PortFault}
-use Rattle.socket_ports.specs.declared.peer_end.PeerEnd.{PeerEnd}
+use Rattle.socket_ports.specs.declared.inflow.PeerEnd.{PeerEnd}
 
 -- after how many polls the end was found first, if now it was found after so many
 abbrev pub first_found : Option ℕ → ℕ → ℕ

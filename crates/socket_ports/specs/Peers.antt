@@ -9,8 +9,8 @@ use Rattle.ports.specs.declared.answers.Happening.TheVariants.{Joined, JoinedFee
 use Rattle.ports.specs.declared.answers.PortFault.{PortFault}
 use Rattle.socket_ports.specs.Admissions.{IsAdmitted}
 use Rattle.socket_ports.specs.declared.admission.Admission.{Admission}
-use Rattle.socket_ports.specs.declared.listeners.Kind.{Kind}
-use Rattle.socket_ports.specs.declared.listeners.Kind.TheVariants.{Client, Feed}
+use Rattle.socket_ports.specs.declared.peer.Kind.{Kind}
+use Rattle.socket_ports.specs.declared.peer.Kind.TheVariants.{Client, Feed}
 use Rattle.socket_ports.specs.declared.peer.Peer.{Peer}
 use Rattle.socket_ports.specs.declared.sockets.joining.Taken.{Taken}
 use Rattle.socket_ports.specs.declared.sockets.joining.Taken.TheVariants as taken

@@ -5,7 +5,7 @@ use Rattle.std.specs.Prelude.{Option, Some, None}
 use Rattle.slab.specs.Slab.{Slab, get}
 use Rattle.socket_ports.specs.declared.connection.Connection.{Connection}
 use Rattle.socket_ports.specs.declared.connections.Place.{Place}
-use Rattle.socket_ports.specs.declared.lingering.Held.{Held}
+use Rattle.socket_ports.specs.declared.connection.Held.{Held}
 
 -- All numbers are above one.
 abbrev pub AreAbove : ℕ → List ℕ → Type 0

@@ -1,7 +1,7 @@
 -- What a client's port gives between two polls.
 -- Ports are this project's own. Left out: what the system holds for a port.
 use Rattle.std.specs.Prelude.{◌==◌, ℕ, if◌then◌else◌}
-use Rattle.socket_ports.specs.declared.ration.Ration.{Ration}
+use Rattle.socket_ports.specs.declared.inflow.Ration.{Ration}
 
 -- how many bytes were given since the last poll, after so many polls
 abbrev pub given_since : Ration → ℕ → ℕ

@@ -7,8 +7,8 @@ use Rattle.ports.specs.declared.answers.PortFault.{PortFault}
 use Rattle.socket_ports.specs.declared.connection.Connection.{Connection}
 use Rattle.socket_ports.specs.declared.socket_io.Receipt.{Receipt}
 use Rattle.socket_ports.specs.declared.socket_io.Receipt.TheVariants as receipt
-use Rattle.socket_ports.specs.declared.listeners.Kind.{Kind}
-use Rattle.socket_ports.specs.declared.listeners.Kind.TheVariants.{Client, Feed}
+use Rattle.socket_ports.specs.declared.peer.Kind.{Kind}
+use Rattle.socket_ports.specs.declared.peer.Kind.TheVariants.{Client, Feed}
 use Rattle.socket_ports.specs.Ends.{IsPast}
 use Rattle.socket_ports.specs.Rations.{given_since}
 

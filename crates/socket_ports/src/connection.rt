@@ -5,13 +5,12 @@ ghost use Rattle.ports.specs.Calls.{IsGiven, IsTaken};
 ghost use Rattle.socket_ports.specs.Admissions.{is_client};
 ghost use Rattle.socket_ports.specs.Ends.{IsNoted};
 ghost use Rattle.socket_ports.specs.Receipts.{IsReceived};
-ghost use Rattle.socket_ports.specs.declared.listeners.Kind.TheVariants.{Client, Feed};
+ghost use Rattle.socket_ports.specs.declared.peer.Kind.TheVariants.{Client, Feed};
 
 use crate::ahead::{Ahead, AheadPool, BLOCK};
-use crate::listeners::Kind;
-use crate::peer_end::PeerEnd;
+use crate::inflow::{PeerEnd, Ration};
+use crate::peer::Kind;
 use crate::pool::{Pool, ROOM, remove_front};
-use crate::ration::Ration;
 use crate::socket_io::{Receipt, Sent, is_short, receive, send};
 use mio::net::TcpStream;
 use ports::{Got, PortFault, Put};
@@ -438,5 +437,36 @@ impl Connection {
 
     pub fn has_taken(&self) -> bool {
         self.end.has_moved()
+    }
+}
+
+/// A connection where it is kept, from its join until its last bytes have gone.
+#[derive(Drop)]
+pub struct Held {
+    pub connection: Connection,
+    /// The loop has not shut it.
+    pub is_open: bool,
+    /// Its peer was told the end. That is done once: each time would be an event again.
+    pub is_told: bool,
+}
+
+impl Held {
+    /// A connection that joins.
+    pub fn new(connection: Connection) -> Held
+        ensures connection { result.connection ≡ connection }
+        ensures open { result.is_open ≡ true }
+    {
+        Held {
+            connection,
+            is_open: true,
+            is_told: false,
+        }
+    }
+
+    /// Whether this is the open connection with a number.
+    pub fn is_port(&self, number: u64) -> bool
+        ensures { IsTrue result ↔ ((self.now.is_open ≡ true) × (self.now.connection.number ≡ number)) }
+    {
+        self.is_open && self.connection.number == number
     }
 }

@@ -10,8 +10,8 @@ ghost use Rattle.socket_ports.specs.Places.{AreBelow, AreOthers, IsPlaceOf, Rise
 ghost use Rattle.socket_ports.specs.Reads.{given_bytes};
 
 use crate::ahead::AheadPool;
-use crate::connection::{Connection, Readiness, Told};
-use crate::lingering::{Held, Lingering};
+use crate::connection::{Connection, Held, Readiness, Told};
+use crate::lingering::Lingering;
 use crate::pool::Pool;
 use ports::{Got, PortFault, Put};
 use slab::Slab;

@@ -1,10 +1,9 @@
 //! Connections that the loop has shut, and that stay until their last bytes have gone to the peer.
-ghost use Rattle.std.specs.Prelude.{◌≡◌, ◌==◌, ◌↔◌, ◌∷◌, ◌++◌, [], IfNone, IfOk, IfSome, IsTrue, length};
-ghost use Rattle.std.specs.Prelude.{not, true};
+ghost use Rattle.std.specs.Prelude.{◌≡◌, ◌==◌, ◌∷◌, ◌++◌, [], IfNone, IfOk, IfSome, length, not};
 ghost use Rattle.std.specs.List.{filter};
 
 use crate::ahead::AheadPool;
-use crate::connection::Connection;
+use crate::connection::{Connection, Held};
 use crate::pool::Pool;
 use crate::socket_io::{Receipt, receive};
 use std::alloc::{AllocError, Global};
@@ -17,36 +16,7 @@ const MOST: usize = 1_024;
 /// How many blocks of a peer that goes on sending are passed over.
 const BLOCKS: u8 = 16;
 
-/// A connection where it is kept, from its join until its last bytes have gone.
-#[derive(Drop)]
-pub struct Held {
-    pub connection: Connection,
-    /// The loop has not shut it.
-    pub is_open: bool,
-    /// Its peer was told the end. That is done once: each time would be an event again.
-    is_told: bool,
-}
-
 impl Held {
-    /// A connection that joins.
-    pub fn new(connection: Connection) -> Held
-        ensures connection { result.connection ≡ connection }
-        ensures open { result.is_open ≡ true }
-    {
-        Held {
-            connection,
-            is_open: true,
-            is_told: false,
-        }
-    }
-
-    /// Whether this is the open connection with a number.
-    pub fn is_port(&self, number: u64) -> bool
-        ensures { IsTrue result ↔ ((self.now.is_open ≡ true) × (self.now.connection.number ≡ number)) }
-    {
-        self.is_open && self.connection.number == number
-    }
-
     /// The loop has shut it. Its room to read ahead is given back. Whether it has something to wait for: one that took
     /// no bytes has nothing.
     pub fn end(&mut self, pool: &mut Pool, aheads: &mut AheadPool) -> bool

@@ -1,24 +1,19 @@
 //! The two sockets that are listened on: one for clients and one for feeds.
-ghost use Rattle.std.specs.Prelude.{◌≡◌, ◌<◌, ◌^◌};
+ghost use Rattle.std.specs.Prelude.{◌≡◌};
 ghost use Rattle.socket_ports.specs.Doors.{GivesOf, IfConnection, PassesOver, TakesTurns, listener_of, other_kind};
 
 use crate::fault::ListenError;
 use crate::options::set_options;
+use crate::peer::Kind;
+use crate::polling::{LAST, token_of};
 use mio::net::{TcpListener, TcpStream};
-use mio::{Interest, Poll, Token};
+use mio::{Interest, Poll};
 use std::io;
 use std::io::ErrorKind;
 use std::net::{Net, SocketAddr, SocketAddrV4};
 
 /// How many connections that ended before they were taken are passed over at once.
 const ABORTED: u8 = 64;
-
-/// Whose connection it is.
-#[derive(Clone, Copy, Drop)]
-pub enum Kind {
-    Client,
-    Feed,
-}
 
 /// What came of taking a connection.
 #[derive(Drop)]
@@ -45,47 +40,6 @@ pub struct Listeners {
     pub first: Kind,
 }
 
-/// The key above those of all ports.
-pub const LAST: usize = (1 << 63) - 1;
-
-/// What an event came of.
-#[derive(Clone, Copy, Drop)]
-pub enum Origin {
-    Listener(Kind),
-    /// The connection that is kept under a key.
-    Port(usize),
-}
-
-/// The token under which the connection at a key is registered. The sockets that are listened on have those of the last
-/// key.
-pub fn token_of(key: usize, kind: Kind) -> Token
-    requires { key < 2 ^ 63 }
-{
-    match kind {
-        Kind::Client => Token(key * 2),
-        Kind::Feed => Token(key * 2 + 1),
-    }
-}
-
-/// Of whom a token is.
-pub fn kind_of(token: Token) -> Kind {
-    if token.0 % 2 == 0 {
-        Kind::Client
-    } else {
-        Kind::Feed
-    }
-}
-
-/// What a token is of.
-pub fn origin_of(token: Token) -> Origin {
-    let key = token.0 / 2;
-    if key == LAST {
-        Origin::Listener(kind_of(token))
-    } else {
-        Origin::Port(key)
-    }
-}
-
 fn listen_on(
     rt: &impl Net,
     poll: &Poll,
@@ -104,18 +58,6 @@ fn listen_on(
 
 fn port_of(listener: &Listener) -> io::Result<u16> {
     Ok(listener.socket.local_addr()?.port())
-}
-
-impl Kind {
-    /// The other one.
-    fn other(self) -> Kind
-        ensures { result ≡ other_kind self }
-    {
-        match self {
-            Kind::Client => Kind::Feed,
-            Kind::Feed => Kind::Client,
-        }
-    }
 }
 
 impl Listener {

@@ -1,6 +1,27 @@
 //! Whose an open port is.
-use crate::listeners::Kind;
+ghost use Rattle.std.specs.Prelude.{◌≡◌};
+ghost use Rattle.socket_ports.specs.Doors.{other_kind};
+
 use std::net::Ipv4Addr;
+
+/// Whose connection it is.
+#[derive(Clone, Copy, Drop)]
+pub enum Kind {
+    Client,
+    Feed,
+}
+
+impl Kind {
+    /// The other one.
+    pub fn other(self) -> Kind
+        ensures { result ≡ other_kind self }
+    {
+        match self {
+            Kind::Client => Kind::Feed,
+            Kind::Feed => Kind::Client,
+        }
+    }
+}
 
 /// Whose an open port is.
 #[derive(Clone, Copy, Drop)]

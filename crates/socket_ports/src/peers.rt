@@ -7,8 +7,7 @@ ghost use Rattle.socket_ports.specs.Peers.{IsGapFor, IsJoined, IsPeerAt, Rise, a
 
 use crate::admission::Admission;
 use crate::hosts::Hosts;
-use crate::listeners::Kind;
-use crate::peer::Peer;
+use crate::peer::{Kind, Peer};
 use std::alloc::{AllocError, Global};
 use std::marker::Model;
 use std::net::Ipv4Addr;

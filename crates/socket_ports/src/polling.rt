@@ -1,18 +1,61 @@
-//! What the system says happened at the sockets.
-ghost use Rattle.std.specs.Prelude.{◌≡◌, ◌+◌, [], IfNone, IfSome, length};
+//! What the system says happened at the sockets, and which ports are told though it says nothing.
+ghost use Rattle.std.specs.Prelude.{◌≡◌, ◌+◌, ◌<◌, ◌^◌, [], IfNone, IfSome, length};
 
+use crate::connections::Place;
 use crate::fault::ListenError;
-use crate::listeners::{Kind, kind_of};
+use crate::peer::Kind;
 use mio::event::Event;
 use mio::net::TcpStream;
 use mio::{Events, Interest, Poll, Token};
 use ports::PortFault;
-use std::alloc::Global;
+use std::alloc::{AllocError, Global};
+use std::collections::VecDeque;
 use std::net::Net;
 use std::time::Duration;
 
 /// How many events one poll gives at most.
 pub const EVENTS: usize = 1_024;
+
+/// The key above those of all ports.
+pub const LAST: usize = (1 << 63) - 1;
+
+/// What an event came of.
+#[derive(Clone, Copy, Drop)]
+pub enum Origin {
+    Listener(Kind),
+    /// The connection that is kept under a key.
+    Port(usize),
+}
+
+/// The token under which the connection at a key is registered. The sockets that are listened on have those of the last
+/// key.
+pub fn token_of(key: usize, kind: Kind) -> Token
+    requires { key < 2 ^ 63 }
+{
+    match kind {
+        Kind::Client => Token(key * 2),
+        Kind::Feed => Token(key * 2 + 1),
+    }
+}
+
+/// Of whom a token is.
+pub fn kind_of(token: Token) -> Kind {
+    if token.0 % 2 == 0 {
+        Kind::Client
+    } else {
+        Kind::Feed
+    }
+}
+
+/// What a token is of.
+pub fn origin_of(token: Token) -> Origin {
+    let key = token.0 / 2;
+    if key == LAST {
+        Origin::Listener(kind_of(token))
+    } else {
+        Origin::Port(key)
+    }
+}
 
 /// The system's reports of what happened.
 #[derive(Drop)]
@@ -77,5 +120,63 @@ impl Polling {
         ensures less { IfSome result (λ event. length self.new.happened.items + 1 ≡ length self.old.happened.items) }
     {
         self.happened.pop()
+    }
+}
+
+/// Ports that are told after the next poll, in the order in which they were added.
+#[derive(Drop)]
+pub struct Listing {
+    places: VecDeque<Place>,
+    /// How many of the first are told before the next poll: they were added before the last one.
+    due: usize,
+}
+
+impl Listing {
+    pub fn new(alloc: Global) -> Listing {
+        Listing {
+            places: VecDeque::new(alloc),
+            due: 0,
+        }
+    }
+
+    /// Makes room for so many ports beside those that are here. If that is done for all ports that are open as each of
+    /// them joins, there is room whenever one is added.
+    pub fn reserve(&mut self, ports: usize) -> Result<(), AllocError> {
+        self.places.reserve(ports)
+    }
+
+    /// Adds a port. Whether there was room.
+    pub fn add(&mut self, place: Place) -> bool {
+        self.places.push_back(place).is_ok()
+    }
+
+    /// Nothing is added, and no port that was is told.
+    pub fn is_empty(&self) -> bool {
+        self.places.is_empty()
+    }
+
+    /// A poll was made: all that were added are told before the next one.
+    pub fn begin(&mut self) {
+        self.due = self.places.len();
+    }
+
+    /// The next port that is told before the next poll.
+    pub fn next(&mut self) -> Option<Place> {
+        if self.due == 0 {
+            return None;
+        }
+        self.due -= 1;
+        self.places.pop_front()
+    }
+
+    /// Forgets all.
+    pub fn clear(&mut self) {
+        self.places.clear();
+        self.due = 0;
+    }
+
+    /// How many are told before the next poll.
+    pub fn due(&self) -> usize {
+        self.due
     }
 }

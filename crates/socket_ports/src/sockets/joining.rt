@@ -10,7 +10,9 @@ ghost use Rattle.socket_ports.specs.Peers.{Admits, IfJoined, IfNotJoined, IsJoin
 use super::Sockets;
 use crate::connection::Connection;
 use crate::departures::Departures;
-use crate::listeners::{Accepted, Kind, LAST, token_of};
+use crate::listeners::Accepted;
+use crate::peer::Kind;
+use crate::polling::{LAST, token_of};
 use logged_ports::Away;
 use mio::net::TcpStream;
 use ports::{AwayReason, Happening};
