@@ -39,7 +39,7 @@ sleeps-on a b s keeps asleep = record {
 }
 
 module _ (a b : ServerValue) (ss : List Seat) (at : ℕ) (s' : Seat) (brought : Bool) (inside : at < length ss)
-    (seated : AreSeated a ss) (leaves : LeavesRest (seat_at ss at) brought a b)
+    (seated : AreSeated a ss) (leaves : LeavesRest (seat_at ss at) (brought ≡ false) a b)
     (whose : (k : ℕ) → s'.role ≡ ClientRole k → role_at ss at ≡ ClientRole k) where
   pub seated-set : AreSeated b (set ss at s')
   seated-set = record {
@@ -63,7 +63,7 @@ module _ (a b : ServerValue) (ss : List Seat) (at : ℕ) (s' : Seat) (brought : 
 
 module _ (a b : ServerValue) (ss : List Seat) (awake awake' : List ℕ) (at : ℕ) (s' : Seat) (brought : Bool)
     (inside : at < length ss) (known : AreKnown a ss awake) (seated : AreSeated a ss)
-    (leaves : LeavesRest (seat_at ss at) brought a b)
+    (leaves : LeavesRest (seat_at ss at) (brought ≡ false) a b)
     (whose : (k : ℕ) → s'.role ≡ ClientRole k → role_at ss at ≡ ClientRole k)
     (wakes : OnlyWakes awake awake') (woken : brought ≡ true → AreWoken b (set ss at s') awake') where
   -- the others, after a pass over the seat at a place

@@ -1,6 +1,6 @@
 -- Seats that sleep: their passes make no call.
 -- The loop is this project's own.
-use Rattle.std.specs.Prelude.{◌≡◌, ◌≢◌, ℕ, ◌<◌, Bool, true, false, List, length, slice_index_or, Some, is_some}
+use Rattle.std.specs.Prelude.{◌≡◌, ◌≢◌, ℕ, ◌<◌, ◌≤◌, true, false, List, length, slice_index_or, Some, is_some}
 use Rattle.server_core.specs.ServerValues.{ServerValue, mark_at}
 use Rattle.event_loop.specs.declared.seat.Role.{Role}
 use Rattle.event_loop.specs.declared.seat.Role.TheVariants.{Client as ClientRole}
@@ -33,15 +33,20 @@ pub record AreSeated (server : ServerValue) (ss : List Seat) : Type 0 where
       → i ≡ j
   pub opened : (i k : ℕ) → i < length ss → role_at ss i ≡ ClientRole k → k < length server.sessions
 
--- A pass over a seat leaves the marks of all clients but its own, unless records came by it.
-pub record LeavesRest (s : Seat) (brought : Bool) (old new : ServerValue) : Type 0 where
-  pub marks : brought ≡ false → (k : ℕ) → s.role ≢ ClientRole k → mark_at new k ≡ mark_at old k
+-- A pass over a seat leaves the marks of all clients but its own, if it was quiet: no record came by it.
+pub record LeavesRest (s : Seat) (WasQuiet : Type 0) (old new : ServerValue) : Type 0 where
+  pub marks : WasQuiet → (k : ℕ) → s.role ≢ ClientRole k → mark_at new k ≡ mark_at old k
   pub kept : (k : ℕ) → s.role ≢ ClientRole k → is_some (mark_at new k) ≡ is_some (mark_at old k)
   pub count : length new.sessions ≡ length old.sessions
 
--- Records came, or nothing changed.
-pub record IsQuiet (before after : Bool) (old new : ServerValue) : Type 0 where
-  pub same : after ≡ false → (before ≡ false) × (new ≡ old)
+-- As many records arrived before and after.
+abbrev pub NoneArrived : (old new : ServerValue) → Type 0
+NoneArrived old new = new.rings.arrivals ≡ old.rings.arrivals
+
+-- Records arrived, or nothing changed.
+pub record IsQuiet (old new : ServerValue) : Type 0 where
+  pub rises : old.rings.arrivals ≤ new.rings.arrivals
+  pub same : NoneArrived old new → new ≡ old
   pub kept : (k : ℕ) → is_some (mark_at new k) ≡ is_some (mark_at old k)
   pub count : length new.sessions ≡ length old.sessions
 

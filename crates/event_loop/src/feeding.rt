@@ -37,15 +37,13 @@ fn refusal_of(fault: ArriveFault, whole: &[u8; 512]) -> Refusal
     }
 }
 
-/// A record of a feed's port arrives. One that is refused is counted, and it is said why. It is told whether one was
-/// accepted.
+/// A record of a feed's port arrives. One that is refused is counted, and it is said why.
 fn take_record<P: Ports>(
     server: &mut Server,
     ports: &mut P,
     port: u64,
     whole: &[u8; 512],
     refused: &mut u64,
-    brought: &mut bool,
 )
     ensures calls { P.calls ports.new ≡ P.calls ports.old }
     ensures failures { P.failures ports.new ≡ P.failures ports.old }
@@ -53,10 +51,10 @@ fn take_record<P: Ports>(
         RecordDecided config w whole.now port (P.decided ports.old) (P.decided ports.new) }
     ensures arrives { (config : Config) (w : World) → StandsAt server.old config w →
         Arrives config w (whole.now ∷ []) server.new refused.old refused.new }
-    ensures quiet { IsQuiet brought.old brought.new server.old server.new }
+    ensures quiet { IsQuiet server.old server.new }
 {
     match server.arrive(whole) {
-        Ok(_) => *brought = true,
+        Ok(_) => {}
         Err(fault) => {
             *refused = refused.saturating_add(1);
             ports.tell(port, Decision::Refused(refusal_of(fault, whole)));
@@ -72,7 +70,6 @@ fn take_records<P: Ports>(
     cutter: &mut FeedCutter,
     piece: &[u8],
     refused: &mut u64,
-    brought: &mut bool,
 )
     ensures calls { P.calls ports.new ≡ P.calls ports.old }
     ensures failures { P.failures ports.new ≡ P.failures ports.old }
@@ -80,14 +77,14 @@ fn take_records<P: Ports>(
         Arrives config w (fed cutter.old piece.now).records server.new refused.old refused.new }
     ensures rest { cutter.new ≡ (fed cutter.old piece.now).rest }
     ensures held { length cutter.old < 512 }
-    ensures quiet { IsQuiet brought.old brought.new server.old server.new }
+    ensures quiet { IsQuiet server.old server.new }
 {
     let _held = cutter.rest();
     let mut left = piece;
     'records: while !left.is_empty() {
         let Feeding { used, whole } = cutter.feed(left);
         match whole {
-            Some(whole) => take_record(server, ports, port, whole, refused, brought),
+            Some(whole) => take_record(server, ports, port, whole, refused),
             None => {}
         }
         left = &left[used..];
@@ -103,7 +100,6 @@ fn read_feed_once<P: Ports>(
     cutter: &mut FeedCutter,
     buffer: &mut [u8],
     refused: &mut u64,
-    brought: &mut bool,
 ) -> Onward
     requires some { 0 < length buffer.old }
     requires short { length buffer.old ≤ 512 }
@@ -111,7 +107,7 @@ fn read_feed_once<P: Ports>(
         Once (FeedReads config) config w (P.calls ports.old) (P.calls ports.new) server.new
         (feed_tally happenings refused.old) (feed_tally happenings refused.new)
         (feed_seat port cutter.old readable.old writable) (feed_seat port cutter.new readable.new writable) result }
-    ensures quiet { IsQuiet brought.old brought.new server.old server.new }
+    ensures quiet { IsQuiet server.old server.new }
 {
     if !*readable {
         return Onward::Stop;
@@ -119,7 +115,7 @@ fn read_feed_once<P: Ports>(
     match ports.read(port, buffer) {
         Ok(Got::Bytes(count)) => {
             let piece = &buffer[..count];
-            take_records(server, ports, port, cutter, piece, refused, brought);
+            take_records(server, ports, port, cutter, piece, refused);
             Onward::On
         }
         Ok(Got::Later) => {
@@ -147,7 +143,6 @@ pub fn read_feed<P: Ports>(
     buffer: &mut [u8],
     limit: usize,
     refused: &mut u64,
-    brought: &mut bool,
 ) -> bool
     requires some { 0 < length buffer.old }
     requires short { length buffer.old ≤ 512 }
@@ -156,13 +151,11 @@ pub fn read_feed<P: Ports>(
         (feed_tally happenings refused.old) (feed_tally happenings refused.new)
         (feed_seat port cutter.old readable.old writable)
         (if_open result (feed_seat port cutter.new readable.new writable)) }
-    ensures quiet { IsQuiet brought.old brought.new server.old server.new }
+    ensures quiet { IsQuiet server.old server.new }
 {
     let mut left = limit;
     'reads: while left > 0 {
-        match read_feed_once(
-            server, ports, port, readable, cutter, buffer, refused, brought,
-        ) {
+        match read_feed_once(server, ports, port, readable, cutter, buffer, refused) {
             Onward::On => left -= 1,
             Onward::Stop => return true,
             Onward::Over => return false,

@@ -1,6 +1,6 @@
 //! The loop: what happens at its ports, and each port's pass in turn.
 ghost use Rattle.std.specs.Prelude.{◌≡◌, ◌+◌, ◌<◌, ◌≤◌, ℕ, [], List, IfOk, MatchResult, OnErr, codes, is_ok, length};
-ghost use Rattle.std.specs.Prelude.{drop, take};
+ghost use Rattle.std.specs.Prelude.{◌≢◌, drop, false, take, true};
 ghost use Rattle.std.specs.declared.option.Option.{Option};
 ghost use Rattle.protocol.specs.Catalog.{Config as ProtocolConfig, is_same_but_for_access};
 ghost use Rattle.protocol.specs.World.{World, config_by, empty_world, step};
@@ -13,7 +13,7 @@ ghost use Rattle.event_loop.specs.Feeding.{feed_tally};
 ghost use Rattle.event_loop.specs.Going.{Whole, if_open};
 ghost use Rattle.event_loop.specs.Hearing.{clients_in, feeds_in};
 ghost use Rattle.event_loop.specs.Loops.{TurnMade, TurnFailed};
-ghost use Rattle.event_loop.specs.Sleeping.{AreKept, LeavesRest};
+ghost use Rattle.event_loop.specs.Sleeping.{AreKept, LeavesRest, NoneArrived};
 ghost use Rattle.event_loop.specs.Tables.{IsSameSeat, PassesAll, PassesSoFar};
 ghost use Rattle.event_loop.specs.Turns.{SeatPass};
 ghost use Rattle.ports.specs.Calls.{Call};
@@ -64,7 +64,7 @@ impl LoopFault {
     }
 }
 
-/// The pass over one port; whether the port stays open. It is told whether records came by it.
+/// The pass over one port; whether the port stays open.
 fn pass<P: Ports>(
     server: &mut Server,
     ports: &mut P,
@@ -72,14 +72,13 @@ fn pass<P: Ports>(
     buffer: &mut [u8; CLIENT_READ],
     limit: usize,
     refused: &mut u64,
-    brought: &mut bool,
 ) -> bool
     ensures goes { (happenings : ℕ) (config : ProtocolConfig) (w : World) → StandsAt server.old config w →
         Whole (SeatPass config) limit config w (P.calls ports.old) (P.calls ports.new) server.new
         (feed_tally happenings refused.old) (feed_tally happenings refused.new) seat.old (if_open result seat.new) }
     ensures same { IsSameSeat seat.old seat.new }
     ensures whose { (k : ℕ) → seat.new.role ≡ ClientRole k → seat.old.role ≡ ClientRole k }
-    ensures leaves { LeavesRest seat.old brought.new server.old server.new }
+    ensures leaves { LeavesRest seat.old (NoneArrived server.old server.new) server.old server.new }
 {
     match &mut seat.role {
         Role::Client(client) => {
@@ -96,9 +95,16 @@ fn pass<P: Ports>(
             &mut buffer[..FEED_READ],
             limit,
             refused,
-            brought,
         ),
     }
+}
+
+/// Whether records arrived since there were so many.
+fn has_more(server: &Server, before: u64) -> bool
+    ensures more { result ≡ true → server.now.rings.arrivals ≢ before }
+    ensures none { result ≡ false → server.now.rings.arrivals ≡ before }
+{
+    server.arrivals() != before
 }
 
 /// The pass over the port at a place, and where the next port is then. A port that is shut has no seat any more.
@@ -123,16 +129,9 @@ fn pass_at<P: Ports>(
         → PassesSoFar limit config w calls (P.calls ports.new) server.new t
         (feed_tally happenings refused.new) ss (take result seats.new.all.items) (drop result seats.new.all.items) }
 {
-    let mut brought = false;
-    let stays = pass(
-        server,
-        ports,
-        &mut seats.all[at],
-        buffer,
-        limit,
-        refused,
-        &mut brought,
-    );
+    let before = server.arrivals();
+    let stays = pass(server, ports, &mut seats.all[at], buffer, limit, refused);
+    let brought = has_more(server, before);
     wake_after(
         server,
         seats.all.as_slice(),

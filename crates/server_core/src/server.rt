@@ -1,7 +1,7 @@
 //! All clients of a server.
 ghost use Rattle.std.specs.Prelude.{OnErr, option_map, ◌≡◌, ◌≢◌, ◌-◌, ◌^◌, Err, ◌<◌, ◌≤◌, [], ◌∷◌, ◌++◌, length};
 ghost use Rattle.std.specs.Prelude.{slice_get, slice_index_or, IfOk, OnOk, Ok, Some, None, ℕ, not, false, is_some};
-ghost use Rattle.std.specs.Prelude.{is_ok, true};
+ghost use Rattle.std.specs.Prelude.{◌+◌, is_ok, true};
 ghost use Rattle.std.specs.Result.{result_ok};
 ghost use Rattle.std.specs.Net.Addr.{ipv4_bits};
 ghost use Rattle.protocol.specs.Catalog.{Config as ProtocolConfig, is_same_but_for_access};
@@ -288,6 +288,7 @@ impl Server {
             IsExhausted config w.history bytes.now }
         ensures counted { OnOk result ((config : ProtocolConfig) (w : World) → StandsAt self.old config w →
             length w.history < 2 ^ 64 - 1) }
+        ensures one_more { OnOk result (self.new.rings.arrivals ≡ self.old.rings.arrivals + 1) }
         ensures marks { OnOk result ((place : ℕ) (summary : Summary) →
             IsPlaced self.old.config bytes.now place summary →
             MarksThose place self.old self.new) }
@@ -313,6 +314,7 @@ impl Server {
             IsExhausted config w.history bytes.now }
         ensures counted { OnOk result ((config : ProtocolConfig) (w : World) → StandsAt self.old config w →
             length w.history < 2 ^ 64 - 1) }
+        ensures one_more { OnOk result (self.new.rings.arrivals ≡ self.old.rings.arrivals + 1) }
         ensures marks { OnOk result (MarksThose placing.place self.old self.new) }
         ensures count { length self.new.sessions ≡ length self.old.sessions }
         ensures kept { (k : ℕ) → is_some (mark_at self.new k) ≡ is_some (mark_at self.old k) }
@@ -329,7 +331,9 @@ impl Server {
 
     /// How many records arrived, at all stations: those that were accepted.
     pub fn arrivals(&self) -> u64
-        ensures { (config : ProtocolConfig) (w : World) → StandsAt self.now config w → result ≡ length w.history }
+        ensures value { result ≡ self.now.rings.arrivals }
+        ensures count { (config : ProtocolConfig) (w : World) → StandsAt self.now config w →
+            result ≡ length w.history }
     {
         self.rings.arrivals()
     }

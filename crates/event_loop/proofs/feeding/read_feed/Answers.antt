@@ -26,8 +26,7 @@ reads-preserved g c =
           (calls c.read_feed_once.new.ports) c.read_feed_once.new.server t t' s s' _
           (c.read_feed_once.ensures.goes writable happenings config v there) c.in-On.is);
       some = omega (arith, same, c.reads.invariant.some);
-      quiet = quiet_then c.args.brought.now c.reads.brought c.read_feed_once.new.brought c.args.server.now
-          c.reads.server
+      quiet = quiet_then c.args.server.now c.reads.server
           c.read_feed_once.new.server c.reads.invariant.quiet c.read_feed_once.ensures.quiet;
       short = omega (arith, same, c.reads.invariant.short);
     }
@@ -50,8 +49,7 @@ returns-in-Stop g c =
           (λ v there. once-stops (FeedReads config) config v (calls c.reads.ports)
           (calls c.read_feed_once.new.ports) c.read_feed_once.new.server t t' s s' _
           (c.read_feed_once.ensures.goes writable happenings config v there) c.in-Stop.is);
-      quiet = quiet_then c.args.brought.now c.reads.brought c.read_feed_once.new.brought c.args.server.now
-          c.reads.server
+      quiet = quiet_then c.args.server.now c.reads.server
           c.read_feed_once.new.server c.reads.invariant.quiet c.read_feed_once.ensures.quiet;
     }
 
@@ -73,8 +71,7 @@ returns-in-Over g c =
           (λ v there. once-over (FeedReads config) config v (calls c.reads.ports)
           (calls c.read_feed_once.new.ports) c.read_feed_once.new.server t t' s s' _
           (c.read_feed_once.ensures.goes writable happenings config v there) c.in-Over.is);
-      quiet = quiet_then c.args.brought.now c.reads.brought c.read_feed_once.new.brought c.args.server.now
-          c.reads.server
+      quiet = quiet_then c.args.server.now c.reads.server
           c.read_feed_once.new.server c.reads.invariant.quiet c.read_feed_once.ensures.quiet;
     }
 

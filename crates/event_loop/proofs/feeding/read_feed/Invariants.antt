@@ -16,7 +16,7 @@ invariant-reads g l =
           (feed_tally happenings l.fn.refused) (feed_tally happenings l.refused)
           (feed_seat l.port l.fn.cutter l.fn.readable writable) (feed_seat l.port l.cutter l.readable writable);
       some : 0 < length l.buffer;
-      quiet : IsQuiet l.fn.brought l.brought l.fn.server l.server;
+      quiet : IsQuiet l.fn.server l.server;
       short : length l.buffer ≤ 512;
     }
 

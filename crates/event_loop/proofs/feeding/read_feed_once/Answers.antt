@@ -13,7 +13,7 @@ returns-then-not-readable g c = record {
   goes = λ writable happenings config w stands.
       feed-refused config w happenings c.args.refused.now c.args.port c.args.cutter.now c.args.readable.now writable
       (g.P.Ports.calls c.args.ports.now) c.args.server.now stands c.if-not-readable.true;
-  quiet = quiet_none c.args.brought.now c.args.server.now;
+  quiet = quiet_none c.args.server.now;
 }
 
 pub returns-in-Ok-Bytes : goal.returns-in-Ok-Bytes
@@ -48,7 +48,7 @@ returns-in-Ok-Later g c = record {
       c.if-not-readable.false (length c.read.new.buffer) short a b c.args.server.now stands
       (subst (λ r. Tells a b (Read c.args.port (length c.read.new.buffer) (given r c.read.new.buffer) ∷ []))
       (c.in-Ok-Later.is ∙ ap Ok c.in-Ok-Later.field-0-is) c.read.ensures.call);
-  quiet = quiet_none c.args.brought.now c.args.server.now;
+  quiet = quiet_none c.args.server.now;
 }
 
 pub returns-in-Ok-Closed : goal.returns-in-Ok-Closed
@@ -63,7 +63,7 @@ returns-in-Ok-Closed g c = record {
       (subst (λ r. Tells a b (Read c.args.port (length c.read.new.buffer) (given r c.read.new.buffer) ∷ []))
       (c.in-Ok-Closed.is ∙ ap Ok c.in-Ok-Closed.field-0-is) c.read.ensures.call)
       c.end.ensures.call;
-  quiet = quiet_none c.args.brought.now c.args.server.now;
+  quiet = quiet_none c.args.server.now;
 }
 
 pub returns-in-Err : goal.returns-in-Err
@@ -78,5 +78,5 @@ returns-in-Err g c = record {
       (subst (λ r. Tells a b (Read c.args.port (length c.read.new.buffer) (given r c.read.new.buffer) ∷ [])) c.in-Err.is
       c.read.ensures.call)
       c.end-in-Err.ensures.call;
-  quiet = quiet_none c.args.brought.now c.args.server.now;
+  quiet = quiet_none c.args.server.now;
 }

@@ -40,12 +40,13 @@ returns-in-Ok-clause-arrives g c = λ config w stands.
 
 pub returns-in-Err-clause-quiet : goal.returns-in-Err-clause-quiet
 returns-in-Err-clause-quiet g c =
-    quiet_refused c.arrive.result c.args.brought.now c.args.server.now c.arrive.new.self
+    quiet_refused c.arrive.result c.args.server.now c.arrive.new.self
     (ap is_err c.in-Err.is) c.arrive.ensures.unchanged
 
 pub returns-in-Ok-clause-quiet : goal.returns-in-Ok-clause-quiet
 returns-in-Ok-clause-quiet g c =
-    quiet_brought c.args.brought.now c.args.server.now c.arrive.new.self c.arrive.ensures.count c.arrive.ensures.kept
+    quiet_brought c.args.server.now c.arrive.new.self c.in-Ok.ensures.one_more c.arrive.ensures.count
+    c.arrive.ensures.kept
 
 pub returns-in-Err-clause-decides : goal.returns-in-Err-clause-decides
 returns-in-Err-clause-decides g c = λ config w stands. record {

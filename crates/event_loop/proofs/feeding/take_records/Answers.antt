@@ -36,10 +36,10 @@ records-preserved g c =
         w.refused-is,
       ) (arrives-none config v c.records.server c.records.refused stands)
     ] in
-    let quiet : IsQuiet c.records.brought c.match-whole.brought c.records.server c.match-whole.server =
+    let quiet : IsQuiet c.records.server c.match-whole.server =
     elim c.match-whole.branch [
-      | in-Some w ↦ rw (w.server-is, w.brought-is) w.take_record.ensures.quiet
-      | in-None w ↦ rw (w.server-is, w.brought-is) (quiet_none c.records.brought c.records.server)
+      | in-Some w ↦ rw w.server-is w.take_record.ensures.quiet
+      | in-None w ↦ rw w.server-is (quiet_none c.records.server)
     ] in
     let calls : g.P.Ports.calls c.match-whole.ports ≡ g.P.Ports.calls c.args.ports.now = elim c.match-whole.branch [
       | in-Some w ↦ rw w.ports-is (w.take_record.ensures.calls ∙ h.calls)
@@ -64,8 +64,7 @@ records-preserved g c =
       calls = calls;
       failures = failures;
       rest = ap (λ (f : FeedRead). f.rest) (sym parts) ∙ h.rest;
-      quiet = quiet_then c.args.brought.now c.records.brought c.match-whole.brought c.args.server.now c.records.server
-          c.match-whole.server h.quiet quiet;
+      quiet = quiet_then c.args.server.now c.records.server c.match-whole.server h.quiet quiet;
     }
 
 pub returns-clause-arrives : goal.returns-clause-arrives

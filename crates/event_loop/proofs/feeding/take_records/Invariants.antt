@@ -15,7 +15,7 @@ invariant-records g l = record {
   calls : g.P.Ports.calls l.ports ≡ g.P.Ports.calls l.fn.ports;
   failures : g.P.Ports.failures l.ports ≡ g.P.Ports.failures l.fn.ports;
   rest : (fed l.cutter l.left).rest ≡ (fed l.fn.cutter l.piece).rest;
-  quiet : IsQuiet l.fn.brought l.brought l.fn.server l.server;
+  quiet : IsQuiet l.fn.server l.server;
 }
 
 abbrev pub decreases-records : goal.decreases-records

@@ -3,6 +3,7 @@ use Rattle.event_loop.specs.declared.seat.Role.TheVariants.{Client as ClientRole
 use Rattle.event_loop.specs.Feeding.{feed_tally}
 use Rattle.event_loop.specs.Going.{Whole, if_open}
 use Rattle.event_loop.specs.Passes.{ClientReads, ClientWrites}
+use Rattle.event_loop.specs.Sleeping.{NoneArrived}
 use Rattle.event_loop.specs.Turns.{SeatPass}
 use Rattle.event_loop.proofs.SeatPassLemmas.{pass-both, pass-shut, pass-feed}
 use Rattle.event_loop.proofs.LeaveLemmas.{leaves_then, rest_client, rest_feed}
@@ -69,19 +70,21 @@ returns-else-read_client-clause-whose g c = λ k is.
 
 pub returns-then-read_client-clause-leaves : goal.returns-then-read_client-clause-leaves
 returns-then-read_client-clause-leaves g c =
-    rest_client c.args.seat.now c.same-client.result c.args.brought.now c.args.server.now c.write_client.new.server
+    rest_client c.args.seat.now c.same-client.result (NoneArrived c.args.server.now c.write_client.new.server)
+    c.args.server.now c.write_client.new.server
     (c.in-Client.is ∙ ap ClientRole (sym c.same-client.ensures))
     (leaves_then c.same-client.result c.args.server.now c.read_client.new.server c.write_client.new.server
     c.read_client.ensures.others c.write_client.ensures.others)
 
 pub returns-else-read_client-clause-leaves : goal.returns-else-read_client-clause-leaves
 returns-else-read_client-clause-leaves g c =
-    rest_client c.args.seat.now c.same-client.result c.args.brought.now c.args.server.now c.read_client.new.server
+    rest_client c.args.seat.now c.same-client.result (NoneArrived c.args.server.now c.read_client.new.server)
+    c.args.server.now c.read_client.new.server
     (c.in-Client.is ∙ ap ClientRole (sym c.same-client.ensures)) c.read_client.ensures.others
 
 pub returns-in-Feed-clause-leaves : goal.returns-in-Feed-clause-leaves
 returns-in-Feed-clause-leaves g c =
-    rest_feed c.args.seat.now c.args.brought.now c.read_feed.new.brought c.args.server.now c.read_feed.new.server
+    rest_feed c.args.seat.now c.args.server.now c.read_feed.new.server
     c.read_feed.ensures.quiet
 
 pub returns-in-Feed-clause-whose : goal.returns-in-Feed-clause-whose

@@ -1,4 +1,4 @@
-use Rattle.std.proofs.Common.{◌∙◌, ◌<◌, [], ap, arith, refl, sym, subst, is_some, length}
+use Rattle.std.proofs.Common.{◌∙◌, ◌+◌, ◌<◌, [], ap, arith, refl, sym, subst, is_some, length}
 use Rattle.station_ring.specs.HeldRecords.{holdings_of}
 use Rattle.protocol.specs.Catalog.{Config}
 use Rattle.server_core.specs.Arrivals.{IsPlaced}
@@ -92,3 +92,7 @@ returns-clause-kept c = λ k.
     kept-open c.self.inside.config c.self.inside.rings c.arrive-number.new.self c.self.inside.clients
     c.self.inside.marks c.arrived.new.self k
     ∙ ap (λ s. is_some (mark_at s k)) c.self.view_is
+
+pub returns-clause-one_more : goal.returns-clause-one_more
+returns-clause-one_more c =
+    c.arrive-number.ensures.arrivals ∙ ap (λ (s : ServerValue). s.rings.arrivals + 1) c.self.view_is
