@@ -76,6 +76,8 @@ pub enum Site<'a> {
     Unread(&'a str, io::Error),
     /// A file that took no more, for the system's reason.
     Unwritten(&'a str, io::Error),
+    /// A file below the folder of an archive that took no more, for the system's reason.
+    UnwrittenBelow(String, io::Error),
     /// A word of the command line that is no address.
     Word(&'a str),
     /// A word of the command line that is no access list, and its first entry that is invalid.
@@ -383,6 +385,7 @@ impl Display for Site<'_> {
             Site::Unopened(path, reason)
             | Site::Unread(path, reason)
             | Site::Unwritten(path, reason) => put_reasoned(f, "file", path, reason),
+            Site::UnwrittenBelow(path, reason) => put_reasoned(f, "file", path.as_str(), reason),
             Site::Word(word) => put_line(f, "word", *word),
             Site::AccessWord(word, entry) => put_access_word(f, word, entry),
             Site::Want(place, part) => put_want(f, place, part),

@@ -7,12 +7,12 @@ use crate::clock::milliseconds;
 use crate::notices::{ErrorTeller, Notice, Teller};
 use crate::torn::tell_torn;
 use crate::unplaced::UnplacedCount;
-use incidents::{Failure, Incident};
+use incidents::{Failure, Incident, Site};
 use job_base::{descriptor_limit, unopened};
 use packet_listing::Nowhere;
 use record_archive::{
-    Archive, ArchiveFault, ContinuedFiles, ContinuedOutput, DiskFiles, FileLength, FilePlace,
-    ONE_FILE, RecordFiles, StationCodes, StationLocks, TopFault, Unnamed, lock_stations,
+    Archive, ArchiveFault, ContinuedFiles, ContinuedOutput, DiskFiles, FileFailure, FileLength,
+    FilePlace, ONE_FILE, RecordFiles, StationCodes, StationLocks, TopFault, Unnamed, lock_stations,
 };
 use sl_io::{DeviceFault, Outer, Sink};
 use slreader::Want;
@@ -138,7 +138,28 @@ pub fn at_archive<'r, 'a, R: Files<File = File> + Clock>(
     let mut archive = archive;
     match archive.fault() {
         Some(ArchiveFault::OutOfMemory) => Incident::from(Failure::OutOfMemory),
-        Some(ArchiveFault::Folder) => incident.at_output(top, archive.take_reason()),
+        Some(ArchiveFault::Folder) => at_failure(incident, archive.take_failure(), top),
+        None => incident,
+    }
+}
+
+/// The same, at the file of the archive that took no more, as far as that is known.
+fn at_failure<'a>(
+    incident: Incident<'a>,
+    failure: Option<FileFailure>,
+    top: &'a str,
+) -> Incident<'a>
+    ensures { result.failure ≡ incident.entry.failure }
+{
+    match failure {
+        Some(FileFailure {
+            path: Some(path),
+            reason,
+        }) => Incident {
+            failure: incident.failure,
+            site: Site::UnwrittenBelow(path, reason),
+        },
+        Some(FileFailure { path: None, reason }) => incident.at_output(top, Some(reason)),
         None => incident,
     }
 }
@@ -239,7 +260,8 @@ pub fn output_at<'r, 'a: 'r, R: Files<File = File> + Clock + AllocGlobal>(
 impl<'r, R: Files<File = File> + Clock> ToldOutput<'r, R> {
     /// What the system says of the last call that failed.
     pub fn into_reason(self) -> Option<io::Error> {
-        self.output.into_inner().take_reason()
+        let failure = self.output.into_inner().take_failure()?;
+        Some(failure.reason)
     }
 }
 
@@ -253,7 +275,7 @@ pub fn mend_end<'a, R: Files<File = File> + Eprint + Clock + AllocGlobal>(
         return Err(Incident::from(Failure::OutOfMemory));
     };
     if files.count(ONE_FILE).is_err() {
-        return Err(unopened(path, unlasting(files.take_reason())));
+        return Err(unopened(path, unlasting(files.take_failure()).reason));
     }
     if let Some(path) = files.take_torn() {
         tell_torn(rt, path.as_str());
@@ -339,50 +361,53 @@ impl<'r, R: Files<File = File> + Eprint + Clock> Sink for ToldOutput<'r, R> {
 pub trait Lasting {
     /// Makes all records last that were written so far, and then tells how many records of each file don't come again;
     /// None where no files are written.
-    fn make_last(&self) -> io::Result<Option<Vec<FileLength>>>;
+    fn make_last(&self) -> Result<Option<Vec<FileLength>>, FileFailure>;
 }
 
 impl Lasting for Nowhere {
-    fn make_last(&self) -> io::Result<Option<Vec<FileLength>>> {
+    fn make_last(&self) -> Result<Option<Vec<FileLength>>, FileFailure> {
         Ok(None)
     }
 }
 
 /// What was written has been handed on.
 impl<T> Lasting for Outer<T> {
-    fn make_last(&self) -> io::Result<Option<Vec<FileLength>>> {
+    fn make_last(&self) -> Result<Option<Vec<FileLength>>, FileFailure> {
         Ok(None)
     }
 }
 
 /// What is said of something that could not be made to last, if the system says nothing.
-fn unlasting(reason: Option<io::Error>) -> io::Error {
-    match reason {
-        Some(reason) => reason,
-        None => io::Error::from(io::ErrorKind::Other),
+fn unlasting(failure: Option<FileFailure>) -> FileFailure {
+    match failure {
+        Some(failure) => failure,
+        None => FileFailure {
+            path: None,
+            reason: io::Error::from(io::ErrorKind::Other),
+        },
     }
 }
 
 impl<'r, R: Files<File = File> + Clock> Lasting for ToldArchive<'r, R> {
-    fn make_last(&self) -> io::Result<Option<Vec<FileLength>>> {
+    fn make_last(&self) -> Result<Option<Vec<FileLength>>, FileFailure> {
         let Ok(mut archive) = self.archive.try_borrow_mut() else {
             return Err(unlasting(None));
         };
         match archive.last() {
             Ok(lengths) => Ok(Some(lengths)),
-            Err(_) => Err(unlasting(archive.take_reason())),
+            Err(_) => Err(unlasting(archive.take_failure())),
         }
     }
 }
 
 impl<'r, R: Files<File = File> + Clock> Lasting for ToldOutput<'r, R> {
-    fn make_last(&self) -> io::Result<Option<Vec<FileLength>>> {
+    fn make_last(&self) -> Result<Option<Vec<FileLength>>, FileFailure> {
         let Ok(mut output) = self.output.try_borrow_mut() else {
             return Err(unlasting(None));
         };
         match output.last() {
             Ok(lengths) => Ok(Some(lengths)),
-            Err(_) => Err(unlasting(output.take_reason())),
+            Err(_) => Err(unlasting(output.take_failure())),
         }
     }
 }

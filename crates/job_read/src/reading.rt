@@ -11,7 +11,7 @@ use crate::hearing::{HeardLines, Listener};
 use crate::notices::{ErrorTeller, RefusalTeller};
 use crate::patience::{Patience, pause, silence_between, time_limit};
 use crate::places::Places;
-use crate::states::{StateFile, StateKeeper};
+use crate::states::{SameFile, StateFile, StateKeeper};
 use crate::wants::{wants_of, wants_text};
 use crate::windows::Moments;
 use command_line::ReadOptions;
@@ -66,6 +66,9 @@ pub struct Reading<'a, 'w> {
 }
 
 impl<'a> Reading<'a, '_> {
+    ghost use Rattle.std.specs.Prelude.{◌≡◌, true, false, IfErr, OnOk};
+    ghost use Rattle.job_read.specs.Endings.{goes_on};
+
     /// Tells a failure after which the next server is asked, and waits before that: a server that is a moment behind
     /// the last one would hand out records again. It fails with a failure that ends the reading.
     pub fn pass_over<R: Eprint + Clock>(
@@ -73,7 +76,12 @@ impl<'a> Reading<'a, '_> {
         rt: &R,
         incident: Incident<'a>,
         places: &Places,
-    ) -> Result<(), Incident<'a>> {
+    ) -> Result<(), Incident<'a>>
+        ensures passed { OnOk result (goes_on incident.entry.failure places.now.place places.now.count
+            self.now.is_retried ≡ true) }
+        ensures ended { IfErr result (λ ended. (ended ≡ incident.entry)
+            × (goes_on incident.entry.failure places.now.place places.now.count self.now.is_retried ≡ false)) }
+    {
         if !goes_on(incident.failure, places, self.is_retried) {
             return Err(incident);
         }
@@ -101,10 +109,10 @@ fn opened_to_add<'a, R: Files>(rt: &R, path: &'a str) -> Result<R::File, Inciden
 fn opened_twice<'a, R: Files<File = File>>(
     rt: &R,
     path: &'a str,
-) -> Result<(File, File), Incident<'a>> {
-    let file = opened_to_add(rt, path)?;
-    match file.try_clone() {
-        Ok(same) => Ok((file, same)),
+) -> Result<(File, SameFile<'a>), Incident<'a>> {
+    let opened = opened_to_add(rt, path)?;
+    match opened.try_clone() {
+        Ok(file) => Ok((opened, SameFile { path, file })),
         Err(reason) => Err(unopened(path, reason)),
     }
 }
@@ -116,7 +124,7 @@ fn list_on<'a, R, O: Sink + Drop, P: Sink + Lasting>(
     rt: &R,
     reading: &Reading<'a, '_>,
     state: Option<StateFile<'a>>,
-    output: Option<File>,
+    output: Option<SameFile<'a>>,
     out: O,
     records: &mut P,
 ) -> Result<(), Incident<'a>>
@@ -135,7 +143,7 @@ fn list_after<'a, R, O: Sink + Drop, P: Sink + Lasting>(
     reading: &Reading<'a, '_>,
     tally: &mut Tally,
     state: Option<StateFile<'a>>,
-    output: Option<File>,
+    output: Option<SameFile<'a>>,
     out: O,
     records: &mut P,
 ) -> Result<(), Incident<'a>>

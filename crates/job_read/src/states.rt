@@ -8,7 +8,7 @@ use incidents::{Failure, Incident, Site, StateFault};
 use job_base::{place_of, replace};
 use packet_listing::{KeepFault, Keeper, ListingFault};
 use reader_state::{State, read_state, write_state};
-use record_archive::{FileLength, ONE_FILE};
+use record_archive::{FileFailure, FileLength, ONE_FILE};
 use sl_io::{Outer, ReadFault, Sink, read_all};
 use slreader::{LastPacket, Tally, Want};
 use std::alloc::{AllocError, Global};
@@ -262,6 +262,39 @@ fn state_in<'a, F: io::Read + Drop>(
     }
 }
 
+/// A file to which records are added, open once more, to put on the disk what was added.
+#[derive(Drop)]
+pub struct SameFile<'a> {
+    pub path: &'a str,
+    pub file: File,
+}
+
+/// Why a state was not kept.
+#[derive(Drop)]
+enum Unkept<'a> {
+    /// The file with the state took no more.
+    State(io::Error),
+    /// A file of records could not be put on the disk.
+    Output(&'a str, io::Error),
+    /// A file of an archive could not.
+    Records(FileFailure),
+}
+
+impl<'a> Unkept<'a> {
+    /// Where that happened, if the state is at a path.
+    fn site(self, path: &'a str) -> Site<'a> {
+        match self {
+            Unkept::State(reason) => Site::Unwritten(path, reason),
+            Unkept::Output(output, reason) => Site::Unwritten(output, reason),
+            Unkept::Records(FileFailure {
+                path: Some(file),
+                reason,
+            }) => Site::UnwrittenBelow(file, reason),
+            Unkept::Records(FileFailure { path: None, reason }) => Site::Unwritten(path, reason),
+        }
+    }
+}
+
 /// Keeps the state of a reader in its file, if it has one, at most once a second while packets come, and once nothing
 /// came up to the end of that second.
 #[derive(Drop)]
@@ -270,14 +303,14 @@ pub struct StateKeeper<'r, 'a, 'w, R: Net> {
     file: Option<StateFile<'a>>,
     wants: &'r [Want<'w>],
     /// The file to which records are added, if they are, once more.
-    output: Option<File>,
+    output: Option<SameFile<'a>>,
     /// The lengths of files when they were made to last, if files are written.
     lengths: Option<Vec<FileLength>>,
     /// The connection that is read.
     present: &'r RefCell<Option<R::Stream>>,
     /// When the state was kept last, in milliseconds.
     kept: u64,
-    reason: Option<io::Error>,
+    unkept: Option<Unkept<'a>>,
     failures: u64,
 }
 
@@ -287,7 +320,7 @@ impl<'r, 'a, 'w, R: Net> StateKeeper<'r, 'a, 'w, R> {
         rt: &'r R,
         file: Option<StateFile<'a>>,
         wants: &'r [Want<'w>],
-        output: Option<File>,
+        output: Option<SameFile<'a>>,
         present: &'r RefCell<Option<R::Stream>>,
     ) -> StateKeeper<'r, 'a, 'w, R> {
         StateKeeper {
@@ -298,24 +331,24 @@ impl<'r, 'a, 'w, R: Net> StateKeeper<'r, 'a, 'w, R> {
             lengths: None,
             present,
             kept: 0,
-            reason: None,
+            unkept: None,
             failures: 0,
         }
     }
 
     /// Where the state could not be kept, if that is what ended the reading.
     pub fn site(self) -> Option<Site<'a>> {
-        match (self.file, self.reason) {
-            (Some(file), Some(reason)) => Some(Site::Unwritten(file.path, reason)),
+        match (self.file, self.unkept) {
+            (Some(file), Some(unkept)) => Some(unkept.site(file.path)),
             _ => None,
         }
     }
 
     /// A call failed for that reason.
-    fn fail(&mut self, reason: io::Error) -> Result<(), KeepFault>
+    fn fail(&mut self, unkept: Unkept<'a>) -> Result<(), KeepFault>
         ensures { CountsFailure self.old.failures self.new.failures result }
     {
-        self.reason = Some(reason);
+        self.unkept = Some(unkept);
         self.failures = self.failures.wrapping_add(1);
         Err(KeepFault)
     }
@@ -393,7 +426,7 @@ where
                 self.lengths = lengths;
                 Ok(())
             }
-            Err(reason) => self.fail(reason),
+            Err(unkept) => self.fail(unkept),
         }
     }
 
@@ -402,19 +435,27 @@ where
         self.kept = self.now();
         match kept {
             Ok(()) => Ok(()),
-            Err(reason) => self.fail(reason),
+            Err(reason) => self.fail(Unkept::State(reason)),
         }
     }
 }
 
 /// Makes what was written last, in records and in a file to which they are added. Tells the lengths of files by then.
-fn last_all<P: Lasting>(records: &P, output: &Option<File>) -> io::Result<Option<Vec<FileLength>>> {
-    let lengths = records.make_last()?;
-    match output {
-        Some(file) => synced(file)?,
-        None => {}
+fn last_all<'a, P: Lasting>(
+    records: &P,
+    output: &Option<SameFile<'a>>,
+) -> Result<Option<Vec<FileLength>>, Unkept<'a>> {
+    let lengths = match records.make_last() {
+        Ok(lengths) => lengths,
+        Err(failure) => return Err(Unkept::Records(failure)),
+    };
+    let Some(SameFile { path, file }) = output else {
+        return Ok(lengths);
+    };
+    match synced(file) {
+        Ok(()) => Ok(lengths),
+        Err(reason) => Err(Unkept::Output(*path, reason)),
     }
-    Ok(lengths)
 }
 
 /// Has the system put on the disk what was written to a file. One that lies on no disk, as a pipe, has no need of it.

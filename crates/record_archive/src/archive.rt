@@ -7,7 +7,7 @@ ghost use Rattle.record_archive.specs.Files.{MakesSafe};
 ghost use Rattle.record_archive.specs.Archives.{CountsAll, CountsUnplaced, HoldsMore, IsWhy, held_with, whole_with};
 
 use crate::continued::ContinuedFiles;
-use crate::disk_files::DiskFiles;
+use crate::disk_files::{DiskFiles, FileFailure};
 use crate::files::RecordFiles;
 use crate::folders::{FolderFault, Folders};
 use crate::lengths::FileLength;
@@ -16,7 +16,6 @@ use crate::stations::StationCodes;
 use sl_io::{DeviceFault, Sink};
 use std::alloc::Global;
 use std::fs::File;
-use std::io;
 use std::rt::{Clock, Files};
 use unfinished::Unfinished;
 
@@ -137,8 +136,8 @@ impl<'a, R: Files<File = File> + Clock> Archive<ContinuedFiles<DiskFiles<'a, R>>
     }
 
     /// What the system says of the last call that failed, once.
-    pub fn take_reason(&mut self) -> Option<io::Error> {
-        self.folders.take_reason()
+    pub fn take_failure(&mut self) -> Option<FileFailure> {
+        self.folders.take_failure()
     }
 }
 

@@ -5,7 +5,7 @@ ghost use Rattle.record_archive.specs.Archives.{PutsNothing, PutsOne};
 ghost use Rattle.record_archive.specs.Files.{MakesSafe, TellsOthers, TellsSame};
 ghost use Rattle.record_archive.specs.Puts.{StandsAfter};
 
-use crate::disk_files::DiskFiles;
+use crate::disk_files::{DiskFiles, FileFailure};
 use crate::files::RecordFiles;
 use crate::folders::{FolderFault, Folders};
 use crate::lengths::FileLength;
@@ -13,7 +13,6 @@ use crate::walk::Walk;
 use std::alloc::{AllocError, Global};
 use std::collections::HashMap;
 use std::fs::File;
-use std::io;
 use std::rt::{Clock, Files};
 
 /// For how many syncs a file is remembered to which nothing was handed.
@@ -247,8 +246,8 @@ impl<'a, R: Files<File = File> + Clock> ContinuedFiles<DiskFiles<'a, R>> {
     }
 
     /// What the system says of the last call that failed, once.
-    pub fn take_reason(&mut self) -> Option<io::Error> {
-        self.files.take_reason()
+    pub fn take_failure(&mut self) -> Option<FileFailure> {
+        self.files.take_failure()
     }
 }
 

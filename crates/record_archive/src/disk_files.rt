@@ -23,6 +23,15 @@ pub enum FilePlace<'a> {
     At(&'a str),
 }
 
+/// What the system says of a file at which a call failed.
+#[derive(Drop)]
+pub struct FileFailure {
+    /// The path of the file; None if there was no memory for it.
+    pub path: Option<String>,
+    /// What the system says.
+    pub reason: io::Error,
+}
+
 /// Files of records on the disk, which no others write to meanwhile. Those that were written last are kept open.
 #[derive(Drop)]
 pub struct DiskFiles<'a, R: Files<File = File>> {
@@ -34,9 +43,11 @@ pub struct DiskFiles<'a, R: Files<File = File>> {
     lasts: bool,
     /// Something that was added could not be put on the disk.
     is_lost: bool,
+    /// What the system said of that.
+    lost: Option<FileFailure>,
     /// The path of a file whose torn end was put aside, until it is told.
     torn: Option<String>,
-    reason: Option<io::Error>,
+    failure: Option<FileFailure>,
 }
 
 /// No memory.
@@ -123,16 +134,17 @@ impl<'a, R: Files<File = File> + Clock> DiskFiles<'a, R> {
                 open,
                 lasts,
                 is_lost: false,
+                lost: None,
                 torn: None,
-                reason: None,
+                failure: None,
             }),
             Err(_) => Err(no_memory()),
         }
     }
 
     /// What the system says of the last call that failed, once.
-    pub fn take_reason(&mut self) -> Option<io::Error> {
-        self.reason.take()
+    pub fn take_failure(&mut self) -> Option<FileFailure> {
+        self.failure.take()
     }
 
     /// The path of a file whose torn end was put aside, once.
@@ -152,18 +164,30 @@ impl<'a, R: Files<File = File> + Clock> DiskFiles<'a, R> {
         }
     }
 
+    /// What the system says of a file.
+    fn failure_at(&self, name: &str, reason: io::Error) -> FileFailure {
+        FileFailure {
+            path: self.path_of(name).ok(),
+            reason,
+        }
+    }
+
     /// A file is no more kept open.
-    fn let_go(&mut self, file: OpenFile) {
-        if self.lasts && file.sync().is_err() {
+    fn let_go(&mut self, name: &str, file: OpenFile) {
+        if !self.lasts {
+            return;
+        }
+        if let Err(reason) = file.sync() {
             self.is_lost = true;
+            self.lost = Some(self.failure_at(name, reason));
         }
     }
 
     /// The file that was written longest ago is no more kept open. Answers whether there was one.
     fn let_go_oldest(&mut self) -> bool {
         match self.open.pop_lru() {
-            Some((_, oldest)) => {
-                self.let_go(oldest);
+            Some((name, oldest)) => {
+                self.let_go(name.as_str(), oldest);
                 true
             }
             None => false,
@@ -176,8 +200,8 @@ impl<'a, R: Files<File = File> + Clock> DiskFiles<'a, R> {
             return Err(no_memory());
         };
         match self.open.push(name, file) {
-            Ok(Some((_, oldest))) => {
-                self.let_go(oldest);
+            Ok(Some((name, oldest))) => {
+                self.let_go(name.as_str(), oldest);
                 Ok(())
             }
             Ok(None) => Ok(()),
@@ -230,7 +254,7 @@ impl<'a, R: Files<File = File> + Clock> DiskFiles<'a, R> {
     /// A file is closed, if it is open.
     fn close(&mut self, name: &str) {
         if let Some(open) = self.open.pop(name) {
-            self.let_go(open);
+            self.let_go(name, open);
         }
     }
 
@@ -283,9 +307,12 @@ impl<'a, R: Files<File = File> + Clock> DiskFiles<'a, R> {
     }
 
     /// Has the system put on the disk what was added to files that are open.
-    fn sync_open(&self) -> io::Result<()> {
-        for (_, file) in self.open.iter() {
-            file.sync()?;
+    fn sync_open(&self) -> Result<(), FileFailure> {
+        for (name, file) in self.open.iter() {
+            match file.sync() {
+                Ok(()) => {}
+                Err(reason) => return Err(self.failure_at(name.as_str(), reason)),
+            }
         }
         Ok(())
     }
@@ -304,11 +331,22 @@ impl<'a, R: Files<File = File> + Clock> DiskFiles<'a, R> {
         }
     }
 
+    /// What the system said of a file of which not all could be put on the disk.
+    fn take_lost(&mut self) -> FileFailure {
+        match self.lost.take() {
+            Some(failure) => failure,
+            None => FileFailure {
+                path: None,
+                reason: io::Error::from(ErrorKind::Other),
+            },
+        }
+    }
+
     /// Has the system put on the disk what was added, if that is to last.
-    fn sync_all(&mut self) -> io::Result<()> {
+    fn sync_all(&mut self) -> Result<(), FileFailure> {
         if self.lasts {
             if self.is_lost {
-                return Err(io::Error::from(ErrorKind::Other));
+                return Err(self.take_lost());
             }
             self.sync_open()?;
         }
@@ -316,12 +354,12 @@ impl<'a, R: Files<File = File> + Clock> DiskFiles<'a, R> {
         Ok(())
     }
 
-    /// A call ended so.
-    fn tell<T: Drop>(&mut self, outcome: io::Result<T>) -> Result<T, FolderFault> {
+    /// A call at a file ended so.
+    fn tell<T: Drop>(&mut self, name: &str, outcome: io::Result<T>) -> Result<T, FolderFault> {
         match outcome {
             Ok(value) => Ok(value),
             Err(reason) => {
-                self.reason = Some(reason);
+                self.failure = Some(self.failure_at(name, reason));
                 Err(FolderFault)
             }
         }
@@ -335,21 +373,26 @@ impl<'a, R: Files<File = File> + Clock> RecordFiles for DiskFiles<'a, R> {
 
     fn count(&mut self, name: &str) -> Result<u64, FolderFault> {
         let counted = self.count_at(name);
-        self.tell(counted)
+        self.tell(name, counted)
     }
 
     fn read(&mut self, name: &str, place: u64, bytes: &mut [u8; 512]) -> Result<(), FolderFault> {
         let read = self.read_at(name, place, bytes);
-        self.tell(read)
+        self.tell(name, read)
     }
 
     fn add(&mut self, name: &str, bytes: &[u8; 512]) -> Result<(), FolderFault> {
         let added = self.add_at(name, bytes);
-        self.tell(added)
+        self.tell(name, added)
     }
 
     fn sync(&mut self) -> Result<(), FolderFault> {
-        let synced = self.sync_all();
-        self.tell(synced)
+        match self.sync_all() {
+            Ok(()) => Ok(()),
+            Err(failure) => {
+                self.failure = Some(failure);
+                Err(FolderFault)
+            }
+        }
     }
 }

@@ -21,7 +21,7 @@ mod walk;
 
 pub use archive::Archive;
 pub use continued::{ContinuedFiles, Unnamed};
-pub use disk_files::{DiskFiles, FilePlace};
+pub use disk_files::{DiskFiles, FileFailure, FilePlace};
 pub use files::RecordFiles;
 pub use folders::{FolderFault, Folders};
 pub use law::each_record_stands_once;

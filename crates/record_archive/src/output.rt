@@ -6,13 +6,12 @@ ghost use Rattle.sl_io.specs.Counts.{IsMore, CountsFailure, CountsEmptyWrite};
 ghost use Rattle.record_archive.specs.Files.{MakesSafe};
 
 use crate::continued::ContinuedFiles;
-use crate::disk_files::DiskFiles;
+use crate::disk_files::{DiskFiles, FileFailure};
 use crate::files::RecordFiles;
 use crate::folders::FolderFault;
 use crate::lengths::FileLength;
 use sl_io::{DeviceFault, Sink};
 use std::fs::File;
-use std::io;
 use std::rt::{Clock, Files};
 use unfinished::Unfinished;
 
@@ -80,8 +79,8 @@ impl<'a, R: Files<File = File> + Clock> ContinuedOutput<DiskFiles<'a, R>> {
     }
 
     /// What the system says of the last call that failed, once.
-    pub fn take_reason(&mut self) -> Option<io::Error> {
-        self.files.take_reason()
+    pub fn take_failure(&mut self) -> Option<FileFailure> {
+        self.files.take_failure()
     }
 }
 

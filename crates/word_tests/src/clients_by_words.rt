@@ -364,8 +364,8 @@ fn read_names_an_archive_of_which_the_folder_of_a_year_is_a_file(
     fs::create_dir(&rt, "half")?;
     fs::write(&rt, "half/2024", b"")?;
     let line = "seedlinkd read 127.0.0.1:PORT GE_APE --fetch --archive half -v";
-    let lines =
-        "seedlinkd: 43 Write\n  cause: not everything could be written\n  file: half\n  reason: ";
+    let lines = "seedlinkd: 43 Write\n  cause: not everything could be written\n  \
+        file: half/2024/GE/APE/";
     assert!(rt; fails_with(&rt, line, lines)?);
     Ok(())
 }
