@@ -1,4 +1,8 @@
 //! Connections to servers that are asked one after the other.
+ghost use Rattle.std.specs.Prelude.{◌≡◌, true, false, IfErr, None, OnOk};
+ghost use Rattle.job_read.specs.Endings.{goes_on};
+ghost use Rattle.job_read.specs.Places.{place_after};
+
 use crate::asking::RenewedReader;
 use crate::endings::unlisted;
 use crate::places::Places;
@@ -50,7 +54,14 @@ impl<'r, 'a, 'w, R: Eprint + Clock + Net> Connections<'r, 'a, 'w, R> {
     }
 
     /// The turn passes to the next server after a failure, unless that ends the reading.
-    fn pass(&mut self, incident: Incident<'a>) -> Result<(), Incident<'a>> {
+    fn pass(&mut self, incident: Incident<'a>) -> Result<(), Incident<'a>>
+        ensures passed { OnOk result ((goes_on incident.entry.failure self.old.places.place self.old.places.count
+            self.old.reading.now.is_retried ≡ true) × (self.new.places ≡ record self.old.places {
+            place = place_after self.old.places.place self.old.places.count })) }
+        ensures ended { IfErr result (λ ended. (ended ≡ incident.entry)
+            × (goes_on incident.entry.failure self.old.places.place self.old.places.count
+            self.old.reading.now.is_retried ≡ false)) }
+    {
         self.reading.pass_over(self.rt, incident, &self.places)?;
         self.places.pass();
         Ok(())
@@ -128,6 +139,8 @@ impl<'r, 'a, 'w, R: Eprint + Clock + Net> Servers for Connections<'r, 'a, 'w, R>
 
     type Fault = Incident<'a>;
 
+    ghost told = { λ _. None };
+
     fn connect(&mut self) -> Result<Connected<'r, R, R::Stream>, Incident<'a>> {
         self.reading.renewal.begin();
         self.reading.patience.begin();
@@ -164,5 +177,13 @@ impl<'r, 'a, 'w, R: Eprint + Clock + Net> Servers for Connections<'r, 'a, 'w, R>
             return Err(incident);
         }
         self.pass(incident)
+    }
+
+    fn close(
+        &mut self,
+        _reader: ConnectionReader<'r, R, R::Stream>,
+        _writer: Outer<CommandWriter<'r, R::Stream>>,
+    ) {
+        hold(self.present, None);
     }
 }

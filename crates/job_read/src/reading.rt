@@ -1,14 +1,12 @@
 //! Reads records from a server.
-ghost use Rattle.std.specs.Prelude.{◌≡◌};
-ghost use Rattle.std.specs.Prelude.{is_some};
+ghost use Rattle.std.specs.Prelude.{◌≡◌, is_some};
 ghost use Rattle.job_read.specs.Asking.{is_told};
 
 use crate::archiving::{Lasting, WholeFile, archive_at, at_archive, mend_end, output_at};
 use crate::asking::Renewal;
 use crate::connections::Connections;
 use crate::endings::goes_on;
-use crate::hearing::{HeardLines, Listener};
-use crate::notices::{ErrorTeller, RefusalTeller};
+use crate::following::follow_any;
 use crate::patience::{Patience, pause, silence_between, time_limit};
 use crate::places::Places;
 use crate::states::{SameFile, StateFile, StateKeeper};
@@ -20,11 +18,11 @@ use job_base::{
     ReasonKeeper, ServerAddress, StandardError as Eprinted, server_of, tell_incident, times_of,
     unopened,
 };
-use packet_listing::{Break, Keeper, ListingFault, Nowhere, Servers, follow};
+use packet_listing::{Break, Nowhere};
 use record_archive::FileLength;
 use record_listing::Times;
 use sl_io::{Outer, Sink};
-use slreader::{ReaderFault, Tally, Want};
+use slreader::{Tally, Want};
 use std::alloc::{AllocError, Global};
 use std::cell::RefCell;
 use std::fs::{File, OpenOptions};
@@ -49,20 +47,20 @@ fn servers_of<'a>(alloc: Global, word: &'a str) -> Result<Vec<ServerAddress<'a>>
 #[derive(Drop)]
 pub struct Reading<'a, 'w> {
     pub servers: Vec<ServerAddress<'a>>,
-    wants: Vec<Want<'w>>,
+    pub wants: Vec<Want<'w>>,
     /// After how long the next server is asked, or the first one again.
     pause: Duration,
     /// Whether the first one is asked again after the last.
     is_retried: bool,
     is_verbose: bool,
     /// Whether it is told what is met.
-    is_told: bool,
+    pub is_told: bool,
     /// When wants that are refused are asked again.
     pub renewal: Renewal,
     /// When a server that is silent is left.
     pub patience: Patience,
     /// How times are written.
-    times: Times,
+    pub times: Times,
 }
 
 impl<'a> Reading<'a, '_> {
@@ -159,87 +157,6 @@ where
         Err(Break::Server(_)) if reading.patience.is_over() => Ok(()),
         Err(end) => Err(ended_by(end, servers.server(), keeper.site())),
     }
-}
-
-/// Asks servers for what a reading wants. What is met is told, if it is to be.
-fn follow_any<R: Eprint + Clock + AllocGlobal, S: Servers, O: Sink + Drop, P: Sink, K: Keeper<P>>(
-    rt: &R,
-    reading: &Reading<'_, '_>,
-    tally: &mut Tally,
-    servers: &mut S,
-    out: O,
-    records: &mut P,
-    keeper: &mut K,
-) -> Result<(), Break<S::Fault>> {
-    if reading.is_told {
-        follow_told(rt, reading, tally, servers, out, records, keeper)
-    } else {
-        let mut out = out;
-        follow_with(
-            rt.alloc(),
-            reading,
-            tally,
-            servers,
-            &mut out,
-            records,
-            keeper,
-        )
-    }
-}
-
-/// Asks servers for what a reading wants.
-fn follow_with<S: Servers, O: Sink, P: Sink, K: Keeper<P>>(
-    alloc: Global,
-    reading: &Reading<'_, '_>,
-    tally: &mut Tally,
-    servers: &mut S,
-    out: &mut O,
-    records: &mut P,
-    keeper: &mut K,
-) -> Result<(), Break<S::Fault>> {
-    follow(
-        alloc,
-        reading.times,
-        &reading.wants,
-        tally,
-        servers,
-        out,
-        records,
-        keeper,
-    )
-}
-
-/// The same, and what is met is told.
-fn follow_told<
-    'r,
-    R: Eprint + Clock + AllocGlobal,
-    S: Servers,
-    O: Sink + Drop,
-    P: Sink,
-    K: Keeper<P>,
->(
-    rt: &'r R,
-    reading: &'r Reading<'_, '_>,
-    tally: &mut Tally,
-    servers: &mut S,
-    out: O,
-    records: &mut P,
-    keeper: &mut K,
-) -> Result<(), Break<S::Fault>> {
-    let Ok(listener) = Listener::new(rt.alloc(), &reading.wants, tally) else {
-        return Err(Break::Listing(ListingFault::Reader(ReaderFault::OutOfMemory)));
-    };
-    let teller = RefusalTeller::new(ErrorTeller::new(rt), rt, &reading.renewal);
-    let mut out = HeardLines::new(out, listener, teller);
-    follow_with(
-        rt.alloc(),
-        reading,
-        tally,
-        servers,
-        &mut out,
-        records,
-        keeper,
-    )
 }
 
 /// Why a reading ended before its end: what no server mended, or what a listing met at a server, or where the state

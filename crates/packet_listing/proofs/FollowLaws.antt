@@ -1,18 +1,24 @@
 -- Laws over the connections that are made one after the other.
-use Rattle.std.proofs.Common.{◌≡◌, ℕ, List, [], ◌∷◌, ◌++◌, sym, subst, append_assoc, append-nil}
+use Rattle.std.proofs.Common.{◌≡◌, ℕ, ◌+◌, ◌*◌, ◌-◌, ◌^◌, List, [], ◌∷◌, ◌++◌, true, Ok, Err, sym, subst}
+use Rattle.std.proofs.Common.{append_assoc, append-nil, arith, inl, inr, length, length-append, refl}
 use Rattle.std.specs.Prelude.{Option}
-use Rattle.slreader.specs.GoingOn.{plan_on}
 use Rattle.slreader.specs.Tallies.{TallyValue}
 use Rattle.slreader.specs.Wants.{WantValue}
-use Rattle.packet_listing.specs.Following.{Follows, FollowsAmid, FollowsToEnd, reader_on}
+use Rattle.packet_listing.specs.declared.fault.ListingFault.{ListingFault}
+use Rattle.packet_listing.specs.declared.fault.ListingFault.TheVariants.{Reader, Read, Write, State}
+use Rattle.packet_listing.specs.declared.following.Break.TheVariants.{Listing, Server}
+use Rattle.packet_listing.specs.Breaks.{StopsVisits}
+use Rattle.packet_listing.specs.Calls.{Call, ConnectionValue}
+use Rattle.packet_listing.specs.Calls.Call.{Connects, Fails, PassesOver, Closes}
+use Rattle.packet_listing.specs.Following.{Follows, reader_on}
 use Rattle.packet_listing.specs.Following.Follows.{Further}
-use Rattle.packet_listing.specs.Keeping.{AreBehind, Deed, KeepsBehind, KeepsCounted}
+use Rattle.packet_listing.specs.Keeping.{AreBehind, CountsKeeping, Deed, KeepsBehind, KeepsCounted, Tells}
 use Rattle.packet_listing.specs.Keeping.AreBehind.{Nothing, Last, Keep}
 use Rattle.packet_listing.specs.Keeping.Deed.{Flushed, Kept}
-use Rattle.packet_listing.specs.Lines.{style_of}
-use Rattle.record_listing.specs.declared.options.Times.{Times}
-use Rattle.packet_listing.specs.Whole.{CountsWritten, Ends, RecordsFirst}
-use Rattle.packet_listing.proofs.KeepLaws.{Tells-trans}
+use Rattle.packet_listing.specs.Visits.{Asking, BreaksVisit, EndsVisit, EndsVisits, Progress, StopsVisit, Visits}
+use Rattle.packet_listing.specs.Visits.Visits.{NoVisit, OneMore}
+use Rattle.packet_listing.specs.Whole.{CountsWritten, is_told_before}
+use Rattle.packet_listing.proofs.KeepLaws.{Tells-nil, Tells-trans}
 
 -- more that is kept, one behind the other
 behind-append : (Fits Others : TallyValue → Option (List ℕ) → Type 0)
@@ -38,42 +44,100 @@ follows-keeps wants t t1 records records1 x y z f h k = (
       (λ u w counted. Further f counted) h.0 k.0 h.2 k.2,
 )
 
--- the last connection came to the end
-pub follows-end : (times : Times) (wants : List WantValue) (t t1 : TallyValue)
-    (records records1 records2 left left' sent sent' lines lines' : Option (List ℕ))
-    → Follows wants t records t1 records1
-    → Ends (reader_on wants t1) (style_of times (plan_on t1 wants)) left left' sent sent' lines lines' records1 records2
-    → FollowsToEnd wants t records records2
-follows-end times wants t t1 records records1 records2 left left' sent sent' lines lines' f h =
-    record {
-      tally = t1;
-      before = records1;
-      follows = f;
-      times = times;
-      left = left;
-      left' = left';
-      sent = sent;
-      sent' = sent';
-      lines = lines;
-      lines' = lines';
-      ends = h;
-    }
+-- ---- what was done at servers
 
--- the last one broke off
-pub follows-amid : (times : Times) (wants : List WantValue) (t t1 t2 : TallyValue)
-    (records records1 records2 left left' lines lines' : Option (List ℕ)) → Follows wants t records t1 records1
-    → t2 ≡ t1
-    → RecordsFirst (reader_on wants t1) (style_of times (plan_on t1 wants)) left left' lines lines' records1 records2
-    → FollowsAmid wants t records t2 records2
-follows-amid times wants t t1 t2 records records1 records2 left left' lines lines' f same h =
-    subst (λ u. FollowsAmid wants t records u records2) (sym same)
-    (record {
-      before = records1;
-      follows = f;
-      times = times;
-      left = left;
-      left' = left';
-      lines = lines;
-      lines' = lines';
-      first = h;
-    })
+-- So many connections were made, which broke off and were passed over.
+pub record Visited {F : Type 0} (a : Asking) (p p' : Progress) (told told' : Option (List (Call F))) (count : ℕ)
+    : Type 0 where
+  pub calls : List (Call F)
+  pub visits : Visits a p calls p'
+  pub called : Tells told told' calls
+  pub twice : length calls ≡ 2 * count
+
+pub visited-none : {F : Type 0} → (a : Asking) (p : Progress) (x : Option (List (Call F))) → Visited a p p x x 0
+visited-none a p x = record { calls = []; visits = NoVisit; called = Tells-nil x; twice = refl }
+
+both : {F : Type 0} → (x y z w : Option (List (Call F))) (calls : List (Call F)) (c d : Call F) → Tells x y calls
+    → Tells y z (c ∷ []) → Tells z w (d ∷ []) → Tells x w (calls ++ c ∷ d ∷ [])
+both x y z w calls c d h k l =
+    Tells-trans x y w calls (c ∷ d ∷ []) h (Tells-trans y z w (c ∷ []) (d ∷ []) k l)
+
+pub visited-more : {F : Type 0} → (a : Asking) (p p1 p2 : Progress) (x y z w : Option (List (Call F))) (count : ℕ)
+    (fault : ListingFault) (c c' : ConnectionValue) → Visited a p p1 x y count → Tells y z (Connects c ∷ [])
+    → Tells z w (PassesOver fault c' (Ok tt) ∷ []) → BreaksVisit a fault c c' p1 p2 → Visited a p p2 x w (count + 1)
+visited-more a p p1 p2 x y z w count fault c c' v connects passes breaks = record {
+  calls = v.calls ++ Connects c ∷ PassesOver fault c' (Ok tt) ∷ [];
+  visits = OneMore v.visits fault c c' breaks;
+  called = both x y z w v.calls (Connects c) (PassesOver fault c' (Ok tt)) v.called connects passes;
+  twice = let twice = v.twice in
+      omega (arith, length-append v.calls (Connects c ∷ PassesOver fault c' (Ok tt) ∷ []), twice);
+}
+
+-- ---- how it ends
+
+pub visited-end : {F : Type 0} → (a : Asking) (p p1 p2 : Progress) (x y z w : Option (List (Call F))) (count : ℕ)
+    (c c' : ConnectionValue) → Visited a p p1 x y count → Tells y z (Connects c ∷ []) → Tells z w (Closes c' ∷ [])
+    → EndsVisit a c c' p1 p2 → EndsVisits a p p2 x w
+visited-end a p p1 p2 x y z w count c c' v connects closes ends = record {
+  calls = v.calls;
+  before = p1;
+  visits = v.visits;
+  from = c;
+  to = c';
+  called = both x y z w v.calls (Connects c) (Closes c') v.called connects closes;
+  ends = ends;
+}
+
+pub visited-stopped : {F : Type 0} → (a : Asking) (p p1 p2 : Progress) (x y z w : Option (List (Call F))) (count : ℕ)
+    (fault : ListingFault) (c c' : ConnectionValue) → Visited a p p1 x y count → Tells y z (Connects c ∷ [])
+    → Tells z w (Closes c' ∷ []) → StopsVisit a fault c c' p1 p2 → StopsVisits (Listing fault) a p p2 x w
+visited-stopped a p p1 p2 x y z w count fault c c' v connects closes stops = inl (record {
+  calls = v.calls;
+  before = p1;
+  visits = v.visits;
+  from = c;
+  to = c';
+  called = both x y z w v.calls (Connects c) (Closes c') v.called connects closes;
+  stops = stops;
+})
+
+pub visited-many : {F : Type 0} → (a : Asking) (p p' : Progress) (x y : Option (List (Call F))) (count : ℕ)
+    → Visited a p p' x y count → count ≡ 2 ^ 64 - 1 → StopsVisits (Listing Read) a p p' x y
+visited-many a p p' x y count v all = inr (record {
+  read = refl;
+  calls = v.calls;
+  visits = v.visits;
+  called = v.called;
+  count = let twice = v.twice in subst (λ n. length v.calls ≡ 2 * n) all twice;
+})
+
+pub visited-failed : {F : Type 0} → (fault : F) (a : Asking) (p p' : Progress) (x y z : Option (List (Call F)))
+    (count : ℕ) → Visited a p p' x y count → Tells y z (Fails fault ∷ []) → StopsVisits (Server fault) a p p' x z
+visited-failed fault a p p' x y z count v fails = inl (record {
+  calls = v.calls;
+  visits = v.visits;
+  called = Tells-trans x y z v.calls (Fails fault ∷ []) v.called fails;
+})
+
+pub visited-broken : {F : Type 0} → (fault : F) (a : Asking) (p p1 p2 : Progress) (x y z w : Option (List (Call F)))
+    (count : ℕ) (why : ListingFault) (c c' : ConnectionValue) → Visited a p p1 x y count
+    → Tells y z (Connects c ∷ []) → Tells z w (PassesOver why c' (Err fault) ∷ []) → BreaksVisit a why c c' p1 p2
+    → StopsVisits (Server fault) a p p2 x w
+visited-broken fault a p p1 p2 x y z w count why c c' v connects passes breaks = inr (record {
+  calls = v.calls;
+  before = p1;
+  visits = v.visits;
+  why = why;
+  from = c;
+  to = c';
+  called = both x y z w v.calls (Connects c) (PassesOver why c' (Err fault)) v.called connects passes;
+  breaks = breaks;
+})
+
+-- No keeper failed at a fault at which all is told.
+pub not-keeping : (T : Type 0) (fault : ListingFault) (failures failures' : ℕ) → is_told_before fault ≡ true
+    → CountsKeeping {T = T} (Err fault) failures failures' → failures' ≡ failures
+not-keeping T (Reader other) failures failures' told h = h
+not-keeping T Read failures failures' told h = h
+not-keeping T Write failures failures' told h = absurd cc
+not-keeping T State failures failures' told h = absurd cc

@@ -9,8 +9,10 @@ use Rattle.slreader.specs.Tallies.{TallyValue}
 use Rattle.slreader.specs.Wants.{PlanValue, is_plan}
 use Rattle.packet_listing.specs.declared.fault.ListingFault.{ListingFault}
 use Rattle.packet_listing.specs.declared.fault.ListingFault.TheVariants.{Reader, Read, Write, State}
+use Rattle.packet_listing.specs.Lines.{LineStyle}
 use Rattle.packet_listing.specs.Stops.{StopsListing}
-use Rattle.packet_listing.specs.Whole.{CountsWritten, IsNotBegunBy, is_told_before}
+use Rattle.packet_listing.specs.Whole.{EndsCounted, IsNotBegunBy, StopsCounted, is_told_before}
+use Rattle.packet_listing.proofs.ReadLaws.{ends-as, stops-as}
 
 -- a plan that the reader does not begin
 pub not-begun : (fault : ReaderFault) (plan : PlanValue) → IsNotBegun fault plan → IsNotBegunBy (Reader fault) plan
@@ -53,29 +55,36 @@ left : (b : Bool) (t old new : TallyValue) → new ≡ (if b then t else old) �
 left true t old new is so = absurd cc
 left false t old new is so = is
 
-as-counted : (q q' : ReaderValue) (t new : TallyValue) (records records' : Option (List ℕ)) → q ≡ q' → new ≡ t
-    → CountsWritten q t records records' → CountsWritten q' new records records'
-as-counted q q' t new records records' same is h =
-    subst (λ x. CountsWritten x new records records') same
-    (subst (λ x. CountsWritten q x records records') (sym is) h)
-
 -- what was counted at the end is the tally
-pub counted-ok : {V : Type 0} → (q q' : ReaderValue) (records records' : Option (List ℕ)) (r : Result V ListingFault)
-    (b : Bool) (t old new : TallyValue) → q ≡ q' → OnOk r (b ≡ true) → new ≡ (if b then t else old)
-    → OnOk r (CountsWritten q t records records') → OnOk r (CountsWritten q' new records records')
-counted-ok q q' records records' (Ok v) b t old new same so is h =
-    as-counted q q' t new records records' same (taken b t old new is so) h
-counted-ok q q' records records' (Err fault) b t old new same so is h = tt
+pub ended-ok : {V : Type 0} → (q q' : ReaderValue) (style style' : LineStyle)
+    (left left' sent sent' lines lines' records records' : Option (List ℕ)) (r : Result V ListingFault)
+    (b : Bool) (t old new : TallyValue) → q ≡ q' → style ≡ style' → OnOk r (b ≡ true)
+    → new ≡ (if b then t else old)
+    → OnOk r (EndsCounted q t style left left' sent sent' lines lines' records records')
+    → OnOk r (EndsCounted q' new style' left left' sent sent' lines lines' records records')
+ended-ok q q' style style' left left' sent sent' lines lines' records records' (Ok v) b t old new same alike so is h =
+    ends-as q q' new style style' left left' sent sent' lines lines' records records' same alike
+    (subst (λ x. EndsCounted q x style left left' sent sent' lines lines' records records')
+    (sym (taken b t old new is so)) h)
+ended-ok q q' style style' left left' sent sent' lines lines' records records' (Err fault) b t old new same alike so is
+    h = tt
 
 -- and at a fault at which all is told
-pub counted-err : {V : Type 0} → (q q' : ReaderValue) (records records' : Option (List ℕ)) (r : Result V ListingFault)
-    (b : Bool) (t old new : TallyValue) → q ≡ q' → IfErr r (λ fault. b ≡ is_told_before fault)
+pub stopped-err : {V : Type 0} → (q q' : ReaderValue) (style style' : LineStyle)
+    (left left' sent sent' lines lines' records records' : Option (List ℕ)) (r : Result V ListingFault)
+    (b : Bool) (t old new : TallyValue) → q ≡ q' → style ≡ style' → IfErr r (λ fault. b ≡ is_told_before fault)
     → new ≡ (if b then t else old)
-    → IfErr r (λ fault. is_told_before fault ≡ true → CountsWritten q t records records')
-    → IfErr r (λ fault. is_told_before fault ≡ true → CountsWritten q' new records records')
-counted-err q q' records records' (Ok v) b t old new same told is h = tt
-counted-err q q' records records' (Err fault) b t old new same told is h =
-    λ so. as-counted q q' t new records records' same (taken b t old new is (told ∙ so)) (h so)
+    → IfErr r (λ fault. is_told_before fault ≡ true
+    → StopsCounted fault q t style left left' sent sent' lines lines' records records')
+    → IfErr r (λ fault. is_told_before fault ≡ true
+    → StopsCounted fault q' new style' left left' sent sent' lines lines' records records')
+stopped-err q q' style style' left left' sent sent' lines lines' records records' (Ok v) b t old new same alike told is
+    h = tt
+stopped-err q q' style style' left left' sent sent' lines lines' records records' (Err fault) b t old new same alike
+    told is h = λ so.
+    stops-as fault q q' new style style' left left' sent sent' lines lines' records records' same alike
+    (subst (λ x. StopsCounted fault q x style left left' sent sent' lines lines' records records')
+    (sym (taken b t old new is (told ∙ so))) (h so))
 
 -- at another one it stays
 pub kept-err : {V : Type 0} → (r : Result V ListingFault) (b : Bool) (t old new : TallyValue)

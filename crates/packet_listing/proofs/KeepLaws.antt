@@ -19,11 +19,12 @@ use Rattle.packet_listing.proofs.CountLaws.{counts-listed}
 
 -- ---- deeds, one after the other
 
-pub Tells-nil : (a : Option (List Deed)) → Tells a a []
+pub Tells-nil : {A : Type 0} → (a : Option (List A)) → Tells a a []
 Tells-nil None = tt
 Tells-nil (Some ds) = sym (append-nil ds)
 
-pub Tells-trans : (a b c : Option (List Deed)) (ds es : List Deed) → Tells a b ds → Tells b c es → Tells a c (ds ++ es)
+pub Tells-trans : {A : Type 0} → (a b c : Option (List A)) (ds es : List A) → Tells a b ds → Tells b c es
+    → Tells a c (ds ++ es)
 Tells-trans a b None ds es h k = tt
 Tells-trans None None (Some xs) ds es h k = absurd k
 Tells-trans (Some zs) None (Some xs) ds es h k = absurd k

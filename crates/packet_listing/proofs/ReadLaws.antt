@@ -11,6 +11,7 @@ use Rattle.slreader.specs.declared.fault.ReaderFault.TheVariants.{Limit, OutOfMe
 use Rattle.slreader.specs.Dialogue.{ReaderValue, Given, given_from, read_on}
 use Rattle.slreader.specs.Dialogue.Given.{Hello, Refused, Packet, End}
 use Rattle.slreader.specs.Dialogue.Stage.{Failed}
+use Rattle.slreader.specs.Tallies.{TallyValue}
 use Rattle.slreader.proofs.SentLaws.{with_sent, read_on-sent, given_from-sent, asked-grows}
 use Rattle.slreader.proofs.FaultLaws.{read-no-limit}
 use Rattle.slreader.proofs.ReadingLaws.{read_on-append, given_from-append}
@@ -19,8 +20,8 @@ use Rattle.packet_listing.specs.declared.fault.ListingFault.TheVariants.{Reader}
 use Rattle.packet_listing.specs.Lines.{LineStyle, OutputValue, refusal_at, with_given, with_all}
 use Rattle.packet_listing.specs.Pieces.{GoesOver, Takes, FailsIn}
 use Rattle.packet_listing.specs.Rounds.{ListedTo}
-use Rattle.packet_listing.specs.Whole.{Ends, IsWhy, StopsAt, is_told_before, line_given, lines_given, record_given}
-use Rattle.packet_listing.specs.Whole.{records_given}
+use Rattle.packet_listing.specs.Whole.{EndsCounted, IsWhy, StopsCounted, is_told_before, line_given, lines_given}
+use Rattle.packet_listing.specs.Whole.{record_given, records_given}
 
 -- ---- what is told of things given one after the other
 
@@ -204,24 +205,27 @@ pub ends : (r r1 r2 : ReaderValue) (o o1 o2 o3 : OutputValue)
     → Consumes left1 left2 piece →
     Appends lines1 lines2 o2.lines → Appends records1 records2 o2.records → o3 ≡ record o2 { lines = []; records = [] }
     →
-    Appends sent1 sent2 (drop r2.sent r2.asked) →
-    Ends r o.style left left2 sent sent2 lines lines2 records records2
+    Appends sent1 sent2 (drop r2.sent r2.asked) → (tally : TallyValue) → tally ≡ r2.tally →
+    EndsCounted r tally o.style left left2 sent sent2 lines lines2 records records2
 ends r r1 r2 o o1 o2 o3 left left1 left2 sent sent1 sent2 lines lines1 lines2 records records1 records2 piece t takes
-    read told kept output more =
+    read told kept output more tally is =
     let back = put-back left1 left2 takes.bytes takes.behind (subst (Consumes left1 left2) (sym takes.parts) read) in
     let on = listed-on r r1 r2 o o1 o2 o3 left left1
     (prepend_known takes.behind left2) sent sent1 lines lines1 lines2 records records1 records2 takes.bytes
     t takes.goes back told kept output in
     record {
-      came = on.came;
-      behind = takes.behind;
-      read = take-back left left2 on.came takes.behind on.read;
-      over = ap (λ (x : ReaderValue). x.stage) (sym on.reader ∙ takes.goes.reader) ∙ takes.over refl;
-      asked =
-          all-sent r r2 o o3 left (prepend_known takes.behind left2) sent sent1 sent2 lines lines2 records records2 on
-          more;
-      told = on.told;
-      kept = on.kept;
+      ends = record {
+        came = on.came;
+        behind = takes.behind;
+        read = take-back left left2 on.came takes.behind on.read;
+        over = ap (λ (x : ReaderValue). x.stage) (sym on.reader ∙ takes.goes.reader) ∙ takes.over refl;
+        asked =
+            all-sent r r2 o o3 left (prepend_known takes.behind left2) sent sent1 sent2 lines lines2 records records2 on
+            more;
+        told = on.told;
+        kept = on.kept;
+      };
+      counted = is ∙ ap (λ (x : ReaderValue). x.tally) on.reader;
     }
 
 -- ---- no end yet
@@ -245,20 +249,23 @@ goes-on-listed r r1 r2 o o1 o2 o3 left left1 left2 sent sent1 lines lines1 lines
 pub stops : (fault : ListingFault) (r r1 : ReaderValue) (o o1 : OutputValue)
     (left left1 left2 sent sent1 lines lines1 records records1 : Option (List ℕ)) →
     ListedTo r r1 o o1 left left1 sent sent1 lines lines1 records records1 → Keeps left1 left2 → IsWhy fault r1.stage →
-    StopsAt fault r o.style left left2 sent sent1 lines lines1 records records1
+    StopsCounted fault r r1.tally o.style left left2 sent sent1 lines lines1 records records1
 stops fault r r1 o o1 left left1 left2 sent sent1 lines lines1 records records1 t keeps why =
     record {
-      came = t.came;
-      read = Consumes-kept left left1 left2 t.came t.read keeps;
-      why = subst (IsWhy fault) (ap (λ (x : ReaderValue). x.stage) t.reader) why;
-      asked = (
-        drop r.sent (take r1.sent (read_on r t.came).asked),
-        drop r1.sent (read_on r t.came).asked,
-        sym (join r.sent r1.sent (read_on r t.came).asked t.from t.within),
-        t.asked,
-      );
-      told = t.told;
-      kept = t.kept;
+      stops = record {
+        came = t.came;
+        read = Consumes-kept left left1 left2 t.came t.read keeps;
+        why = subst (IsWhy fault) (ap (λ (x : ReaderValue). x.stage) t.reader) why;
+        asked = (
+          drop r.sent (take r1.sent (read_on r t.came).asked),
+          drop r1.sent (read_on r t.came).asked,
+          sym (join r.sent r1.sent (read_on r t.came).asked t.from t.within),
+          t.asked,
+        );
+        told = t.told;
+        kept = t.kept;
+      };
+      counted = ap (λ (x : ReaderValue). x.tally) t.reader;
     }
 
 pub not-memory : (fault : ReaderFault) → is_told_before (Reader fault) ≡ true → fault ≢ OutOfMemory
@@ -274,7 +281,7 @@ pub fails : (fault : ReaderFault) (r r1 r2 : ReaderValue) (o o1 o2 o3 : OutputVa
     → Consumes left1 left2 piece →
     Appends lines1 lines2 o2.lines → Appends records1 records2 o2.records → o3 ≡ record o2 { lines = []; records = [] }
     →
-    StopsAt (Reader fault) r o.style left left2 sent sent1 lines lines2 records records2
+    StopsCounted (Reader fault) r r2.tally o.style left left2 sent sent1 lines lines2 records records2
 fails fault r r1 r2 o o1 o2 o3 left left1 left2 sent sent1 lines lines1 lines2 records records1 records2 piece t failed
     read told kept output =
     let on = listed-on r r1 r2 o o1 o2 o3 left left1 left2 sent sent1 lines lines1 lines2 records records1 records2
@@ -283,21 +290,21 @@ fails fault r r1 r2 o o1 o2 o3 left left1 left2 sent sent1 lines lines1 lines2 r
     (ap (λ (x : ReaderValue). x.stage) failed.goes.reader ∙ failed.stage)
 
 -- the same of another reader and other lines, where they are equal
-pub stops-as : (fault : ListingFault) (r r' : ReaderValue) (style style' : LineStyle)
+pub stops-as : (fault : ListingFault) (r r' : ReaderValue) (tally : TallyValue) (style style' : LineStyle)
     (left left' sent sent' lines lines' records records' : Option (List ℕ)) →
-    r ≡ r' → style ≡ style' → StopsAt fault r style left left' sent sent' lines lines' records records' →
-    StopsAt fault r' style' left left' sent sent' lines lines' records records'
-stops-as fault r r' style style' left left' sent sent' lines lines' records records' same alike h =
-    subst (λ x. StopsAt fault x style' left left' sent sent' lines lines' records records') same
-    (subst (λ x. StopsAt fault r x left left' sent sent' lines lines' records records') alike h)
+    r ≡ r' → style ≡ style' → StopsCounted fault r tally style left left' sent sent' lines lines' records records' →
+    StopsCounted fault r' tally style' left left' sent sent' lines lines' records records'
+stops-as fault r r' tally style style' left left' sent sent' lines lines' records records' same alike h =
+    subst (λ x. StopsCounted fault x tally style' left left' sent sent' lines lines' records records') same
+    (subst (λ x. StopsCounted fault r tally x left left' sent sent' lines lines' records records') alike h)
 
-pub ends-as : (r r' : ReaderValue) (style style' : LineStyle)
+pub ends-as : (r r' : ReaderValue) (tally : TallyValue) (style style' : LineStyle)
     (left left' sent sent' lines lines' records records' : Option (List ℕ)) →
-    r ≡ r' → style ≡ style' → Ends r style left left' sent sent' lines lines' records records' →
-    Ends r' style' left left' sent sent' lines lines' records records'
-ends-as r r' style style' left left' sent sent' lines lines' records records' same alike h =
-    subst (λ x. Ends x style' left left' sent sent' lines lines' records records') same
-    (subst (λ x. Ends r x left left' sent sent' lines lines' records records') alike h)
+    r ≡ r' → style ≡ style' → EndsCounted r tally style left left' sent sent' lines lines' records records' →
+    EndsCounted r' tally style' left left' sent sent' lines lines' records records'
+ends-as r r' tally style style' left left' sent sent' lines lines' records records' same alike h =
+    subst (λ x. EndsCounted x tally style' left left' sent sent' lines lines' records records') same
+    (subst (λ x. EndsCounted r tally x left left' sent sent' lines lines' records records') alike h)
 
 -- ---- no fault of the plan comes late
 

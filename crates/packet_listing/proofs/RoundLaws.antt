@@ -11,7 +11,6 @@ use Rattle.packet_listing.specs.Lines.{OutputValue}
 use Rattle.packet_listing.specs.Rounds.{Finishes, GoesOn, Moment, Rounds, Sends, StaysInOrder, StopsExchange}
 use Rattle.packet_listing.specs.Rounds.{StopsTaking, TakesBlock, moment}
 use Rattle.packet_listing.specs.Stops.{AreBothQuiet, AreQuiet, EndsReading, EndsReads, OneStops, StopsOver, Writes}
-use Rattle.packet_listing.proofs.CountLaws.{counts-ended, counts-failed, counts-listed}
 use Rattle.packet_listing.proofs.OrderLaws.{all-written, listed-first, written-first}
 use Rattle.packet_listing.proofs.ReadLaws.{ends, fails, goes-on-listed, listed-sent, not-memory, stops}
 
@@ -22,12 +21,9 @@ pub exchange-round : (fault : ListingFault) (r r' : ReaderValue) (o : OutputValu
     StopsExchange fault r r' left left' sent sent' failures failures' writes writes' →
     Rounds (Err fault) (moment r o left sent lines records) (moment r' o left' sent' lines records)
 exchange-round (Reader fault) r r' o left left' sent sent' lines records failures failures' writes writes' h = absurd h
-exchange-round Read r r' o left left' sent sent' lines records failures failures' writes writes' h = λ told. record {
-  stops = λ m t. stops Read _ _ _ _ _ _ _ _ _ _ _ _ _
-      (listed-sent _ _ _ _ _ _ _ _ _ _ _ _ _ _ t h.sends.written h.sends.reader) h.kept tt;
-  counted = λ m t. counts-listed _ _ _ _ _ _ _ _ _ _ _ _
-      (listed-sent _ _ _ _ _ _ _ _ _ _ _ _ _ _ t h.sends.written h.sends.reader);
-}
+exchange-round Read r r' o left left' sent sent' lines records failures failures' writes writes' h = λ told m t.
+    stops Read _ _ _ _ _ _ _ _ _ _ _ _ _
+    (listed-sent _ _ _ _ _ _ _ _ _ _ _ _ _ _ t h.sends.written h.sends.reader) h.kept tt
 exchange-round Write r r' o left left' sent sent' lines records failures failures' writes writes' h = λ told. absurd cc
 exchange-round State r r' o left left' sent sent' lines records failures failures' writes writes' h = absurd h
 
@@ -78,17 +74,11 @@ pub taking-round : (fault : ListingFault) (r r1 r2 : ReaderValue) (o o2 : Output
     StopsTaking fault r1 r2 o o2 piece lines lines' records records' quiet stopped →
     Rounds (Err fault) (moment r o left sent lines records) (moment r2 o2 left' sent1 lines' records')
 taking-round (Reader fault) r r1 r2 o o2 left left' sent sent1 lines lines' records records' piece quiet stopped s read
-    h = λ told.
+    h = λ told m t.
     let failed = h.0.fails (not-memory fault told) in
     let wrote = h.0.written in
-    record {
-      stops = λ m t. fails fault _ _ _ _ _ _ _ _ _ _ _ _ _ _ _ _ _ _ _
-          (listed-sent _ _ _ _ _ _ _ _ _ _ _ _ _ _ t s.written s.reader) failed read wrote.listed wrote.kept
-          wrote.cleared;
-      counted = λ m t. counts-failed fault _ _ _ _ _ _ _ _ _ _ _ _ _ _ _ _ _ _ _
-          (listed-sent _ _ _ _ _ _ _ _ _ _ _ _ _ _ t s.written s.reader) failed read wrote.listed wrote.kept
-          wrote.cleared;
-    }
+    fails fault _ _ _ _ _ _ _ _ _ _ _ _ _ _ _ _ _ _ _
+    (listed-sent _ _ _ _ _ _ _ _ _ _ _ _ _ _ t s.written s.reader) failed read wrote.listed wrote.kept wrote.cleared
 taking-round Read r r1 r2 o o2 left left' sent sent1 lines lines' records records' piece quiet stopped s read h =
     absurd h
 taking-round Write r r1 r2 o o2 left left' sent sent1 lines lines' records records' piece quiet stopped s read h =
@@ -168,14 +158,9 @@ pub taken-over : (r r1 r2 r3 : ReaderValue) (o o2 : OutputValue)
 taken-over r r1 r2 r3 o o2 left left' sent sent1 sent2 lines lines' records records' piece is_over s read over taken more
     is =
     let h = subst (λ b. TakesBlock r1 r2 o o2 piece b lines lines' records records') over taken in
-    record {
-      ends = λ m t. ends _ _ _ _ _ _ _ _ _ _ _ _ _ _ _ _ _ _ _ _
-          (listed-sent _ _ _ _ _ _ _ _ _ _ _ _ _ _ t s.written s.reader) h.takes read h.written.listed
-          h.written.kept h.written.cleared more;
-      counted = λ m t. counts-ended _ _ _ _ _ _ _ _ _ _ _ _ _ _ _ _ _ _ _
-          (listed-sent _ _ _ _ _ _ _ _ _ _ _ _ _ _ t s.written s.reader) h.takes read h.written.listed
-          h.written.kept h.written.cleared r3.tally (ap (λ (x : ReaderValue). x.tally) is);
-    }
+    λ m t. ends _ _ _ _ _ _ _ _ _ _ _ _ _ _ _ _ _ _ _ _
+    (listed-sent _ _ _ _ _ _ _ _ _ _ _ _ _ _ t s.written s.reader) h.takes read h.written.listed
+    h.written.kept h.written.cleared more r3.tally (ap (λ (x : ReaderValue). x.tally) is)
 
 pub taken-order : (r r1 r2 r3 : ReaderValue) (o o2 : OutputValue)
     (left left' sent sent1 sent2 lines lines' records records' : Option (List ℕ)) (piece : List ℕ) (is_over : Bool) →

@@ -1,13 +1,12 @@
 -- Why the reading of servers stops.
-use Rattle.std.specs.Prelude.{ℕ, List, Option}
-use Rattle.slreader.specs.Tallies.{TallyValue}
-use Rattle.slreader.specs.Wants.{WantValue}
+use Rattle.std.specs.Prelude.{List, Option, ◌⊎◌}
 use Rattle.packet_listing.specs.declared.following.Break.{Break}
 use Rattle.packet_listing.specs.declared.following.Break.TheVariants.{Listing, Server}
-use Rattle.packet_listing.specs.Following.{Follows, FollowsAmid}
+use Rattle.packet_listing.specs.Calls.{Call}
+use Rattle.packet_listing.specs.Visits.{Asking, BreaksLast, FailsAfter, ManyVisits, Progress, StopsLast}
 
--- how far it came
-abbrev pub StopsFollowing : {F : Type 0} → Break F → List WantValue → (t : TallyValue) → (records : Option (List ℕ))
-    → (t' : TallyValue) → (records' : Option (List ℕ)) → Type 0
-StopsFollowing (Listing fault) wants t records t' records' = FollowsAmid wants t records t' records'
-StopsFollowing (Server fault) wants t records t' records' = Follows wants t records t' records'
+-- what was done before
+abbrev pub StopsVisits : {F : Type 0} → Break F → Asking → (p p' : Progress) → (told told' : Option (List (Call F)))
+    → Type 0
+StopsVisits (Listing fault) a p p' told told' = StopsLast fault a p p' told told' ⊎ ManyVisits fault a p p' told told'
+StopsVisits (Server fault) a p p' told told' = FailsAfter fault a p p' told told' ⊎ BreaksLast fault a p p' told told'

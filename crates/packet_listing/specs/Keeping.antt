@@ -14,8 +14,8 @@ pub data Deed : Type 0 where
   -- What was counted was kept.
   Kept : TallyValue → Deed
 
--- These deeds were done between the two, where they are told after it.
-abbrev pub Tells : Option (List Deed) → Option (List Deed) → List Deed → Type 0
+-- These deeds or calls came between the two, where they are told after it.
+abbrev pub Tells : {A : Type 0} → Option (List A) → Option (List A) → List A → Type 0
 Tells old None more = Unit {0}
 Tells (Some before) (Some after) more = after ≡ before ++ more
 Tells None (Some after) more = ⊥

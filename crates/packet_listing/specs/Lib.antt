@@ -6,5 +6,8 @@ pub mod Stops
 pub mod Whole
 pub mod Keeping
 pub mod Keepers
+pub mod Calls
 pub mod Following
+pub mod Visits
 pub mod Breaks
+pub mod MemoryCalls

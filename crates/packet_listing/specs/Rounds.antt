@@ -11,7 +11,7 @@ use Rattle.packet_listing.specs.declared.fault.ListingFault.TheVariants.{Reader,
 use Rattle.packet_listing.specs.Lines.{OutputValue}
 use Rattle.packet_listing.specs.Pieces.{FailsIn, Takes, TellsFirst, WritesRecordsFirst}
 use Rattle.packet_listing.specs.Stops.{AreQuiet, EndsReading, Stop, Writes}
-use Rattle.packet_listing.specs.Whole.{CountsWritten, Ends, RecordsFirst, StopsAt, is_told_before, lines_given}
+use Rattle.packet_listing.specs.Whole.{EndsCounted, RecordsFirst, StopsCounted, is_told_before, lines_given}
 use Rattle.packet_listing.specs.Whole.{records_given}
 
 -- ---- what is asked is sent, and a piece is read
@@ -126,16 +126,14 @@ abbrev pub GoesOn : Moment → Moment → Type 0
 GoesOn n n' = (m : Moment) → IsListed m n → IsListed m n'
 
 -- The transfer has ended, and it is told and counted as a whole.
-pub record Finishes (n n' : Moment) : Type 0 where
-  pub ends : (m : Moment) → IsListed m n → Ends m.reader m.output.style m.left n'.left m.sent n'.sent
-      m.lines n'.lines m.records n'.records
-  pub counted : (m : Moment) → IsListed m n → CountsWritten m.reader n'.reader.tally m.records n'.records
+abbrev pub Finishes : Moment → Moment → Type 0
+Finishes n n' = (m : Moment) → IsListed m n → EndsCounted m.reader n'.reader.tally m.output.style m.left n'.left
+    m.sent n'.sent m.lines n'.lines m.records n'.records
 
 -- It stopped, and all that came is told and counted.
-pub record BreaksOff (fault : ListingFault) (n n' : Moment) : Type 0 where
-  pub stops : (m : Moment) → IsListed m n → StopsAt fault m.reader m.output.style m.left n'.left m.sent n'.sent
-      m.lines n'.lines m.records n'.records
-  pub counted : (m : Moment) → IsListed m n → CountsWritten m.reader n'.reader.tally m.records n'.records
+abbrev pub BreaksOff : ListingFault → Moment → Moment → Type 0
+BreaksOff fault n n' = (m : Moment) → IsListed m n → StopsCounted fault m.reader n'.reader.tally m.output.style
+    m.left n'.left m.sent n'.sent m.lines n'.lines m.records n'.records
 
 -- Records were written before their lines.
 abbrev pub StaysInOrder : Moment → Moment → Type 0

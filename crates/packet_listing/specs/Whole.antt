@@ -51,6 +51,12 @@ pub record Ends (r : ReaderValue) (style : LineStyle)
   pub told : Appends lines lines' (lines_given style (given_from r came))
   pub kept : Appends records records' (records_given (given_from r came))
 
+-- The same, and the tally counts what came.
+pub record EndsCounted (r : ReaderValue) (tally : TallyValue) (style : LineStyle)
+    (left left' sent sent' lines lines' records records' : Option (List ℕ)) : Type 0 where
+  pub ends : Ends r style left left' sent sent' lines lines' records records'
+  pub counted : tally ≡ (read_on r ends.came).tally
+
 -- ---- at a fault
 
 -- the reader's fault is the one of the dialogue
@@ -81,6 +87,12 @@ pub record StopsAt (fault : ListingFault) (r : ReaderValue) (style : LineStyle)
   pub asked : AppendsBeginning sent sent' (drop r.sent (read_on r came).asked)
   pub told : Appends lines lines' (lines_given style (given_from r came))
   pub kept : Appends records records' (records_given (given_from r came))
+
+-- The same, and the tally counts what came.
+pub record StopsCounted (fault : ListingFault) (r : ReaderValue) (tally : TallyValue) (style : LineStyle)
+    (left left' sent sent' lines lines' records records' : Option (List ℕ)) : Type 0 where
+  pub stops : StopsAt fault r style left left' sent sent' lines lines' records records'
+  pub counted : tally ≡ (read_on r stops.came).tally
 
 -- ---- at whatever point it stops
 

@@ -1,40 +1,18 @@
 //! A reader of several servers, one after the other.
 ghost use Rattle.std.specs.Prelude.{OnOk, IfErr};
-ghost use Rattle.packet_listing.specs.Breaks.{StopsFollowing};
-ghost use Rattle.packet_listing.specs.Following.{Follows, FollowsToEnd};
+ghost use Rattle.packet_listing.specs.Breaks.{StopsVisits};
+ghost use Rattle.packet_listing.specs.Following.{Follows};
 ghost use Rattle.packet_listing.specs.Keeping.{KeepsBehind};
+ghost use Rattle.packet_listing.specs.Visits.{EndsVisits, asking, progress};
 
 use crate::fault::ListingFault;
 use crate::keeping::Keeper;
 use crate::reading::{is_told_at, read_further};
+use crate::servers::Servers;
 use record_listing::Times;
-use sl_io::{Sink, Source};
+use sl_io::Sink;
 use slreader::{Tally, Want};
 use std::alloc::Global;
-
-/// Servers that are asked one after the other, each over a connection of its own.
-pub trait Servers {
-    /// What comes over a connection.
-    type Reader: Source + Drop;
-
-    /// Where commands go.
-    type Writer: Sink + Drop;
-
-    /// Why no server is asked any more.
-    type Fault: Drop;
-
-    /// A connection to the next server.
-    fn connect(&mut self) -> Result<(Self::Reader, Self::Writer), Self::Fault>;
-
-    /// A connection ended for that reason, and all that came over it is written. Unless this fails, the next server is
-    /// asked.
-    fn pass_over(
-        &mut self,
-        fault: ListingFault,
-        reader: Self::Reader,
-        writer: Self::Writer,
-    ) -> Result<(), Self::Fault>;
-}
 
 /// Why the reading of servers stops.
 #[derive(Drop)]
@@ -47,7 +25,8 @@ pub enum Break<F> {
 }
 
 /// Asks one server after the other for what wants want, each of them for what comes after the packets that were
-/// written, until one comes to the end of the transfer. Each connection is read as `read_further` does.
+/// written, until one comes to the end of the transfer. Each connection is read as `read_further` does. One that breaks
+/// off before the end is passed over; one at which the reading stops, or comes to the end, is closed.
 ///
 /// So of all that the servers hand out each record is written as it comes, and no server is asked for one that was
 /// written. What the keeper keeps counts exactly what was written and made to last before, over all connections.
@@ -61,10 +40,18 @@ pub fn follow<S: Servers, O: Sink, P: Sink, K: Keeper<P>>(
     records: &mut P,
     keeper: &mut K,
 ) -> Result<(), Break<S::Fault>>
-    ensures ends { OnOk result
-        (FollowsToEnd wants.now tally.old (P.written records.old) (P.written records.new)) }
-    ensures stops { IfErr result (λ why. StopsFollowing why wants.now tally.old (P.written records.old) tally.new
-        (P.written records.new)) }
+    ensures ends { OnOk result (EndsVisits (asking wants.now times)
+        (progress tally.old (O.written out.old) (O.failures out.old) (O.empty_writes out.old)
+        (P.written records.old) (P.failures records.old) (P.empty_writes records.old) (K.failures keeper.old))
+        (progress tally.new (O.written out.new) (O.failures out.new) (O.empty_writes out.new)
+        (P.written records.new) (P.failures records.new) (P.empty_writes records.new) (K.failures keeper.new))
+        (S.told servers.old) (S.told servers.new)) }
+    ensures stops { IfErr result (λ why. StopsVisits why (asking wants.now times)
+        (progress tally.old (O.written out.old) (O.failures out.old) (O.empty_writes out.old)
+        (P.written records.old) (P.failures records.old) (P.empty_writes records.old) (K.failures keeper.old))
+        (progress tally.new (O.written out.new) (O.failures out.new) (O.empty_writes out.new)
+        (P.written records.new) (P.failures records.new) (P.empty_writes records.new) (K.failures keeper.new))
+        (S.told servers.old) (S.told servers.new)) }
     ensures behind { KeepsBehind (λ t w. Follows wants.now tally.old (P.written records.old) t w)
         (K.done keeper.old) (K.done keeper.new) }
 {
@@ -85,10 +72,14 @@ pub fn follow<S: Servers, O: Sink, P: Sink, K: Keeper<P>>(
             keeper,
         );
         let fault = match read {
-            Ok(()) => return Ok(()),
+            Ok(()) => {
+                servers.close(reader, writer);
+                return Ok(());
+            }
             Err(fault) => fault,
         };
         if !is_told_at(fault) {
+            servers.close(reader, writer);
             return Err(Break::Listing(fault));
         }
         match servers.pass_over(fault, reader, writer) {

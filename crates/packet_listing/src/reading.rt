@@ -10,7 +10,7 @@ ghost use Rattle.packet_listing.specs.declared.fault.ListingFault.TheVariants.{R
 ghost use Rattle.packet_listing.specs.Lines.{nothing_told, style_of};
 ghost use Rattle.slreader.specs.GoingOn.{begun_at, plan_on};
 ghost use Rattle.packet_listing.specs.Whole.{IsNotBegunBy};
-ghost use Rattle.packet_listing.specs.Whole.{CountsWritten, Ends, RecordsFirst, StopsAt, is_told_before};
+ghost use Rattle.packet_listing.specs.Whole.{Ends, EndsCounted, RecordsFirst, StopsAt, StopsCounted, is_told_before};
 ghost use Rattle.packet_listing.specs.Keeping.{CountsKeeping, EndsKept, KeepsCounted, Steps, Tells};
 ghost use Rattle.packet_listing.specs.Keeping.Deed.{Flushed, Kept};
 ghost use Rattle.packet_listing.specs.Stops.{EndsReads, StopsOver, writes};
@@ -42,18 +42,15 @@ fn read_blocks<R: Source, W: Sink, O: Sink, P: Sink, K: Keeper<P>>(
     requires plan { core.old.stage ≢ Failed Limit }
     requires sent { core.old.sent ≤ length core.old.asked }
     requires output { (output.old.lines ≡ []) × (output.old.records ≡ []) }
-    ensures ends { OnOk result (Ends core.old output.old.style
+    ensures ends { OnOk result (EndsCounted core.old core.new.tally output.old.style
         (R.left reader.old) (R.left reader.new) (W.written writer.old) (W.written writer.new)
         (O.written out.old) (O.written out.new) (P.written records.old) (P.written records.new)) }
-    ensures told { IfErr result (λ fault. is_told_before fault ≡ true → StopsAt fault core.old output.old.style
+    ensures told { IfErr result (λ fault. is_told_before fault ≡ true
+        → StopsCounted fault core.old core.new.tally output.old.style
         (R.left reader.old) (R.left reader.new) (W.written writer.old) (W.written writer.new)
         (O.written out.old) (O.written out.new) (P.written records.old) (P.written records.new)) }
     ensures order { RecordsFirst core.old output.old.style (R.left reader.old) (R.left reader.new)
         (O.written out.old) (O.written out.new) (P.written records.old) (P.written records.new) }
-    ensures counted { OnOk result
-        (CountsWritten core.old core.new.tally (P.written records.old) (P.written records.new)) }
-    ensures counts { IfErr result (λ fault. is_told_before fault ≡ true
-        → CountsWritten core.old core.new.tally (P.written records.old) (P.written records.new)) }
     ensures plan { IfErr result (λ fault. fault ≢ Reader Limit) }
     ensures behind { KeepsCounted core.old (P.written records.old) (K.done keeper.old) (K.done keeper.new) }
     ensures keeper { CountsKeeping result (K.failures keeper.old) (K.failures keeper.new) }
@@ -318,19 +315,15 @@ pub fn read_further<R: Source, W: Sink, O: Sink, P: Sink, K: Keeper<P>>(
     records: &mut P,
     keeper: &mut K,
 ) -> Result<(), ListingFault>
-    ensures ends { OnOk result
-        (Ends (begun_at (plan_on tally.old wants.now) tally.old) (style_of times (plan_on tally.old wants.now))
+    ensures ends { OnOk result (EndsCounted (begun_at (plan_on tally.old wants.now) tally.old) tally.new
+        (style_of times (plan_on tally.old wants.now))
         (R.left reader.old) (R.left reader.new) (W.written writer.old) (W.written writer.new)
         (O.written out.old) (O.written out.new) (P.written records.old) (P.written records.new)) }
     ensures told { IfErr result (λ fault. is_told_before fault ≡ true →
-        StopsAt fault (begun_at (plan_on tally.old wants.now) tally.old) (style_of times (plan_on tally.old wants.now))
+        StopsCounted fault (begun_at (plan_on tally.old wants.now) tally.old) tally.new
+        (style_of times (plan_on tally.old wants.now))
         (R.left reader.old) (R.left reader.new) (W.written writer.old) (W.written writer.new)
         (O.written out.old) (O.written out.new) (P.written records.old) (P.written records.new)) }
-    ensures counted { OnOk result (CountsWritten (begun_at (plan_on tally.old wants.now) tally.old) tally.new
-        (P.written records.old) (P.written records.new)) }
-    ensures counts { IfErr result (λ fault. is_told_before fault ≡ true →
-        CountsWritten (begun_at (plan_on tally.old wants.now) tally.old) tally.new
-        (P.written records.old) (P.written records.new)) }
     ensures kept { IfErr result (λ fault. is_told_before fault ≡ false → tally.new ≡ tally.old) }
     ensures order { RecordsFirst (begun_at (plan_on tally.old wants.now) tally.old)
         (style_of times (plan_on tally.old wants.now)) (R.left reader.old) (R.left reader.new)

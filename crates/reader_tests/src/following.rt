@@ -1,58 +1,17 @@
 //! Several servers, one after the other, and what a reader keeps meanwhile.
 use crate::packets::record;
 use packet_listing::{
-    Break, Done, KeepFault, Keeper, ListingFault, MemoryKeeper, NothingKept, Nowhere, Servers,
-    Times, follow,
+    Break, Called, Done, KeepFault, Keeper, ListingFault, MemoryKeeper, MemoryServers, NoServer,
+    NothingKept, Nowhere, Times, follow,
 };
-use sl_io::{MemorySink, MemorySource};
+use sl_io::MemorySink;
 use sl_packet::{Seq, frame};
 use slreader::{LastPacket, Reached, Tally, Want, Window};
-use std::alloc::Global;
+use std::alloc::{AllocError, Global};
 use std::test::Fail;
 
 /// What a server sends before the packets of two wants.
 const NEGOTIATED: &[u8] = b"SeedLink v3\r\n\r\nOK\r\nOK\r\nOK\r\nOK\r\n";
-
-/// Servers in memory: what each sends over its connection, and what each was asked that was passed over.
-#[derive(Drop)]
-struct MemoryServers<'a> {
-    alloc: Global,
-    sent: &'a [Vec<u8>],
-    at: usize,
-    asked: Vec<Vec<u8>>,
-}
-
-/// No server is left, or there is no memory.
-#[derive(Clone, Copy, Debug, PartialEq, Eq, Drop)]
-struct NoServer;
-
-impl<'a> Servers for MemoryServers<'a> {
-    type Reader = MemorySource<'a>;
-
-    type Writer = MemorySink;
-
-    type Fault = NoServer;
-
-    fn connect(&mut self) -> Result<(MemorySource<'a>, MemorySink), NoServer> {
-        match self.sent.get(self.at) {
-            Some(bytes) => {
-                self.at = self.at.wrapping_add(1);
-                let reader = MemorySource::in_pieces(bytes.as_slice(), 700);
-                Ok((reader, MemorySink::new(self.alloc)))
-            }
-            None => Err(NoServer),
-        }
-    }
-
-    fn pass_over(
-        &mut self,
-        _fault: ListingFault,
-        _reader: MemorySource<'a>,
-        writer: MemorySink,
-    ) -> Result<(), NoServer> {
-        self.asked.push(writer.into_bytes()).map_err(|_| NoServer)
-    }
-}
 
 /// The packets that a connection brings, by their numbers and stations, and what comes behind them.
 type Visit = (&'static [(u32, &'static [u8])], &'static [u8]);
@@ -64,10 +23,11 @@ static VISITS: [Visit; 3] = [
     (&[(2, b"WLF")], b"END"),
 ];
 
-/// What the first two are asked.
-static ASKED: [&[u8]; 2] = [
+/// What they are asked.
+static ASKED: [&[u8]; 3] = [
     b"HELLO\rSTATION WLF GE\rDATA\rSTATION APE GE\rDATA 00000A\rEND\r",
     b"HELLO\rSTATION WLF GE\rDATA 000001\rSTATION APE GE\rDATA 00000A\rEND\r",
+    b"HELLO\rSTATION WLF GE\rDATA 000002\rSTATION APE GE\rDATA 00000B\rEND\r",
 ];
 
 /// What is asked after packets with the number 0 of both stations.
@@ -103,7 +63,7 @@ fn wants<'a>(alloc: Global, words: [&'a [u8]; 2]) -> Result<Vec<Want<'a>>, Fail>
 struct Followed {
     end: Result<(), Break<NoServer>>,
     records: Vec<u8>,
-    asked: Vec<Vec<u8>>,
+    asked: Result<Vec<Vec<u8>>, AllocError>,
 }
 
 /// Reads servers one after the other, with a keeper.
@@ -114,12 +74,7 @@ fn read_on<K: Keeper<MemorySink>>(
     sent: &[Vec<u8>],
     keeper: &mut K,
 ) -> Followed {
-    let mut servers = MemoryServers {
-        alloc,
-        sent,
-        at: 0,
-        asked: Vec::new(alloc),
-    };
+    let mut servers = MemoryServers::new(alloc, sent);
     let mut records = MemorySink::new(alloc);
     let end = follow(
         alloc,
@@ -134,8 +89,22 @@ fn read_on<K: Keeper<MemorySink>>(
     Followed {
         end,
         records: records.into_bytes(),
-        asked: servers.asked,
+        asked: asked_of(alloc, servers.called()),
     }
+}
+
+/// What was asked over connections that are over. Only memory can lack.
+fn asked_of(alloc: Global, called: &[Called<'_>]) -> Result<Vec<Vec<u8>>, AllocError> {
+    let mut asked = Vec::new(alloc);
+    for call in called {
+        match call {
+            Called::PassedOver(_, _, writer) | Called::Closed(_, writer) => {
+                asked.push(writer.bytes().to_vec(alloc)?)?;
+            }
+            Called::Connected(_) | Called::Failed(_) => {}
+        }
+    }
+    Ok(asked)
 }
 
 /// The records of all packets, once and in order.
@@ -162,8 +131,9 @@ fn each_server_is_asked_for_what_comes_after_the_last_packet(rt: HostRuntime) ->
     let read = read_after(alloc, &[], &sent(alloc)?)?;
     assert!(rt; read.end.is_ok());
     assert!(rt; read.records.as_slice() == all_records(alloc)?.as_slice());
-    assert_eq!(rt; read.asked.len(), 2);
-    for (asked, wanted) in read.asked.iter().zip(&ASKED) {
+    let asked = read.asked?;
+    assert_eq!(rt; asked.len(), 3);
+    for (asked, wanted) in asked.iter().zip(&ASKED) {
         assert!(rt; asked.as_slice() == *wanted);
     }
     Ok(())
@@ -271,8 +241,9 @@ fn a_state_stands_for_what_was_read_before(rt: HostRuntime) -> Result<(), Fail> 
     assert_eq!(rt; sent.len(), 3);
     let read = read_after(alloc, &lasts(alloc)?, &sent[1..2])?;
     assert!(rt; matches!(read.end, Err(Break::Server(NoServer))));
-    assert_eq!(rt; read.asked.len(), 1);
-    assert!(rt; read.asked[0].as_slice() == ASKED_AFTER);
+    let asked = read.asked?;
+    assert_eq!(rt; asked.len(), 1);
+    assert!(rt; asked[0].as_slice() == ASKED_AFTER);
     assert!(rt; read.records.len() == 1_024);
     Ok(())
 }

@@ -5,7 +5,6 @@ use Rattle.sl_io.proofs.TotalLemmas.{Made-more}
 use Rattle.packet_listing.specs.Rounds.{moment}
 use Rattle.packet_listing.specs.Stops.{writes}
 use Rattle.packet_listing.proofs.ReadLaws.{led-no-limit, listed-none, stops}
-use Rattle.packet_listing.proofs.CountLaws.{counts-listed}
 use Rattle.packet_listing.proofs.KeepLaws.{keeps-listed, keeps-none}
 use Rattle.packet_listing.proofs.OrderLaws.{listed-first}
 use Rattle.packet_listing.proofs.RoundLaws.{round-keeping, round-on, round-over, round-stopped}
@@ -34,13 +33,7 @@ pub returns-in-Ok-true-clause-ends : goal.returns-in-Ok-true-clause-ends
 returns-in-Ok-true-clause-ends g c =
     let m = moment c.args.core.now c.args.output.now (g.R.Source.left c.args.reader.now)
     (g.W.Sink.written c.args.writer.now) (g.O.Sink.written c.args.out.now) (g.P.Sink.written c.args.records.now) in
-    (round-over _ _ _ c.in-Ok-true.field-0-test c.in-Ok-true.ensures.round).ends m c.reads.invariant.listed
-
-pub returns-in-Ok-true-clause-counted : goal.returns-in-Ok-true-clause-counted
-returns-in-Ok-true-clause-counted g c =
-    let m = moment c.args.core.now c.args.output.now (g.R.Source.left c.args.reader.now)
-    (g.W.Sink.written c.args.writer.now) (g.O.Sink.written c.args.out.now) (g.P.Sink.written c.args.records.now) in
-    (round-over _ _ _ c.in-Ok-true.field-0-test c.in-Ok-true.ensures.round).counted m c.reads.invariant.listed
+    (round-over _ _ _ c.in-Ok-true.field-0-test c.in-Ok-true.ensures.round) m c.reads.invariant.listed
 
 pub returns-in-Ok-true-clause-order : goal.returns-in-Ok-true-clause-order
 returns-in-Ok-true-clause-order g c =
@@ -52,13 +45,7 @@ pub returns-in-Err-clause-told : goal.returns-in-Err-clause-told
 returns-in-Err-clause-told g c = λ told.
     let m = moment c.args.core.now c.args.output.now (g.R.Source.left c.args.reader.now)
     (g.W.Sink.written c.args.writer.now) (g.O.Sink.written c.args.out.now) (g.P.Sink.written c.args.records.now) in
-    (c.in-Err.ensures.round told).stops m c.reads.invariant.listed
-
-pub returns-in-Err-clause-counts : goal.returns-in-Err-clause-counts
-returns-in-Err-clause-counts g c = λ told.
-    let m = moment c.args.core.now c.args.output.now (g.R.Source.left c.args.reader.now)
-    (g.W.Sink.written c.args.writer.now) (g.O.Sink.written c.args.out.now) (g.P.Sink.written c.args.records.now) in
-    (c.in-Err.ensures.round told).counted m c.reads.invariant.listed
+    c.in-Err.ensures.round told m c.reads.invariant.listed
 
 pub returns-in-Err-clause-order : goal.returns-in-Err-clause-order
 returns-in-Err-clause-order g c =
@@ -111,9 +98,6 @@ returns-in-Err-keep_if_due-clause-behind g c =
 
 pub returns-clause-told : goal.returns-clause-told
 returns-clause-told g c = λ _. stops _ _ _ _ _ _ _ _ _ _ _ _ _ _ c.reads.invariant.listed (Keeps-refl _) tt
-
-pub returns-clause-counts : goal.returns-clause-counts
-returns-clause-counts g c = λ _. counts-listed _ _ _ _ _ _ _ _ _ _ _ _ c.reads.invariant.listed
 
 pub returns-clause-order : goal.returns-clause-order
 returns-clause-order g c = listed-first _ _ _ _ _ _ _ _ _ _ _ _ _ c.reads.invariant.listed (Keeps-refl _)

@@ -2,10 +2,10 @@
 use Rattle.std.proofs.Common.{ap, false, Ok, Err, refl}
 use Rattle.std.specs.Prelude.{IfErr, OnOk, Result}
 use Rattle.packet_listing.specs.Lines.{OutputValue}
-use Rattle.packet_listing.proofs.FurtherLaws.{counted-err, counted-ok, kept-err, limited, never, stops-quietly, untold}
+use Rattle.packet_listing.proofs.CountLaws.{counts-ended, counts-stopped}
+use Rattle.packet_listing.proofs.FurtherLaws.{ended-ok, kept-err, limited, never, stopped-err, stops-quietly, untold}
 use Rattle.packet_listing.proofs.KeepLaws.{keeps-at, keeps-none, last-err, last-ok, not-kept, same-err, same-ok}
 use Rattle.packet_listing.proofs.OrderLaws.{first-as, nothing-written}
-use Rattle.packet_listing.proofs.ReadLaws.{ends-as, stops-as}
 use Rattle.packet_listing.proofs.reading.read_further.Goals as goal
 
 on-err : {T E : Type 0} → (P Q : E → Type 0) → (r : Result T E) → IfErr r P → ((e : E) → P e → Q e) → IfErr r Q
@@ -18,9 +18,6 @@ on-ok P Q (Err e) h f = tt
 
 pub returns-in-Err-clause-told : goal.returns-in-Err-clause-told
 returns-in-Err-clause-told g c = λ told. never _ (untold c.in-Err.fault _ c.in-Err.ensures.fault) told
-
-pub returns-in-Err-clause-counts : goal.returns-in-Err-clause-counts
-returns-in-Err-clause-counts g c = λ told. never _ (untold c.in-Err.fault _ c.in-Err.ensures.fault) told
 
 pub returns-in-Err-clause-kept : goal.returns-in-Err-clause-kept
 returns-in-Err-clause-kept g c = λ _. refl
@@ -47,32 +44,17 @@ returns-in-Err-clause-keeper g c = not-kept (Unit {0}) c.in-Err.fault _ _ c.in-E
 
 pub returns-clause-ends : goal.returns-clause-ends
 returns-clause-ends g c =
-    same-ok _ c.read_blocks-read.result c.keep_at-outcome.result c.keep_at-outcome.ensures.outcome
-    (on-ok _ _ c.read_blocks-read.result c.read_blocks-read.ensures.ends (λ h.
-    ends-as _ _ _ _ _ _ _ _ _ _ _ _ c.in-Ok.ensures.core
-    (ap (λ (o : OutputValue). o.style) c.in-Ok.ensures.output) h))
+    ended-ok _ _ _ _ _ _ _ _ _ _ _ _ c.keep_at-outcome.result _ _ _ _ c.in-Ok.ensures.core
+    (ap (λ (o : OutputValue). o.style) c.in-Ok.ensures.output) c.is_told.ensures.ok c.count.ensures
+    (same-ok _ c.read_blocks-read.result c.keep_at-outcome.result c.keep_at-outcome.ensures.outcome
+    c.read_blocks-read.ensures.ends)
 
 pub returns-clause-told : goal.returns-clause-told
 returns-clause-told g c =
-    same-err _ c.read_blocks-read.result c.keep_at-outcome.result c.keep_at-outcome.ensures.outcome
-    (λ told. never false refl told)
-    (on-err _ _ c.read_blocks-read.result c.read_blocks-read.ensures.told (λ fault h told.
-    stops-as fault _ _ _ _ _ _ _ _ _ _ _ _ c.in-Ok.ensures.core
-    (ap (λ (o : OutputValue). o.style) c.in-Ok.ensures.output) (h told)))
-
-pub returns-clause-counted : goal.returns-clause-counted
-returns-clause-counted g c =
-    counted-ok _ _ _ _ c.keep_at-outcome.result _ _ _ _ c.in-Ok.ensures.core c.is_told.ensures.ok
-    c.count.ensures
-    (same-ok _ c.read_blocks-read.result c.keep_at-outcome.result c.keep_at-outcome.ensures.outcome
-    c.read_blocks-read.ensures.counted)
-
-pub returns-clause-counts : goal.returns-clause-counts
-returns-clause-counts g c =
-    counted-err _ _ _ _ c.keep_at-outcome.result _ _ _ _ c.in-Ok.ensures.core c.is_told.ensures.fault
-    c.count.ensures
+    stopped-err _ _ _ _ _ _ _ _ _ _ _ _ c.keep_at-outcome.result _ _ _ _ c.in-Ok.ensures.core
+    (ap (λ (o : OutputValue). o.style) c.in-Ok.ensures.output) c.is_told.ensures.fault c.count.ensures
     (same-err _ c.read_blocks-read.result c.keep_at-outcome.result c.keep_at-outcome.ensures.outcome
-    (λ told. never false refl told) c.read_blocks-read.ensures.counts)
+    (λ told. never false refl told) c.read_blocks-read.ensures.told)
 
 pub returns-clause-kept : goal.returns-clause-kept
 returns-clause-kept g c = kept-err c.keep_at-outcome.result _ _ _ _ c.is_told.ensures.fault c.count.ensures
@@ -89,9 +71,12 @@ returns-clause-stopped g c =
 
 pub returns-clause-behind : goal.returns-clause-behind
 returns-clause-behind g c =
-    keeps-at _ _ c.read_blocks-read.result _ _ _ _ _ _ c.in-Ok.ensures.core c.read_blocks-read.ensures.counted
-    c.read_blocks-read.ensures.counts c.keep_at-outcome.ensures.ok c.keep_at-outcome.ensures.told
-    c.keep_at-outcome.ensures.untold c.read_blocks-read.ensures.behind
+    keeps-at _ _ c.read_blocks-read.result _ _ _ _ _ _ c.in-Ok.ensures.core
+    (on-ok _ _ c.read_blocks-read.result c.read_blocks-read.ensures.ends (counts-ended _ _ _ _ _ _ _ _ _ _ _))
+    (on-err _ _ c.read_blocks-read.result c.read_blocks-read.ensures.told
+    (λ fault h told. counts-stopped fault _ _ _ _ _ _ _ _ _ _ _ (h told)))
+    c.keep_at-outcome.ensures.ok c.keep_at-outcome.ensures.told c.keep_at-outcome.ensures.untold
+    c.read_blocks-read.ensures.behind
 
 pub returns-clause-last : goal.returns-clause-last
 returns-clause-last g c =

@@ -4,7 +4,7 @@ use Rattle.std.specs.Prelude.{IfErr, OnOk, Result}
 use Rattle.packet_listing.specs.Lines.{OutputValue}
 use Rattle.packet_listing.proofs.FurtherLaws.{limited, never, stops-quietly, untold}
 use Rattle.packet_listing.proofs.OrderLaws.{first-as, nothing-written}
-use Rattle.packet_listing.proofs.ReadLaws.{stops-as}
+use Rattle.packet_listing.proofs.ReadLaws.{ends-as, stops-as}
 use Rattle.packet_listing.proofs.reading.read_over.Goals as goal
 
 on-err : {T E : Type 0} → (P Q : E → Type 0) → (r : Result T E) → IfErr r P → ((e : E) → P e → Q e) → IfErr r Q
@@ -14,6 +14,10 @@ on-err P Q (Err e) h f = f e h
 on-ok : {T E P : Type 0} → (r : Result T E) → P → OnOk r P
 on-ok (Ok x) h = h
 on-ok (Err e) h = tt
+
+map-ok : {T E : Type 0} → (P Q : Type 0) → (r : Result T E) → OnOk r P → (P → Q) → OnOk r Q
+map-ok P Q (Ok x) h f = f h
+map-ok P Q (Err e) h f = tt
 
 pub returns-in-Err-clause-told : goal.returns-in-Err-clause-told
 returns-in-Err-clause-told g c = λ told. never _ (untold c.in-Err.refused _ c.in-Err.ensures.fault) told
@@ -32,11 +36,17 @@ returns-in-Err-clause-stopped g c =
     stops-quietly c.in-Err.refused _ _ _ _ _ c.in-Err.ensures.fault refl
     ((refl, refl), ((refl, refl), (refl, refl)))
 
+pub returns-clause-ends : goal.returns-clause-ends
+returns-clause-ends g c =
+    map-ok _ _ c.read_blocks.result c.read_blocks.ensures.ends (λ h.
+    (ends-as _ _ _ _ _ _ _ _ _ _ _ _ _ c.in-Ok.ensures.core
+    (ap (λ (o : OutputValue). o.style) c.in-Ok.ensures.output) h).ends)
+
 pub returns-clause-told : goal.returns-clause-told
 returns-clause-told g c =
     on-err _ _ c.read_blocks.result c.read_blocks.ensures.told (λ fault h told.
-    stops-as fault _ _ _ _ _ _ _ _ _ _ _ _ c.in-Ok.ensures.core
-    (ap (λ (o : OutputValue). o.style) c.in-Ok.ensures.output) (h told))
+    (stops-as fault _ _ _ _ _ _ _ _ _ _ _ _ _ c.in-Ok.ensures.core
+    (ap (λ (o : OutputValue). o.style) c.in-Ok.ensures.output) (h told)).stops)
 
 pub returns-clause-limit : goal.returns-clause-limit
 returns-clause-limit g c =

@@ -1,0 +1,128 @@
+//! Servers that are asked for what a reading wants.
+ghost use Rattle.std.specs.Prelude.{◌≡◌, IfErr, OnOk};
+ghost use Rattle.packet_listing.specs.Breaks.{StopsVisits};
+ghost use Rattle.packet_listing.specs.Following.{Follows};
+ghost use Rattle.packet_listing.specs.Keeping.{KeepsBehind};
+ghost use Rattle.packet_listing.specs.Visits.{EndsVisits, asking, progress};
+ghost use Rattle.job_read.specs.Follows.{ReadsToEnd};
+
+use crate::hearing::{HeardLines, Listener};
+use crate::notices::{ErrorTeller, RefusalTeller};
+use crate::reading::Reading;
+use packet_listing::{Break, Keeper, ListingFault, Servers, follow};
+use sl_io::Sink;
+use slreader::{ReaderFault, Tally};
+use std::alloc::Global;
+use std::rt::Clock;
+
+/// Asks servers for what a reading wants. What is met is told, if it is to be.
+pub fn follow_any<
+    R: Eprint + Clock + AllocGlobal,
+    S: Servers,
+    O: Sink + Drop,
+    P: Sink,
+    K: Keeper<P>,
+>(
+    rt: &R,
+    reading: &Reading<'_, '_>,
+    tally: &mut Tally,
+    servers: &mut S,
+    out: O,
+    records: &mut P,
+    keeper: &mut K,
+) -> Result<(), Break<S::Fault>>
+    ensures ends { OnOk result (ReadsToEnd (asking reading.now.wants.items reading.now.times) tally.old tally.new
+        (P.written records.old) (P.written records.new) (S.told servers.old) (S.told servers.new)) }
+    ensures behind { KeepsBehind (λ t w. Follows reading.now.wants.items tally.old (P.written records.old) t w)
+        (K.done keeper.old) (K.done keeper.new) }
+{
+    if reading.is_told {
+        follow_told(rt, reading, tally, servers, out, records, keeper)
+    } else {
+        let mut out = out;
+        follow_with(
+            rt.alloc(),
+            reading,
+            tally,
+            servers,
+            &mut out,
+            records,
+            keeper,
+        )
+    }
+}
+
+/// Asks servers for what a reading wants.
+fn follow_with<S: Servers, O: Sink, P: Sink, K: Keeper<P>>(
+    alloc: Global,
+    reading: &Reading<'_, '_>,
+    tally: &mut Tally,
+    servers: &mut S,
+    out: &mut O,
+    records: &mut P,
+    keeper: &mut K,
+) -> Result<(), Break<S::Fault>>
+    ensures ends { OnOk result (EndsVisits (asking reading.now.wants.items reading.now.times)
+        (progress tally.old (O.written out.old) (O.failures out.old) (O.empty_writes out.old)
+        (P.written records.old) (P.failures records.old) (P.empty_writes records.old) (K.failures keeper.old))
+        (progress tally.new (O.written out.new) (O.failures out.new) (O.empty_writes out.new)
+        (P.written records.new) (P.failures records.new) (P.empty_writes records.new) (K.failures keeper.new))
+        (S.told servers.old) (S.told servers.new)) }
+    ensures stops { IfErr result (λ why. StopsVisits why (asking reading.now.wants.items reading.now.times)
+        (progress tally.old (O.written out.old) (O.failures out.old) (O.empty_writes out.old)
+        (P.written records.old) (P.failures records.old) (P.empty_writes records.old) (K.failures keeper.old))
+        (progress tally.new (O.written out.new) (O.failures out.new) (O.empty_writes out.new)
+        (P.written records.new) (P.failures records.new) (P.empty_writes records.new) (K.failures keeper.new))
+        (S.told servers.old) (S.told servers.new)) }
+    ensures behind { KeepsBehind (λ t w. Follows reading.now.wants.items tally.old (P.written records.old) t w)
+        (K.done keeper.old) (K.done keeper.new) }
+{
+    follow(
+        alloc,
+        reading.times,
+        &reading.wants,
+        tally,
+        servers,
+        out,
+        records,
+        keeper,
+    )
+}
+
+/// The same, and what is met is told.
+fn follow_told<
+    'r,
+    R: Eprint + Clock + AllocGlobal,
+    S: Servers,
+    O: Sink + Drop,
+    P: Sink,
+    K: Keeper<P>,
+>(
+    rt: &'r R,
+    reading: &'r Reading<'_, '_>,
+    tally: &mut Tally,
+    servers: &mut S,
+    out: O,
+    records: &mut P,
+    keeper: &mut K,
+) -> Result<(), Break<S::Fault>>
+    ensures ends { OnOk result (ReadsToEnd (asking reading.now.wants.items reading.now.times) tally.old tally.new
+        (P.written records.old) (P.written records.new) (S.told servers.old) (S.told servers.new)) }
+    ensures behind { KeepsBehind (λ t w. Follows reading.now.wants.items tally.old (P.written records.old) t w)
+        (K.done keeper.old) (K.done keeper.new) }
+{
+    let Ok(listener) = Listener::new(rt.alloc(), &reading.wants, tally) else {
+        return Err(Break::Listing(ListingFault::Reader(ReaderFault::OutOfMemory)));
+    };
+    let teller = RefusalTeller::new(ErrorTeller::new(rt), rt, &reading.renewal);
+    let mut out = HeardLines::new(out, listener, teller);
+    follow_with(
+        rt.alloc(),
+        reading,
+        tally,
+        servers,
+        &mut out,
+        records,
+        keeper,
+    )
+}
