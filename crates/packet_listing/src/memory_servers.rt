@@ -92,7 +92,10 @@ impl<'a> Servers for MemoryServers<'a> {
         match self.next_sent() {
             Some(sent) => {
                 self.remember(Called::Connected(sent));
-                Ok((MemorySource::in_pieces(sent, PIECE), MemorySink::new(self.alloc)))
+                Ok((
+                    MemorySource::in_pieces(sent, PIECE),
+                    MemorySink::new(self.alloc),
+                ))
             }
             None => {
                 self.remember(Called::Failed(NoServer));

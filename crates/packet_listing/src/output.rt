@@ -4,7 +4,7 @@ ghost use Rattle.packet_listing.specs.Lines.{refusal_at, refusal_line};
 
 use crate::texts::{put_packet, record_of, refusal_line};
 use record_listing::Times;
-use slreader::{Plan, Want, What};
+use slreader::{GivenPacket, Plan, Want, What};
 use std::alloc::{AllocError, Global};
 use std::marker::Model;
 
@@ -109,7 +109,7 @@ impl Output {
     }
 
     /// The record of a packet, and its line; or neither.
-    fn put_packet(&mut self, packet: &[u8; 520]) -> Result<(), AllocError>
+    fn put_packet(&mut self, packet: &GivenPacket<'_>) -> Result<(), AllocError>
         ensures told { OnOk result (self.new ≡ record self.old {
           lines = self.old.lines ++ packet_line self.old.style.times packet.now;
           records = self.old.records ++ record_of packet.now;
@@ -119,7 +119,7 @@ impl Output {
         self.line.clear();
         put_packet(&mut self.line, self.times, packet)?;
         let before = self.records.len();
-        self.records.extend_from_slice(record_of(packet))?;
+        self.records.extend_from_slice(record_of(packet.bytes()))?;
         match self.lines.extend_from_slice(&self.line) {
             Ok(()) => Ok(()),
             Err(error) => {
@@ -148,7 +148,7 @@ impl Output {
             What::Nothing => Ok(()),
             What::Hello => Ok(()),
             What::Refused(want) => self.put_refused(want),
-            What::Packet(packet) => self.put_packet(packet),
+            What::Packet(packet) => self.put_packet(&packet),
             What::End => Ok(()),
         }
     }

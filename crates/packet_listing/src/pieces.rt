@@ -15,6 +15,9 @@ use crate::output::Output;
 use sl_io::{Sink, Source, WriteFault, write_all};
 use slreader::{ReaderCore, ReaderFault, What};
 
+/// The length of a packet, in bytes.
+const PACKET: usize = 520;
+
 /// Writes all that is asked and was not sent.
 fn send<W: Sink>(core: &mut ReaderCore, writer: &mut W) -> Result<(), WriteFault>
     ensures written { OnOk result (Appends (W.written writer.old) (W.written writer.new)
@@ -79,8 +82,9 @@ fn take_piece(core: &mut ReaderCore, output: &mut Output, piece: &[u8]) -> Resul
     ensures first { TellsFirst core.old output.old output.new piece.now }
 {
     let mut left = piece;
+    let mut packet = [0u8; PACKET];
     'given: loop {
-        let came = match core.incoming(left) {
+        let came = match core.incoming(left, &mut packet) {
             Ok(came) => came,
             Err(fault) => return Err(fault),
         };

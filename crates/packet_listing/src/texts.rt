@@ -1,12 +1,11 @@
 //! The lines of packets and of wants that are refused.
 ghost use Rattle.std.specs.Prelude.{◌≡◌, ◌++◌, ◌∷◌, [], map, slice_range, IfOk, OnOk};
 ghost use Rattle.std.specs.Char.{to_ascii_uppercase};
-ghost use Rattle.slreader.specs.Tallies.{packet_facts};
 ghost use Rattle.packet_listing.specs.Lines.{facts_text, number_text, packet_line, record_of, refusal_line};
 
-use mseed_header::read;
+use mseed_header::Header;
 use record_listing::{Times, put_header};
-use slreader::Want;
+use slreader::{GivenPacket, Want};
 use std::alloc::{AllocError, Global};
 
 /// The record of a packet.
@@ -33,13 +32,16 @@ fn put_upper(text: &mut Vec<u8>, digits: &[u8]) -> Result<(), AllocError>
 }
 
 /// What a packet's record says, if it can be read.
-#[tactic(auto, unfolding(slreader::specs::Tallies::packet_facts))]
-fn put_facts(text: &mut Vec<u8>, times: Times, packet: &[u8; 520]) -> Result<(), AllocError>
-    ensures { OnOk result (text.new.items ≡ text.old.items ++ facts_text times (packet_facts packet.now)) }
+fn put_facts(
+    text: &mut Vec<u8>,
+    times: Times,
+    header: &Option<Header<'_>>,
+) -> Result<(), AllocError>
+    ensures { OnOk result (text.new.items ≡ text.old.items ++ facts_text times header.now) }
 {
-    match read(record_of(packet)) {
-        Ok(header) => put_header(text, times, &header),
-        Err(_) => text.extend_from_slice(b"unreadable"),
+    match header {
+        Some(header) => put_header(text, times, header),
+        None => text.extend_from_slice(b"unreadable"),
     }
 }
 
@@ -47,13 +49,13 @@ fn put_facts(text: &mut Vec<u8>, times: Times, packet: &[u8; 520]) -> Result<(),
 pub(crate) fn put_packet(
     text: &mut Vec<u8>,
     times: Times,
-    packet: &[u8; 520],
+    packet: &GivenPacket<'_>,
 ) -> Result<(), AllocError>
     ensures { OnOk result (text.new.items ≡ text.old.items ++ packet_line times packet.now) }
 {
-    put_number(text, packet)?;
+    put_number(text, packet.bytes())?;
     text.push(b' ')?;
-    put_facts(text, times, packet)?;
+    put_facts(text, times, packet.header())?;
     text.push(b'\n')?;
     Ok(())
 }

@@ -83,18 +83,19 @@ struct Log {
 /// Gives the reader a piece, up to the end of the transfer.
 fn hear(core: &mut ReaderCore, piece: &[u8], log: &mut Log) -> Result<(), Fail> {
     let mut start = 0;
+    let mut packet = [0; 520];
     for _ in 0..=piece.len() {
         if start > piece.len() {
             return Ok(());
         }
-        let came = core.incoming(&piece[start..])?;
-        match came.what {
+        let came = core.incoming(&piece[start..], &mut packet)?;
+        match &came.what {
             What::Nothing => return Ok(()),
             What::Hello => log.given.extend_from_slice(b"hello\n")?,
             What::Refused(0) => log.given.extend_from_slice(b"refused 0\n")?,
             What::Refused(_) => log.given.extend_from_slice(b"refused 1\n")?,
             What::Packet(packet) => {
-                log.given.extend_from_slice(&packet[2..8])?;
+                log.given.extend_from_slice(&packet.bytes()[2..8])?;
                 log.given.push(b'\n')?;
             }
             What::End => {
@@ -247,9 +248,11 @@ fn plans_outside_the_limits_are_refused(rt: HostRuntime) -> Result<(), Fail> {
 
 /// What a new reader answers to a byte that is none of a greeting, to nothing, and to a greeting's beginning.
 fn answers_after_a_fault(core: &mut ReaderCore) -> [Option<ReaderFault>; 3] {
-    let first = core.incoming(b"X").err();
-    let second = core.incoming(b"").err();
-    [first, second, core.incoming(b"SeedLink v3").err()]
+    let mut packet = [0; 520];
+    let first = core.incoming(b"X", &mut packet).err();
+    let second = core.incoming(b"", &mut packet).err();
+    let third = core.incoming(b"SeedLink v3", &mut packet).err();
+    [first, second, third]
 }
 
 #[test]

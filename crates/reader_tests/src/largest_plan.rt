@@ -91,7 +91,7 @@ fn answer(
     }
     let waiting = server.waiting(client)?;
     let count = waiting.len();
-    match core.incoming(waiting)?.what {
+    match core.incoming(waiting, &mut [0; 520])?.what {
         What::Refused(_) => outcome.refused = outcome.refused.saturating_add(1),
         What::End => outcome.is_over = true,
         _ => {}

@@ -1,5 +1,5 @@
 -- What a call answers, by what its parts read.
-use Rattle.std.proofs.Common.{◌≡◌, ℕ, ◌+◌, true, List, [], length, Some, None, refl, sym, ap, ◌∙◌}
+use Rattle.std.proofs.Common.{◌≡◌, ℕ, ◌+◌, true, List, [], ◌∷◌, length, Some, None, refl, sym, ap, ◌∙◌}
 use Rattle.std.specs.Prelude.{◌≢◌, Option, is_some, Result, Ok, Err}
 use Rattle.sl_packet.specs.Progress.{Progress}
 use Rattle.sl_packet.specs.Progress.Progress.{Amid, Finished, Faulty}
@@ -7,9 +7,11 @@ use Rattle.sl_packet.specs.declared.cutter.NotAPacket.{NotAPacket as BadPacket}
 use Rattle.slreader.specs.declared.fault.ReaderFault.{ReaderFault}
 use Rattle.slreader.specs.declared.fault.ReaderFault.TheVariants.{NotAPacket}
 use Rattle.slreader.specs.declared.stage.Event.{Event}
+use Rattle.slreader.specs.declared.stage.Event.TheVariants as event
 use Rattle.slreader.specs.declared.stage.Step.{Step}
 use Rattle.slreader.specs.Dialogue.{ReaderValue, Given, FirstGiven, at_stage, behind, fails, outcome_in, outcome_of}
 use Rattle.slreader.specs.Dialogue.{read_first}
+use Rattle.slreader.specs.Dialogue.Given.{Packet}
 use Rattle.slreader.specs.Dialogue.Stage.{Failed}
 use Rattle.slreader.specs.Dialogue.Outcome.{Gave, Stopped}
 use Rattle.slreader.specs.declared.stage.Stage.{Stage as CodeStage}
@@ -18,7 +20,7 @@ use Rattle.slreader.specs.Wants.{Command}
 use Rattle.slreader.specs.OutboxValue.{OutboxValue}
 use Rattle.slreader.specs.Tallies.{TallyValue}
 use Rattle.slreader.specs.ReaderViews.{given_option, reader_value, transfer_stage}
-use Rattle.slreader.specs.Reads.{TalkedOf, tally_after, cut_first}
+use Rattle.slreader.specs.Reads.{TalkedOf, tally_after, tally_given, cut_first}
 use Rattle.slreader.proofs.TransferLemmas.{failed_reads}
 
 -- A cutter that goes on stops nothing.
@@ -79,11 +81,29 @@ pub failed_reader : (r : ReaderValue) (fault : ReaderFault) (piece : List ℕ) �
 failed_reader r fault piece at = ap (at_stage r) at
     ∙ sym (ap (λ (f : FirstGiven). f.reader) (failed_first r fault piece at))
 
--- What an answer gave is all that was read.
-pub talked_reader : (r r' : ReaderValue) (piece : List ℕ) (n : ℕ) (o : Option Event) → is_some o ≡ true
-    → TalkedOf r piece n o r' → r' ≡ (read_first r piece).reader
-talked_reader r r' piece n None some talked = absurd cc
-talked_reader r r' piece n (Some e) some talked = sym (ap (λ (f : FirstGiven). f.reader) (talked []))
+-- What an answer gave is all that was read, and is no packet.
+pub talked_reader : (r r' : ReaderValue) (piece packet : List ℕ) (n : ℕ) (o : Option Event) → is_some o ≡ true
+    → TalkedOf r piece n o r' → record r' { tally = tally_after r'.tally o packet } ≡ (read_first r piece).reader
+talked_reader r r' piece packet n None some talked = absurd cc
+talked_reader r r' piece packet n (Some event.Hello) some talked =
+    sym (ap (λ (f : FirstGiven). f.reader) (talked []))
+talked_reader r r' piece packet n (Some (event.Refused want)) some talked =
+    sym (ap (λ (f : FirstGiven). f.reader) (talked []))
+talked_reader r r' piece packet n (Some event.Packet) some talked =
+    let same : Some (Packet []) ≡ Some (Packet (0 ∷ [])) =
+    ap (λ (f : FirstGiven). f.given) (sym (talked []) ∙ talked (0 ∷ [])) in
+    absurd cc
+talked_reader r r' piece packet n (Some event.End) some talked =
+    sym (ap (λ (f : FirstGiven). f.reader) (talked []))
+
+-- What was given is counted.
+pub given_tally : (t : TallyValue) (o : Option Event) (packet : List ℕ)
+    → tally_given t (given_option o packet) ≡ tally_after t o packet
+given_tally t None packet = refl
+given_tally t (Some event.Hello) packet = refl
+given_tally t (Some (event.Refused want)) packet = refl
+given_tally t (Some event.Packet) packet = refl
+given_tally t (Some event.End) packet = refl
 
 -- the reader of the parts, with a cutter that went on and with what was counted
 pub counted_reader : (r r' : ReaderValue) (stage : CodeStage) (p p' : Progress) (ahead : List Command) (kept : ℕ)

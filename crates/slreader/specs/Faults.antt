@@ -1,5 +1,4 @@
 -- The numbers and names by which a reader that stops is reported.
-use Rattle.std.specs.Prelude.{codes}
 use Rattle.protocol.specs.declared.reason.Reason.{Reason}
 use Rattle.protocol.specs.declared.reason.Reason.TheVariants as reason
 use Rattle.slreader.specs.declared.fault.ReaderFault.{ReaderFault}

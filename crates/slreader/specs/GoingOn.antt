@@ -3,7 +3,7 @@
 use Rattle.std.specs.Prelude.{ℕ, ◌+◌, List, [], ◌∷◌, Option, Some, None}
 use Rattle.slreader.specs.Wants.{Action, WantValue, PlanValue}
 use Rattle.slreader.specs.Wants.Action.{Data, Fetch, Time}
-use Rattle.slreader.specs.Wants.PlanValue.{Uni, Multi}
+use Rattle.slreader.specs.Wants.PlanValue.{Multi}
 use Rattle.slreader.specs.Tallies.{TallyValue, next_of}
 use Rattle.slreader.specs.Dialogue.{ReaderValue, begun}
 

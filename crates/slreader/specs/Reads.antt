@@ -3,12 +3,14 @@
 use Rattle.std.specs.Prelude.{◌≡◌, ℕ, true, List, length, drop, Option, Some, None, Result, Ok, Err}
 use Rattle.sl_packet.specs.Progress.{Progress}
 use Rattle.sl_packet.specs.declared.cutter.NotAPacket.{NotAPacket}
+use Rattle.slreader.specs.declared.fault.ReaderFault.{ReaderFault}
 use Rattle.slreader.specs.declared.fault.ReaderFault.TheVariants as fault
 use Rattle.slreader.specs.declared.stage.Event.{Event}
 use Rattle.slreader.specs.declared.stage.Event.TheVariants as event
 use Rattle.slreader.specs.declared.stage.Step.{Step}
 use Rattle.slreader.specs.Tallies.{TallyValue, counted}
-use Rattle.slreader.specs.Dialogue.{ReaderValue, FirstGiven, behind, fails, read_first}
+use Rattle.slreader.specs.Dialogue.{Given, ReaderValue, FirstGiven, behind, fails, read_first}
+use Rattle.slreader.specs.Dialogue.Given.{Hello, Refused, Packet, End}
 use Rattle.slreader.specs.ReaderViews.{given_value, given_option, transfer_stage, is_talk}
 
 -- Either an answer gave something at its last byte, or nothing was given: then all bytes were read, or packets come
@@ -27,6 +29,19 @@ tally_after t (Some event.Hello) packet = t
 tally_after t (Some (event.Refused want)) packet = t
 tally_after t (Some event.Packet) packet = counted t packet
 tally_after t (Some event.End) packet = t
+
+-- what was counted, with what was given if it is a packet
+abbrev pub tally_given : TallyValue → Option Given → TallyValue
+tally_given t None = t
+tally_given t (Some Hello) = t
+tally_given t (Some (Refused want)) = t
+tally_given t (Some (Packet packet)) = counted t packet
+tally_given t (Some End) = t
+
+-- the reader, once it counts what a call gave
+abbrev pub with_given : ReaderValue → Result Step ReaderFault → (packet : List ℕ) → ReaderValue
+with_given r (Ok step) packet = record r { tally = tally_after r.tally step.event packet }
+with_given r (Err fault) packet = r
 
 -- what a cutter that began with `before` read of a piece, where it stands at `after`
 abbrev pub cut_first : ReaderValue → (piece : List ℕ) → Result Step NotAPacket → (after : Progress) → (packet : List ℕ)

@@ -11,7 +11,7 @@ abbrev pub what_value : What → Option Given
 what_value what.Nothing = None
 what_value what.Hello = Some Hello
 what_value (what.Refused want) = Some (Refused want)
-what_value (what.Packet packet) = Some (Packet packet.now)
+what_value (what.Packet packet) = Some (Packet packet)
 what_value what.End = Some End
 
 -- How much of a piece was read: all of it where nothing was given, else some of it.

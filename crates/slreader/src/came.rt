@@ -3,10 +3,11 @@ ghost use Rattle.std.specs.Prelude.{◌≡◌};
 ghost use Rattle.slreader.specs.ReaderViews.{given_option};
 ghost use Rattle.slreader.specs.Whats.{what_value};
 
+use crate::given_packet::GivenPacket;
 use crate::stage::Event;
 
 /// What a reader is given.
-#[derive(Clone, Copy)]
+#[derive(Drop)]
 pub enum What<'a> {
     /// Nothing became whole.
     Nothing,
@@ -15,13 +16,13 @@ pub enum What<'a> {
     /// A command of the want with that index was answered ERROR. Its other commands are not asked.
     Refused(usize),
     /// A packet.
-    Packet(&'a [u8; 520]),
+    Packet(GivenPacket<'a>),
     /// The end of the transfer.
     End,
 }
 
 /// What a piece gives.
-#[derive(Clone, Copy)]
+#[derive(Drop)]
 pub struct Came<'a> {
     /// How many bytes of the piece were read: up to the last byte of the first thing that became whole, else all of
     /// them.
@@ -38,7 +39,7 @@ pub(crate) fn what_of(event: Option<Event>, packet: &[u8; 520]) -> What<'_>
         None => What::Nothing,
         Some(Event::Hello) => What::Hello,
         Some(Event::Refused(want)) => What::Refused(want),
-        Some(Event::Packet) => What::Packet(packet),
+        Some(Event::Packet) => What::Packet(GivenPacket::new(packet)),
         Some(Event::End) => What::End,
     }
 }

@@ -1,5 +1,6 @@
 //! The dialogue of a reader.
 use crate::agenda::{Agenda, size_behind};
+use crate::came::What;
 use crate::commands::commands_of;
 use crate::fault::ReaderFault;
 use crate::outbox::Outbox;
@@ -283,7 +284,8 @@ impl Dialogue {
     ghost use Rattle.std.specs.Prelude.{◌≡◌, ◌≤◌, ◌+◌, ◌<◌, ◌^◌, Bool, List, true, length};
     ghost use Rattle.slreader.specs.Dialogue.{behind, outcome_of, read_first};
     ghost use Rattle.slreader.specs.ReaderViews.{is_talk, step_outcome};
-    ghost use Rattle.slreader.specs.Reads.{TalkedOf, tally_after};
+    ghost use Rattle.slreader.specs.Reads.{TalkedOf, tally_given, with_given};
+    ghost use Rattle.slreader.specs.Whats.{what_value};
 
     /// Reads lines and answers, up to the first that gives something.
     fn talk(&mut self, piece: &[u8]) -> Step
@@ -311,16 +313,17 @@ impl Dialogue {
         }
     }
 
-    /// Counts a packet that was given.
-    fn count(&mut self, event: &Option<Event>, packet: &[u8; 520])
-        ensures { self.new ≡ record self.old { tally = tally_after self.old.tally event.now packet.now } }
+    /// Counts what was given, if it is a packet.
+    pub(crate) fn count(&mut self, what: &What<'_>)
+        ensures { self.new ≡ record self.old { tally = tally_given self.old.tally (what_value what.now) } }
     {
-        if let Some(Event::Packet) = event {
+        if let What::Packet(packet) = what {
             self.tally.count(packet);
         }
     }
 
-    /// Reads what follows the lines and answers: the first `before` bytes of a piece were read already.
+    /// Reads what follows the lines and answers: the first `before` bytes of a piece were read already. What is given is
+    /// not counted yet.
     fn receive(
         &mut self,
         before: usize,
@@ -330,7 +333,7 @@ impl Dialogue {
         requires fits { before + length piece.now < 2 ^ 64 }
         requires talked { is_talk self.old.stage ≡ true → length piece.now ≡ 0 }
         ensures outcome { step_outcome result packet.new ≡ outcome_of (behind before (read_first self.old piece.now)) }
-        ensures read { self.new ≡ (read_first self.old piece.now).reader }
+        ensures read { with_given self.new result packet.new ≡ (read_first self.old piece.now).reader }
     {
         match self.stage {
             Stage::FirstLine { .. } | Stage::SecondLine { .. } | Stage::Answer { .. } => Ok(Step {
@@ -338,13 +341,10 @@ impl Dialogue {
                 event: None,
             }),
             Stage::Transfer => match read_packet(&mut self.cutter, piece, packet) {
-                Ok(step) => {
-                    self.count(&step.event, packet);
-                    Ok(Step {
-                        used: before + step.used,
-                        event: step.event,
-                    })
-                }
+                Ok(step) => Ok(Step {
+                    used: before + step.used,
+                    event: step.event,
+                }),
                 Err(_) => {
                     self.fail(ReaderFault::NotAPacket);
                     Err(ReaderFault::NotAPacket)
@@ -355,10 +355,10 @@ impl Dialogue {
     }
 
     /// Reads the piece up to the first thing that it gives, else to its end. A packet that is given is copied to
-    /// `packet`.
+    /// `packet`. What is given is not counted yet.
     pub(crate) fn read(&mut self, piece: &[u8], packet: &mut [u8; 520]) -> Result<Step, ReaderFault>
         ensures outcome { step_outcome result packet.new ≡ outcome_of (read_first self.old piece.now) }
-        ensures read { self.new ≡ (read_first self.old piece.now).reader }
+        ensures read { with_given self.new result packet.new ≡ (read_first self.old piece.now).reader }
     {
         let talked = self.talk(piece);
         if talked.event.is_some() {

@@ -7,6 +7,7 @@ mod came;
 mod commands;
 mod dialogue;
 mod fault;
+mod given_packet;
 mod going_on;
 mod last_packet;
 mod laws;
@@ -24,6 +25,7 @@ mod words;
 
 pub use came::{Came, What};
 pub use fault::ReaderFault;
+pub use given_packet::GivenPacket;
 pub use last_packet::{LastPacket, last_at};
 pub use laws::{dialogue_decided, dialogue_in_pieces, first_of_a_piece, state_goes_on};
 pub use part::WantPart;

@@ -8,9 +8,6 @@ use sl_packet::Seq;
 use std::alloc::Global;
 use std::marker::Model;
 
-/// The length of a packet, in bytes.
-const PACKET: usize = 520;
-
 /// A reader by its bytes: it lends what it asks, is given what the server sends in whatever pieces it comes, and
 /// gives what that is (SeedLink 3). It asks HELLO; then for each want STATION (in a plan of several), a SELECT for
 /// each pattern and the action; and last END (in a plan of several). Each line ends with CR, and waits for the answer
@@ -18,8 +15,6 @@ const PACKET: usize = 520;
 #[derive(Drop)]
 pub struct ReaderCore {
     dialogue: Dialogue,
-    /// The packet that was given last.
-    packet: [u8; 520],
 }
 
 impl Model for ReaderCore {
@@ -32,13 +27,12 @@ impl Model for ReaderCore {
 
 impl ReaderCore {
     ghost use Rattle.std.specs.Prelude.{◌≡◌, ◌+◌, ◌≤◌, true, false, length, drop, IfOk, OnOk, IfErr};
-    ghost use Rattle.std.specs.Borrow.{sem};
     ghost use Rattle.slreader.specs.Wants.{is_plan};
     ghost use Rattle.slreader.specs.Views.{plan_value};
     ghost use Rattle.slreader.specs.Tallies.{next_of};
     ghost use Rattle.slreader.specs.GoingOn.{begun_at};
     ghost use Rattle.slreader.specs.Dialogue.{begun, outcome_of, read_first};
-    ghost use Rattle.slreader.specs.Comings.{came_outcome, IsNotBegun, Leaves};
+    ghost use Rattle.slreader.specs.Comings.{came_outcome, IsNotBegun};
     ghost use Rattle.slreader.specs.Whats.{Reads};
 
     /// A reader that was sent nothing. It fails with Limit exactly where the plan has no want or more than 255,
@@ -66,10 +60,7 @@ impl ReaderCore {
             return Err(ReaderFault::Limit);
         }
         match Dialogue::new(alloc, &plan, tally) {
-            Ok(dialogue) => Ok(ReaderCore {
-                dialogue,
-                packet: [0; PACKET],
-            }),
+            Ok(dialogue) => Ok(ReaderCore { dialogue }),
             Err(_) => Err(ReaderFault::OutOfMemory),
         }
     }
@@ -89,22 +80,30 @@ impl ReaderCore {
         self.dialogue.sent(count);
     }
 
-    /// Reads the piece up to the first thing that becomes whole, else all of it. What is given is lent up to the next
-    /// call.
+    /// Reads the piece up to the first thing that becomes whole, else all of it. A packet is copied to `packet`, and
+    /// lent from there.
     ///
     /// It fails with BadReply where a line that answers HELLO or an answer is none, with NotAPacket where a byte of
     /// the transfer fits no stream of packets, and with AllRefused once the refusal of the last want was given and no
     /// want is left. After a fault each call is answered so.
-    pub fn incoming(&mut self, piece: &[u8]) -> Result<Came<'_>, ReaderFault>
+    pub fn incoming<'p>(
+        &mut self,
+        piece: &[u8],
+        packet: &'p mut [u8; 520],
+    ) -> Result<Came<'p>, ReaderFault>
         ensures outcome { came_outcome result ≡ outcome_of (read_first self.old piece.now) }
         ensures reads { IfOk result (λ came. Reads came.used came.what (length piece.now)) }
-        ensures* left { sem 𝓛 (Leaves self.entry piece.now) }
+        ensures left { self.new ≡ (read_first self.old piece.now).reader }
     {
-        match self.dialogue.read(piece, &mut self.packet) {
-            Ok(step) => Ok(Came {
-                used: step.used,
-                what: what_of(step.event, &self.packet),
-            }),
+        match self.dialogue.read(piece, packet) {
+            Ok(step) => {
+                let what = what_of(step.event, packet);
+                self.dialogue.count(&what);
+                Ok(Came {
+                    used: step.used,
+                    what,
+                })
+            }
             Err(fault) => Err(fault),
         }
     }

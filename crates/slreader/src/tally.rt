@@ -1,14 +1,15 @@
 //! What is counted of the packets.
-ghost use Rattle.std.specs.Prelude.{◌≡◌, ◌++◌, slice_range, map, option_map, IfOk, OnOk};
-ghost use Rattle.slreader.specs.Tallies.{has_codes as spec_has_codes, packet_facts, packet_number, passed};
+ghost use Rattle.std.specs.Prelude.{◌≡◌, ◌++◌, map, option_map, IfOk, OnOk};
+ghost use Rattle.slreader.specs.Tallies.{has_codes as spec_has_codes, packet_number, passed};
 ghost use Rattle.slreader.specs.Tallies.{reached_at};
 ghost use Rattle.slreader.specs.Tallies.{resume_of};
 ghost use Rattle.slreader.specs.Lasts.{resume_after};
 ghost use Rattle.slreader.specs.Tallies.{resumes_of as spec_resumes_of};
 
+use crate::given_packet::GivenPacket;
 use crate::last_packet::{LastPacket, last_at};
 use crate::want::{Plan, Want};
-use mseed_header::{Header, read};
+use mseed_header::Header;
 use sl_packet::Seq;
 use sl_time::Tick;
 use std::alloc::{AllocError, Global};
@@ -127,21 +128,6 @@ fn packet_number(packet: &[u8; 520]) -> Option<Seq>
     ensures { result ≡ packet_number packet.now }
 {
     Seq::parse(&packet[2..8])
-}
-
-/// Its record.
-fn packet_record(packet: &[u8; 520]) -> &[u8; 512]
-    ensures { result.now ≡ slice_range packet.now 8 520 }
-{
-    packet[8..520].as_array().unwrap()
-}
-
-/// What its record says, if it can be read.
-#[tactic(auto, unfolding(crate::specs::Tallies::packet_facts))]
-fn packet_header(packet: &[u8; 520]) -> Option<Header<'_>>
-    ensures { result ≡ packet_facts packet.now }
-{
-    read(packet_record(packet)).ok()
 }
 
 /// Each of the wants is one that goes on with a packet, or is not.
@@ -274,15 +260,12 @@ impl Tally {
     }
 
     /// One packet more.
-    pub(crate) fn count(&mut self, packet: &[u8; 520])
+    pub(crate) fn count(&mut self, packet: &GivenPacket<'_>)
         ensures { self.new ≡ counted self.old packet.now }
     {
         self.records = self.records.saturating_add(1);
-        pass_all(
-            &mut self.resumes,
-            &packet_number(packet),
-            &packet_header(packet),
-        );
+        let number = packet_number(packet.bytes());
+        pass_all(&mut self.resumes, &number, packet.header());
     }
 
     /// How many packets were given, at most 2^64 - 1.

@@ -35,11 +35,11 @@ connections-preserved g c =
           c.read_further-read.ensures.behind;
       visited = visited-more _ _ _ _ _ _ _ _ _ c.in-Err-read.fault _ _ c.connections.invariant.visited
           c.in-Ok.ensures.call c.in-Ok-pass_over.ensures.call (record {
-        told = told;
-        stops = all.told told;
-        why = all.stopped;
-        keeper = not-keeping (Unit {0}) c.in-Err-read.fault _ _ told all.keeper;
-      });
+            told = told;
+            stops = all.told told;
+            why = all.stopped;
+            keeper = not-keeping (Unit {0}) c.in-Err-read.fault _ _ told all.keeper;
+          });
     }
 
 pub returns-in-Ok-read-clause-ends : goal.returns-in-Ok-read-clause-ends

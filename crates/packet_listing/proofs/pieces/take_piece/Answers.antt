@@ -8,21 +8,21 @@ use Rattle.packet_listing.proofs.pieces.take_piece.Goals as goal
 
 pub returns-in-Err-clause-failed : goal.returns-in-Err-clause-failed
 returns-in-Err-clause-failed c =
-    λ _. fails-in _ _ _ _ _ _ _ _ c.given.invariant c.in-Err.ensures.outcome c.incoming.follows.holds-at-none
+    λ _. fails-in _ _ _ _ _ _ _ _ c.given.invariant c.in-Err.ensures.outcome c.incoming.ensures.left
 
 pub returns-in-Nothing-clause-taken : goal.returns-in-Nothing-clause-taken
 returns-in-Nothing-clause-taken c =
     let gave = ap (λ w. Gave c.in-Ok.came.used (what_value w)) (sym c.in-Nothing.is) ∙ c.in-Ok.ensures.outcome in
-    takes-nothing _ _ _ _ _ _ _ _ c.given.invariant gave c.incoming.follows.holds-at-none
+    takes-nothing _ _ _ _ _ _ _ _ c.given.invariant gave c.incoming.ensures.left
 
 pub returns-in-End-clause-taken : goal.returns-in-End-clause-taken
 returns-in-End-clause-taken c =
     let gave = ap (λ w. Gave c.in-Ok.came.used (what_value w)) (sym c.in-End.is) ∙ c.in-Ok.ensures.outcome in
-    takes-end _ _ _ _ _ _ _ _ c.given.invariant gave c.incoming.follows.holds-at-none
+    takes-end _ _ _ _ _ _ _ _ c.given.invariant gave c.incoming.ensures.left
 
 pub given-preserved : goal.given-preserved
 given-preserved c =
-    taken-on _ _ _ _ _ _ _ _ _ _ c.given.invariant c.in-Ok.ensures.outcome c.incoming.follows.holds-at-none
+    taken-on _ _ _ _ _ _ _ _ _ _ c.given.invariant c.in-Ok.ensures.outcome c.incoming.ensures.left
     c.in-Ok-put.ensures.told
 
 pub returns-in-Err-clause-plan : goal.returns-in-Err-clause-plan

@@ -1,5 +1,5 @@
 -- What the stage says is what is read.
-use Rattle.std.proofs.Common.{◌≡◌, sym, ap, ◌∙◌}
+use Rattle.std.proofs.Common.{◌≡◌, refl, sym, ap, ◌∙◌}
 use Rattle.slreader.specs.Dialogue.{ReaderValue}
 use Rattle.slreader.specs.ReaderViews.{stage_value, transfer_stage}
 use Rattle.slreader.proofs.ReceiveLemmas.{received_outcome, received_reader, refused_outcome, counted_reader}
@@ -20,7 +20,7 @@ returns-in-Ok-clause-read c =
     ∙ ap (λ s. stage_value s c.self.inside.cutter) c.in-Transfer.is in
     received_reader _ _ _ _ _ c.in-Ok.step _ _ at c.read_packet.ensures.first c.in-Ok.is
     (counted_reader _ _ c.self.inside.stage c.self.inside.cutter _ c.self.inside.agenda c.self.inside.kept
-    c.self.inside.outbox c.self.inside.tally c.in-Ok.step.event _ c.self.view_is c.in-Transfer.is c.count.ensures)
+    c.self.inside.outbox c.self.inside.tally c.in-Ok.step.event _ c.self.view_is c.in-Transfer.is refl)
 
 pub returns-in-Err-clause-outcome : goal.returns-in-Err-clause-outcome
 returns-in-Err-clause-outcome c =

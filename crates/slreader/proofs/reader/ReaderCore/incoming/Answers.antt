@@ -1,27 +1,28 @@
--- What the dialogue gave is what is lent.
-use Rattle.std.proofs.Common.{◌≡◌, refl, ap, ◌∙◌}
+-- What the dialogue gave is lent and counted.
+use Rattle.std.proofs.Common.{ap, ◌∙◌}
 use Rattle.slreader.specs.Dialogue.{ReaderValue, outcome_of, read_first}
 use Rattle.slreader.specs.Dialogue.Outcome.{Gave}
-use Rattle.slreader.specs.Whats.{what_value}
+use Rattle.slreader.specs.Reads.{tally_given}
 use Rattle.slreader.proofs.CameLemmas.{reads_gave}
+use Rattle.slreader.proofs.ReceiveLemmas.{given_tally}
 use Rattle.slreader.proofs.reader.ReaderCore.incoming.Goals as goal
 
-pub returns-in-Ok : goal.returns-in-Ok
-returns-in-Ok c =
-    let outcome : Gave c.in-Ok.step.used (what_value c.what_of.result)
-    ≡ outcome_of (read_first c.args.self.now c.args.piece.now) =
-    ap (Gave c.in-Ok.step.used) c.what_of.ensures ∙ c.in-Ok.ensures.outcome
-    ∙ ap (λ (r : ReaderValue). outcome_of (read_first r c.args.piece.now)) c.self.view_is in (
-      (
-        refl,
-        λ _. tt,
-        c.read.ensures.read
-            ∙ ap (λ (r : ReaderValue). (read_first r c.args.piece.now).reader) c.self.view_is,
-      ),
-      record {
-        outcome = outcome;
-        reads =
-            reads_gave c.args.self.now c.args.piece.now c.in-Ok.step.used c.what_of.result outcome;
-        left = tt;
-      },
-    )
+pub returns-in-Ok-clause-outcome : goal.returns-in-Ok-clause-outcome
+returns-in-Ok-clause-outcome c =
+    ap (Gave c.in-Ok.step.used) c.what_of-what.ensures ∙ c.in-Ok.ensures.outcome
+    ∙ ap (λ (r : ReaderValue). outcome_of (read_first r c.args.piece.now)) c.self.view_is
+
+pub returns-in-Ok-clause-reads : goal.returns-in-Ok-clause-reads
+returns-in-Ok-clause-reads c =
+    reads_gave c.args.self.now c.args.piece.now c.in-Ok.step.used c.what_of-what.result
+    (ap (Gave c.in-Ok.step.used) c.what_of-what.ensures ∙ c.in-Ok.ensures.outcome
+    ∙ ap (λ (r : ReaderValue). outcome_of (read_first r c.args.piece.now)) c.self.view_is)
+
+pub returns-in-Ok-clause-left : goal.returns-in-Ok-clause-left
+returns-in-Ok-clause-left c =
+    c.count.ensures
+    ∙ ap (λ t. record c.read.new.self { tally = t })
+    (ap (tally_given c.read.new.self.tally) c.what_of-what.ensures
+    ∙ given_tally c.read.new.self.tally c.in-Ok.step.event _)
+    ∙ c.in-Ok.ensures.read
+    ∙ ap (λ (r : ReaderValue). (read_first r c.args.piece.now).reader) c.self.view_is
