@@ -1,3 +1,4 @@
+pub mod FollowsLemmas
 pub mod HearingLemmas
 pub mod TogetherLemmas
 pub mod WantLineLemmas

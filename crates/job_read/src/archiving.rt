@@ -152,10 +152,12 @@ fn at_failure<'a>(
     ensures { result.failure ≡ incident.entry.failure }
 {
     match failure {
-        Some(FileFailure {
-            path: Some(path),
-            reason,
-        }) => Incident {
+        Some(
+            FileFailure {
+                path: Some(path),
+                reason,
+            },
+        ) => Incident {
             failure: incident.failure,
             site: Site::UnwrittenBelow(path, reason),
         },

@@ -57,7 +57,8 @@ impl<'r, 'a, 'w, R: Eprint + Clock + Net> Connections<'r, 'a, 'w, R> {
     fn pass(&mut self, incident: Incident<'a>) -> Result<(), Incident<'a>>
         ensures passed { OnOk result ((goes_on incident.entry.failure self.old.places.place self.old.places.count
             self.old.reading.now.is_retried ≡ true) × (self.new.places ≡ record self.old.places {
-            place = place_after self.old.places.place self.old.places.count })) }
+              place = place_after self.old.places.place self.old.places.count;
+            })) }
         ensures ended { IfErr result (λ ended. (ended ≡ incident.entry)
             × (goes_on incident.entry.failure self.old.places.place self.old.places.count
             self.old.reading.now.is_retried ≡ false)) }

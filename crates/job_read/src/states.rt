@@ -4,6 +4,7 @@ ghost use Rattle.sl_io.specs.Counts.{CountsFailure};
 
 use crate::archiving::Lasting;
 use crate::clock::milliseconds;
+use crate::silence::is_silent;
 use incidents::{Failure, Incident, Site, StateFault};
 use job_base::{place_of, replace};
 use packet_listing::{KeepFault, Keeper, ListingFault};
@@ -15,9 +16,8 @@ use std::alloc::{AllocError, Global};
 use std::cell::RefCell;
 use std::fs::{File, OpenOptions, TryLockError};
 use std::io::ErrorKind;
-use std::net::{Net, OpenStream};
+use std::net::Net;
 use std::rt::{Clock, Files};
-use std::time::Duration;
 use std::{fs, io};
 
 /// How many milliseconds lie at least between two times that a state is kept.
@@ -286,10 +286,12 @@ impl<'a> Unkept<'a> {
         match self {
             Unkept::State(reason) => Site::Unwritten(path, reason),
             Unkept::Output(output, reason) => Site::Unwritten(output, reason),
-            Unkept::Records(FileFailure {
-                path: Some(file),
-                reason,
-            }) => Site::UnwrittenBelow(file, reason),
+            Unkept::Records(
+                FileFailure {
+                    path: Some(file),
+                    reason,
+                },
+            ) => Site::UnwrittenBelow(file, reason),
             Unkept::Records(FileFailure { path: None, reason }) => Site::Unwritten(path, reason),
         }
     }
@@ -357,23 +359,12 @@ impl<'r, 'a, 'w, R: Net> StateKeeper<'r, 'a, 'w, R> {
     fn is_silent(&self, milliseconds: u64) -> bool {
         match self.present.try_borrow() {
             Ok(present) => match present.as_ref() {
-                Some(stream) => is_silent(stream, Duration::from_millis(milliseconds)),
+                Some(stream) => is_silent(stream, milliseconds),
                 None => true,
             },
             Err(_) => true,
         }
     }
-}
-
-/// Whether a connection brings nothing for a while. One that can't be asked brings nothing.
-fn is_silent<S: OpenStream>(stream: &S, time: Duration) -> bool {
-    if stream.set_read_timeout(Some(time)).is_err() {
-        return true;
-    }
-    let mut byte = [0u8; 1];
-    let looked = stream.peek(&mut byte);
-    let reset = stream.set_read_timeout(None);
-    looked.is_err() || reset.is_err()
 }
 
 impl<'r, 'a, 'w, R: Clock + Net> StateKeeper<'r, 'a, 'w, R> {
