@@ -1,6 +1,5 @@
 pub mod Asking
 pub mod Endings
-pub mod Follows
 pub mod Hearing
 pub mod Notices
 pub mod Places

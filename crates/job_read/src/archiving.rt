@@ -143,6 +143,15 @@ pub fn at_archive<'r, 'a, R: Files<File = File> + Clock>(
     }
 }
 
+/// A file below an archive that took no more; the folder of that if the file is not known.
+pub fn site_of<'a>(failure: FileFailure, top: &'a str) -> Site<'a> {
+    let FileFailure { path, reason } = failure;
+    match path {
+        Some(path) => Site::UnwrittenBelow(path, reason),
+        None => Site::Unwritten(top, reason),
+    }
+}
+
 /// The same, at the file of the archive that took no more, as far as that is known.
 fn at_failure<'a>(
     incident: Incident<'a>,
@@ -152,16 +161,10 @@ fn at_failure<'a>(
     ensures { result.failure ≡ incident.entry.failure }
 {
     match failure {
-        Some(
-            FileFailure {
-                path: Some(path),
-                reason,
-            },
-        ) => Incident {
+        Some(failure) => Incident {
             failure: incident.failure,
-            site: Site::UnwrittenBelow(path, reason),
+            site: site_of(failure, top),
         },
-        Some(FileFailure { path: None, reason }) => incident.at_output(top, Some(reason)),
         None => incident,
     }
 }

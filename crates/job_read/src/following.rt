@@ -4,7 +4,6 @@ ghost use Rattle.packet_listing.specs.Breaks.{StopsVisits};
 ghost use Rattle.packet_listing.specs.Following.{Follows};
 ghost use Rattle.packet_listing.specs.Keeping.{KeepsBehind};
 ghost use Rattle.packet_listing.specs.Visits.{EndsVisits, asking, progress};
-ghost use Rattle.job_read.specs.Follows.{ReadsToEnd};
 
 use crate::hearing::{HeardLines, Listener};
 use crate::notices::{ErrorTeller, RefusalTeller};
@@ -30,12 +29,7 @@ pub fn follow_any<
     out: O,
     records: &mut P,
     keeper: &mut K,
-) -> Result<(), Break<S::Fault>>
-    ensures ends { OnOk result (ReadsToEnd (asking reading.now.wants.items reading.now.times) tally.old tally.new
-        (P.written records.old) (P.written records.new) (S.told servers.old) (S.told servers.new)) }
-    ensures behind { KeepsBehind (λ t w. Follows reading.now.wants.items tally.old (P.written records.old) t w)
-        (K.done keeper.old) (K.done keeper.new) }
-{
+) -> Result<(), Break<S::Fault>> {
     if reading.is_told {
         follow_told(rt, reading, tally, servers, out, records, keeper)
     } else {
@@ -105,12 +99,7 @@ fn follow_told<
     out: O,
     records: &mut P,
     keeper: &mut K,
-) -> Result<(), Break<S::Fault>>
-    ensures ends { OnOk result (ReadsToEnd (asking reading.now.wants.items reading.now.times) tally.old tally.new
-        (P.written records.old) (P.written records.new) (S.told servers.old) (S.told servers.new)) }
-    ensures behind { KeepsBehind (λ t w. Follows reading.now.wants.items tally.old (P.written records.old) t w)
-        (K.done keeper.old) (K.done keeper.new) }
-{
+) -> Result<(), Break<S::Fault>> {
     let Ok(listener) = Listener::new(rt.alloc(), &reading.wants, tally) else {
         return Err(Break::Listing(ListingFault::Reader(ReaderFault::OutOfMemory)));
     };

@@ -2,7 +2,7 @@
 ghost use Rattle.std.specs.Prelude.{◌≡◌, None};
 ghost use Rattle.sl_io.specs.Counts.{CountsFailure};
 
-use crate::archiving::Lasting;
+use crate::archiving::{Lasting, site_of};
 use crate::clock::milliseconds;
 use crate::silence::is_silent;
 use incidents::{Failure, Incident, Site, StateFault};
@@ -286,13 +286,7 @@ impl<'a> Unkept<'a> {
         match self {
             Unkept::State(reason) => Site::Unwritten(path, reason),
             Unkept::Output(output, reason) => Site::Unwritten(output, reason),
-            Unkept::Records(
-                FileFailure {
-                    path: Some(file),
-                    reason,
-                },
-            ) => Site::UnwrittenBelow(file, reason),
-            Unkept::Records(FileFailure { path: None, reason }) => Site::Unwritten(path, reason),
+            Unkept::Records(failure) => site_of(failure, path),
         }
     }
 }
