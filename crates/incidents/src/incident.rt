@@ -37,18 +37,18 @@ pub enum WantPlace<'a> {
     Line { path: &'a str, number: u64 },
 }
 
-/// What went wrong with a file that was found in a folder.
+/// What went wrong with a file below a folder.
 #[derive(Drop)]
 pub enum FoundFault {
     /// A record of it is refused, or bytes are left over after its last one.
     Record(Finding),
-    /// It could not be opened, or not be read to its end, for the system's reason.
+    /// It could not be opened, not be read to its end, or took no more, for the system's reason.
     Device(io::Error),
     /// It could not be read any more.
     Unread,
 }
 
-/// A file that was found in a folder, and what went wrong with it.
+/// A file below a folder, and what went wrong with it: one of several that are checked, or of an archive.
 #[derive(Drop)]
 pub struct FoundFile {
     pub path: String,
@@ -68,7 +68,7 @@ pub enum Site<'a> {
     Differing(&'a str, Difference),
     /// A record of a file, or what is left over after its last one.
     Record(&'a str, Finding),
-    /// A file that was found in a folder.
+    /// A file below a folder.
     Found(FoundFile),
     /// A file that could not be opened, for the system's reason.
     Unopened(&'a str, io::Error),
@@ -76,8 +76,6 @@ pub enum Site<'a> {
     Unread(&'a str, io::Error),
     /// A file that took no more, for the system's reason.
     Unwritten(&'a str, io::Error),
-    /// A file below the folder of an archive that took no more, for the system's reason.
-    UnwrittenBelow(String, io::Error),
     /// A word of the command line that is no address.
     Word(&'a str),
     /// A word of the command line that is no access list, and its first entry that is invalid.
@@ -385,7 +383,6 @@ impl Display for Site<'_> {
             Site::Unopened(path, reason)
             | Site::Unread(path, reason)
             | Site::Unwritten(path, reason) => put_reasoned(f, "file", path, reason),
-            Site::UnwrittenBelow(path, reason) => put_reasoned(f, "file", path.as_str(), reason),
             Site::Word(word) => put_line(f, "word", *word),
             Site::AccessWord(word, entry) => put_access_word(f, word, entry),
             Site::Want(place, part) => put_want(f, place, part),
@@ -439,7 +436,7 @@ fn put_record<W: Write>(f: &mut Formatter<W>, path: &str, finding: &Finding) -> 
     writeln!(f, "  offset: {}", finding.offset)
 }
 
-/// The lines of a file that was found in a folder.
+/// The lines of a file below a folder.
 fn put_found<W: Write>(f: &mut Formatter<W>, found: &FoundFile) -> fmt::Result {
     let path = found.path.as_str();
     match &found.fault {

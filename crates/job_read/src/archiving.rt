@@ -7,7 +7,7 @@ use crate::clock::milliseconds;
 use crate::notices::{ErrorTeller, Notice, Teller};
 use crate::torn::tell_torn;
 use crate::unplaced::UnplacedCount;
-use incidents::{Failure, Incident, Site};
+use incidents::{Failure, FoundFault, FoundFile, Incident, Site};
 use job_base::{descriptor_limit, unopened};
 use packet_listing::Nowhere;
 use record_archive::{
@@ -147,7 +147,10 @@ pub fn at_archive<'r, 'a, R: Files<File = File> + Clock>(
 pub fn site_of<'a>(failure: FileFailure, top: &'a str) -> Site<'a> {
     let FileFailure { path, reason } = failure;
     match path {
-        Some(path) => Site::UnwrittenBelow(path, reason),
+        Some(path) => Site::Found(FoundFile {
+            path,
+            fault: FoundFault::Device(reason),
+        }),
         None => Site::Unwritten(top, reason),
     }
 }
