@@ -103,7 +103,11 @@ fn answer(
 }
 
 /// The dialogue, up to the end of the transfer.
-fn outcome_of(server: &mut Server, client: &Client, core: &mut ReaderCore) -> Result<Outcome, Fail> {
+fn outcome_of(
+    server: &mut Server,
+    client: &Client,
+    core: &mut ReaderCore,
+) -> Result<Outcome, Fail> {
     let mut outcome = Outcome {
         lines: 0,
         refused: 0,
