@@ -178,7 +178,7 @@ PREPARE = {
     ("45 Script", "replay"): lambda room: (room.file("island.toml", ISLAND), room.file("views.script", "open 10.0.0.7\n\n\nopen\n")),
     ("5 No1000", "check"): lambda room: room.file("day.mseed", without_blockettes()),
     ("46 Listen", "serve"): Room.taken_port,
-    ("42 Read", "check"): lambda room: os.mkdir(f"{room.folder}/records"),
+    ("44 File", "view"): lambda room: os.mkdir(f"{room.folder}/records"),
     ("42 Read", "read"): Room.full_of_clients,
     ("43 Write", "feed"): Room.full_of_feeds,
     ("43 Write", "read"): Room.held_records,
@@ -219,7 +219,7 @@ def run(words, wanted):
     """What an example prints, with the ports that it has in the text."""
     fault = next(line for line in wanted if re.match(r"seedlinkd: \d", line)).removeprefix("seedlinkd: ")
     with Room() as room:
-        job = next(word for word in words if word in ("serve", "feed", "read", "check", "replay"))
+        job = next(word for word in words if word in ("serve", "feed", "read", "view", "check", "replay"))
         PREPARE.get((fault, job), lambda room: None)(room)
         there = [word.replace(":18000", f":{room.listen}").replace(":18001", f":{room.feed}") for word in words[1:]]
         done = subprocess.run([PROGRAM, *there], cwd=room.folder, capture_output=True, text=True, timeout=30, check=False)
