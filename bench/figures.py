@@ -257,7 +257,7 @@ ROWS = (
     Row(200, "a sequence number read, counted on and written", small("number")),
     Row(1_500, "sixteen selectors over a record", small("selectors")),
     Row(percent(small("selectors"), 120), "the same in a pool that holds 1,024", small("pool"), "at most 1.2 times the figure above"),
-    Row(2_500, "a packet read, cut out and listed by the reader", small("listing")),
+    Row(2_300, "a packet read, cut out and listed by the reader", small("listing")),
     # calls of a server whose rings are full
     Row(900, "arrive at one of 1,024 stations, a full ring of 4,096", small_ring),
     Row(percent(small_ring, 105), "the same, a full ring of 65,536", rounds("arrive", 65_536), "at most 1.05 times that"),
