@@ -250,7 +250,8 @@ module _ (r : ℕ → ℕ) (rank : ℕ) (xs : List ℕ) (at left step : ℕ) (ma
   pub record IsStepped : Type 0 where
     pub inside : at + step + (left - left / 2) ≤ length xs
     pub last : at + step ≤ length xs - 1
-    pub around : IsNonDecreasingBy r xs → IsAround is_less xs at left → IsAround is_less xs (at + step) (left - left / 2)
+    pub around : IsNonDecreasingBy r xs → IsAround is_less xs at left
+        → IsAround is_less xs (at + step) (left - left / 2)
 
   pub stepped : (b : Bool) → is_less (get_or xs (at + left / 2 - 1) 0) ≡ b → (b ≡ true → step ≡ left / 2)
       → (b ≡ false → step ≡ 0) → IsStepped

@@ -1,6 +1,6 @@
 //! What one address sees of a configuration.
-ghost use Rattle.std.specs.Prelude.{◌≡◌, ◌-◌, ◌<◌, ◌≤◌, ◌++◌, ◌∷◌, [], true, false, min, nat_lt, All, IfOk, IfSome, None};
-ghost use Rattle.std.specs.Prelude.{option_map, map, find, length, List, ℕ};
+ghost use Rattle.std.specs.Prelude.{◌≡◌, ◌-◌, ◌<◌, ◌≤◌, ◌++◌, ◌∷◌, [], true, false, min, nat_lt, All, IfOk, IfSome};
+ghost use Rattle.std.specs.Prelude.{None, option_map, map, find, length, List, ℕ};
 ghost use Rattle.std.specs.List.Sorted.{IsNonDecreasingBy};
 ghost use Rattle.protocol.specs.Catalog.{find_station, has_codes};
 ghost use Rattle.protocol.specs.Reading.{Not};

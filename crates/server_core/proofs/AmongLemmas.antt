@@ -6,7 +6,7 @@ use Rattle.std.proofs.lemmas.Bool.{cases_eq, cases_lt}
 use Rattle.std.proofs.lemmas.List.{get_or_append_left}
 use Rattle.std.proofs.Math.Seq.{get_or-append_seam}
 use Rattle.server_core.specs.declared.clients.Opened.{Opened}
-use Rattle.server_core.specs.declared.rows.Row.{Row}
+use Rattle.server_core.specs.declared.marks.Row.{Row}
 use Rattle.server_core.specs.Clients.{listed, owner_in, slot_in}
 use Rattle.server_core.specs.Rows.{bit_of}
 use Rattle.server_core.specs.Marks.{IsAmong, IsSetIn}

@@ -6,7 +6,7 @@ use Rattle.std.proofs.Common.{suc, eqb-true}
 use Rattle.std.specs.Prelude.{◌≢◌, IsSome, is_some}
 use Rattle.std.proofs.lemmas.Bool.{eqb-false}
 use Rattle.slab.specs.Slab.{Slab, get, Updates}
-use Rattle.server_core.specs.declared.rows.Row.{Row}
+use Rattle.server_core.specs.declared.marks.Row.{Row}
 use Rattle.server_core.specs.Rows.{bit_of, HasRoom}
 use Rattle.protocol.specs.Catalog.{Config, listing}
 use Rattle.protocol.specs.History.{Arrival}

@@ -5,7 +5,7 @@ use Rattle.std.specs.Prelude.{Option}
 use Rattle.std.specs.Prelude.{Some, None, is_some, slice_get, slice_index_or}
 use Rattle.std.specs.List.{list_any, range_with_len}
 use Rattle.slab.specs.Slab.{Slab, get}
-use Rattle.server_core.specs.declared.rows.Row.{Row}
+use Rattle.server_core.specs.declared.marks.Row.{Row}
 use Rattle.server_core.specs.Rows.{bit_of, HasRoom}
 use Rattle.protocol.specs.Catalog.{Config, listing}
 use Rattle.station_ring.specs.HeldRecords.{RingsValue}

@@ -2,7 +2,7 @@
 -- This project's own.
 use Rattle.std.specs.Prelude.{ℕ, ◌*◌, ◌/◌, ◌%◌, ◌<◌, ◌==◌, Bool, List, length, slice_index_or}
 use Rattle.std.specs.Int.{bit_at}
-use Rattle.server_core.specs.declared.rows.Row.{Row}
+use Rattle.server_core.specs.declared.marks.Row.{Row}
 
 -- bit n of some words
 abbrev pub bit_in : List ℕ → ℕ → Bool

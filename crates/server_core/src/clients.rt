@@ -10,7 +10,7 @@ ghost use Rattle.server_core.specs.Clients.{AreRising, IsNumberAt, listed, owner
 ghost use Rattle.server_core.specs.Marks.{IsAmong};
 
 use crate::client::Client;
-use crate::rows::Row;
+use crate::marks::Row;
 use session_state::Session;
 use slab::Slab;
 use std::alloc::{AllocError, Global};

@@ -7,7 +7,6 @@ mod clients;
 pub mod events;
 mod marks;
 mod reviewing;
-pub mod rows;
 pub mod server;
 mod slots;
 

@@ -8,7 +8,7 @@ use Rattle.protocol.specs.Session.Negotiated.{Uni, Multi}
 use Rattle.protocol.specs.Command.Command.{Station as StationCommand}
 use Rattle.sl_lines.specs.declared.actions.Action.{Action}
 use Rattle.sl_lines.specs.declared.actions.Action.TheVariants.{Data, Fetch, Time}
-use Rattle.session_state.specs.declared.instruction.Instruction.TheVariants.{Add, Refused}
+use Rattle.session_state.specs.declared.session.reading.Instruction.TheVariants.{Add, Refused}
 use Rattle.sl_lines.specs.CommandValues.{action_command}
 use Rattle.session_state.specs.Asking.{is_bye, outcome_by}
 use Rattle.session_state.specs.Changes.{selecting, selecting_in}

@@ -17,8 +17,8 @@ use Rattle.catalog.specs.Places.{Seen}
 use Rattle.session_state.specs.NamedValues.{ModeValue}
 use Rattle.session_state.specs.declared.negotiation.Change.{Change}
 use Rattle.session_state.specs.declared.negotiation.Change.TheVariants.{Done, Refused, Starts}
-use Rattle.session_state.specs.declared.instruction.Instruction.{Instruction}
-use Rattle.session_state.specs.declared.instruction.Instruction.TheVariants.{Nothing}
+use Rattle.session_state.specs.declared.session.reading.Instruction.{Instruction}
+use Rattle.session_state.specs.declared.session.reading.Instruction.TheVariants.{Nothing}
 use Rattle.session_state.specs.declared.session.State.TheVariants.{Negotiating, Listing, Transfer, Ending}
 use Rattle.session_state.specs.Choices.{negotiated_in, chosen_of, request_in}
 use Rattle.session_state.specs.Changes.{outcome_after}
@@ -209,7 +209,8 @@ asked_none config v n lines e = ap (outcome_of_lines v n) (sym e)
 
 pub asked_line : (config : Config) (v : View) (n : Negotiated) (lines : List Line) (line : Line)
     (instruction : Instruction) → line ∷ [] ≡ lines
-    → outcome_of v n (command_of line) ≡ outcome_by config v n instruction → outcome_of_lines v n lines ≡ outcome_by config v n instruction
+    → outcome_of v n (command_of line) ≡ outcome_by config v n instruction
+    → outcome_of_lines v n lines ≡ outcome_by config v n instruction
 asked_line config v n lines line instruction e same = ap (outcome_of_lines v n) (sym e) ∙ same
 
 pub says_none : (lines : List Line) → [] ≡ lines → says_bye lines ≡ is_leaving Nothing

@@ -9,10 +9,10 @@ use Rattle.protocol.specs.Session.{Negotiated, Outcome, outcome_of, error_line, 
 use Rattle.protocol.specs.Session.{choose_station, end_multi, select}
 use Rattle.protocol.specs.Session.Outcome.{Stays, Lists, Ends}
 use Rattle.catalog.specs.Places.{station_at}
-use Rattle.session_state.specs.declared.instruction.Instruction.{Instruction}
-use Rattle.session_state.specs.declared.instruction.Instruction.TheVariants.{Nothing, Greeting, Listing, Leaving, Name}
-use Rattle.session_state.specs.declared.instruction.Instruction.TheVariants.{Clear}
-use Rattle.session_state.specs.declared.instruction.Instruction.TheVariants.{Add, Act, Finish, Refused}
+use Rattle.session_state.specs.declared.session.reading.Instruction.{Instruction}
+use Rattle.session_state.specs.declared.session.reading.Instruction.TheVariants.{Nothing, Greeting, Listing, Leaving}
+use Rattle.session_state.specs.declared.session.reading.Instruction.TheVariants.{Name, Clear}
+use Rattle.session_state.specs.declared.session.reading.Instruction.TheVariants.{Add, Act, Finish, Refused}
 use Rattle.session_state.specs.Choices.{action_value}
 use Rattle.session_state.specs.Changes.{selecting}
 

@@ -6,7 +6,6 @@
 #![tactic(auto)]
 
 pub mod choices;
-mod instruction;
 mod kept_action;
 mod named;
 mod negotiation;

@@ -5,8 +5,8 @@ use Rattle.protocol.specs.Command.{Command, alone, station_command, select_comma
 use Rattle.protocol.specs.Command.Command.{Hello as HelloCommand, Cat as CatCommand, Bye as ByeCommand}
 use Rattle.protocol.specs.Command.Command.{End as EndCommand, Data as DataCommand, Fetch as FetchCommand}
 use Rattle.protocol.specs.Command.Command.{Time as TimeCommand, Bad as BadCommand}
-use Rattle.sl_lines.specs.declared.words.Arguments.{Arguments}
-use Rattle.sl_lines.specs.declared.words.Arguments.TheVariants.{Nothing, One, Two, More}
+use Rattle.sl_lines.specs.declared.parsing.Arguments.{Arguments}
+use Rattle.sl_lines.specs.declared.parsing.Arguments.TheVariants.{Nothing, One, Two, More}
 use Rattle.sl_lines.specs.declared.parsing.Name.{Name}
 use Rattle.sl_lines.specs.declared.parsing.Name.TheVariants.{Hello, Cat, Bye, End, Station, Select, Data, Fetch, Time}
 use Rattle.sl_lines.specs.declared.parsing.Resumption.{Resumption}

@@ -5,7 +5,6 @@ pub mod actions;
 mod commands;
 mod lines;
 mod parsing;
-mod words;
 
 pub use actions::Action;
 pub use commands::Command;

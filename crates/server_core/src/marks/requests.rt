@@ -3,7 +3,7 @@ ghost use Rattle.std.specs.Prelude.{◌≡◌, ◌<◌, ◌||◌, ℕ, length, s
 ghost use Rattle.session_state.specs.Choices.{chosen_of};
 ghost use Rattle.server_core.specs.Marks.{Anywhere, Elsewhere, KeepsRows, RoomBy, asked, asked_of, bit_by};
 
-use crate::rows::Row;
+use crate::marks::Row;
 use session_state::{Entry, Session};
 use std::alloc::{AllocError, Global};
 

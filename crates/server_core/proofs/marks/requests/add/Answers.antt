@@ -1,5 +1,5 @@
 use Rattle.std.proofs.Common.{◌∙◌, ◌+◌, Option, refl, sym, subst, arith, length, slice_index_or}
-use Rattle.server_core.specs.declared.rows.Row.{Row}
+use Rattle.server_core.specs.declared.marks.Row.{Row}
 use Rattle.server_core.specs.Marks.{Elsewhere, RoomBy}
 use Rattle.server_core.proofs.RowLemmas.{Adds, adds-all, adds-set, adds-skip, item-there, keeps-none, no-action}
 use Rattle.server_core.proofs.RowLemmas.{not-inside}
