@@ -331,6 +331,20 @@ impl<P: Ports> Loop<P> {
         self.server.rings()
     }
 
+    /// The server.
+    pub fn server(&self) -> &Server
+        ensures { result.now ≡ self.now.server }
+    {
+        &self.server
+    }
+
+    /// The open ports, by rising number, and whose they are.
+    pub fn seats(&self) -> &[Seat]
+        ensures { result.now ≡ self.now.seats }
+    {
+        self.seats.all.as_slice()
+    }
+
     /// How many records the server refused in all turns; it stays at 2^64 - 1.
     pub fn refused(&self) -> u64
         ensures { result ≡ self.now.refused }

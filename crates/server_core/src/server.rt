@@ -393,8 +393,15 @@ impl Server {
         Ok(())
     }
 
-    /// The session of a client, while it is open.
-    fn session(&self, client: &Client) -> Option<&Session>
+    /// The configuration in force.
+    pub fn config(&self) -> &Config
+        ensures { result.now ≡ self.now.config }
+    {
+        &self.config
+    }
+
+    /// The session of a client, while it is open: which stations it named, and how far its transfer has come.
+    pub fn session(&self, client: &Client) -> Option<&Session>
         ensures { option_map (λ session. session.now) result ≡ slice_index_or self.now.sessions client.now None }
     {
         let slot = self.clients.slot_of(client)?;
