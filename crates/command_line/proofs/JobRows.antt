@@ -5,7 +5,8 @@ use Rattle.clap.specs.declared.error.ErrorKind.TheVariants.{DisplayVersion, Miss
 use Rattle.clap.specs.declared.error.ErrorKind.TheVariants.{ValueValidation}
 use Rattle.clap.proofs.OnLiterals.{clap_on_literals}
 use Rattle.command_line.specs.declared.job.Every.TheVariants.{Seconds, Turns}
-use Rattle.command_line.specs.Jobs.{every_of, job_of, program_app, verbose_of, CheckAsked, ReadAsked, ServeAsked}
+use Rattle.command_line.specs.Jobs.{every_of, job_of, program_app, verbose_of}
+use Rattle.command_line.specs.Jobs.{CheckAsked, FeedAsked, ReadAsked, ServeAsked, ViewAsked}
 use Rattle.command_line.specs.Jobs.Asked.{Check, Replay, View, Serve, Feed, Read}
 
 abbrev replay_words : List Text
@@ -172,23 +173,64 @@ pub strict_asked : job_of strict_words
 unfolding clap_on_literals
 strict_asked = refl
 
+-- what `view` is asked without options
+abbrev plain_view : (config : Text) → ViewAsked
+plain_view config = record { config = config; who = None; station = None; is_strict = false }
+
+pub view_asked : job_of (codes "seedlinkd" ∷ codes "view" ∷ codes "c" ∷ codes "10.0.0.0/8" ∷ [])
+    ≡ Some (View (record (plain_view (codes "c")) { who = Some (codes "10.0.0.0/8") }))
+unfolding clap_on_literals
+view_asked = refl
+
+pub station_asked : job_of (codes "seedlinkd" ∷ codes "view" ∷ codes "c" ∷ codes "--station=GE_APE" ∷ [])
+    ≡ Some (View (record (plain_view (codes "c")) { station = Some (codes "GE_APE") }))
+unfolding clap_on_literals
+station_asked = refl
+
+-- a station and a word for whom
+pub one_view : job_of (codes "seedlinkd" ∷ codes "view" ∷ codes "c" ∷ codes "10.0.0.7" ∷ codes "--station=GE_APE" ∷ [])
+    ≡ None
+unfolding clap_on_literals
+one_view = refl
+
 pub strict_view_asked : job_of (codes "seedlinkd" ∷ codes "view" ∷ codes "c" ∷ codes "--strict" ∷ [])
-    ≡ Some (View (codes "c") None true)
+    ≡ Some (View (record (plain_view (codes "c")) { is_strict = true }))
 unfolding clap_on_literals
 strict_view_asked = refl
 
+-- what `feed` is asked without options
+abbrev plain_feed : FeedAsked
+plain_feed = record { from = None; config = None; is_strict = false; skips = false }
+
 pub feed_asked : job_of (codes "seedlinkd" ∷ codes "feed" ∷ codes "a" ∷ codes "f" ∷ [])
-    ≡ Some (Feed (codes "a") (codes "f" ∷ []) None)
+    ≡ Some (Feed (codes "a") (codes "f" ∷ []) plain_feed)
 unfolding clap_on_literals
 feed_asked = refl
 
 pub rest_asked : job_of (codes "seedlinkd" ∷ codes "feed" ∷ codes "a" ∷ codes "f" ∷ codes "--from=6" ∷ [])
-    ≡ Some (Feed (codes "a") (codes "f" ∷ []) (Some 6))
+    ≡ Some (Feed (codes "a") (codes "f" ∷ []) (record plain_feed { from = Some 6 }))
 unfolding clap_on_literals
 rest_asked = refl
 
+pub skip_asked :
+    job_of (codes "seedlinkd" ∷ codes "feed" ∷ codes "--skip" ∷ codes "--config=c" ∷ codes "a" ∷ codes "f" ∷ [])
+    ≡ Some (Feed (codes "a") (codes "f" ∷ []) (record plain_feed { config = Some (codes "c"); skips = true }))
+unfolding clap_on_literals
+skip_asked = refl
+
+pub strict_feed_asked : job_of (codes "seedlinkd" ∷ codes "feed" ∷ codes "a" ∷ codes "f" ∷ codes "--strict" ∷ [])
+    ≡ Some (Feed (codes "a") (codes "f" ∷ []) (record plain_feed { is_strict = true }))
+unfolding clap_on_literals
+strict_feed_asked = refl
+
+-- both ways to go on
+pub one_way : job_of (codes "seedlinkd" ∷ codes "feed" ∷ codes "a" ∷ codes "f" ∷ codes "--strict" ∷ codes "--skip" ∷ [])
+    ≡ None
+unfolding clap_on_literals
+one_way = refl
+
 pub files_asked : job_of (codes "seedlinkd" ∷ codes "feed" ∷ codes "a" ∷ codes "f" ∷ codes "-" ∷ [])
-    ≡ Some (Feed (codes "a") (codes "f" ∷ codes "-" ∷ []) None)
+    ≡ Some (Feed (codes "a") (codes "f" ∷ codes "-" ∷ []) plain_feed)
 unfolding clap_on_literals
 files_asked = refl
 

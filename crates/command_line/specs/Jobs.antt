@@ -18,10 +18,12 @@ use Rattle.protocol.specs.Time.{digits_between}
 use Rattle.command_line.specs.declared.job.CheckOptions.{CheckOptions}
 use Rattle.command_line.specs.declared.job.Every.{Every}
 use Rattle.command_line.specs.declared.job.Every.TheVariants.{Turns, Seconds}
+use Rattle.command_line.specs.declared.job.FeedOptions.{FeedOptions}
 use Rattle.command_line.specs.declared.job.Job.{Job}
 use Rattle.command_line.specs.declared.job.Job.TheVariants as job
 use Rattle.command_line.specs.declared.job.ReadOptions.{ReadOptions}
 use Rattle.command_line.specs.declared.job.ServeOptions.{ServeOptions}
+use Rattle.command_line.specs.declared.job.ViewOptions.{ViewOptions}
 use Rattle.command_line.specs.declared.job.WordsFault.{WordsFault}
 use Rattle.command_line.specs.declared.job.WordsFault.TheVariants.{OutOfMemory, Refused}
 
@@ -80,17 +82,17 @@ scripted_app =
 abbrev pub replay_app : App
 replay_app = with_verbose (with_rule scripted_app (flag_rule (codes "text")))
 
--- `ADDRESS`, which may be left out
-abbrev pub address_rule : Rule
-address_rule = new_rule (codes "ADDRESS")
+-- `WHO`, which may be left out
+abbrev pub who_rule : Rule
+who_rule = new_rule (codes "WHO")
 
--- `view CONFIG [ADDRESS]`
+-- `view CONFIG [WHO]`
 abbrev pub viewed_app : App
-viewed_app = with_rule (with_rule (new_app (codes "view")) (wanted (codes "CONFIG"))) address_rule
+viewed_app = with_rule (with_rule (new_app (codes "view")) (wanted (codes "CONFIG"))) who_rule
 
--- `view CONFIG [ADDRESS] [--strict]`
+-- `view CONFIG [WHO] [--station NET_STA] [--strict]`
 abbrev pub view_app : App
-view_app = with_verbose (with_rule viewed_app (flag_rule (codes "strict")))
+view_app = with_verbose (with_rule (with_rule viewed_app (option false (codes "station"))) (flag_rule (codes "strict")))
 
 -- an option `--name N` with a number from 1 to 1,000,000,000
 abbrev pub number_rule : Text → Rule
@@ -133,9 +135,14 @@ fed_app = with_rule (new_app (codes "feed")) (wanted (codes "SERVER"))
 abbrev pub sending_app : App
 sending_app = with_rule fed_app files_rule
 
--- `feed A:P FILE.. [--from N]`
+-- `feed A:P FILE.. [--from N] [--config CONFIG]`
+abbrev pub counting_app : App
+counting_app = with_rule (with_rule sending_app (number_rule (codes "from"))) (option false (codes "config"))
+
+-- `feed A:P FILE.. [--from N] [--config CONFIG] [--strict] [--skip]`
 abbrev pub feed_app : App
-feed_app = with_verbose (with_rule sending_app (number_rule (codes "from")))
+feed_app =
+    with_verbose (with_rule (with_rule counting_app (flag_rule (codes "strict"))) (flag_rule (codes "skip")))
 
 -- `WANT..`, one or more, which may be left out
 abbrev pub wants_rule : Rule
@@ -281,22 +288,57 @@ serve_options_asked o =
       is_strict = o.is_strict;
     }
 
+-- the words of `view`
+pub record ViewAsked : Type 0 where
+  pub config : List ℕ
+  pub who : Option (List ℕ)
+  pub station : Option (List ℕ)
+  pub is_strict : Bool
+
+-- those that the code has
+abbrev pub view_options_asked : ViewOptions → ViewAsked
+view_options_asked o =
+    record {
+      config = o.config.now;
+      who = option_map (λ text. text.now) o.who;
+      station = option_map (λ text. text.now) o.station;
+      is_strict = o.is_strict;
+    }
+
+-- the options of `feed`
+pub record FeedAsked : Type 0 where
+  pub from : Option ℕ
+  pub config : Option (List ℕ)
+  pub is_strict : Bool
+  pub skips : Bool
+
+-- those that the code has
+abbrev pub feed_options_asked : FeedOptions → FeedAsked
+feed_options_asked o =
+    record {
+      from = o.from;
+      config = option_map (λ text. text.now) o.config;
+      is_strict = o.is_strict;
+      skips = o.skips;
+    }
+
 -- A job as texts and numbers.
 pub data Asked : Type 0 where
   Check : (files : List (List ℕ)) → (options : CheckAsked) → Asked
   Replay : (config script : List ℕ) → (is_text : Bool) → Asked
-  View : (config : List ℕ) → (address : Option (List ℕ)) → (is_strict : Bool) → Asked
+  View : (options : ViewAsked) → Asked
   Serve : (options : ServeAsked) → Asked
-  Feed : (server : List ℕ) → (files : List (List ℕ)) → (from : Option ℕ) → Asked
+  Feed : (server : List ℕ) → (files : List (List ℕ)) → (options : FeedAsked) → Asked
   Read : (server : List ℕ) → (wants : List (List ℕ)) → (options : ReadAsked) → Asked
 
 -- the job that the code has
 abbrev pub asked : Job → Asked
 asked (job.Check files options) = Check (map (λ file. file.now) files.items) (check_options_asked options)
 asked (job.Replay config script is_text) = Replay config.now script.now is_text
-asked (job.View config address is_strict) = View config.now (option_map (λ text. text.now) address) is_strict
+asked (job.View options) = View (view_options_asked options)
 asked (job.Serve options) = Serve (serve_options_asked options)
-asked (job.Feed server files from) = Feed server.now (map (λ file. file.now) files.items) from
+asked (job.Feed server files options) =
+    Feed server.now (map (λ file. file.now) files.items) (feed_options_asked options)
 asked (job.Read server wants options) =
     Read server.now (map (λ want. want.now) wants.items) (options_asked options)
 
@@ -333,14 +375,23 @@ abbrev pub replay_asked : List Row → Option Asked
 replay_asked rows =
     with_script (flag_in (codes "text") rows) (first_of (codes "CONFIG") rows) (first_of (codes "SCRIPT") rows)
 
+-- the job of `view`, unless it has both a word for whom and a station
+abbrev pub viewing : ViewAsked → Option Asked
+viewing o = if is_some o.who && is_some o.station then None else Some (View o)
+
 -- the job of `view`, where its configuration is there
-abbrev pub with_config : Option (List ℕ) → Bool → Option (List ℕ) → Option Asked
-with_config address is_strict None = None
-with_config address is_strict (Some config) = Some (View config address is_strict)
+abbrev pub with_config : Option (List ℕ) → List Row → Option Asked
+with_config None rows = None
+with_config (Some config) rows =
+    viewing (record {
+      config = config;
+      who = first_of (codes "WHO") rows;
+      station = first_of (codes "station") rows;
+      is_strict = flag_in (codes "strict") rows;
+    })
 
 abbrev pub view_asked : List Row → Option Asked
-view_asked rows =
-    with_config (first_of (codes "ADDRESS") rows) (flag_in (codes "strict") rows) (first_of (codes "CONFIG") rows)
+view_asked rows = with_config (first_of (codes "CONFIG") rows) rows
 
 -- a number from 1 to 1,000,000,000
 abbrev pub in_range : ℕ → Option ℕ
@@ -404,14 +455,31 @@ serve_asked rows =
     (number_in (codes "turns") rows) (every_in (codes "reread") rows) (every_in (codes "report") rows)
     (number_in (codes "per-address") rows) rows
 
+-- the options of `feed`, unless both `--strict` and `--skip` were given
+abbrev pub one_way : FeedAsked → Option FeedAsked
+one_way o = if o.is_strict && o.skips then None else Some o
+
+-- the options of `feed`, as they stand there, if the number is one
+abbrev pub feed_options_with : Option (Option ℕ) → List Row → Option FeedAsked
+feed_options_with None rows = None
+feed_options_with (Some from) rows =
+    one_way (record {
+      from = from;
+      config = first_of (codes "config") rows;
+      is_strict = flag_in (codes "strict") rows;
+      skips = flag_in (codes "skip") rows;
+    })
+
+abbrev pub feed_options_in : List Row → Option FeedAsked
+feed_options_in rows = feed_options_with (number_in (codes "from") rows) rows
+
 -- a feeder's job, where all of it is there
-abbrev pub with_files : Option (List ℕ) → Option (List (List ℕ)) → Option (Option ℕ) → Option Asked
-with_files (Some server) (Some files) (Some from) = Some (Feed server files from)
+abbrev pub with_files : Option (List ℕ) → Option (List (List ℕ)) → Option FeedAsked → Option Asked
+with_files (Some server) (Some files) (Some options) = Some (Feed server files options)
 with_files _ _ _ = None
 
 abbrev pub feed_asked : List Row → Option Asked
-feed_asked rows =
-    with_files (first_of (codes "SERVER") rows) (all_of (codes "FILE") rows) (number_in (codes "from") rows)
+feed_asked rows = with_files (first_of (codes "SERVER") rows) (all_of (codes "FILE") rows) (feed_options_in rows)
 
 -- the flag `--fetch` was given
 abbrev pub fetch_in : List Row → Bool

@@ -3,14 +3,14 @@ ghost use Rattle.std.specs.Prelude.{◌≡◌, Some, false, true, codes, IfOk};
 ghost use Rattle.clap.specs.Words.{App, app_of, new_app, rule_of, with_rule, with_subcommand};
 ghost use Rattle.command_line.specs.Building.{Builds};
 ghost use Rattle.command_line.specs.Jobs.{dated_app, fed_app, file_app, files_rule, flag_rule, listing_app};
-ghost use Rattle.command_line.specs.Jobs.{address_rule, addressed_app, bare_app, check_app, feed_app, fetch_rule};
+ghost use Rattle.command_line.specs.Jobs.{addressed_app, bare_app, check_app, counting_app, feed_app, fetch_rule};
 ghost use Rattle.command_line.specs.Jobs.{limited_app, listed_app, logged_app, number_rule, numbered_app, sending_app};
 ghost use Rattle.command_line.specs.Jobs.{gaps_app, option};
 ghost use Rattle.command_line.specs.Jobs.{archiving_app, program_app, read_app, replay_app, retrying_app, spanned_app};
 ghost use Rattle.command_line.specs.Jobs.{scripted_app, stating_app};
 ghost use Rattle.command_line.specs.Jobs.{serve_app, timed_app};
 ghost use Rattle.command_line.specs.Jobs.{verbose_rule, view_app, viewed_app};
-ghost use Rattle.command_line.specs.Jobs.{waiting_app, wanted, wants_app, wants_rule, with_verbose};
+ghost use Rattle.command_line.specs.Jobs.{waiting_app, wanted, wants_app, wants_rule, who_rule, with_verbose};
 
 use clap::builder::ValueParser;
 use clap::{Arg, ArgAction, Command};
@@ -147,18 +147,25 @@ fn listing_command<'a>(alloc: Global) -> Built<'a>
     with_flag(alloc, with_summary, "quiet", "Writes no lines of records")
 }
 
-/// The option `--config CONFIG`.
-fn config<'a>(alloc: Global) -> Arg<'a>
-    ensures rule { rule_of result ≡ option false (codes "config") }
+/// An option `--name VALUE` that may be left out.
+fn optional<'a>(alloc: Global, name: &'a str, value: &'a str, help: &'a str) -> Arg<'a>
+    ensures rule { rule_of result ≡ option false name.entry.now }
     ensures own { result.global ≡ false }
 {
-    option(
-        alloc,
-        "config",
-        "CONFIG",
-        false,
-        "Refuses records of stations that CONFIG does not have too",
-    )
+    option(alloc, name, value, false, help)
+}
+
+/// A command with an option `--name VALUE` that may be left out.
+fn with_option<'a>(
+    alloc: Global,
+    command: Built<'a>,
+    name: &'a str,
+    value: &'a str,
+    help: &'a str,
+) -> Built<'a>
+    ensures { (app : App) → Builds command.entry app → Builds result (with_rule app (option false name.entry.now)) }
+{
+    with_argument(command, optional(alloc, name, value, help))
 }
 
 /// `check FILE.. [--iso] [--summary] [--quiet] [--gaps]`.
@@ -177,7 +184,8 @@ fn gaps_command<'a>(alloc: Global) -> Built<'a>
 fn check_command<'a>(alloc: Global) -> Built<'a>
     ensures { Builds result check_app }
 {
-    let with_config = with_argument(gaps_command(alloc), config(alloc));
+    let help = "Refuses records of stations that CONFIG does not have too";
+    let with_config = with_option(alloc, gaps_command(alloc), "config", "CONFIG", help);
     with_verbose(alloc, with_config)
 }
 
@@ -207,18 +215,20 @@ fn replay_command<'a>(alloc: Global) -> Built<'a>
     with_verbose(alloc, with_text)
 }
 
-/// The argument `ADDRESS`, which may be left out.
-fn address<'a>(alloc: Global) -> Arg<'a>
-    ensures rule { rule_of result ≡ address_rule }
+/// The argument `WHO`, which may be left out.
+fn who<'a>(alloc: Global) -> Arg<'a>
+    ensures rule { rule_of result ≡ who_rule }
     ensures own { result.global ≡ false }
 {
-    Arg::new(alloc, "ADDRESS").help("The address of a client, as 10.0.0.7")
+    Arg::new(alloc, "WHO").help(
+        "An address, a network as 10.0.0.0/8, or the file of another configuration",
+    )
 }
 
 /// What `--strict` does.
 const STRICT_HELP: &str = "Refuses a CONFIG with keys that are not known";
 
-/// `view CONFIG [ADDRESS]`.
+/// `view CONFIG [WHO]`.
 fn viewed_command<'a>(alloc: Global) -> Built<'a>
     ensures { Builds result viewed_app }
 {
@@ -228,14 +238,16 @@ fn viewed_command<'a>(alloc: Global) -> Built<'a>
         "Lists the stations that an address sees, or all with the lists that hold for them",
     );
     let with_config = with_wanted(alloc, command, "CONFIG", "The configuration, in TOML");
-    with_argument(with_config, address(alloc))
+    with_argument(with_config, who(alloc))
 }
 
-/// `view CONFIG [ADDRESS] [--strict]`.
+/// `view CONFIG [WHO] [--station NET_STA] [--strict]`.
 fn view_command<'a>(alloc: Global) -> Built<'a>
     ensures { Builds result view_app }
 {
-    let with_strict = with_flag(alloc, viewed_command(alloc), "strict", STRICT_HELP);
+    let help = "Explains the entry of one station: its list, and where that comes from";
+    let with_station = with_option(alloc, viewed_command(alloc), "station", "NET_STA", help);
+    let with_strict = with_flag(alloc, with_station, "strict", STRICT_HELP);
     with_verbose(alloc, with_strict)
 }
 
@@ -397,9 +409,9 @@ fn sending_command<'a>(alloc: Global) -> Built<'a>
     with_argument(fed_command(alloc), files(alloc, help))
 }
 
-/// `feed A:P FILE.. [--from N]`.
-fn feed_command<'a>(alloc: Global) -> Built<'a>
-    ensures { Builds result feed_app }
+/// `feed A:P FILE.. [--from N] [--config CONFIG]`.
+fn counting_command<'a>(alloc: Global) -> Built<'a>
+    ensures { Builds result counting_app }
 {
     let with_from = with_number(
         alloc,
@@ -407,7 +419,19 @@ fn feed_command<'a>(alloc: Global) -> Built<'a>
         "from",
         "Begins at record N of the first FILE, 1 to 1000000000",
     );
-    with_verbose(alloc, with_from)
+    let help = "Also counts records of stations that CONFIG does not have";
+    with_option(alloc, with_from, "config", "CONFIG", help)
+}
+
+/// `feed A:P FILE.. [--from N] [--config CONFIG] [--strict] [--skip]`.
+fn feed_command<'a>(alloc: Global) -> Built<'a>
+    ensures { Builds result feed_app }
+{
+    let help = "Stops at the 16th record in a row that is not valid";
+    let with_strict = with_flag(alloc, counting_command(alloc), "strict", help);
+    let help = "Goes on at the next place where two valid headers follow each other";
+    let with_skip = with_flag(alloc, with_strict, "skip", help);
+    with_verbose(alloc, with_skip)
 }
 
 /// The arguments `WANT..`.

@@ -24,21 +24,15 @@ pub enum Job<'a> {
         script: &'a str,
         is_text: bool,
     },
-    /// `view CONFIG [ADDRESS] [--strict]`: the stations that an address sees, or without one all stations with the
-    /// lists of addresses that hold for them. With `--strict` a configuration with keys that are not known is refused.
-    View {
-        config: &'a str,
-        address: Option<&'a str>,
-        is_strict: bool,
-    },
+    /// `view CONFIG [WHO] ..`: the stations of a configuration and who may use them, as its options say.
+    View(ViewOptions<'a>),
     /// `serve CONFIG --listen A:P --feed A:P ..`: a server over sockets, as its options say.
     Serve(ServeOptions<'a>),
-    /// `feed A:P FILE.. [--from K]`: sends the records of files to a server, one file after the other, of the first one
-    /// from record K on, 1 to 1,000,000,000.
+    /// `feed A:P FILE.. ..`: sends the records of files to a server, one file after the other, as its options say.
     Feed {
         server: &'a str,
         files: Vec<&'a str>,
-        from: Option<usize>,
+        options: FeedOptions<'a>,
     },
     /// `read A:P WANT.. ..`: asks a server for records, as its options say. Without a want they name a file of wants.
     Read {
@@ -61,6 +55,33 @@ pub struct CheckOptions<'a> {
     pub has_gaps: bool,
     /// `--config CONFIG`: records of stations that CONFIG has not are refused too.
     pub config: Option<&'a str>,
+}
+
+/// The words of `view`. A word for whom does not stand beside a station.
+#[derive(Clone, Copy)]
+pub struct ViewOptions<'a> {
+    /// `CONFIG`: the file of the configuration.
+    pub config: &'a str,
+    /// `WHO`: the address or the network whose view is written, or the file of another configuration that it is
+    /// compared with. Without it and without a station, all stations are listed.
+    pub who: Option<&'a str>,
+    /// `--station NET_STA`: the station whose entry is explained.
+    pub station: Option<&'a str>,
+    /// `--strict`: a configuration with keys that are not known is refused.
+    pub is_strict: bool,
+}
+
+/// The options of `feed`. The last two do not stand together.
+#[derive(Clone, Copy)]
+pub struct FeedOptions<'a> {
+    /// `--from K`: the first record of the first file that is sent, 1 to 1,000,000,000.
+    pub from: Option<usize>,
+    /// `--config CONFIG`: records of stations that CONFIG does not have are counted, too.
+    pub config: Option<&'a str>,
+    /// `--strict`: it stops at the 16th record in a row that is not valid.
+    pub is_strict: bool,
+    /// `--skip`: where records are not valid, it goes on at the next place where two valid headers follow each other.
+    pub skips: bool,
 }
 
 /// The words of `serve`. Each number is 1 to 1,000,000,000.

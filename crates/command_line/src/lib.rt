@@ -5,5 +5,8 @@ mod commands;
 mod job;
 mod words;
 
-pub use job::{CheckOptions, Every, Job, ReadOptions, Request, ServeOptions, WordsFault};
+pub use job::{
+    CheckOptions, Every, FeedOptions, Job, ReadOptions, Request, ServeOptions, ViewOptions,
+    WordsFault,
+};
 pub use words::read_words;

@@ -3,7 +3,8 @@ ghost use Rattle.std.specs.Prelude.{◌≡◌, ◌||◌, [], Some, codes, false,
 ghost use Rattle.clap.specs.Words.{all_of, fault_of, first_of, found_of, kind_of, rows_of, subcommand_rows_of};
 ghost use Rattle.command_line.specs.Jobs.{check_options_asked, check_options_in, flag_in};
 ghost use Rattle.command_line.specs.Jobs.{HelpIs, IsJob, IsTold, asked, asked_by, check_asked, feed_asked, is_shown};
-ghost use Rattle.command_line.specs.Jobs.{every_in, every_of, goes_on, is_askable, is_spelled, job_of, number_in};
+ghost use Rattle.command_line.specs.Jobs.{every_in, every_of, feed_options_asked, feed_options_in, goes_on};
+ghost use Rattle.command_line.specs.Jobs.{is_askable, is_spelled, job_of, number_in};
 ghost use Rattle.command_line.specs.Jobs.{number_of};
 ghost use Rattle.command_line.specs.Jobs.{options_asked, options_in, program_app, read_asked, replay_asked};
 ghost use Rattle.command_line.specs.Jobs.{seconds_if, serve_asked};
@@ -11,7 +12,10 @@ ghost use Rattle.command_line.specs.Jobs.{verbose_by, verbose_in, verbose_of, vi
 ghost use Rattle.command_line.specs.declared.job.WordsFault.TheVariants.{OutOfMemory};
 
 use crate::commands::program;
-use crate::job::{CheckOptions, Every, Job, ReadOptions, Request, ServeOptions, WordsFault};
+use crate::job::{
+    CheckOptions, Every, FeedOptions, Job, ReadOptions, Request, ServeOptions, ViewOptions,
+    WordsFault,
+};
 use clap::ArgMatches;
 use clap::error::ErrorKind;
 use std::alloc::{AllocError, Global};
@@ -82,12 +86,16 @@ fn view_job<'a>(arguments: &ArgMatches<'a>) -> Option<Job<'a>>
     ensures { option_map asked result ≡ view_asked (rows_of (found_of arguments.now)) }
 {
     let config = text_at(arguments, "CONFIG")?;
-    let is_strict = has_flag(arguments, "strict");
-    Some(Job::View {
+    let options = ViewOptions {
         config,
-        address: text_at(arguments, "ADDRESS"),
-        is_strict,
-    })
+        who: text_at(arguments, "WHO"),
+        station: text_at(arguments, "station"),
+        is_strict: has_flag(arguments, "strict"),
+    };
+    if options.who.is_some() && options.station.is_some() {
+        return None;
+    }
+    Some(Job::View(options))
 }
 
 /// The number from 1 to 1,000,000,000 that a text spells.
@@ -164,6 +172,7 @@ fn serve_job<'a>(arguments: &ArgMatches<'a>) -> Option<Job<'a>>
     let reread = every_in(arguments, "reread")?;
     let report = every_in(arguments, "report")?;
     let per_address = number_in(arguments, "per-address")?;
+    let is_strict = has_flag(arguments, "strict");
     Some(Job::Serve(ServeOptions {
         config,
         listen,
@@ -175,8 +184,26 @@ fn serve_job<'a>(arguments: &ArgMatches<'a>) -> Option<Job<'a>>
         per_address,
         numbers: text_at(arguments, "numbers"),
         is_logged: has_flag(arguments, "log"),
-        is_strict: has_flag(arguments, "strict"),
+        is_strict,
     }))
+}
+
+/// The options of `feed`; None if the text of the number is not one, or if `--strict` and `--skip` stand together.
+fn feed_options<'a>(arguments: &ArgMatches<'a>) -> Option<FeedOptions<'a>>
+    ensures { option_map feed_options_asked result ≡ feed_options_in (rows_of (found_of arguments.now)) }
+{
+    let from = number_in(arguments, "from")?;
+    let stops = has_flag(arguments, "strict");
+    let skips = has_flag(arguments, "skip");
+    if stops && skips {
+        return None;
+    }
+    Some(FeedOptions {
+        from,
+        config: text_at(arguments, "config"),
+        is_strict: stops,
+        skips,
+    })
 }
 
 fn feed_job<'a>(alloc: Global, arguments: &ArgMatches<'a>) -> Result<Option<Job<'a>>, AllocError>
@@ -188,14 +215,14 @@ fn feed_job<'a>(alloc: Global, arguments: &ArgMatches<'a>) -> Result<Option<Job<
     let Some(texts) = texts_at(arguments, "FILE") else {
         return Ok(None);
     };
-    let Some(from) = number_in(arguments, "from") else {
+    let Some(options) = feed_options(arguments) else {
         return Ok(None);
     };
     let files = texts.to_vec(alloc)?;
     Ok(Some(Job::Feed {
         server,
         files,
-        from,
+        options,
     }))
 }
 

@@ -41,11 +41,7 @@ where
             script,
             is_text,
         } => replay_files(rt, style_of(is_text), config, script),
-        Job::View {
-            config,
-            address,
-            is_strict,
-        } => view_file(rt, config, address, is_strict),
+        Job::View(options) => view_file(rt, options.config, options.who, options.is_strict),
         Job::Serve(options) => serve_sockets(
             rt,
             ServeRequest {
@@ -56,8 +52,8 @@ where
         Job::Feed {
             server,
             files,
-            from,
-        } => feed_files(rt, server, files.as_slice(), from, is_verbose),
+            options,
+        } => feed_files(rt, server, files.as_slice(), options.from, is_verbose),
         Job::Read {
             server,
             wants,

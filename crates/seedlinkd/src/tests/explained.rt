@@ -1,7 +1,7 @@
 //! The lines that explain a fault.
 use super::replays::config;
 use catalog::Config;
-use command_line::{CheckOptions, Job, ReadOptions, ServeOptions};
+use command_line::{CheckOptions, FeedOptions, Job, ReadOptions, ServeOptions};
 use config_findings::{finding_of, first_difference};
 use jobs::ReplayStyle::Hexadecimal;
 use jobs::{Failure, Incident, replay, run_job};
@@ -359,7 +359,12 @@ fn a_word_that_is_refused(rt: HostRuntime) -> Result<(), Fail> {
     let feed = Job::Feed {
         server: "localhost:18001",
         files,
-        from: None,
+        options: FeedOptions {
+            from: None,
+            config: None,
+            is_strict: false,
+            skips: false,
+        },
     };
     assert!(rt;
         unfinished(&rt, feed)?.as_str()

@@ -1,5 +1,8 @@
 //! Words of the command line.
-use command_line::{CheckOptions, Every, Job, Request, ServeOptions, WordsFault, read_words};
+use command_line::{
+    CheckOptions, Every, FeedOptions, Job, Request, ServeOptions, ViewOptions, WordsFault,
+    read_words,
+};
 use std::alloc::{AllocError, Global};
 use std::test::Fail;
 
@@ -61,14 +64,17 @@ fn is_check(job: &Job<'_>, wanted: &str, told: &CheckOptions<'_>) -> bool {
     }
 }
 
-/// Whether it is the job of viewing this configuration as this address sees it.
-fn is_view(job: &Job<'_>, wanted: &str, seen_by: Option<&str>) -> bool {
+/// Whether it is the job of viewing c.toml for this word, or this station of it.
+fn is_view(job: &Job<'_>, word: Option<&str>, of: Option<&str>) -> bool {
     match job {
-        Job::View {
-            config,
-            address,
-            is_strict: false,
-        } => *config == wanted && *address == seen_by,
+        Job::View(
+            ViewOptions {
+                config: "c.toml",
+                who,
+                station,
+                is_strict: false,
+            },
+        ) => *who == word && *station == of,
         _ => false,
     }
 }
@@ -158,13 +164,19 @@ fn check_has_options(rt: HostRuntime) -> Result<(), Fail> {
 }
 
 #[test]
-fn view_may_have_an_address(rt: HostRuntime) -> Result<(), Fail> {
+fn view_may_have_a_word_or_a_station(rt: HostRuntime) -> Result<(), Fail> {
     let words = strings(rt.alloc(), &["seedlinkd", "view", "c.toml"])?;
     let job = request_of(rt.alloc(), &words)?.job;
-    assert!(rt; is_view(&job, "c.toml", None));
+    assert!(rt; is_view(&job, None, None));
     let words = strings(rt.alloc(), &["seedlinkd", "view", "c.toml", "10.0.0.7"])?;
     let job = request_of(rt.alloc(), &words)?.job;
-    assert!(rt; is_view(&job, "c.toml", Some("10.0.0.7")));
+    assert!(rt; is_view(&job, Some("10.0.0.7"), None));
+    let words = strings(
+        rt.alloc(),
+        &["seedlinkd", "view", "--station", "GE_APE", "c.toml"],
+    )?;
+    let job = request_of(rt.alloc(), &words)?.job;
+    assert!(rt; is_view(&job, None, Some("GE_APE")));
     Ok(())
 }
 
@@ -321,16 +333,27 @@ fn a_report_goes_by_turns_or_seconds(rt: HostRuntime) -> Result<(), Fail> {
     Ok(())
 }
 
-/// Whether it is the feeder's job with a file and the standard input after it, from that record on.
-fn is_feed(job: &Job<'_>, wanted: Option<usize>) -> bool {
+/// No option of `feed`.
+const PLAIN_FEED: FeedOptions<'static> = FeedOptions {
+    from: None,
+    config: None,
+    is_strict: false,
+    skips: false,
+};
+
+/// Whether it is the feeder's job with a file and the standard input after it, and with those options.
+fn is_feed(job: &Job<'_>, wanted: FeedOptions<'_>) -> bool {
     match job {
         Job::Feed {
             server,
             files,
-            from,
+            options,
         } => {
             *server == "a:1"
-                && *from == wanted
+                && options.from == wanted.from
+                && options.config == wanted.config
+                && options.is_strict == wanted.is_strict
+                && options.skips == wanted.skips
                 && files.len() == 2
                 && files.first() == Some(&"records.mseed")
                 && files.last() == Some(&"-")
@@ -346,7 +369,7 @@ fn feed_has_a_server_and_files(rt: HostRuntime) -> Result<(), Fail> {
         &["seedlinkd", "feed", "a:1", "records.mseed", "-"],
     )?;
     let job = request_of(rt.alloc(), &words)?.job;
-    assert!(rt; is_feed(&job, None));
+    assert!(rt; is_feed(&job, PLAIN_FEED));
     Ok(())
 }
 
@@ -365,7 +388,35 @@ fn feed_may_begin_at_a_record(rt: HostRuntime) -> Result<(), Fail> {
         ],
     )?;
     let job = request_of(rt.alloc(), &words)?.job;
-    assert!(rt; is_feed(&job, Some(6)));
+    let wanted = FeedOptions {
+        from: Some(6),
+        ..PLAIN_FEED
+    };
+    assert!(rt; is_feed(&job, wanted));
+    Ok(())
+}
+
+#[test]
+fn feed_may_skip_what_is_not_valid(rt: HostRuntime) -> Result<(), Fail> {
+    let words = strings(
+        rt.alloc(),
+        &[
+            "seedlinkd",
+            "feed",
+            "--skip",
+            "a:1",
+            "records.mseed",
+            "-",
+            "--config=c",
+        ],
+    )?;
+    let job = request_of(rt.alloc(), &words)?.job;
+    let wanted = FeedOptions {
+        config: Some("c"),
+        skips: true,
+        ..PLAIN_FEED
+    };
+    assert!(rt; is_feed(&job, wanted));
     Ok(())
 }
 
@@ -394,8 +445,10 @@ fn help_is_told(rt: HostRuntime) -> Result<(), Fail> {
 
 #[test]
 fn other_words_are_refused(rt: HostRuntime) -> Result<(), Fail> {
-    let all: [&[&str]; 16] = [
+    let all: [&[&str]; 18] = [
         &[],
+        &["seedlinkd", "view", "c", "10.0.0.7", "--station=GE_APE"],
+        &["seedlinkd", "feed", "a:1", "f", "--strict", "--skip"],
         &["seedlinkd", "read", "a:1", "GE_WLF", "--retry=0"],
         &[
             "seedlinkd",
