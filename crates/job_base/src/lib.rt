@@ -2,6 +2,7 @@
 //! among them, and what stands between a job and its device. It does not know which job does what, and when.
 #![tactic(auto)]
 
+mod configured;
 mod descriptors;
 mod endpoint;
 mod files;
@@ -14,6 +15,7 @@ mod standard_error;
 mod telling;
 mod times;
 
+pub use configured::ConfiguredStations;
 pub use descriptors::descriptor_limit;
 pub use endpoint::Endpoint;
 pub use files::{config_at, config_in, open, replace, text_at, unopened};

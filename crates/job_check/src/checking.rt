@@ -3,12 +3,11 @@
 ghost use Rattle.std.specs.Prelude.{◌≡◌};
 ghost use Rattle.job_check.specs.Listings.{listing_by};
 
-use crate::configured::ConfiguredStations;
 use crate::names::{FileLine, FileName, files_of};
 use command_line::CheckOptions;
 use incidents::{Failure, Incident};
 use job_base::{
-    ReasonKeeper, Watched, config_at, is_output_terminal, is_terminal, size_of, times_of,
+    ConfiguredStations, ReasonKeeper, Watched, config_at, is_output_terminal, is_terminal, size_of, times_of,
 };
 use record_listing::{AllStations, Finding, ListingOptions, RecordCheck, Stations};
 use sl_io::{Outer, StreamFault};

@@ -3,7 +3,6 @@
 #![tactic(auto)]
 
 mod checking;
-mod configured;
 mod folders;
 mod names;
 mod replaying;

@@ -1,3 +1,5 @@
+pub mod Aligning
 pub mod Feeding
 pub mod Handing
+pub mod Judging
 pub mod Skipping

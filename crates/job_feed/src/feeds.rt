@@ -2,34 +2,66 @@
 ghost use Rattle.std.specs.Prelude.{◌≡◌, ◌/◌, IfOk, IfSome, OnOk};
 ghost use Rattle.job_feed.specs.Skipping.{first_record};
 
+use crate::aligned::Aligned;
 use crate::feed::{Feed, SentFeed};
+use crate::judging::{Judged, finding_of};
+use crate::lines::FeedLine;
 use crate::looks::look_at_each;
 use crate::sent::{FileRecord, SentRecords};
 use crate::skipping::{bytes_before, pass_over};
+use command_line::FeedOptions;
 use feeder::SendFault;
 use incidents::{Failure, Incident, Site};
 use job_base::{
-    ReasonKeeper, ServerAddress, Watched, connection, is_terminal, open, server_of, size_of,
+    ConfiguredStations, ReasonKeeper, ServerAddress, Watched, checked_config_at, connection,
+    is_terminal, open, server_of, size_of,
 };
-use record_listing::FeedTally;
+use record_listing::{AllStations, FeedTally, Stations};
 use sl_io::{DeviceFault, Outer};
 use std::fs::File;
 use std::io::{self, Read};
 use std::net::{Net, OpenStream};
 use std::rt::{Clock, Files};
 
-/// Passes on what is read of a file of records, and judges the records.
+/// How the records of files are judged while they are sent.
 #[derive(Drop)]
-struct Judged<'t, T> {
-    inner: T,
-    tally: &'t mut FeedTally,
+pub struct FeedRules<'s, S> {
+    /// The stations of which a server has records.
+    pub stations: &'s S,
+    /// Whether sixteen records in a row that can't be read end the feed.
+    pub is_strict: bool,
+    /// Whether what is in no record is passed over.
+    pub skips: bool,
 }
 
-impl<T: Read> Read for Judged<'_, T> {
-    fn read(&mut self, block: &mut [u8]) -> io::Result<usize> {
-        let count = self.inner.read(block)?;
-        self.tally.see(&block[..count]);
-        Ok(count)
+/// How far a feed is: what was judged, the first file with a record that is refused, and what was sent.
+#[derive(Drop)]
+pub struct FeedProgress<'a> {
+    pub tally: FeedTally,
+    pub refused_in: Option<&'a str>,
+    pub sent: SentRecords<'a>,
+}
+
+impl<'a> FeedProgress<'a> {
+    /// Before the first record.
+    pub fn new() -> FeedProgress<'a>
+        ensures { result.sent.count ≡ 0 }
+    {
+        FeedProgress {
+            tally: FeedTally::new(),
+            refused_in: None,
+            sent: SentRecords::new(),
+        }
+    }
+
+    /// The records of a file are judged, and the connection has taken so many by now.
+    fn reach(&mut self, first: FileRecord<'a>, count: u64)
+        ensures { self.new.sent.count ≡ count }
+    {
+        if self.tally.first().is_some() {
+            self.refused_in = self.refused_in.or(Some(first.file));
+        }
+        self.sent.reach(first, count);
     }
 }
 
@@ -47,34 +79,51 @@ fn begin_at<T: Read>(records: &mut T, number: u64) -> Result<(), DeviceFault> {
 }
 
 /// Sends the records of a file that is open, from one of them on, and says how many records were sent by then.
-fn send_input<'a, R: Files<File = File> + Eprint + Clock, T: OpenStream + io::Write + Drop>(
+fn send_input<
+    'a,
+    R: Files<File = File> + Eprint + Clock + AllocGlobal,
+    T: OpenStream + io::Write + Drop,
+    S: Stations,
+>(
     rt: &R,
     feed: &mut Feed<T>,
-    tally: &mut FeedTally,
-    sent: &mut SentRecords<'a>,
+    rules: &FeedRules<'_, S>,
+    progress: &mut FeedProgress<'a>,
     file: File,
     first: FileRecord<'a>,
     server: &'a str,
 ) -> Result<(), Incident<'a>>
-    ensures { sent.new.count ≡ feed.new.taken / 512 }
+    ensures { progress.new.sent.count ≡ feed.new.taken / 512 }
 {
     let size = size_of(&file);
     let mut watched = Watched::new(rt, ReasonKeeper::new(file), size, is_terminal());
     let passed = begin_at(&mut watched, first.number);
-    let mut records = Outer::new(Judged {
-        inner: watched,
-        tally,
-    });
+    let offset = bytes_before(first.number);
+    let Ok(aligned) = Aligned::new(rt.alloc(), watched, rules.skips, offset) else {
+        progress.reach(first, feed.records());
+        return Err(Incident::from(Failure::OutOfMemory));
+    };
+    progress.tally.begin_file(first.number);
+    let judged = Judged::new(
+        rt,
+        aligned,
+        rules.stations,
+        &mut progress.tally,
+        first.file,
+        rules.is_strict,
+        offset,
+    );
+    let mut records = Outer::new(judged);
     let outcome = match passed {
         Ok(()) => feed.send(&mut records),
         Err(_) => Err(Failure::Send(SendFault::Read)),
     };
-    sent.reach(first, feed.records());
-    let Judged { inner, tally } = records.into_inner();
-    tally.end_file();
-    let reason = inner.end().into_reason();
+    let (watched, is_over) = records.into_inner().into_parts();
+    let reason = watched.end().into_reason();
+    progress.reach(first, feed.records());
     match outcome {
         Ok(()) => Ok(()),
+        Err(_) if is_over => Err(given_up(&progress.tally, first.file)),
         Err(failure) => Err(
             failure
                 .in_feed(first.file, server)
@@ -83,17 +132,30 @@ fn send_input<'a, R: Files<File = File> + Eprint + Clock, T: OpenStream + io::Wr
     }
 }
 
+/// What ends a feed that is strict: the first of sixteen records of a file that can't be read.
+fn given_up<'a>(tally: &FeedTally, file: &'a str) -> Incident<'a> {
+    match tally.lost() {
+        Some(lost) => Incident::of_records(file, finding_of(&lost)),
+        None => Failure::Send(SendFault::Read).in_file(file),
+    }
+}
+
 /// Sends the records of files, one file after the other.
-fn send_each<'a, R: Files<File = File> + Eprint + Clock, T: OpenStream + io::Write + Drop>(
+fn send_each<
+    'a,
+    R: Files<File = File> + Eprint + Clock + AllocGlobal,
+    T: OpenStream + io::Write + Drop,
+    S: Stations,
+>(
     rt: &R,
     feed: &mut Feed<T>,
-    tally: &mut FeedTally,
-    sent: &mut SentRecords<'a>,
+    rules: &FeedRules<'_, S>,
+    progress: &mut FeedProgress<'a>,
     files: &[&'a str],
     server: &'a str,
 ) -> Result<(), Incident<'a>>
-    requires { sent.old.count ≡ feed.old.taken / 512 }
-    ensures { sent.new.count ≡ feed.new.taken / 512 }
+    requires { progress.old.sent.count ≡ feed.old.taken / 512 }
+    ensures { progress.new.sent.count ≡ feed.new.taken / 512 }
 {
     'files: for path in files {
         let file = match input(rt, path) {
@@ -101,7 +163,7 @@ fn send_each<'a, R: Files<File = File> + Eprint + Clock, T: OpenStream + io::Wri
             Err(incident) => return Err(incident),
         };
         let first = FileRecord::first_of(path);
-        match send_input(rt, feed, tally, sent, file, first, server) {
+        match send_input(rt, feed, rules, progress, file, first, server) {
             Ok(()) => {}
             Err(incident) => return Err(incident),
         }
@@ -111,20 +173,25 @@ fn send_each<'a, R: Files<File = File> + Eprint + Clock, T: OpenStream + io::Wri
 
 /// Sends the records of files over a connection, of which the first file is open, from one of its records on, and shuts
 /// its sending half.
-fn send_over<'a, R: Files<File = File> + Eprint + Clock, T: OpenStream + io::Write + Drop>(
+fn send_over<
+    'a,
+    R: Files<File = File> + Eprint + Clock + AllocGlobal,
+    T: OpenStream + io::Write + Drop,
+    S: Stations,
+>(
     rt: &R,
     mut feed: Feed<T>,
-    tally: &mut FeedTally,
-    sent: &mut SentRecords<'a>,
+    rules: &FeedRules<'_, S>,
+    progress: &mut FeedProgress<'a>,
     file: File,
     first: FileRecord<'a>,
     others: &[&'a str],
     server: &'a str,
 ) -> Result<SentFeed<T>, Incident<'a>>
-    ensures { IfOk result (λ feed. feed.count ≡ sent.new.count) }
+    ensures { IfOk result (λ feed. feed.count ≡ progress.new.sent.count) }
 {
-    send_input(rt, &mut feed, tally, sent, file, first, server)?;
-    send_each(rt, &mut feed, tally, sent, others, server)?;
+    send_input(rt, &mut feed, rules, progress, file, first, server)?;
+    send_each(rt, &mut feed, rules, progress, others, server)?;
     match feed.shut() {
         Ok(feed) => Ok(feed),
         Err(failure) => Err(failure.in_feed(first.file, server)),
@@ -133,56 +200,56 @@ fn send_over<'a, R: Files<File = File> + Eprint + Clock, T: OpenStream + io::Wri
 
 /// Connects to a server, sends it the records of files, of which the first is open, and shuts the sending half of the
 /// connection.
-fn send_open<'a, R: Files<File = File> + Eprint + Clock + Net>(
+fn send_open<'a, R: Files<File = File> + Eprint + Clock + Net + AllocGlobal, S: Stations>(
     rt: &R,
     server: ServerAddress<'a>,
     file: File,
     first: FileRecord<'a>,
     others: &[&'a str],
-    tally: &mut FeedTally,
-    sent: &mut SentRecords<'a>,
+    rules: &FeedRules<'_, S>,
+    progress: &mut FeedProgress<'a>,
 ) -> Result<SentFeed<R::Stream>, Incident<'a>>
-    ensures { IfOk result (λ feed. feed.count ≡ sent.new.count) }
+    ensures { IfOk result (λ feed. feed.count ≡ progress.new.sent.count) }
 {
     match connection(rt, server) {
         Ok(stream) => {
             let feed = Feed::new(stream);
-            send_over(rt, feed, tally, sent, file, first, others, server.word)
+            send_over(rt, feed, rules, progress, file, first, others, server.word)
         }
         Err(incident) => Err(incident),
     }
 }
 
 /// The same of files of which none is open yet.
-fn send_from<'a, R: Files<File = File> + Eprint + Clock + Net>(
+fn send_from<'a, R: Files<File = File> + Eprint + Clock + Net + AllocGlobal, S: Stations>(
     rt: &R,
     server: ServerAddress<'a>,
     first: FileRecord<'a>,
     others: &[&'a str],
-    tally: &mut FeedTally,
-    sent: &mut SentRecords<'a>,
+    rules: &FeedRules<'_, S>,
+    progress: &mut FeedProgress<'a>,
 ) -> Result<SentFeed<R::Stream>, Incident<'a>>
-    ensures { IfOk result (λ feed. feed.count ≡ sent.new.count) }
+    ensures { IfOk result (λ feed. feed.count ≡ progress.new.sent.count) }
 {
     match input(rt, first.file) {
-        Ok(file) => send_open(rt, server, file, first, others, tally, sent),
+        Ok(file) => send_open(rt, server, file, first, others, rules, progress),
         Err(incident) => Err(incident),
     }
 }
 
 /// Sends the records of files to a server, one file after the other, those of the first file from that record on (1 is
 /// its first), and shuts the sending half of the connection. All files are looked at before the connection is made, and
-/// the first one is opened. `sent` counts the records that the
-/// connection has taken whole, also at a fault; what the server has read of them is not known.
-pub fn send_files<'a, R: Files<File = File> + Eprint + Clock + Net>(
+/// the first one is opened. The progress counts the records that the connection has taken whole, also at a fault; what
+/// the server has read of them is not known.
+pub fn send_files<'a, R: Files<File = File> + Eprint + Clock + Net + AllocGlobal, S: Stations>(
     rt: &R,
     server: &'a str,
     files: &[&'a str],
     from: u64,
-    tally: &mut FeedTally,
-    sent: &mut SentRecords<'a>,
+    rules: &FeedRules<'_, S>,
+    progress: &mut FeedProgress<'a>,
 ) -> Result<Option<SentFeed<R::Stream>>, Incident<'a>>
-    ensures { IfOk result (λ feed. IfSome feed (λ feed. feed.count ≡ sent.new.count)) }
+    ensures { IfOk result (λ feed. IfSome feed (λ feed. feed.count ≡ progress.new.sent.count)) }
 {
     let server = server_of(server)?;
     look_at_each(rt, files)?;
@@ -190,22 +257,22 @@ pub fn send_files<'a, R: Files<File = File> + Eprint + Clock + Net>(
         return Ok(None);
     };
     let first = FileRecord { file, number: from };
-    match send_from(rt, server, first, others, tally, sent) {
+    match send_from(rt, server, first, others, rules, progress) {
         Ok(feed) => Ok(Some(feed)),
         Err(incident) => Err(incident),
     }
 }
 
 /// Sends the records of files to a server, and waits until it has read them.
-fn send_and_wait<'a, R: Files<File = File> + Eprint + Clock + Net>(
+fn send_and_wait<'a, R: Files<File = File> + Eprint + Clock + Net + AllocGlobal, S: Stations>(
     rt: &R,
     server: &'a str,
     files: &[&'a str],
     from: u64,
-    tally: &mut FeedTally,
-    sent: &mut SentRecords<'a>,
+    rules: &FeedRules<'_, S>,
+    progress: &mut FeedProgress<'a>,
 ) -> Result<(), Incident<'a>> {
-    let Some(feed) = send_files(rt, server, files, from, tally, sent)? else {
+    let Some(feed) = send_files(rt, server, files, from, rules, progress)? else {
         return Ok(());
     };
     match feed.wait() {
@@ -217,19 +284,31 @@ fn send_and_wait<'a, R: Files<File = File> + Eprint + Clock + Net>(
     }
 }
 
-/// Says how many records were sent, how many of them no server takes, and why the first. If all may be taken, it is
+/// Says how many records were sent, how many of them are refused, and which is the first. If all may be taken, it is
 /// said on request alone.
-fn tell_sent<R: Eprint>(rt: &R, count: u64, tally: &FeedTally, is_verbose: bool) {
-    let _ = match tally.first() {
-        Some(first) => {
-            eprintln!(rt;
-                "sent {count} records, of which no server takes {}; {first}",
-                tally.refused()
-            )
+fn tell_sent<R: Eprint>(
+    rt: &R,
+    progress: &FeedProgress<'_>,
+    config: Option<&str>,
+    is_verbose: bool,
+) {
+    let count = progress.sent.count;
+    match (progress.tally.first(), progress.refused_in) {
+        (Some(first), Some(file)) => {
+            let line = FeedLine::Refused {
+                count,
+                refused: progress.tally.refused(),
+                config,
+                file,
+                first,
+            };
+            let _ = eprintln!(rt; "{line}");
         }
-        None if is_verbose => eprintln!(rt; "sent {count} records"),
-        None => Ok(()),
-    };
+        _ if is_verbose => {
+            let _ = eprintln!(rt; "{}", FeedLine::Sent { count });
+        }
+        _ => {}
+    }
 }
 
 /// The record at which a feed begins: the one that was asked for, and otherwise the first.
@@ -242,28 +321,62 @@ fn first_record(from: Option<usize>) -> u64
     }
 }
 
-/// Sends the records of files to a server, those of the first file from a record on, and waits until it has read them.
-/// If no server takes some of them, or with
-/// `is_verbose`, the last line of the standard error says how many they were, and how many of them no server takes. At
-/// a fault a line says how many records the connection has taken whole, and which was the last.
-pub fn feed_files<'a, R: Files<File = File> + Eprint + Clock + Net>(
+/// Sends the records of files to a server that has records of these stations, and tells what came of it.
+fn feed_by<'a, R: Files<File = File> + Eprint + Clock + Net + AllocGlobal, S: Stations>(
     rt: &R,
     server: &'a str,
     files: &[&'a str],
-    from: Option<usize>,
+    options: FeedOptions<'a>,
+    stations: &S,
     is_verbose: bool,
 ) -> Result<(), Incident<'a>> {
-    let from = first_record(from);
-    let mut tally = FeedTally::new();
-    let mut sent = SentRecords::new();
-    match send_and_wait(rt, server, files, from, &mut tally, &mut sent) {
+    let rules = FeedRules {
+        stations,
+        is_strict: options.is_strict,
+        skips: options.skips,
+    };
+    let mut progress = FeedProgress::new();
+    match send_and_wait(
+        rt,
+        server,
+        files,
+        first_record(options.from),
+        &rules,
+        &mut progress,
+    ) {
         Ok(()) => {
-            tell_sent(rt, sent.count, &tally, is_verbose);
+            tell_sent(rt, &progress, options.config, is_verbose);
             Ok(())
         }
         Err(incident) => {
-            let _ = eprintln!(rt; "{sent}");
+            let _ = eprintln!(rt; "{}", progress.sent);
             Err(incident)
         }
+    }
+}
+
+/// Sends the records of files to a server, those of the first file from a record on, and waits until it has read them.
+///
+/// If records are refused by every server, or with `--config` by one with that configuration, or with `is_verbose`, the
+/// last line of the standard error says how many records were sent, how many are refused, and which is the first. At a
+/// fault a line says how many records the connection has taken whole, and which was the last. If sixteen records in a
+/// row can't be read, a line says so at once; with `--strict` they are the last that is sent, and the fault is that of
+/// the first. With `--skip` bytes that are in no record are passed over, and a line tells of them.
+pub fn feed_files<'a, R: Files<File = File> + Eprint + Clock + Net + AllocGlobal>(
+    rt: &R,
+    server: &'a str,
+    files: &[&'a str],
+    options: FeedOptions<'a>,
+    is_verbose: bool,
+) -> Result<(), Incident<'a>> {
+    match options.config {
+        Some(path) => match checked_config_at(rt, path, false) {
+            Ok(config) => {
+                let stations = ConfiguredStations::new(&config);
+                feed_by(rt, server, files, options, &stations, is_verbose)
+            }
+            Err(incident) => Err(incident),
+        },
+        None => feed_by(rt, server, files, options, &AllStations, is_verbose),
     }
 }

@@ -1,15 +1,19 @@
-//! The job `feed`: records of files go to a server's feed port, until the server has read them all. It does not know
-//! what stands in a record.
+//! The job `feed`: records of files go to a server's feed port, until the server has read them all.
 #![tactic(auto)]
 
+mod aligned;
 mod feed;
 mod feeding;
 mod feeds;
+mod judging;
+mod lines;
 mod looks;
 mod sent;
 mod skipping;
 
+pub use aligned::{Aligned, Stretch, first_beginning};
 pub use feed::{SentFeed, begin_feed, send_feed};
 pub use feeding::{await_end, feed_records};
-pub use feeds::{feed_files, send_files};
+pub use feeds::{FeedProgress, FeedRules, feed_files, send_files};
+pub use lines::FeedLine;
 pub use sent::{FileRecord, SentRecords};

@@ -53,7 +53,7 @@ where
             server,
             files,
             options,
-        } => feed_files(rt, server, files.as_slice(), options.from, is_verbose),
+        } => feed_files(rt, server, files.as_slice(), options, is_verbose),
         Job::Read {
             server,
             wants,

@@ -5,7 +5,7 @@ use Rattle.protocol.specs.Streams.{FeedRead, feed_byte, feed_from}
 use Rattle.protocol.proofs.Feeds.{feed_from-append}
 use Rattle.protocol.proofs.FoundLemmas.{both}
 use Rattle.std.specs.Borrow.{Bor}
-use Rattle.std.specs.Prelude.{Option}
+use Rattle.std.specs.Prelude.{Bool, Option}
 use Rattle.feeder.specs.Feedings.{feed_read, lent_records, left_over}
 use Rattle.record_listing.specs.Checks.{Progress, piece_read, with_record, with_records}
 use Rattle.record_listing.specs.FeedTallies.{RefusedCountValue, all_judged, judged_with}
@@ -95,20 +95,21 @@ rest_by_feeding held piece held' piece' n whole reads h d =
 
 -- ---- records judged
 
-all_judged-append : (c : RefusedCountValue) (records more : List (List ℕ))
-    → all_judged c (records ++ more) ≡ all_judged (all_judged c records) more
-all_judged-append c [] more = refl
-all_judged-append c (bytes ∷ records) more = all_judged-append (judged_with c bytes) records more
+all_judged-append : (has : List ℕ → List ℕ → Bool) (c : RefusedCountValue) (records more : List (List ℕ))
+    → all_judged has c (records ++ more) ≡ all_judged has (all_judged has c records) more
+all_judged-append has c [] more = refl
+all_judged-append has c (bytes ∷ records) more = all_judged-append has (judged_with has c bytes) records more
 
-pub judged_by_feeding : (held piece held' piece' : List ℕ) (n : ℕ) (whole : Option (Bor (List ℕ)))
+pub judged_by_feeding : (has : List ℕ → List ℕ → Bool) (held piece held' piece' : List ℕ) (n : ℕ)
+    (whole : Option (Bor (List ℕ)))
     (c c' : RefusedCountValue) → Reads held piece n whole → held' ≡ left_over held piece whole → piece' ≡ drop n piece
-    → c' ≡ all_judged c (lent_records whole)
-    → all_judged c' (piece_read held' piece').records ≡ all_judged c (piece_read held piece).records
-judged_by_feeding held piece held' piece' n whole c c' reads h d q =
+    → c' ≡ all_judged has c (lent_records whole)
+    → all_judged has c' (piece_read held' piece').records ≡ all_judged has c (piece_read held piece).records
+judged_by_feeding has held piece held' piece' n whole c c' reads h d q =
     rw (
       d,
       q,
     )
-    (sym (ap (λ (f : FeedRead). all_judged c f.records) (in_two held piece held' n (lent_records whole)
+    (sym (ap (λ (f : FeedRead). all_judged has c f.records) (in_two held piece held' n (lent_records whole)
     (reads [] ∙ ap (feed_read (lent_records whole)) (sym h)))
-    ∙ all_judged-append c (lent_records whole) (piece_read held' (drop n piece)).records))
+    ∙ all_judged-append has c (lent_records whole) (piece_read held' (drop n piece)).records))

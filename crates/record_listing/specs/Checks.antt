@@ -8,6 +8,7 @@ use Rattle.protocol.specs.Record.{Facts}
 use Rattle.sl_io.specs.declared.faults.StreamFault.{StreamFault}
 use Rattle.sl_io.specs.declared.faults.StreamFault.TheVariants.{OutOfMemory, Read, Write}
 use Rattle.record_listing.specs.declared.fault.FileFault.{FileFault}
+use Rattle.record_listing.specs.declared.listing.Refused.{Refused}
 use Rattle.record_listing.specs.declared.options.ListingOptions.{ListingOptions}
 use Rattle.record_listing.specs.Streams.{StreamValue}
 use Rattle.record_listing.specs.Listing.{Listed, Rules, first_of, number_after, refusal, said_lines, said_of}
@@ -47,7 +48,7 @@ abbrev pub good_with : ℕ → Option FileFault → ℕ
 good_with good fault = if is_some fault then good else good + 1
 
 -- one record more, by what it is to the check
-abbrev pub with_said : ListingOptions → Progress → Result Facts FileFault → Progress
+abbrev pub with_said : ListingOptions → Progress → Result Facts Refused → Progress
 with_said options p said =
     record {
       count = number_after p.count;

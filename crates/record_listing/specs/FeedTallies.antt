@@ -1,54 +1,91 @@
--- What servers make of the records of a feed: how many of them none takes, and why the first.
+-- What servers make of the records of a feed: how many of them none takes, which is the first, and where so many in a
+-- row can't be read that the feed has lost its records' beginnings.
 -- SEED Reference Manual 2.4, chapter 8, for what a record says; the feed is this project's own.
-use Rattle.std.specs.Prelude.{ℕ, ◌+◌, ◌-◌, ◌^◌, min, List, [], ◌∷◌, Option, Some, None, Result, Ok, Err}
+use Rattle.std.specs.Prelude.{ℕ, ◌+◌, ◌-◌, ◌*◌, ◌^◌, ◌==◌, if◌then◌else◌, Bool, min, List, [], ◌∷◌, Option, Some, None}
+use Rattle.std.specs.Prelude.{Result, Ok, Err}
 use Rattle.record_listing.specs.Checks.{piece_read}
-use Rattle.protocol.specs.declared.record.RecordFault.{RecordFault}
+use Rattle.record_listing.specs.Listing.{judged, reading_of}
+use Rattle.record_listing.specs.declared.fault.FileFault.{FileFault}
+use Rattle.record_listing.specs.declared.fault.FileFault.TheVariants.{Record, Station}
 use Rattle.record_listing.specs.declared.feed_tally.RefusedRecord.{RefusedRecord}
-use Rattle.protocol.specs.Record.{Facts, header_of}
+use Rattle.record_listing.specs.declared.listing.Refused.{Refused}
+use Rattle.record_listing.specs.declared.listing.Refused.TheVariants.{Unread, Stranger}
+use Rattle.protocol.specs.Record.{Facts}
 
--- the number of a record that no server takes, and why none does
+-- the number in its file of a record that no server takes, and why none does
 pub record RefusedValue : Type 0 where
   pub number : ℕ
-  pub fault : RecordFault
+  pub fault : FileFault
 
 abbrev pub refused_value : RefusedRecord → RefusedValue
 refused_value r = record { number = r.number; fault = r.fault }
 
--- how many records were judged, how many of them no server takes, at most 2^64 - 1 of each, and the first of these
+-- how many bytes of its file are before a record, by its number; at most 2^64 - 1
+abbrev pub offset_of : (number : ℕ) → ℕ
+offset_of number = min ((number - 1) * 512) (2 ^ 64 - 1)
+
+-- what was judged: the number in its file of the next record, how many no server takes and the first of them, how many
+-- of the last ones in a row can't be read and the first of these, and the first of the first sixteen of a file that
+-- followed each other and can't be read. No number is above 2^64 - 1.
 pub record RefusedCountValue : Type 0 where
-  pub records : ℕ
+  pub next : ℕ
   pub refused : ℕ
   pub first : Option RefusedValue
+  pub row : ℕ
+  pub row_first : Option RefusedValue
+  pub lost : Option RefusedValue
 
-abbrev pub nothing_judged : RefusedCountValue
-nothing_judged = record { records = 0; refused = 0; first = None }
+-- nothing was judged, and the next record has that number
+abbrev pub nothing_judged : (next : ℕ) → RefusedCountValue
+nothing_judged next =
+    record { next = next; refused = 0; first = None; row = 0; row_first = None; lost = None }
 
 abbrev pub one_more : ℕ → ℕ
 one_more n = min (n + 1) (2 ^ 64 - 1)
 
--- the first of two that is there
-abbrev pub first_refused : Option RefusedValue → RefusedValue → Option RefusedValue
-first_refused None later = Some later
-first_refused (Some first) later = Some first
+-- the first of two, if it is there
+abbrev pub either : Option RefusedValue → Option RefusedValue → Option RefusedValue
+either None later = later
+either (Some first) later = Some first
 
--- one record more, by what it is read as
-abbrev pub judged_as : RefusedCountValue → Result Facts RecordFault → RefusedCountValue
-judged_as c (Ok x) = record c { records = one_more c.records }
-judged_as c (Err fault) =
-    record {
-      records = one_more c.records;
-      refused = one_more c.refused;
-      first = first_refused c.first (record { number = one_more c.records; fault = fault });
-    }
+-- one record more
+abbrev pub passed : RefusedCountValue → RefusedCountValue
+passed c = record c { next = one_more c.next }
 
--- one record more, by its 512 bytes
-abbrev pub judged_with : RefusedCountValue → List ℕ → RefusedCountValue
-judged_with c bytes = judged_as c (header_of bytes)
+-- it is one that no server takes
+abbrev pub with_refused : RefusedCountValue → RefusedValue → RefusedCountValue
+with_refused c r = record c { refused = one_more c.refused; first = either c.first (Some r) }
+
+-- no record that can't be read is the last one
+abbrev pub row_ended : RefusedCountValue → RefusedCountValue
+row_ended c = record c { row = 0; row_first = None }
+
+-- so many in a row can't be read, of which that is the first
+abbrev pub with_row : RefusedCountValue → ℕ → Option RefusedValue → RefusedCountValue
+with_row c row first =
+    record c { row = row; row_first = first; lost = if row == 16 then either c.lost first else c.lost }
+
+-- one more can't be read
+abbrev pub row_extended : RefusedCountValue → RefusedValue → RefusedCountValue
+row_extended c r = with_row c (one_more c.row) (either c.row_first (Some r))
+
+-- one record more, which has that number, by what it is
+abbrev pub judged_as : RefusedCountValue → (number : ℕ) → Result Facts Refused → RefusedCountValue
+judged_as c number (Ok x) = row_ended c
+judged_as c number (Err (Unread fault)) =
+    row_extended (with_refused c (record { number = number; fault = Record fault }))
+    (record { number = number; fault = Record fault })
+judged_as c number (Err (Stranger x)) =
+    row_ended (with_refused c (record { number = number; fault = Station }))
+
+-- the same by its 512 bytes, where a feed may have records of some stations
+abbrev pub judged_with : (List ℕ → List ℕ → Bool) → RefusedCountValue → List ℕ → RefusedCountValue
+judged_with has_station c bytes = judged_as (passed c) c.next (judged has_station (reading_of bytes))
 
 -- all the records more
-abbrev pub all_judged : RefusedCountValue → List (List ℕ) → RefusedCountValue
-all_judged c [] = c
-all_judged c (bytes ∷ records) = all_judged (judged_with c bytes) records
+abbrev pub all_judged : (List ℕ → List ℕ → Bool) → RefusedCountValue → List (List ℕ) → RefusedCountValue
+all_judged has_station c [] = c
+all_judged has_station c (bytes ∷ records) = all_judged has_station (judged_with has_station c bytes) records
 
 -- ---- a feed in pieces
 
@@ -59,13 +96,17 @@ pub record FeedTallyValue : Type 0 where
 
 -- before the first byte
 abbrev pub nothing_seen : FeedTallyValue
-nothing_seen = record { held = []; count = nothing_judged }
+nothing_seen = record { held = []; count = nothing_judged 1 }
 
 -- a piece more: its records are judged, and what is left over is held
-abbrev pub seen : FeedTallyValue → List ℕ → FeedTallyValue
-seen t piece =
-    record { held = (piece_read t.held piece).rest; count = all_judged t.count (piece_read t.held piece).records }
+abbrev pub seen : (List ℕ → List ℕ → Bool) → FeedTallyValue → List ℕ → FeedTallyValue
+seen has_station t piece =
+    record {
+      held = (piece_read t.held piece).rest;
+      count = all_judged has_station t.count (piece_read t.held piece).records;
+    }
 
--- a file ended: what is left over of it is no record
-abbrev pub file_ended : FeedTallyValue → FeedTallyValue
-file_ended t = record t { held = [] }
+-- a file begins, of which the first record that comes has that number: what is left over of another one is no record
+abbrev pub file_begun : FeedTallyValue → (number : ℕ) → FeedTallyValue
+file_begun t number =
+    record { held = []; count = record (row_ended t.count) { next = number; lost = None } }

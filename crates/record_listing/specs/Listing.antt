@@ -1,7 +1,7 @@
 -- What the check of a file of records writes: a line a record, one for what is left over, and one for each stream.
 -- SEED Reference Manual 2.4, chapter 8, for what a record says; the lines are this project's own.
 use Rattle.std.specs.Prelude.{ℕ, ℤ, ◌+◌, ◌-◌, ◌^◌, ◌==◌, Bool, ◌||◌, if◌then◌else◌, List, [], ◌∷◌, ◌++◌, length}
-use Rattle.std.specs.Prelude.{codes, decimal, min, Option, Some, None, Result, Ok, Err}
+use Rattle.std.specs.Prelude.{codes, decimal, map, min, Option, Some, None, Result, Ok, Err}
 use Rattle.protocol.specs.declared.record.RecordFault.{RecordFault}
 use Rattle.protocol.specs.declared.reason.Reason.{Reason}
 use Rattle.protocol.specs.declared.reason.Reason.TheVariants as reason
@@ -10,10 +10,12 @@ use Rattle.protocol.specs.Record.{Facts, header_of, record_reason}
 use Rattle.protocol.specs.Streams.{feed_of}
 use Rattle.record_listing.specs.declared.fault.FileFault.{FileFault}
 use Rattle.record_listing.specs.declared.fault.FileFault.TheVariants.{Record, Station, Partial}
+use Rattle.record_listing.specs.declared.listing.Refused.{Refused}
+use Rattle.record_listing.specs.declared.listing.Refused.TheVariants.{Unread, Stranger}
 use Rattle.record_listing.specs.declared.options.ListingOptions.{ListingOptions}
 use Rattle.record_listing.specs.declared.options.Times.{Times}
 pub use Rattle.record_listing.specs.Words.{kind_letter}
-use Rattle.record_listing.specs.Words.{duration_text, stream_text, time_text, word_text}
+use Rattle.record_listing.specs.Words.{duration_text, shown_byte, stream_text, time_text, word_text}
 use Rattle.record_listing.specs.Streams.{StreamValue, seam_in, streams_with, ticks_after}
 use Rattle.record_listing.specs.declared.streams.Seam.{Seam}
 use Rattle.record_listing.specs.declared.streams.Seam.TheVariants.{Even, Gap, Overlap}
@@ -51,26 +53,40 @@ abbrev pub refusal_text : FileFault → List ℕ
 refusal_text fault =
     codes "refused " ++ word_text (decimal (number_of (file_reason fault))) ++ name_of (file_reason fault)
 
+-- what is wrong with a record that is refused
+abbrev pub fault_of : Refused → FileFault
+fault_of (Unread fault) = Record fault
+fault_of (Stranger x) = Station
+
+-- a space, and the codes of the station of which a record is refused
+abbrev pub stranger_text : Facts → List ℕ
+stranger_text x = 32 ∷ word_text (map shown_byte x.network) ++ map shown_byte x.station
+
+-- why a record is refused, and of which station it is if that is why
+abbrev pub refused_text : Refused → List ℕ
+refused_text (Unread fault) = refusal_text (Record fault)
+refused_text (Stranger x) = refusal_text Station ++ stranger_text x
+
 -- what a record says, or why it is refused
-abbrev pub record_text : Times → Result Facts FileFault → List ℕ
+abbrev pub record_text : Times → Result Facts Refused → List ℕ
 record_text times (Ok x) = header_text times x
-record_text times (Err fault) = refusal_text fault
+record_text times (Err refused) = refused_text refused
 
 -- what 512 bytes are read as
 unfoldable pub reading_of : List ℕ → Result Facts RecordFault
 reading_of record_bytes = header_of record_bytes
 
 -- a record that is read is refused if its station is not one of those that a file may have records of
-abbrev pub judged : (List ℕ → List ℕ → Bool) → Result Facts RecordFault → Result Facts FileFault
-judged has_station (Ok x) = if has_station x.network x.station then Ok x else Err Station
-judged has_station (Err fault) = Err (Record fault)
+abbrev pub judged : (List ℕ → List ℕ → Bool) → Result Facts RecordFault → Result Facts Refused
+judged has_station (Ok x) = if has_station x.network x.station then Ok x else Err (Stranger x)
+judged has_station (Err fault) = Err (Unread fault)
 
 -- what 512 bytes are to a check
-abbrev pub said_of : Rules → List ℕ → Result Facts FileFault
+abbrev pub said_of : Rules → List ℕ → Result Facts Refused
 said_of r record_bytes = judged r.has_station (reading_of record_bytes)
 
 -- the line of the record with that number, and its end
-abbrev pub record_line : ListingOptions → ℕ → Result Facts FileFault → List ℕ
+abbrev pub record_line : ListingOptions → ℕ → Result Facts Refused → List ℕ
 record_line options number said =
     if options.has_lines then word_text (decimal number) ++ record_text options.times said ++ 10 ∷ [] else []
 
@@ -99,7 +115,7 @@ seam_text times x (Gap from to) = codes "gap " ++ span_text times x from to
 seam_text times x (Overlap from to) = codes "overlap " ++ span_text times x from to
 
 -- the same, if it is asked for
-abbrev pub seam_line : ListingOptions → List StreamValue → Result Facts FileFault → List ℕ
+abbrev pub seam_line : ListingOptions → List StreamValue → Result Facts Refused → List ℕ
 seam_line options streams (Ok x) = if options.has_gaps then seam_text options.times x (seam_in streams x) else []
 seam_line options streams (Err fault) = []
 
@@ -110,11 +126,11 @@ abbrev pub has_streams : ListingOptions → Bool
 has_streams options = options.has_summary || options.has_gaps
 
 -- the streams with a record, if it is read and they are noted
-abbrev pub streams_said : List StreamValue → Result Facts FileFault → List StreamValue
+abbrev pub streams_said : List StreamValue → Result Facts Refused → List StreamValue
 streams_said streams (Ok x) = streams_with streams x
 streams_said streams (Err fault) = streams
 
-abbrev pub streams_after : ListingOptions → List StreamValue → Result Facts FileFault → List StreamValue
+abbrev pub streams_after : ListingOptions → List StreamValue → Result Facts Refused → List StreamValue
 streams_after options streams said = if has_streams options then streams_said streams said else streams
 
 -- the streams of records, after others
@@ -145,7 +161,7 @@ streams_text options streams = if options.has_summary then stream_lines options.
 -- ---- the lines of records
 
 -- the lines of a record with that number: of what lies between it and the last one of its stream, and its own
-abbrev pub said_lines : ListingOptions → List StreamValue → (number : ℕ) → Result Facts FileFault → List ℕ
+abbrev pub said_lines : ListingOptions → List StreamValue → (number : ℕ) → Result Facts Refused → List ℕ
 said_lines options streams number said = seam_line options streams said ++ record_line options number said
 
 -- the lines of records, which come after so many others and the streams of those
@@ -199,9 +215,9 @@ listing_of r bytes = files_text r nothing_listed (bytes ∷ [])
 -- ---- the verdict
 
 -- why a record is refused
-abbrev pub refusal : Result Facts FileFault → Option FileFault
+abbrev pub refusal : Result Facts Refused → Option FileFault
 refusal (Ok x) = None
-refusal (Err fault) = Some fault
+refusal (Err refused) = Some (fault_of refused)
 
 -- the first of two that is there
 abbrev pub first_of : Option FileFault → Option FileFault → Option FileFault

@@ -234,10 +234,11 @@ impl RecordCheck {
     ///
     /// A line is `K NET STA LOC CHA TYPE START END SAMPLES`, with the record's number in the list from 1 on, each space
     /// of the location or channel as `-`, and each other byte of a code that is not 33 to 126 as `?`; or `K refused N
-    /// Name`. After the records comes `partial R bytes`. If gaps are asked for, `gap NET STA LOC CHA TYPE FROM TO
-    /// LENGTH` comes before a record that starts more than half a sample after the end of the one before it in the
-    /// stream, in whatever file that stood, and `overlap ..` before one that starts more than half a sample before that
-    /// end; both of records of data alone, since others have no rate or no samples.
+    /// Name`, with ` NET STA` after it if the station is not one of those that are expected. After the records comes
+    /// `partial R bytes`. If gaps are asked for, `gap NET STA LOC CHA TYPE FROM TO LENGTH` comes before a record that
+    /// starts more than half a sample after the end of the one before it in the stream, in whatever file that stood,
+    /// and `overlap ..` before one that starts more than half a sample before that end; both of records of data alone,
+    /// since others have no rate or no samples.
     ///
     /// The reader is read in blocks of 64 KiB, and never kept as a whole: what is kept grows by streams alone. After a
     /// fault a beginning of the file's lines is written.

@@ -1,6 +1,6 @@
 //! What a check has listed so far.
 ghost use Rattle.std.specs.Prelude.{◌≡◌};
-ghost use Rattle.record_listing.specs.Listing.{judged, reading_of, refusal as spec_refusal};
+ghost use Rattle.record_listing.specs.Listing.{fault_of, judged, reading_of, refusal as spec_refusal};
 
 use crate::fault::FileFault;
 use crate::finding::Finding;
@@ -8,7 +8,7 @@ use crate::options::ListingOptions;
 use crate::stations::Stations;
 use crate::stream_list::StreamList;
 use crate::texts::{put_line, put_rest, put_seam, put_summaries};
-use mseed_header::{Header, read};
+use mseed_header::{Header, RecordFault, read};
 use std::alloc::{AllocError, Global};
 use std::marker::Model;
 
@@ -19,18 +19,39 @@ const ROOM: usize = 65_536;
 /// fits.
 const ENOUGH: usize = 32_768;
 
+/// Why a check refuses a record.
+#[derive(Drop)]
+pub(crate) enum Refused<'a> {
+    /// It can't be read.
+    Unread(RecordFault),
+    /// Its station is not one of those that are expected. This is what it says.
+    Stranger(Header<'a>),
+}
+
+impl Refused<'_> {
+    /// What is wrong with a file that has it.
+    pub(crate) fn fault(&self) -> FileFault
+        ensures { result ≡ fault_of self.now }
+    {
+        match self {
+            Refused::Unread(fault) => FileFault::Record(*fault),
+            Refused::Stranger(_) => FileFault::Station,
+        }
+    }
+}
+
 /// What a record is to a check: what it says, or why it is refused.
-type Said<'a> = Result<Header<'a>, FileFault>;
+pub(crate) type Said<'a> = Result<Header<'a>, Refused<'a>>;
 
 /// What a record says, or why it is refused: it can't be read, or its station is not one of those that are expected.
 #[tactic(auto, unfolding(crate::specs::Listing::reading_of))]
-fn said_of<'a, S: Stations>(stations: &S, bytes: &'a [u8; 512]) -> Said<'a>
+pub(crate) fn said_of<'a, S: Stations>(stations: &S, bytes: &'a [u8; 512]) -> Said<'a>
     ensures { result ≡ judged (S.has_station stations.now) (reading_of bytes.now) }
 {
     match read(bytes) {
         Ok(header) if stations.has(header.network(), header.station()) => Ok(header),
-        Ok(_) => Err(FileFault::Station),
-        Err(fault) => Err(FileFault::Record(fault)),
+        Ok(header) => Err(Refused::Stranger(header)),
+        Err(fault) => Err(Refused::Unread(fault)),
     }
 }
 
@@ -40,7 +61,7 @@ fn refusal(said: &Said<'_>) -> Option<FileFault>
 {
     match said {
         Ok(_) => None,
-        Err(fault) => Some(*fault),
+        Err(refused) => Some(refused.fault()),
     }
 }
 

@@ -1,12 +1,14 @@
 //! The texts of what a record says, put behind a text.
 ghost use Rattle.std.specs.Prelude.{◌≡◌, ◌∷◌, ◌++◌, [], OnOk, IfOk, map, decimal};
 ghost use Rattle.record_listing.specs.Listing.{extent_text, header_text, partial_line, partial_text};
-ghost use Rattle.record_listing.specs.Listing.{record_line, record_text, refusal_text, seam_text, span_text};
+ghost use Rattle.record_listing.specs.Listing.{record_line, record_text, refusal_text, refused_text, seam_text};
+ghost use Rattle.record_listing.specs.Listing.{span_text, stranger_text};
 ghost use Rattle.record_listing.specs.Listing.{stream_line, stream_lines, streams_text, summary_text};
 ghost use Rattle.record_listing.specs.Words.{duration_text, kind_letter, shown_byte, shown_place, stream_text};
 ghost use Rattle.record_listing.specs.Words.{time_text, word_text};
 
 use crate::fault::FileFault;
+use crate::listing::{Refused, Said};
 use crate::options::{ListingOptions, Times};
 use crate::streams::{Seam, Stream, ticks_after};
 use iso_time::{put_moment, put_seconds};
@@ -49,13 +51,21 @@ pub fn kind_letter(kind: Kind) -> u8
     }
 }
 
-/// A code and a space.
-fn put_code(text: &mut Vec<u8>, code: &[u8]) -> Result<(), AllocError>
-    ensures { OnOk result (text.new.items ≡ text.old.items ++ word_text (map shown_byte code.now)) }
+/// A code.
+fn put_shown(text: &mut Vec<u8>, code: &[u8]) -> Result<(), AllocError>
+    ensures { OnOk result (text.new.items ≡ text.old.items ++ map shown_byte code.now) }
 {
     for byte in code {
         text.push(shown_byte(*byte))?;
     }
+    Ok(())
+}
+
+/// A code and a space.
+fn put_code(text: &mut Vec<u8>, code: &[u8]) -> Result<(), AllocError>
+    ensures { OnOk result (text.new.items ≡ text.old.items ++ word_text (map shown_byte code.now)) }
+{
+    put_shown(text, code)?;
     text.push(b' ')?;
     Ok(())
 }
@@ -175,17 +185,36 @@ pub fn put_header(text: &mut Vec<u8>, times: Times, header: &Header<'_>) -> Resu
     Ok(())
 }
 
+/// The codes of the station of which a record is refused, after a space.
+fn put_stranger(text: &mut Vec<u8>, header: &Header<'_>) -> Result<(), AllocError>
+    ensures { OnOk result (text.new.items ≡ text.old.items ++ stranger_text header.now) }
+{
+    text.push(b' ')?;
+    put_code(text, header.network())?;
+    put_shown(text, header.station())?;
+    Ok(())
+}
+
+/// Why a record is refused, and of which station it is if that is why.
+fn put_refused(text: &mut Vec<u8>, refused: &Refused<'_>) -> Result<(), AllocError>
+    ensures { OnOk result (text.new.items ≡ text.old.items ++ refused_text refused.now) }
+{
+    match refused {
+        Refused::Unread(fault) => put_refusal(text, FileFault::Record(*fault)),
+        Refused::Stranger(header) => {
+            put_refusal(text, FileFault::Station)?;
+            put_stranger(text, header)
+        }
+    }
+}
+
 /// What a record says, or why it is refused.
-fn put_record(
-    text: &mut Vec<u8>,
-    times: Times,
-    said: &Result<Header<'_>, FileFault>,
-) -> Result<(), AllocError>
+fn put_record(text: &mut Vec<u8>, times: Times, said: &Said<'_>) -> Result<(), AllocError>
     ensures { OnOk result (text.new.items ≡ text.old.items ++ record_text times said.now) }
 {
     match said {
         Ok(header) => put_header(text, times, header),
-        Err(fault) => put_refusal(text, *fault),
+        Err(refused) => put_refused(text, refused),
     }
 }
 
@@ -194,7 +223,7 @@ pub(crate) fn put_line(
     text: &mut Vec<u8>,
     options: ListingOptions,
     number: u128,
-    said: &Result<Header<'_>, FileFault>,
+    said: &Said<'_>,
 ) -> Result<(), AllocError>
     ensures { OnOk result (text.new.items ≡ text.old.items ++ record_line options number said.now) }
 {

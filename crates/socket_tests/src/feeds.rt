@@ -2,9 +2,11 @@
 use crate::records::{gives_packet, send};
 use incidents::Failure;
 use job_base::Endpoint;
-use job_feed::{SentRecords, await_end, begin_feed, feed_records, send_feed, send_files};
+use job_feed::{
+    FeedProgress, FeedRules, await_end, begin_feed, feed_records, send_feed, send_files,
+};
 use loopback::{Centre, any_port, at_centre, record};
-use record_listing::FeedTally;
+use record_listing::AllStations;
 use sl_io::{Failing, MemorySource, Outer};
 use socket_ports::MioPorts;
 use std::alloc::Global;
@@ -102,19 +104,23 @@ fn make_files<R: Files>(rt: &R) -> Result<(), Fail> {
 
 /// Sends both as the job `feed` does to a server, which has its turns then. Whether it has ended the feed in order, and
 /// a server takes both records.
-fn are_taken<R: Files<File = File> + Eprint + Clock + Net>(
+fn are_taken<R: Files<File = File> + Eprint + Clock + Net + AllocGlobal>(
     rt: &R,
     centre: &mut Centre,
     server: &str,
 ) -> bool {
-    let mut tally = FeedTally::new();
-    let mut sent = SentRecords::new();
+    let rules = FeedRules {
+        stations: &AllStations,
+        is_strict: false,
+        skips: false,
+    };
+    let mut progress = FeedProgress::new();
     let files = ["first.mseed", "second.mseed"];
-    let Ok(Some(feed)) = send_files(rt, server, &files, 1, &mut tally, &mut sent) else {
+    let Ok(Some(feed)) = send_files(rt, server, &files, 1, &rules, &mut progress) else {
         return false;
     };
     centre.turns(3);
-    matches!(feed.wait(), Ok(2)) && sent.count == 2 && tally.refused() == 0
+    matches!(feed.wait(), Ok(2)) && progress.sent.count == 2 && progress.tally.refused() == 0
 }
 
 /// The same, and whether both records have arrived.

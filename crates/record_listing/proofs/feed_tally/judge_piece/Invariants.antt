@@ -5,11 +5,11 @@ use Rattle.record_listing.specs.FeedTallies.{all_judged}
 use Rattle.record_listing.proofs.feed_tally.judge_piece.Given as goal
 
 abbrev pub invariant-records : goal.invariant-records
-invariant-records l = record {
-  judged : all_judged l.count (piece_read l.cutter l.left).records
-      ≡ all_judged l.fn.count (piece_read l.fn.cutter l.piece).records;
+invariant-records g l = record {
+  judged : all_judged (g.S.Stations.has_station l.stations) l.count (piece_read l.cutter l.left).records
+      ≡ all_judged (g.S.Stations.has_station l.stations) l.fn.count (piece_read l.fn.cutter l.piece).records;
   rest : (piece_read l.cutter l.left).rest ≡ (piece_read l.fn.cutter l.piece).rest;
 }
 
 abbrev pub decreases-records : goal.decreases-records
-decreases-records l = length l.left
+decreases-records g l = length l.left
