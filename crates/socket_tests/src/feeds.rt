@@ -134,6 +134,88 @@ fn fed_from_files<R: Files<File = File> + Eprint + Clock + Net + AllocGlobal>(
     Ok(are_taken && holds_two(rt, centre)?)
 }
 
+/// A file of a record, 700 bytes that are in none, and another record.
+fn make_torn_file<R: Files + AllocGlobal>(rt: &R) -> Result<(), Fail> {
+    let mut bytes = record(b"APE", b"BHZ", 1)?.to_vec(rt.alloc())?;
+    bytes.extend_from_slice(&[b'0'; 700])?;
+    bytes.extend_from_slice(&record(b"APE", b"BHZ", 2)?)?;
+    fs::write(rt, "torn.mseed", bytes.as_slice())?;
+    Ok(())
+}
+
+/// Sends that file as `feed --skip` does to a server, which has its turns then. Whether the two records alone were sent.
+fn are_sent_alone<R: Files<File = File> + Eprint + Clock + Net + AllocGlobal>(
+    rt: &R,
+    centre: &mut Centre,
+    server: &str,
+) -> bool {
+    let rules = FeedRules {
+        stations: &AllStations,
+        is_strict: false,
+        skips: true,
+    };
+    let mut progress = FeedProgress::new();
+    let Ok(Some(feed)) = send_files(rt, server, &["torn.mseed"], 1, &rules, &mut progress) else {
+        return false;
+    };
+    centre.turns(3);
+    matches!(feed.wait(), Ok(2)) && progress.tally.refused() == 0
+}
+
+/// The same, and whether both records have arrived.
+fn fed_from_torn_file<R: Files<File = File> + Eprint + Clock + Net + AllocGlobal>(
+    rt: &R,
+    centre: &mut Centre,
+) -> Result<bool, Fail> {
+    make_torn_file(rt)?;
+    let server = format!(in rt.alloc(); "127.0.0.1:{}", centre.ports().1)?;
+    let are_sent = are_sent_alone(rt, centre, server.as_str());
+    Ok(are_sent && holds_two(rt, centre)?)
+}
+
+#[test]
+fn bytes_in_no_record_are_passed_over(rt: HostRuntime) -> Result<(), Fail> {
+    let has_arrived = at_centre(&rt, |rt, centre| fed_from_torn_file(rt, centre))?;
+    assert!(rt; has_arrived);
+    Ok(())
+}
+
+/// What ends a strict feed of a record and of 20 that can't be read, and how many records were sent.
+fn given_up<R: Files<File = File> + Eprint + Clock + Net + AllocGlobal>(
+    rt: &R,
+    centre: &mut Centre,
+) -> Result<(u8, u64), Fail> {
+    let mut bytes = record(b"APE", b"BHZ", 1)?.to_vec(rt.alloc())?;
+    bytes.extend_from_slice(&[b'0'; 10_240])?;
+    fs::write(rt, "lost.mseed", bytes.as_slice())?;
+    let server = format!(in rt.alloc(); "127.0.0.1:{}", centre.ports().1)?;
+    let rules = FeedRules {
+        stations: &AllStations,
+        is_strict: true,
+        skips: false,
+    };
+    let mut progress = FeedProgress::new();
+    let fault = match send_files(
+        rt,
+        server.as_str(),
+        &["lost.mseed"],
+        1,
+        &rules,
+        &mut progress,
+    ) {
+        Ok(_) => 0,
+        Err(incident) => incident.failure.reason().number(),
+    };
+    Ok((fault, progress.sent.count))
+}
+
+#[test]
+fn a_strict_feed_ends_at_sixteen_records_that_cannot_be_read(rt: HostRuntime) -> Result<(), Fail> {
+    let found = at_centre(&rt, |rt, centre| given_up(rt, centre))?;
+    assert_eq!(rt; found, (2, 17));
+    Ok(())
+}
+
 #[test]
 fn the_records_of_files_are_sent(rt: HostRuntime) -> Result<(), Fail> {
     let has_arrived = at_centre(&rt, |rt, centre| fed_from_files(rt, centre))?;
