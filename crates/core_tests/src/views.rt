@@ -2,6 +2,7 @@
 //! are those that the plain server lists to it, and the lists that are named are those that decide.
 use access_list::AccessList;
 use catalog::Config;
+use config_explained::{holders_of, seen_by};
 use plain_server::Plain;
 use plain_server::draws::Draws;
 use plain_server::reloads::{Reload, next_reload};
@@ -9,7 +10,6 @@ use plain_server::sites::{COAST, Centre, HILLS, ISLAND, PAIR, address};
 use std::alloc::Global;
 use std::net::Ipv4Addr;
 use std::test::Fail;
-use view_listing::{holders_of, seen_by};
 
 const SEED: u64 = 20_261_127;
 

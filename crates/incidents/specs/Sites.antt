@@ -20,8 +20,8 @@ use Rattle.slreader.specs.Words.{WindowValue}
 use Rattle.catalog.specs.declared.error.ConfigError.{ConfigError}
 use Rattle.catalog.specs.declared.fault.ConfigFault.{ConfigFault}
 use Rattle.catalog.specs.declared.fault.ConfigFault.TheVariants as config
-use Rattle.config_findings.specs.declared.difference.Difference.{Difference}
-use Rattle.config_findings.specs.declared.finding.Finding.{Finding}
+use Rattle.config_explained.specs.declared.difference.Difference.{Difference}
+use Rattle.config_explained.specs.declared.finding.Finding.{Finding}
 
 -- of a job that reads a file
 abbrev pub file_site : Failure → Bor (List ℕ) → Site

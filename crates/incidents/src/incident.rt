@@ -19,7 +19,7 @@ use crate::faults::{ReplayFault, WantsFault};
 use crate::part_texts::{allowed_in, allowed_together, name_of};
 use access_list::{AccessFault, AccessList};
 use catalog::{ConfigError, ConfigFault, Step};
-use config_findings::{Difference, Finding as ConfigFinding, key_of, limit_of};
+use config_explained::{Difference, Finding as ConfigFinding, key_of, limit_of};
 use record_listing::Finding;
 use server_core::ReloadFault;
 use shown_lines::put_line;

@@ -1,7 +1,7 @@
 //! Files that are read whole, configurations among them, and files that are replaced whole.
 use crate::reasons::ReasonKeeper;
 use catalog::{Config, ConfigError};
-use config_findings::{Finding, finding_of};
+use config_explained::{Finding, finding_of};
 use incidents::{Failure, Incident, Site};
 use sl_io::{Outer, ReadFault, read_all};
 use std::alloc::Global;

@@ -3,16 +3,16 @@ ghost use Rattle.std.specs.Prelude.{◌≡◌, [], true, IfOk, IfErr, IfSome};
 ghost use Rattle.std.specs.Str.{IsUtf8};
 ghost use Rattle.toml.specs.Parse.{parse_document};
 ghost use Rattle.protocol.specs.Catalog.{stations_of};
-ghost use Rattle.unknown_keys.specs.Unknown.{named, unknown_text};
+ghost use Rattle.config_explained.specs.Unknown.{named, unknown_text};
 ghost use Rattle.incidents.specs.declared.failure.Failure.TheVariants.{UnknownKeys};
 
 use crate::files::{config_in, text_at};
 use catalog::Config;
+use config_explained::unknown_keys;
 use incidents::{Failure, Incident};
 use shown_lines::ShownText;
 use std::alloc::Global;
 use std::rt::Files;
-use unknown_keys::unknown_keys;
 
 /// The lines that name the keys of a configuration's text that are not known.
 pub fn unknown_lines<'a>(

@@ -5,11 +5,12 @@ ghost use Rattle.std.specs.Io.KnownBytes.{Appends};
 ghost use Rattle.std.specs.Net.Addr.{ipv4_bits};
 ghost use Rattle.toml.specs.Parse.{parse_document};
 ghost use Rattle.protocol.specs.Catalog.{stations_of, view_of};
-ghost use Rattle.view_listing.specs.Holders.{holders_text};
-ghost use Rattle.view_listing.specs.Seen.{seen_text};
+ghost use Rattle.config_explained.specs.Holders.{holders_text};
+ghost use Rattle.config_explained.specs.Seen.{seen_text};
 
 use access_list::address;
 use catalog::Config;
+use config_explained::{holders_of, seen_by};
 use incidents::{Failure, Incident};
 use job_base::{config_in, tell_unknown_keys, text_at};
 use sl_io::{Outer, Sink, StreamFault, write_all};
@@ -17,7 +18,6 @@ use std::alloc::Global;
 use std::io;
 use std::net::Ipv4Addr;
 use std::rt::Files;
-use view_listing::{holders_of, seen_by};
 
 /// Writes a text.
 fn write_text<W: Sink>(text: &[u8], out: &mut W) -> Result<(), StreamFault>

@@ -15,7 +15,7 @@ use crate::timetable::{seconds_in, timetable_of};
 use crate::visits::SharedLines;
 use catalog::Config;
 use command_line::ServeOptions;
-use config_findings::{Difference, first_difference};
+use config_explained::{Difference, first_difference};
 use error_lines::{Device, Line};
 use incidents::{Failure, Incident, Site, Told};
 use job_base::{config_in, plain_text_at, refuse_unknown, unknown_lines};

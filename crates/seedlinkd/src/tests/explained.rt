@@ -2,7 +2,7 @@
 use super::replays::config;
 use catalog::Config;
 use command_line::{CheckOptions, FeedOptions, Job, ReadOptions, ServeOptions};
-use config_findings::{finding_of, first_difference};
+use config_explained::{finding_of, first_difference};
 use jobs::ReplayStyle::Hexadecimal;
 use jobs::{Failure, Incident, replay, run_job};
 use record_listing::{AllStations, ListingOptions, check_records};

@@ -1,12 +1,12 @@
 //! Who may see what.
 use catalog::Config;
+use config_explained::unknown_keys;
 use jobs::{list_holders, list_seen};
 use sl_io::MemorySink;
 use std::alloc::{AllocError, Global};
 use std::net::Ipv4Addr;
 use std::test::Fail;
 use test_centre::CENTRE;
-use unknown_keys::unknown_keys;
 
 /// Lists of a server and of its first station, and what its line says of whom they admit.
 static LISTS: [(&str, &str, &str); 6] = [

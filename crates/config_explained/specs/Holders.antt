@@ -1,0 +1,51 @@
+-- Who may use each station, by the texts of a configuration's access lists. Seedlink's `access`; the lines are this
+-- project's own.
+use Rattle.std.specs.Prelude.{ℕ, ◌+◌, List, [], ◌∷◌, ◌++◌, Option, Some, None, codes}
+use Rattle.toml.specs.Data.{Members}
+use Rattle.protocol.specs.Catalog.{Station}
+use Rattle.protocol.specs.Pieces.{split, without_empty}
+use Rattle.access_list.specs.Tokens.{is_separator}
+use Rattle.catalog.specs.declared.error.Step.TheVariants as step
+use Rattle.catalog.specs.declared.error.StationStep.TheVariants as station
+use Rattle.config_explained.specs.Findings.{text_at}
+
+-- the entries of a list: what stands between its separators
+abbrev pub entries_of : List ℕ → List (List ℕ)
+entries_of list = without_empty (split is_separator list)
+
+-- words, each after a space
+abbrev pub words_of : List (List ℕ) → List ℕ
+words_of [] = []
+words_of (w ∷ ws) = 32 ∷ w ++ words_of ws
+
+-- entries, or nobody
+abbrev pub or_nobody : List (List ℕ) → List ℕ
+or_nobody [] = words_of (codes "nobody" ∷ [])
+or_nobody (e ∷ es) = words_of (e ∷ es)
+
+-- whom a list admits; `-` where there is none
+abbrev pub list_words : Option (List ℕ) → List ℕ
+list_words None = words_of (codes "-" ∷ [])
+list_words (Some list) = or_nobody (entries_of list)
+
+-- the first text that is there
+abbrev pub either : Option (List ℕ) → Option (List ℕ) → Option (List ℕ)
+either None other = other
+either (Some own) other = Some own
+
+-- the text of the list that holds for the station at a place: its own, or the server's
+abbrev pub list_at : Members → ℕ → Option (List ℕ)
+list_at keys place = either (text_at keys (step.Station place station.Access)) (text_at keys step.Access)
+
+-- the line of a station, with its end
+abbrev pub holder_line : Station → Option (List ℕ) → List ℕ
+holder_line s list = s.network ++ 32 ∷ s.code ++ list_words list ++ 10 ∷ []
+
+-- the lines of stations from a place on
+abbrev pub holders_from : Members → ℕ → List Station → List ℕ
+holders_from keys place [] = []
+holders_from keys place (s ∷ ss) = holder_line s (list_at keys place) ++ holders_from keys (place + 1) ss
+
+-- the lines of all stations
+abbrev pub holders_text : Members → List Station → List ℕ
+holders_text keys ss = holders_from keys 0 ss

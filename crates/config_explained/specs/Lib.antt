@@ -1,0 +1,10 @@
+pub mod Places
+pub mod Kinds
+pub mod Values
+pub mod SettingTexts
+pub mod Findings
+pub mod Differences
+pub mod Nearest
+pub mod Unknown
+pub mod Seen
+pub mod Holders

@@ -1,0 +1,190 @@
+//! What is found where a configuration is refused.
+ghost use Rattle.std.specs.Prelude.{◌≡◌, option_and_then, option_map, IfOk};
+ghost use Rattle.std.specs.Str.{IsUtf8};
+ghost use Rattle.toml.specs.Parse.{parse_document};
+ghost use Rattle.toml.specs.View.{table_view};
+ghost use Rattle.access_list.specs.Tokens.{first_refused};
+ghost use Rattle.config_explained.specs.Findings.{Finds, FindsEntry, FindsKind, FindsText, FindsToml, IsEntry, text_at};
+
+use crate::kind::Kind;
+use crate::place::{Place, line_from, place_of};
+use crate::setting_texts::wanted_of;
+use crate::values::value_at;
+use access_list::AccessList;
+use catalog::keys::table_of;
+use catalog::{ConfigError, ConfigFault, Step};
+use shown_lines::put_line;
+use std::alloc::{AllocError, Global};
+use std::fmt::{self, Display, Formatter, Write};
+use toml::Table;
+
+/// What is found where a configuration is refused, beside its fault and its step.
+#[derive(Drop)]
+pub enum Finding {
+    /// Nothing that the fault and the step don't say.
+    Nothing,
+    /// The text is not UTF-8: after so many bytes it can't go on.
+    NotUtf8 {
+        offset: usize,
+    },
+    /// The text is not TOML: the reason, the place, and the line of that place.
+    NotToml {
+        reason: String,
+        place: Place,
+        line: Vec<u8>,
+    },
+    /// A value of one kind where another is wanted, or none where one has to be.
+    OtherKind {
+        found: Kind,
+        wanted: Kind,
+    },
+    /// An entry of an access list that is not an address, alone or with a mask.
+    Entry {
+        text: Vec<u8>,
+    },
+}
+
+/// What is found where the text of a configuration is refused with an error, which `Config::read_by_steps` gave for it:
+/// where it is not TOML the place of the reader's choice, at a key that is missing or of another kind that kind, and at
+/// an access list its first entry that is refused. Only memory can lack.
+pub fn finding_of(alloc: Global, text: &[u8], error: &ConfigError) -> Result<Finding, AllocError>
+    ensures { IfOk result (Finds text.now error.now) }
+{
+    match error.fault {
+        ConfigFault::Toml => text_finding(alloc, text),
+        ConfigFault::Missing => kind_finding(alloc, text, error.step),
+        ConfigFault::Access(_) => entry_finding(alloc, text, error.step),
+        _ => Ok(Finding::Nothing),
+    }
+}
+
+/// What is found in a text that is not UTF-8, or not TOML.
+fn text_finding(alloc: Global, text: &[u8]) -> Result<Finding, AllocError>
+    ensures { IfOk result (FindsText text.now) }
+{
+    match str::from_utf8(text) {
+        Ok(utf8) => toml_finding(alloc, utf8),
+        Err(error) => Ok(Finding::NotUtf8 {
+            offset: error.valid_up_to(),
+        }),
+    }
+}
+
+/// What is found in a text that is not TOML.
+fn toml_finding(alloc: Global, text: &str) -> Result<Finding, AllocError>
+    ensures { IfOk result (FindsToml (parse_document text.now) text.now) }
+{
+    match toml::table_from_str(alloc, text) {
+        Ok(_) => Ok(Finding::Nothing),
+        Err(error) => match error.span() {
+            Some(span) => {
+                let place = place_of(text.as_bytes(), span.start);
+                Ok(Finding::NotToml {
+                    reason: String::from_str(alloc, error.message())?,
+                    place,
+                    line: line_from(text.as_bytes(), place.start).to_vec(alloc)?,
+                })
+            }
+            None => Err(AllocError),
+        },
+    }
+}
+
+/// The table of a text, if it is one.
+fn table_if_any(alloc: Global, text: &[u8]) -> Result<Option<Table>, AllocError>
+    ensures { IfOk result (λ table. IsUtf8 text.now → parse_document text.now ≡ option_map table_view table) }
+{
+    match table_of(alloc, text) {
+        Ok(table) => Ok(Some(table)),
+        Err(ConfigFault::OutOfMemory) => Err(AllocError),
+        Err(_) => Ok(None),
+    }
+}
+
+/// The kind of the value at a step, and the one that is wanted.
+fn kind_finding(alloc: Global, text: &[u8], step: Step) -> Result<Finding, AllocError>
+    ensures { IfOk result (λ f. IsUtf8 text.now → FindsKind (parse_document text.now) step f) }
+{
+    match table_if_any(alloc, text)? {
+        Some(table) => Ok(Finding::OtherKind {
+            found: Kind::of(value_at(&table, step)),
+            wanted: wanted_of(step),
+        }),
+        None => Ok(Finding::Nothing),
+    }
+}
+
+/// The first entry of the access list at a step that is refused.
+fn entry_finding(alloc: Global, text: &[u8], step: Step) -> Result<Finding, AllocError>
+    ensures { IfOk result (λ f. IsUtf8 text.now → FindsEntry (parse_document text.now) step f) }
+{
+    match table_if_any(alloc, text)? {
+        Some(table) => entry_in(alloc, &table, step),
+        None => Ok(Finding::Nothing),
+    }
+}
+
+/// The text that the key has which a step reads, if it has one.
+pub fn text_at<'a>(table: &'a Table, step: Step) -> Option<&'a [u8]>
+    ensures { option_map (λ text. text.now) result ≡ text_at (table_view table.now) step }
+{
+    match value_at(table, step) {
+        Some(value) => match value.as_str() {
+            Some(text) => Some(text.as_bytes()),
+            None => None,
+        },
+        None => None,
+    }
+}
+
+/// The first entry of the access list at a step of a table that is refused.
+fn entry_in(alloc: Global, table: &Table, step: Step) -> Result<Finding, AllocError>
+    ensures { IfOk result (IsEntry (option_and_then first_refused (text_at (table_view table.now) step))) }
+{
+    let entry = match text_at(table, step) {
+        Some(text) => AccessList::refused_entry(text),
+        None => None,
+    };
+    match entry {
+        Some(entry) => Ok(Finding::Entry {
+            text: entry.to_vec(alloc)?,
+        }),
+        None => Ok(Finding::Nothing),
+    }
+}
+
+impl Display for Finding {
+    /// The lines that say it, each with two spaces before it.
+    fn fmt<W: Write>(&self, f: &mut Formatter<W>) -> fmt::Result {
+        match self {
+            Finding::Nothing => Ok(()),
+            Finding::NotUtf8 { offset } => writeln!(f, "  offset: {offset}"),
+            Finding::NotToml {
+                reason,
+                place,
+                line,
+            } => {
+                let Place {
+                    line: at,
+                    column,
+                    ..
+                } = *place;
+                writeln!(f, "  line: {at}\n  column: {column}")?;
+                put_line(f, "reason", reason)?;
+                put_text(f, "text", line)
+            }
+            Finding::OtherKind { found, wanted } => {
+                writeln!(f, "  found: {found}\n  wanted: {wanted}")
+            }
+            Finding::Entry { text } => put_text(f, "entry", text),
+        }
+    }
+}
+
+/// A line that quotes a text.
+fn put_text<W: Write>(f: &mut Formatter<W>, word: &str, text: &Vec<u8>) -> fmt::Result {
+    match str::from_utf8(text.as_slice()) {
+        Ok(text) => put_line(f, word, text),
+        Err(_) => Ok(()),
+    }
+}

@@ -1,0 +1,65 @@
+//! Who may use each station.
+ghost use Rattle.std.specs.Prelude.{◌≡◌, ◌++◌, IfOk, IfSome, OnOk, map, option_map};
+ghost use Rattle.std.specs.Str.{IsUtf8};
+ghost use Rattle.toml.specs.Parse.{parse_document};
+ghost use Rattle.toml.specs.View.{table_view};
+ghost use Rattle.protocol.specs.Catalog.{stations_of};
+ghost use Rattle.config_explained.specs.Holders.{holder_line, holders_from, holders_text, list_at};
+
+use crate::entries::put_list;
+use crate::finding::text_at;
+use crate::lines::put;
+use catalog::keys::table_of;
+use catalog::{Config, ConfigFault, Station, StationStep, Step};
+use std::alloc::{AllocError, Global};
+use toml::Table;
+
+/// The text of the list that holds for the station at a place: its own, or the server's.
+fn list_at<'a>(table: &'a Table, place: usize) -> Option<&'a [u8]>
+    ensures { option_map (λ l. l.now) result ≡ list_at (table_view table.now) place }
+{
+    match text_at(table, Step::Station(place, StationStep::Access)) {
+        Some(own) => Some(own),
+        None => text_at(table, Step::Access),
+    }
+}
+
+/// The line of a station: its network, its code, and whom the list admits that holds for it.
+fn put_holders(text: &mut Vec<u8>, station: &Station, list: Option<&[u8]>) -> Result<(), AllocError>
+    ensures { OnOk result (text.new.items
+        ≡ text.old.items ++ holder_line station.now.station (option_map (λ l. l.now) list.entry)) }
+{
+    put(text, station.network())?;
+    put(text, b" ")?;
+    put(text, station.code())?;
+    put_list(text, list)?;
+    put(text, b"\n")
+}
+
+/// The lines of all stations.
+#[tactic(auto, using(crate::proofs::HolderLemmas::holder_lemmas))]
+fn put_all(text: &mut Vec<u8>, stations: &[Station], table: &Table) -> Result<(), AllocError>
+    ensures { OnOk result (text.new.items ≡ text.old.items
+        ++ holders_from (table_view table.now) 0 (map (λ e. e.station) stations.now)) }
+{
+    for (place, station) in stations.iter().enumerate() {
+        put_holders(text, station, list_at(table, place))?;
+    }
+    Ok(())
+}
+
+/// All stations of a configuration, in order, a line each: its network, its code, and the entries of the access list
+/// that holds for it, as they stand in the configuration's text: its own list, else the server's. A list without an
+/// entry admits `nobody`; `-` stands where no list holds, so that everybody may use the station. Only memory can lack.
+pub fn holders_of(alloc: Global, config: &Config, text: &[u8]) -> Result<Vec<u8>, AllocError>
+    ensures { IfOk result (λ lines. IsUtf8 text.now → IfSome (parse_document text.now)
+        (λ keys. lines.items ≡ holders_text keys (stations_of config.now))) }
+{
+    let mut lines = Vec::new(alloc);
+    match table_of(alloc, text) {
+        Ok(table) => put_all(&mut lines, config.stations(), &table)?,
+        Err(ConfigFault::OutOfMemory) => return Err(AllocError),
+        Err(_) => {}
+    }
+    Ok(lines)
+}

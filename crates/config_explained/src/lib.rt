@@ -1,0 +1,32 @@
+//! What a configuration's text says to whoever wrote it. Findings: what stands where it is refused, beside what is wanted
+//! there, and where two configurations differ first. Keys: those that are not known, since they may be misspelled. View:
+//! the stations that an address sees, and who may use each station. The reading itself is that of `catalog`.
+#![tactic(auto)]
+
+// findings
+mod difference;
+mod finding;
+mod kind;
+mod place;
+mod setting_texts;
+mod values;
+// keys
+mod first_lines;
+mod key_lines;
+mod nearest;
+mod owner;
+mod unknown;
+// view
+mod entries;
+mod holders;
+mod lines;
+mod seen;
+
+pub use difference::{Difference, Setting, first_difference};
+pub use finding::{Finding, finding_of, text_at};
+pub use holders::holders_of;
+pub use kind::Kind;
+pub use place::{Place, line_from, place_of};
+pub use seen::seen_by;
+pub use setting_texts::{key_of, limit_of, wanted_of};
+pub use unknown::unknown_keys;

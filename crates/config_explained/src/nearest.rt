@@ -1,0 +1,85 @@
+//! The known key that is nearest to one that is not known.
+ghost use Rattle.std.specs.Prelude.{◌≡◌, ◌≤◌, drop, find, length, map, option_map};
+ghost use Rattle.config_explained.specs.Nearest.{are_exchanged, is_near, nearest, shared};
+
+/// How many bytes two texts have in common at their beginning.
+#[tactic(auto, using(crate::proofs::NearLemmas::shared_lemmas))]
+fn shared_length(key: &[u8], known: &[u8]) -> usize
+    ensures value { result ≡ shared key.now known.now }
+    ensures in_key { result ≤ length key.now }
+    ensures in_known { result ≤ length known.now }
+{
+    let most = key.len().min(known.len());
+    for at in 0..most {
+        if key[at] != known[at] {
+            return at;
+        }
+    }
+    most
+}
+
+/// What comes after so many bytes of a text.
+fn past(text: &[u8], count: usize) -> &[u8]
+    ensures { result.now ≡ drop count text.now }
+{
+    &text[count.min(text.len())..]
+}
+
+/// Whether two texts begin with the same two bytes, which are exchanged in one of them.
+fn are_exchanged(key: &[u8], known: &[u8]) -> bool
+    ensures { result ≡ are_exchanged key.now known.now }
+{
+    match (key, known) {
+        ([a, b, ..], [c, d, ..]) => a == d && b == c,
+        _ => false,
+    }
+}
+
+/// Whether a key becomes a known one by at most so many changes: a byte left out, put in or replaced, or two neighbours
+/// exchanged.
+#[tactic(auto, using(crate::proofs::NearLemmas::near_lemmas))]
+fn is_near(changes: usize, key: &[u8], known: &[u8]) -> bool
+    ensures { result ≡ is_near changes key.now known.now }
+{
+    if changes == 0 {
+        return key == known;
+    }
+    let fewer = changes - 1;
+    let shared = shared_length(key, known);
+    let (key, known) = (past(key, shared), past(known, shared));
+    // a byte is left out
+    if is_near(fewer, past(key, 1), known) {
+        return true;
+    }
+    // one is put in
+    if is_near(fewer, key, past(known, 1)) {
+        return true;
+    }
+    // one is replaced
+    if is_near(fewer, past(key, 1), past(known, 1)) {
+        return true;
+    }
+    are_exchanged(key, known) && is_near(fewer, past(key, 2), past(known, 2))
+}
+
+/// The first of some keys that is so near to a key.
+fn first_near<'a>(changes: usize, key: &str, known: &[&'a str]) -> Option<&'a str>
+    ensures { option_map (λ k. k.now) result ≡ find (is_near changes key.now) (map (λ k. k.now) known.now) }
+{
+    for name in known {
+        if is_near(changes, key.as_bytes(), name.as_bytes()) {
+            return Some(name);
+        }
+    }
+    None
+}
+
+/// The key of some that is nearest to a key, by at most two changes; of several that are as near, the first one.
+pub fn nearest<'a>(key: &str, known: &[&'a str]) -> Option<&'a str>
+    ensures { option_map (λ k. k.now) result ≡ nearest key.now (map (λ k. k.now) known.now) }
+{
+    match first_near(1, key, known) {
+        Some(name) => Some(name),
+        None => first_near(2, key, known),
+    }
+}

@@ -1,9 +1,0 @@
-use Rattle.std.proofs.Common.{◌≡◌, map}
-use Rattle.config_findings.specs.Differences.{differing_among}
-use Rattle.config_findings.proofs.DifferenceLemmas.{among_from}
-use Rattle.config_findings.proofs.difference.differing_among.Given as goal
-
-abbrev pub invariant-loop-place : goal.invariant-loop-place
-invariant-loop-place l =
-    differing_among 0 (map (λ e. e.station) l.stations) (map (λ e. e.station) l.others)
-    ≡ among_from l.stations l.others l.place

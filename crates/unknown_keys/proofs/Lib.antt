@@ -1,4 +1,0 @@
-mod LineLemmas
-pub mod OwnerLemmas
-pub mod StationLemmas
-pub mod NearLemmas

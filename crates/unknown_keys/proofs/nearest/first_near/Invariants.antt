@@ -1,8 +1,0 @@
-use Rattle.std.proofs.Common.{◌≡◌, drop, find, map}
-use Rattle.unknown_keys.specs.Nearest.{is_near}
-use Rattle.unknown_keys.proofs.nearest.first_near.Given as goal
-
-abbrev pub invariant-loop-name : goal.invariant-loop-name
-invariant-loop-name l =
-    find (is_near l.changes l.key) (map (λ k. k.now) l.known)
-    ≡ find (is_near l.changes l.key) (map (λ k. k.now) (drop l.name-index l.known))

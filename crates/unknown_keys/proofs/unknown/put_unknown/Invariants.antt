@@ -1,8 +1,0 @@
-use Rattle.std.proofs.Common.{◌≡◌, ◌++◌}
-use Rattle.toml.specs.View.{members_view}
-use Rattle.unknown_keys.specs.Unknown.{owner_lines, whose}
-use Rattle.unknown_keys.proofs.unknown.put_unknown.Given as goal
-
-abbrev pub invariant-loop-key : goal.invariant-loop-key
-invariant-loop-key l = l.fn.text.items ++ owner_lines (whose l.owner) (members_view l.table.entries)
-    ≡ l.text.items ++ owner_lines (whose l.owner) (members_view l.key-iterator)

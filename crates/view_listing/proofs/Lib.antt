@@ -1,3 +1,0 @@
-mod SeenLemmas
-mod HolderLemmas
-mod EntryLemmas
