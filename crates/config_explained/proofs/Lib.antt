@@ -6,3 +6,4 @@ pub mod NearLemmas
 mod SeenLemmas
 mod HolderLemmas
 mod EntryLemmas
+mod OpenedLemmas

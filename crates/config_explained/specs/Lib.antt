@@ -8,3 +8,4 @@ pub mod Nearest
 pub mod Unknown
 pub mod Seen
 pub mod Holders
+pub mod Opened

@@ -15,7 +15,7 @@ use std::alloc::{AllocError, Global};
 use toml::Table;
 
 /// The text of the list that holds for the station at a place: its own, or the server's.
-fn list_at<'a>(table: &'a Table, place: usize) -> Option<&'a [u8]>
+pub(crate) fn list_at<'a>(table: &'a Table, place: usize) -> Option<&'a [u8]>
     ensures { option_map (λ l. l.now) result ≡ list_at (table_view table.now) place }
 {
     match text_at(table, Step::Station(place, StationStep::Access)) {

@@ -20,12 +20,16 @@ mod unknown;
 mod entries;
 mod holders;
 mod lines;
+mod network;
+mod opened;
 mod seen;
 
 pub use difference::{Difference, Setting, first_difference};
 pub use finding::{Finding, finding_of, text_at};
 pub use holders::holders_of;
 pub use kind::Kind;
+pub use network::Network;
+pub use opened::open_to_everybody;
 pub use place::{Place, line_from, place_of};
 pub use seen::seen_by;
 pub use setting_texts::{key_of, limit_of, wanted_of};
