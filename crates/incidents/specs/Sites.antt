@@ -5,11 +5,11 @@ use Rattle.std.specs.declared.io.Error.{Error}
 use Rattle.protocol.specs.Reason.{is_memory, is_output}
 use Rattle.incidents.specs.Faults.{failure_reason}
 use Rattle.incidents.specs.declared.failure.Failure.{Failure}
-use Rattle.incidents.specs.declared.incident.Site.{Site}
-use Rattle.incidents.specs.declared.incident.WantPlace.{WantPlace}
-use Rattle.incidents.specs.declared.incident.Site.TheVariants.{Unnamed, File, Setting, Differing, Unread}
-use Rattle.incidents.specs.declared.incident.Site.TheVariants.{Unwritten, Word}
-use Rattle.incidents.specs.declared.incident.Site.TheVariants.{AccessWord, Want, Server, Socket}
+use Rattle.incidents.specs.declared.site.Site.{Site}
+use Rattle.incidents.specs.declared.site.WantPlace.{WantPlace}
+use Rattle.incidents.specs.declared.site.Site.TheVariants.{Unnamed, File, Setting, Differing, Unread}
+use Rattle.incidents.specs.declared.site.Site.TheVariants.{Unwritten, Word}
+use Rattle.incidents.specs.declared.site.Site.TheVariants.{AccessWord, Want, Server, Socket}
 use Rattle.access_list.specs.Tokens.{first_refused}
 use Rattle.socket_ports.specs.declared.fault.ListenError.{ListenError}
 use Rattle.socket_ports.specs.declared.fault.ListenError.TheVariants as error

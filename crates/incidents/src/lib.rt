@@ -5,8 +5,12 @@
 mod failure;
 mod faults;
 mod incident;
+mod kinds;
 mod part_texts;
+mod site;
 
 pub use failure::Failure;
 pub use faults::{NumbersFault, ReplayFault, StateFault, WantsFault};
-pub use incident::{FoundFault, FoundFile, Incident, Site, Told, WantPlace};
+pub use incident::{Incident, Told};
+pub use kinds::{FileKind, kind_of};
+pub use site::{FoundFault, FoundFile, Site, WantPlace};

@@ -2,6 +2,7 @@
 //! among them, and what stands between a job and its device. It does not know which job does what, and when.
 #![tactic(auto)]
 
+mod begun;
 mod configured;
 mod descriptors;
 mod endpoint;
@@ -15,6 +16,7 @@ mod standard_error;
 mod telling;
 mod times;
 
+pub use begun::{Begun, FirstBytes};
 pub use configured::ConfiguredStations;
 pub use descriptors::descriptor_limit;
 pub use endpoint::Endpoint;

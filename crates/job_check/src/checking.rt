@@ -5,9 +5,10 @@ ghost use Rattle.job_check.specs.Listings.{listing_by};
 
 use crate::names::{FileLine, FileName, files_of};
 use command_line::CheckOptions;
-use incidents::{Failure, Incident};
+use incidents::{Failure, FileKind, Incident, kind_of};
 use job_base::{
-    ConfiguredStations, ReasonKeeper, Watched, config_at, is_output_terminal, is_terminal, size_of, times_of,
+    Begun, ConfiguredStations, FirstBytes, ReasonKeeper, Watched, config_at, is_output_terminal,
+    is_terminal, size_of, times_of,
 };
 use record_listing::{AllStations, Finding, ListingOptions, RecordCheck, Stations};
 use sl_io::{Outer, StreamFault};
@@ -122,14 +123,18 @@ fn check_file<'a, R: Files<File = File> + Print + Eprint + Clock + AllocGlobal, 
         Ok(file) => file,
         Err(reason) => return Err(name.unopened(reason)),
     };
-    let Checked { finding, reason } = check_open(rt, options, stations, check, file);
+    let Checked {
+        finding,
+        reason,
+        first,
+    } = check_open(rt, options, stations, check, file);
     match finding {
         Ok(None) => Ok(None),
         Ok(Some(finding)) => {
             if !is_alone {
                 tell_file(rt, &name, finding);
             }
-            Ok(Some(name.refused(finding)))
+            Ok(Some(name.refused(finding, kind_at(finding, &first))))
         }
         Err(fault) => Err(name.broken(fault, reason)),
     }
@@ -141,12 +146,22 @@ fn tell_file<R: Eprint>(rt: &R, name: &FileName<'_>, finding: Finding) {
     let _ = eprintln!(rt; "{line}");
 }
 
-/// What came of listing a file: what is wrong with it, or why it was not listed to its end, and why it could not be
-/// read if the system said so.
+/// What a file is known for, if what is wrong with it is wrong from its first record on.
+fn kind_at(finding: Finding, first: &FirstBytes) -> Option<FileKind> {
+    if finding.number == 1 {
+        kind_of(first.as_slice())
+    } else {
+        None
+    }
+}
+
+/// What came of listing a file: what is wrong with it, or why it was not listed to its end, why it could not be read if
+/// the system said so, and its first bytes.
 #[derive(Drop)]
 struct Checked {
     finding: Result<Option<Finding>, StreamFault>,
     reason: Option<io::Error>,
+    first: FirstBytes,
 }
 
 /// Lists the records of a file that is open. How far it is is shown at a terminal, unless lines of records show it
@@ -160,11 +175,14 @@ fn check_open<R: Print + Eprint + Clock + AllocGlobal, S: Stations>(
 ) -> Checked {
     let size = size_of(&file);
     let is_shown = is_terminal() && (options.is_quiet || !is_output_terminal());
-    let mut watched = Watched::new(rt, ReasonKeeper::new(file), size, is_shown);
-    let finding = list_file(rt, listing_options(options), stations, check, &mut watched);
+    let watched = Watched::new(rt, ReasonKeeper::new(file), size, is_shown);
+    let mut begun = Begun::new(watched);
+    let finding = list_file(rt, listing_options(options), stations, check, &mut begun);
+    let (watched, first) = begun.into_parts();
     Checked {
         finding,
         reason: watched.end().into_reason(),
+        first,
     }
 }
 

@@ -1,6 +1,6 @@
 //! The files of records that the words of the command line name.
 use crate::folders::{FolderFault, files_below};
-use incidents::{Failure, FoundFault, FoundFile, Incident, Site};
+use incidents::{Failure, FileKind, FoundFault, FoundFile, Incident, Site};
 use job_base::unopened;
 use record_listing::Finding;
 use shown_lines::ShownLine;
@@ -50,13 +50,13 @@ impl<'a> FileName<'a> {
         }
     }
 
-    /// Something is wrong with what stands in it.
-    pub fn refused(self, finding: Finding) -> Incident<'a> {
+    /// Something is wrong with what stands in it, which may be known for no file of records.
+    pub fn refused(self, finding: Finding, kind: Option<FileKind>) -> Incident<'a> {
         match self {
-            FileName::Given(path) => Incident::of_records(path, finding),
+            FileName::Given(path) => Incident::of_records(path, finding, kind),
             FileName::Found(path) => Incident {
                 failure: Failure::Records(finding.fault),
-                site: found(path, FoundFault::Record(finding)),
+                site: found(path, FoundFault::Record(finding, kind)),
             },
         }
     }

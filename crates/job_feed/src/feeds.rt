@@ -11,7 +11,7 @@ use crate::sent::{FileRecord, SentRecords};
 use crate::skipping::{bytes_before, pass_over};
 use command_line::FeedOptions;
 use feeder::SendFault;
-use incidents::{Failure, Incident, Site};
+use incidents::{Failure, FileKind, Incident, Site};
 use job_base::{
     ConfiguredStations, ReasonKeeper, ServerAddress, Watched, checked_config_at, connection,
     is_terminal, open, server_of, size_of,
@@ -34,11 +34,13 @@ pub struct FeedRules<'s, S> {
     pub skips: bool,
 }
 
-/// How far a feed is: what was judged, the first file with a record that is refused, and what was sent.
+/// How far a feed is: what was judged, the first file with a record that is refused, and what it is if that is known,
+/// and what was sent.
 #[derive(Drop)]
 pub struct FeedProgress<'a> {
     pub tally: FeedTally,
     pub refused_in: Option<&'a str>,
+    pub kind: Option<FileKind>,
     pub sent: SentRecords<'a>,
 }
 
@@ -50,16 +52,19 @@ impl<'a> FeedProgress<'a> {
         FeedProgress {
             tally: FeedTally::new(),
             refused_in: None,
+            kind: None,
             sent: SentRecords::new(),
         }
     }
 
-    /// The records of a file are judged, and the connection has taken so many by now.
-    fn reach(&mut self, first: FileRecord<'a>, count: u64)
+    /// The records of a file are judged, which may be known for no file of records, and the connection has taken so
+    /// many by now.
+    fn reach(&mut self, first: FileRecord<'a>, kind: Option<FileKind>, count: u64)
         ensures { self.new.sent.count ≡ count }
     {
-        if self.tally.first().is_some() {
-            self.refused_in = self.refused_in.or(Some(first.file));
+        if self.tally.first().is_some() && self.refused_in.is_none() {
+            self.refused_in = Some(first.file);
+            self.kind = kind;
         }
         self.sent.reach(first, count);
     }
@@ -100,7 +105,7 @@ fn send_input<
     let passed = begin_at(&mut watched, first.number);
     let offset = bytes_before(first.number);
     let Ok(aligned) = Aligned::new(rt.alloc(), watched, rules.skips, offset) else {
-        progress.reach(first, feed.records());
+        progress.reach(first, None, feed.records());
         return Err(Incident::from(Failure::OutOfMemory));
     };
     progress.tally.begin_file(first.number);
@@ -118,12 +123,12 @@ fn send_input<
         Ok(()) => feed.send(&mut records),
         Err(_) => Err(Failure::Send(SendFault::Read)),
     };
-    let (watched, is_over) = records.into_inner().into_parts();
+    let (watched, is_over, kind) = records.into_inner().into_parts();
     let reason = watched.end().into_reason();
-    progress.reach(first, feed.records());
+    progress.reach(first, kind, feed.records());
     match outcome {
         Ok(()) => Ok(()),
-        Err(_) if is_over => Err(given_up(&progress.tally, first.file)),
+        Err(_) if is_over => Err(given_up(&progress.tally, first.file, kind)),
         Err(failure) => Err(
             failure
                 .in_feed(first.file, server)
@@ -133,9 +138,9 @@ fn send_input<
 }
 
 /// What ends a feed that is strict: the first of sixteen records of a file that can't be read.
-fn given_up<'a>(tally: &FeedTally, file: &'a str) -> Incident<'a> {
+fn given_up<'a>(tally: &FeedTally, file: &'a str, kind: Option<FileKind>) -> Incident<'a> {
     match tally.lost() {
-        Some(lost) => Incident::of_records(file, finding_of(&lost)),
+        Some(lost) => Incident::of_records(file, finding_of(&lost), kind),
         None => Failure::Send(SendFault::Read).in_file(file),
     }
 }
@@ -301,6 +306,7 @@ fn tell_sent<R: Eprint>(
                 config,
                 file,
                 first,
+                kind: progress.kind,
             };
             let _ = eprintln!(rt; "{line}");
         }

@@ -4,6 +4,7 @@ ghost use Rattle.job_feed.specs.Judging.{row_part};
 
 use crate::aligned::{Aligned, Stretch};
 use crate::lines::FeedLine;
+use incidents::{FileKind, kind_of};
 use record_listing::{FeedTally, Finding, RefusedRecord, Stations};
 use std::io::{self, ErrorKind, Read};
 
@@ -13,8 +14,8 @@ const ROW: u64 = 8_192;
 /// After so many lines on bytes of a file that were passed over, no more are written.
 const LINES: u64 = 16;
 
-/// How many of so many bytes lie before the end of sixteen records, the first of which begins at that place of the file,
-/// where so many bytes of the file came before them.
+/// How many of so many bytes lie before the end of sixteen records, the first of which begins at that place of the
+/// file, where so many bytes of the file came before them.
 fn row_part(first: u64, before: u64, count: usize) -> usize
     ensures { result ≡ row_part first before count }
 {
@@ -51,6 +52,9 @@ pub struct Judged<'t, R, T, S> {
     lines: u64,
     is_told: bool,
     is_over: bool,
+    /// Whether nothing was read of it yet, and what it is, if it is known for no file of records.
+    is_new: bool,
+    kind: Option<FileKind>,
 }
 
 impl<'t, R: Eprint, T, S: Stations> Judged<'t, R, T, S> {
@@ -75,13 +79,29 @@ impl<'t, R: Eprint, T, S: Stations> Judged<'t, R, T, S> {
             lines: LINES,
             is_told: false,
             is_over: false,
+            is_new: offset == 0,
+            kind: None,
         }
     }
 
-    /// What was read, and whether it was given up because sixteen records in a row can't be read.
-    pub fn into_parts(self) -> (T, bool) {
-        let Judged { inner, is_over, .. } = self;
-        (inner.into_inner(), is_over)
+    /// What was read, whether it was given up because sixteen records in a row can't be read, and what it is, if it is
+    /// known for no file of records.
+    pub fn into_parts(self) -> (T, bool, Option<FileKind>) {
+        let Judged {
+            inner,
+            is_over,
+            kind,
+            ..
+        } = self;
+        (inner.into_inner(), is_over, kind)
+    }
+
+    /// What it is by its first bytes.
+    fn look_at(&mut self, bytes: &[u8]) {
+        if self.is_new && !bytes.is_empty() {
+            self.is_new = false;
+            self.kind = kind_of(bytes);
+        }
     }
 
     /// Tells of bytes that were passed over.
@@ -98,7 +118,8 @@ impl<'t, R: Eprint, T, S: Stations> Judged<'t, R, T, S> {
         let file = self.file;
         if !self.is_told {
             self.is_told = true;
-            let _ = eprintln!(self.rt; "{}", FeedLine::Lost { file, lost });
+            let kind = self.kind;
+            let _ = eprintln!(self.rt; "{}", FeedLine::Lost { file, lost, kind });
         }
     }
 
@@ -125,6 +146,7 @@ impl<R: Eprint, T: Read, S: Stations> Read for Judged<'_, R, T, S> {
         if let Some(stretch) = self.inner.take_ended() {
             self.tell_passed(stretch);
         }
+        self.look_at(&block[..count]);
         self.tally.see(self.stations, &block[..count]);
         let count = self.pass_on(count);
         self.offset = self.offset.saturating_add(count as u64);

@@ -1,5 +1,6 @@
 //! What a user is told of the records of a feed.
 use crate::aligned::Stretch;
+use incidents::FileKind;
 use record_listing::RefusedRecord;
 use shown_lines::ShownLine;
 use std::fmt::{self, Display, Formatter, Write};
@@ -11,6 +12,8 @@ pub enum FeedLine<'a> {
     Lost {
         file: &'a str,
         lost: RefusedRecord,
+        /// What the file is, if it is known for no file of records.
+        kind: Option<FileKind>,
     },
     /// Bytes of a file are in no record.
     PassedOver {
@@ -29,6 +32,7 @@ pub enum FeedLine<'a> {
         config: Option<&'a str>,
         file: &'a str,
         first: RefusedRecord,
+        kind: Option<FileKind>,
     },
 }
 
@@ -45,15 +49,29 @@ impl Display for Refuser<'_> {
     }
 }
 
+/// What a file is, after what is wrong with it. The length of its records is told with that.
+#[derive(Clone, Copy, Drop)]
+struct Known(Option<FileKind>);
+
+impl Display for Known {
+    fn fmt<W: Write>(&self, f: &mut Formatter<W>) -> fmt::Result {
+        match self.0 {
+            Some(FileKind::Records(_)) | None => Ok(()),
+            Some(kind) => write!(f, ", {kind}"),
+        }
+    }
+}
+
 impl Display for FeedLine<'_> {
     fn fmt<W: Write>(&self, f: &mut Formatter<W>) -> fmt::Result {
         let mut line = ShownLine::new(f);
         match *self {
-            FeedLine::Lost { file, lost } => write!(
+            FeedLine::Lost { file, lost, kind } => write!(
                 line,
-                "seedlinkd: 16 records in a row are not valid, from record {} of {file} on, at byte {}: {lost}",
+                "seedlinkd: 16 records in a row are not valid, from record {} of {file} on, at byte {}: {lost}{}",
                 lost.number,
-                lost.offset()
+                lost.offset(),
+                Known(kind)
             ),
             FeedLine::PassedOver { file, stretch } => write!(
                 line,
@@ -67,12 +85,14 @@ impl Display for FeedLine<'_> {
                 config,
                 file,
                 first,
+                kind,
             } => write!(
                 line,
-                "sent {count} records, of which {} {refused}; record {} of {file}, at byte {}: {first}",
+                "sent {count} records, of which {} {refused}; record {} of {file}, at byte {}: {first}{}",
                 Refuser(config),
                 first.number,
-                first.offset()
+                first.offset(),
+                Known(kind)
             ),
         }
     }

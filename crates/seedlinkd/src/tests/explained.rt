@@ -252,7 +252,7 @@ fn unchecked(alloc: Global, bytes: &[u8]) -> Result<String, Fail> {
     )? {
         None => Ok(String::new(alloc)),
         Some(finding) => {
-            let incident = Incident::of_records("day.mseed", finding);
+            let incident = Incident::of_records("day.mseed", finding, None);
             Ok(format!(in alloc; "{incident}")?)
         }
     }
