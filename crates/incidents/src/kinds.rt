@@ -1,6 +1,6 @@
 //! Files that are no files of records, and known for what they are by their first bytes.
 ghost use Rattle.std.specs.Prelude.{◌≡◌};
-ghost use Rattle.incidents.specs.Kinds.kind_by_signature;
+ghost use Rattle.incidents.specs.Kinds.{kind_by_signature};
 
 use record_listing::{AllStations, Detail, FeedTally};
 use std::fmt::{self, Display, Formatter, Write};

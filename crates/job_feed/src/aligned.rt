@@ -1,16 +1,17 @@
 //! Records of a file, without the bytes between them that are in no record.
 ghost use Rattle.std.specs.Prelude.{◌≡◌, ◌≤◌, ◌<◌, ℕ, drop, false, length, true};
-ghost use Rattle.job_feed.specs.Aligning.{begins, is_record};
+ghost use Rattle.std.specs.Io.{ReadsAtMost};
+ghost use Rattle.job_feed.specs.Aligning.{begins, is_followed, is_record};
 
 use mseed_header::read;
-use std::alloc::{AllocError, Global};
-use std::io::{self, Read};
+use std::alloc::Global;
+use std::io::{self, ErrorKind, Read};
 
 /// The length of a record, in bytes.
 const RECORD: usize = 512;
 
-/// How many bytes are held at most.
-const ROOM: usize = 65_536;
+/// How many bytes are read at most by one call.
+const PIECE: usize = 16_384;
 
 /// Whether bytes begin with a record that can be read (SEED Reference Manual 2.4, chapter 8).
 fn is_record(bytes: &[u8]) -> bool
@@ -22,11 +23,22 @@ fn is_record(bytes: &[u8]) -> bool
     }
 }
 
+/// Whether what follows the first 512 bytes begins with a record that can be read, or is less than a record.
+fn is_followed(bytes: &[u8]) -> bool
+    ensures { result ≡ is_followed bytes.now }
+{
+    if bytes.len() < 1024 {
+        return true;
+    }
+    let (_, next) = bytes.split_at(512);
+    is_record(next)
+}
+
 /// Whether a record begins there: it can be read, and so can what follows it, unless that is less than a record.
 fn begins(bytes: &[u8]) -> bool
     ensures { result ≡ begins bytes.now }
 {
-    is_record(bytes) && (bytes.len() < 1024 || is_record(&bytes[512..]))
+    is_record(bytes) && is_followed(bytes)
 }
 
 /// The first place before a limit at which a record begins; the limit if there is none.
@@ -37,7 +49,8 @@ pub fn first_beginning(bytes: &[u8], limit: usize) -> usize
     ensures passed { (place : ℕ) → place < result → begins (drop place bytes.now) ≡ false }
 {
     for place in 0..limit {
-        if begins(&bytes[place..]) {
+        let (_, rest) = bytes.split_at(place);
+        if begins(rest) {
             return place;
         }
     }
@@ -46,11 +59,11 @@ pub fn first_beginning(bytes: &[u8], limit: usize) -> usize
 
 /// How many bytes the whole records have with which bytes begin and which can be read.
 fn records_ahead(bytes: &[u8]) -> usize {
-    let mut end = 0;
-    'records: while end < bytes.len() && is_record(&bytes[end..]) {
-        end += RECORD;
+    let mut left = bytes;
+    'records: while is_record(left) {
+        left = &left[RECORD..];
     }
-    end
+    bytes.len().saturating_sub(left.len())
 }
 
 /// Bytes of a file that follow each other and are in no record.
@@ -68,46 +81,34 @@ pub struct Stretch {
 pub struct Aligned<T> {
     inner: T,
     skips: bool,
-    /// What was read, from `at` up to `end`, and is neither given nor passed over.
+    /// What was read, and is neither given nor passed over.
     held: Vec<u8>,
-    at: usize,
-    end: usize,
     /// How many of these bytes are of records that can be read.
     due: usize,
     /// Whether bytes in no record were passed over last, and not yet a record found.
     is_lost: bool,
-    /// How many bytes of the file are before `at`.
+    /// How many bytes of the file are before those that are held.
     offset: u64,
     stretch: Stretch,
     /// The stretch that ended last, until it is told.
     ended: Option<Stretch>,
 }
 
-impl<T: Drop> Aligned<T> {
-    /// What is read of a file from an offset on. If it skips, only records are read. It fails only for want of memory.
-    pub fn new(
-        alloc: Global,
-        inner: T,
-        skips: bool,
-        offset: u64,
-    ) -> Result<Aligned<T>, AllocError> {
-        let room = if skips { ROOM } else { 0 };
-        Ok(Aligned {
+impl<T> Aligned<T> {
+    /// What is read of a file from an offset on. If it skips, only records are read.
+    pub fn new(alloc: Global, inner: T, skips: bool, offset: u64) -> Aligned<T> {
+        Aligned {
             inner,
             skips,
-            held: vec![in alloc; 0; room]?,
-            at: 0,
-            end: 0,
+            held: Vec::new(alloc),
             due: 0,
             is_lost: false,
             offset,
             stretch: Stretch { offset, bytes: 0 },
             ended: None,
-        })
+        }
     }
-}
 
-impl<T> Aligned<T> {
     /// What it was read of.
     pub fn into_inner(self) -> T {
         self.inner
@@ -127,26 +128,32 @@ impl<T> Aligned<T> {
         self.stretch.bytes = 0;
     }
 
+    /// The first of the bytes that are held are given, or passed over.
+    fn let_go(&mut self, count: usize) {
+        let count = count.min(self.held.len());
+        drop(self.held.drain(..count));
+        self.offset = self.offset.saturating_add(count as u64);
+    }
+
     /// So many bytes are in no record.
     fn pass_over(&mut self, count: usize) {
         if self.stretch.bytes == 0 {
             self.stretch.offset = self.offset;
         }
         self.stretch.bytes = self.stretch.bytes.saturating_add(count as u64);
-        self.at += count;
-        self.offset = self.offset.saturating_add(count as u64);
+        self.let_go(count);
     }
 
     /// Passes over what is in no record, up to the next record or as far as can be told, before the file is over or
     /// after.
     fn search(&mut self, is_over: bool) {
-        let ahead = &self.held[self.at..self.end];
+        let len = self.held.len();
         let limit = if is_over {
-            ahead.len()
+            len
         } else {
-            ahead.len().saturating_sub(2 * RECORD - 1)
+            len.saturating_sub(2 * RECORD - 1)
         };
-        let passed = first_beginning(ahead, limit);
+        let passed = first_beginning(self.held.as_slice(), limit);
         self.is_lost = true;
         self.pass_over(passed);
         if passed < limit || is_over {
@@ -156,25 +163,25 @@ impl<T> Aligned<T> {
 
     /// Looks for records in what is held, before the file is over or after.
     fn find(&mut self, is_over: bool) {
-        let is_whole = self.end - self.at >= RECORD || is_over;
         if !self.is_lost {
-            self.due = records_ahead(&self.held[self.at..self.end]);
+            self.due = records_ahead(self.held.as_slice());
         }
-        if self.due == 0 && is_whole {
+        if self.due == 0 && (is_over || self.held.len() >= RECORD) {
             self.search(is_over);
             if !self.is_lost {
-                self.due = records_ahead(&self.held[self.at..self.end]);
+                self.due = records_ahead(self.held.as_slice());
             }
         }
     }
 
     /// Gives bytes of records that are held.
-    fn give(&mut self, block: &mut [u8]) -> usize {
-        let count = self.due.min(block.len());
-        block[..count].copy_from_slice(&self.held[self.at..self.at + count]);
-        self.at += count;
-        self.due -= count;
-        self.offset = self.offset.saturating_add(count as u64);
+    fn give(&mut self, block: &mut [u8]) -> usize
+        ensures { result ≤ length block.new }
+    {
+        let count = self.due.min(block.len()).min(self.held.len());
+        block[..count].copy_from_slice(&self.held[..count]);
+        self.let_go(count);
+        self.due = self.due.saturating_sub(count);
         count
     }
 }
@@ -182,16 +189,18 @@ impl<T> Aligned<T> {
 impl<T: Read> Aligned<T> {
     /// Reads more behind what is held. Answers how many bytes, 0 at the end of the file.
     fn fill(&mut self) -> io::Result<usize> {
-        self.held.as_mut_slice().copy_within(self.at..self.end, 0);
-        self.end -= self.at;
-        self.at = 0;
-        let count = self.inner.read(&mut self.held[self.end..])?;
-        self.end += count;
-        Ok(count)
+        let mut piece = [0; PIECE];
+        let count = self.inner.read(&mut piece)?;
+        match self.held.extend_from_slice(&piece[..count]) {
+            Ok(()) => Ok(count),
+            Err(_) => Err(io::Error::from(ErrorKind::OutOfMemory)),
+        }
     }
 
     /// Reads records alone.
-    fn read_records(&mut self, block: &mut [u8]) -> io::Result<usize> {
+    fn read_records(&mut self, block: &mut [u8]) -> io::Result<usize>
+        ensures { ReadsAtMost result block.new }
+    {
         let mut is_over = false;
         'pieces: for _ in 0..u64::MAX {
             if self.due == 0 {

@@ -104,10 +104,7 @@ fn send_input<
     let mut watched = Watched::new(rt, ReasonKeeper::new(file), size, is_terminal());
     let passed = begin_at(&mut watched, first.number);
     let offset = bytes_before(first.number);
-    let Ok(aligned) = Aligned::new(rt.alloc(), watched, rules.skips, offset) else {
-        progress.reach(first, None, feed.records());
-        return Err(Incident::from(Failure::OutOfMemory));
-    };
+    let aligned = Aligned::new(rt.alloc(), watched, rules.skips, offset);
     progress.tally.begin_file(first.number);
     let judged = Judged::new(
         rt,

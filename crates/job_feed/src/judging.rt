@@ -1,5 +1,5 @@
 //! The records of a file on their way to a server: they are judged, and what is wrong with the file is told at once.
-ghost use Rattle.std.specs.Prelude.{◌≡◌};
+ghost use Rattle.std.specs.Prelude.{◌≡◌, ◌≤◌};
 ghost use Rattle.job_feed.specs.Judging.{row_part};
 
 use crate::aligned::{Aligned, Stretch};
@@ -17,7 +17,8 @@ const LINES: u64 = 16;
 /// How many of so many bytes lie before the end of sixteen records, the first of which begins at that place of the
 /// file, where so many bytes of the file came before them.
 fn row_part(first: u64, before: u64, count: usize) -> usize
-    ensures { result ≡ row_part first before count }
+    ensures value { result ≡ row_part first before count }
+    ensures most { result ≤ count }
 {
     let left = first.saturating_add(ROW).saturating_sub(before);
     if left < count as u64 {
@@ -124,7 +125,9 @@ impl<'t, R: Eprint, T, S: Stations> Judged<'t, R, T, S> {
     }
 
     /// How many of so many bytes that were judged are passed on.
-    fn pass_on(&mut self, count: usize) -> usize {
+    fn pass_on(&mut self, count: usize) -> usize
+        ensures { result ≤ count }
+    {
         let Some(lost) = self.tally.lost() else {
             return count;
         };
