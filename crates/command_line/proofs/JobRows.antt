@@ -5,7 +5,8 @@ use Rattle.clap.specs.declared.error.ErrorKind.TheVariants.{DisplayVersion, Miss
 use Rattle.clap.specs.declared.error.ErrorKind.TheVariants.{ValueValidation}
 use Rattle.clap.proofs.OnLiterals.{clap_on_literals}
 use Rattle.command_line.specs.declared.job.Every.TheVariants.{Seconds, Turns}
-use Rattle.command_line.specs.Jobs.{every_of, job_of, program_app, verbose_of}
+use Rattle.command_line.specs.Commands.{program_app}
+use Rattle.command_line.specs.Jobs.{every_of, job_of, verbose_of}
 use Rattle.command_line.specs.Jobs.{CheckAsked, FeedAsked, ReadAsked, ServeAsked, ViewAsked}
 use Rattle.command_line.specs.Jobs.Asked.{Check, Replay, View, Serve, Feed, Read}
 

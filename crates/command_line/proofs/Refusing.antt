@@ -4,7 +4,8 @@ use Rattle.clap.specs.Words.{IsAmong, Kinds, Text, is_simple, is_simple_and_free
 use Rattle.clap.specs.declared.error.ErrorKind.{ErrorKind}
 use Rattle.clap.specs.declared.error.ErrorKind.TheVariants as kind
 use Rattle.clap.proofs.OnLiterals.{clap_on_literals}
-use Rattle.command_line.specs.Jobs.{HelpIs, IsJob, IsTold, is_shown, job_of, program_app}
+use Rattle.command_line.specs.Commands.{program_app}
+use Rattle.command_line.specs.Jobs.{HelpIs, IsJob, IsTold, is_shown, job_of}
 use Rattle.command_line.specs.declared.job.WordsFault.{WordsFault}
 use Rattle.command_line.specs.declared.job.WordsFault.TheVariants.{OutOfMemory, Refused}
 

@@ -1,8 +1,10 @@
 //! The command line of `seedlinkd`: which job its words ask for, or why they ask for none.
 #![tactic(auto)]
 
+mod argument;
 mod commands;
 mod job;
+mod tables;
 mod words;
 
 pub use job::{

@@ -1,12 +1,13 @@
 //! The words of the command line.
 ghost use Rattle.std.specs.Prelude.{◌≡◌, ◌||◌, [], Some, codes, false, IfOk, IfErr, map, option_map, string_bytes};
 ghost use Rattle.clap.specs.Words.{all_of, fault_of, first_of, found_of, kind_of, rows_of, subcommand_rows_of};
+ghost use Rattle.command_line.specs.Commands.{program_app};
 ghost use Rattle.command_line.specs.Jobs.{check_options_asked, check_options_in, flag_in};
 ghost use Rattle.command_line.specs.Jobs.{HelpIs, IsJob, IsTold, asked, asked_by, check_asked, feed_asked, is_shown};
 ghost use Rattle.command_line.specs.Jobs.{every_in, every_of, feed_options_asked, feed_options_in, goes_on};
 ghost use Rattle.command_line.specs.Jobs.{is_askable, is_spelled, job_of, number_in};
 ghost use Rattle.command_line.specs.Jobs.{number_of};
-ghost use Rattle.command_line.specs.Jobs.{options_asked, options_in, program_app, read_asked, replay_asked};
+ghost use Rattle.command_line.specs.Jobs.{options_asked, options_in, read_asked, replay_asked};
 ghost use Rattle.command_line.specs.Jobs.{seconds_if, serve_asked};
 ghost use Rattle.command_line.specs.Jobs.{verbose_by, verbose_in, verbose_of, view_asked, wants_by};
 ghost use Rattle.command_line.specs.declared.job.WordsFault.TheVariants.{OutOfMemory};

@@ -1,5 +1,5 @@
-use Rattle.command_line.specs.Jobs.{bare_app, check_app, feed_app, named_app, read_app, replay_app, serve_app}
-use Rattle.command_line.specs.Jobs.{view_app}
+use Rattle.command_line.specs.Commands.{bare_app, check_app, feed_app, named_app, read_app, replay_app, serve_app}
+use Rattle.command_line.specs.Commands.{view_app}
 use Rattle.command_line.proofs.commands.built.Goals as goal
 
 pub returns : goal.returns

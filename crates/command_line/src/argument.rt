@@ -1,0 +1,129 @@
+//! What an argument of a command is, as `clap` has it.
+ghost use Rattle.std.specs.Prelude.{◌≡◌, codes, false};
+ghost use Rattle.clap.specs.Words.{new_rule, rule_of};
+ghost use Rattle.command_line.specs.Commands.{flag_rule, number_rule, option, rule_by, several, verbose_rule, wanted};
+
+use clap::builder::ValueParser;
+use clap::{Arg, ArgAction};
+use std::alloc::Global;
+
+/// A row of a command's table: what an argument is, by its name and what its value is called, and its help.
+#[derive(Clone, Copy)]
+pub enum Argument<'a> {
+    /// `NAME`.
+    Wanted(&'a str, &'a str),
+    /// `[NAME]`.
+    Spare(&'a str, &'a str),
+    /// `NAME..`, one or more.
+    Several(&'a str, &'a str),
+    /// `[NAME..]`, one or more if it is there.
+    Any(&'a str, &'a str),
+    /// `[--name]`.
+    Flag(&'a str, &'a str),
+    /// `--name VALUE`.
+    Needed(&'a str, &'a str, &'a str),
+    /// `[--name VALUE]`.
+    Value(&'a str, &'a str, &'a str),
+    /// `[--name N]`, a number from 1 to 1,000,000,000.
+    Number(&'a str, &'a str),
+}
+
+/// A text that has to be there.
+fn wanted<'a>(alloc: Global, name: &'a str, help: &'a str) -> Arg<'a>
+    ensures rule { rule_of result ≡ wanted name.entry.now }
+    ensures own { result.global ≡ false }
+{
+    Arg::new(alloc, name).required(true).help(help)
+}
+
+/// A text that may be left out.
+fn spare<'a>(alloc: Global, name: &'a str, help: &'a str) -> Arg<'a>
+    ensures rule { rule_of result ≡ new_rule name.entry.now }
+    ensures own { result.global ≡ false }
+{
+    Arg::new(alloc, name).help(help)
+}
+
+/// One or more texts that have to be there.
+fn several_wanted<'a>(alloc: Global, name: &'a str, help: &'a str) -> Arg<'a>
+    ensures rule { rule_of result ≡ several (wanted name.entry.now) }
+    ensures own { result.global ≡ false }
+{
+    wanted(alloc, name, help).num_args(1..)
+}
+
+/// One or more texts that may be left out.
+fn several_spare<'a>(alloc: Global, name: &'a str, help: &'a str) -> Arg<'a>
+    ensures rule { rule_of result ≡ several (new_rule name.entry.now) }
+    ensures own { result.global ≡ false }
+{
+    spare(alloc, name, help).num_args(1..)
+}
+
+/// A flag `--name`.
+fn flag<'a>(alloc: Global, name: &'a str, help: &'a str) -> Arg<'a>
+    ensures rule { rule_of result ≡ flag_rule name.entry.now }
+    ensures own { result.global ≡ false }
+{
+    Arg::new(alloc, name)
+        .long(name)
+        .action(ArgAction::SetTrue)
+        .help(help)
+}
+
+/// An option `--name VALUE`.
+fn option<'a>(
+    alloc: Global,
+    name: &'a str,
+    value: &'a str,
+    required: bool,
+    help: &'a str,
+) -> Arg<'a>
+    ensures rule { rule_of result ≡ option required name.entry.now }
+    ensures own { result.global ≡ false }
+{
+    Arg::new(alloc, name)
+        .long(name)
+        .value_name(value)
+        .required(required)
+        .help(help)
+}
+
+/// An option `--name N` with a number.
+fn number<'a>(alloc: Global, name: &'a str, help: &'a str) -> Arg<'a>
+    ensures rule { rule_of result ≡ number_rule name.entry.now }
+    ensures own { result.global ≡ false }
+{
+    option(alloc, name, "N", false, help).value_parser(ValueParser::Unsigned(1, 1_000_000_000))
+}
+
+/// The flag `-v` or `--verbose`, which each command has.
+pub fn verbose<'a>(alloc: Global) -> Arg<'a>
+    ensures rule { rule_of result ≡ verbose_rule }
+    ensures own { result.global ≡ false }
+{
+    Arg::new(alloc, "verbose")
+        .long("verbose")
+        .short('v')
+        .action(ArgAction::SetTrue)
+        .help("Says on standard error what is wrong and where")
+}
+
+impl<'a> Argument<'a> {
+    /// The argument of a row.
+    pub fn build(self, alloc: Global) -> Arg<'a>
+        ensures rule { rule_of result ≡ rule_by self.entry }
+        ensures own { result.global ≡ false }
+    {
+        match self {
+            Argument::Wanted(name, help) => wanted(alloc, name, help),
+            Argument::Spare(name, help) => spare(alloc, name, help),
+            Argument::Several(name, help) => several_wanted(alloc, name, help),
+            Argument::Any(name, help) => several_spare(alloc, name, help),
+            Argument::Flag(name, help) => flag(alloc, name, help),
+            Argument::Needed(name, value, help) => option(alloc, name, value, true, help),
+            Argument::Value(name, value, help) => option(alloc, name, value, false, help),
+            Argument::Number(name, help) => number(alloc, name, help),
+        }
+    }
+}
