@@ -4,6 +4,7 @@
     tools/try_profile.py
 
 - Each fault of its tables is a reason of the program by that number and name, and each reason stands in a table.
+- What tools/write_manual.py writes stands there, and the manual leaves out no option and no fault.
 - Each example of the table of configurations is refused with the fault of its row.
 - The dialogue that README shows is what `replay --text` prints, and without `--text` the digits of as many takes come.
 - Each example of the section "Faults that are explained" is run, with files and servers as the text beside it has them, and prints
@@ -257,6 +258,8 @@ def main():
     with open(f"{TOP}/docs/PROFILE.md", encoding="utf-8") as file:
         page = file.read()
     try_tables(page)
+    written = subprocess.run([f"{TOP}/tools/write_manual.py", "--check"], check=False)
+    check(written.returncode == 0, "the manual, the completion or the usages are not as the tables of the options")
     count = try_examples(page)
     try_dialogue()
     if failures:

@@ -12,19 +12,25 @@ _seedlinkd() {
         local options="--verbose --help"
         case $command in
             "") options+=" --version" ;;
+            # begin options
             serve) options+=" --listen --feed --turns --reread --report --feed-from --per-address --numbers --log --strict" ;;
-            view) options+=" --strict" ;;
-            check) options+=" --iso --summary --gaps --quiet --config" ;;
+            feed) options+=" --from --config --strict --skip" ;;
+            read) options+=" --fetch --begin --end --retry --timeout --wants --archive --state --iso --output" ;;
+            view) options+=" --station --strict" ;;
+            check) options+=" --iso --summary --quiet --gaps --config" ;;
             replay) options+=" --text" ;;
-            feed) options+=" --from" ;;
-            read) options+=" --wants --fetch --begin --end --retry --timeout --archive --state --iso --output" ;;
+            # end options
         esac
         mapfile -t COMPREPLY < <(compgen -W "$options" -- "$current")
     elif [ -z "$command" ]; then
+        # begin commands
         mapfile -t COMPREPLY < <(compgen -W "serve feed read view check replay" -- "$current")
+        # end commands
     else
         case $command,$previous,$count in
-            *,--output,* | *,--archive,* | *,--wants,* | *,--numbers,* | *,--state,* | *,--config,* | serve,serve,0 | view,view,0 | check,* | replay,* | feed,*,[1-9]*)
+            # begin files
+            *,--archive,* | *,--config,* | *,--numbers,* | *,--output,* | *,--state,* | *,--wants,* | serve,serve,0 | feed,*,[1-9]* | view,view,0 | view,*,1 | check,*,[0-9]* | replay,replay,0 | replay,*,1)
+            # end files
                 mapfile -t COMPREPLY < <(compgen -f -- "$current") ;;
         esac
     fi
