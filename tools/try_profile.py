@@ -5,6 +5,7 @@
 
 - Each fault of its tables is a reason of the program by that number and name, and each reason stands in a table.
 - What tools/write_manual.py writes stands there, and the manual leaves out no option and no fault.
+- The table of keys has the rows of the program's own, in the same order.
 - Each example of the table of configurations is refused with the fault of its row.
 - The dialogue that README shows is what `replay --text` prints, and without `--text` the digits of as many takes come.
 - Each example of the section "Faults that are explained" is run, with files and servers as the text beside it has them, and prints
@@ -53,6 +54,25 @@ def faults_of_tables(page):
     return {(int(number), word) for cell in cells for number, word in re.findall(r"\b(\d+) ([A-Z][a-z]\w*)", cell)}
 
 
+KINDS = {"Text": "text", "WholeNumber": "whole number", "Tables": "array of tables"}
+
+
+def keys_of_sources():
+    """The rows of the table of keys: name, kind, what is allowed, and what holds without it."""
+    with open(f"{TOP}/crates/config_explained/src/key.rt", encoding="utf-8") as file:
+        text = file.read()
+    lists = re.search(r'LIST_LIMITS: &str =\s*("[^"]*")', text).group(1)
+    row = r'(?:required|optional)\(\s*"(\w+)",\s*Kind::(\w+),\s*("[^"]*"|LIST_LIMITS),?\s*(?:"([^"]*)",?\s*)?\)'
+    for name, kind, limits, missing in re.findall(row, text):
+        yield name, KINDS[kind], limits.replace("LIST_LIMITS", lists).strip('"'), missing or "refused"
+
+
+def keys_of_page(page):
+    """The same of its table."""
+    table = page.split("| Key | Kind | What is allowed | If it is missing |")[1].split("\n\n")[0]
+    return re.findall(r"^\| `(\w+)`[^|]* \| ([^|]*) \| ([^|]*) \| ([^|]*) \|$", table, re.M)
+
+
 def examples_of_configurations(page):
     """The rows of the table of configurations: the fault that is reported, and the examples of its last column."""
     table = page.split("**An invalid configuration**")[1].split("\n## ")[0]
@@ -82,6 +102,8 @@ def try_tables(page):
     told, said = faults_of_sources(), faults_of_tables(page)
     check(told <= said, f"no table has {sorted(told - said)}")
     check(said <= told, f"nothing reports {sorted(said - told)}")
+    keys, rows = list(keys_of_sources()), keys_of_page(page)
+    check(len(keys) == 10 and keys == rows, f"the table of keys has {rows}, not {keys}")
     with tempfile.TemporaryDirectory() as room:
         for fault, example, is_entry in examples_of_configurations(page):
             with open(f"{room}/config.toml", "w", encoding="utf-8") as file:

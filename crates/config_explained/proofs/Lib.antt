@@ -7,3 +7,4 @@ mod SeenLemmas
 mod HolderLemmas
 mod EntryLemmas
 mod OpenedLemmas
+mod KeyLemmas

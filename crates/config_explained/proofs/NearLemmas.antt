@@ -1,6 +1,6 @@
 -- How much two texts have in common at their beginning.
-use Rattle.std.proofs.Common.{◌≡◌, ◌≢◌, ◌∙◌, ℕ, zero, suc, ◌+◌, ◌<◌, ◌≤◌, ◌==◌, Bool, true, false, List, [], ◌∷◌, refl}
-use Rattle.std.proofs.Common.{◌-◌, arith, drop, length, get_or, if◌then◌else◌, eq-eqb, eqb-true, min}
+use Rattle.std.proofs.Common.{◌≡◌, ◌≢◌, ℕ, zero, suc, ◌+◌, ◌<◌, ◌≤◌, ◌==◌, true, List, [], ◌∷◌, refl}
+use Rattle.std.proofs.Common.{◌-◌, arith, drop, length, get_or, eq-eqb, eqb-true, min}
 use Rattle.std.specs.Str.{bytes_eq}
 use Rattle.protocol.proofs.FoundLemmas.{both}
 use Rattle.config_explained.specs.Nearest.{is_changed, is_near, shared}

@@ -1,4 +1,5 @@
 pub mod Places
+pub mod KeyTable
 pub mod Kinds
 pub mod Values
 pub mod SettingTexts

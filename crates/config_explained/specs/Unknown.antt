@@ -3,11 +3,11 @@
 use Rattle.std.specs.Prelude.{ℕ, zero, suc, ◌+◌, ◌-◌, ◌==◌, ◌||◌, nat_lt, Bool, if◌then◌else◌, List, [], ◌∷◌, ◌++◌}
 use Rattle.std.specs.Prelude.{map, flat_map, codes}
 use Rattle.std.specs.Prelude.{decimal, Option, Some, None, option_and_then}
-use Rattle.std.specs.List.{list_any}
-use Rattle.std.specs.Str.{bytes_eq}
 use Rattle.toml.specs.Data.{Members, no_members, member, as_table, at, get_member}
 use Rattle.protocol.specs.Catalog.{Station}
+use Rattle.config_explained.specs.KeyTable.{is_name_of, name_of, server_keys, station_keys}
 use Rattle.config_explained.specs.Nearest.{nearest}
+use Rattle.config_explained.specs.declared.key.Key.{Key}
 use Rattle.config_explained.specs.declared.owner.Owner.{Owner}
 use Rattle.config_explained.specs.declared.owner.Owner.TheVariants as owner
 
@@ -24,14 +24,13 @@ whose (owner.Station number station) = TheStation number station.now.station
 -- ---- which keys are known
 
 -- the keys that the whole server, or a station, has
-abbrev pub keys_of : Whose → List (List ℕ)
-keys_of TheServer = codes "title" ∷ codes "access" ∷ codes "max_connections" ∷ codes "station" ∷ []
-keys_of (TheStation number station) =
-    codes "network" ∷ codes "code" ∷ codes "description" ∷ codes "capacity" ∷ codes "first" ∷ codes "access" ∷ []
+abbrev pub keys_of : Whose → List Key
+keys_of TheServer = server_keys
+keys_of (TheStation number station) = station_keys
 
 -- a key is one of them
 abbrev pub is_known : Whose → List ℕ → Bool
-is_known o key = list_any (bytes_eq key) (keys_of o)
+is_known o key = is_name_of (keys_of o) key
 
 -- the keys of a table that are not, in its order
 abbrev pub unknown_in : Whose → Members → List (List ℕ)
@@ -56,7 +55,7 @@ question (Some near) = codes "; did you mean " ++ near ++ codes "?"
 
 -- the same for the nearest of those that there are
 abbrev pub hint : Whose → List ℕ → List ℕ
-hint o key = question (nearest key (keys_of o))
+hint o key = question (nearest key (map name_of (keys_of o)))
 
 -- the line of a key, with its end
 abbrev pub key_line : Whose → List ℕ → List ℕ

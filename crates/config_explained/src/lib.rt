@@ -12,6 +12,7 @@ mod setting_texts;
 mod values;
 // keys
 mod first_lines;
+mod key;
 mod key_lines;
 mod nearest;
 mod owner;
@@ -27,6 +28,7 @@ mod seen;
 pub use difference::{Difference, Setting, first_difference};
 pub use finding::{Finding, finding_of, text_at};
 pub use holders::holders_of;
+pub use key::{Key, Row, reads_the_table};
 pub use kind::Kind;
 pub use network::Network;
 pub use opened::open_to_everybody;

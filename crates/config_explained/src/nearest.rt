@@ -1,6 +1,9 @@
 //! The known key that is nearest to one that is not known.
 ghost use Rattle.std.specs.Prelude.{◌≡◌, ◌≤◌, drop, find, length, map, option_map};
+ghost use Rattle.config_explained.specs.KeyTable.{name_of};
 ghost use Rattle.config_explained.specs.Nearest.{are_exchanged, is_near, nearest, shared};
+
+use crate::key::Key;
 
 /// How many bytes two texts have in common at their beginning.
 #[tactic(auto, using(crate::proofs::NearLemmas::shared_lemmas))]
@@ -62,24 +65,24 @@ fn is_near(changes: usize, key: &[u8], known: &[u8]) -> bool
     are_exchanged(key, known) && is_near(fewer, past(key, 2), past(known, 2))
 }
 
-/// The first of some keys that is so near to a key.
-fn first_near<'a>(changes: usize, key: &str, known: &[&'a str]) -> Option<&'a str>
-    ensures { option_map (λ k. k.now) result ≡ find (is_near changes key.now) (map (λ k. k.now) known.now) }
+/// The first of some keys whose name is so near to a text.
+fn first_near(changes: usize, text: &str, keys: &[Key]) -> Option<Key>
+    ensures { option_map name_of result ≡ find (is_near changes text.now) (map name_of keys.now) }
 {
-    for name in known {
-        if is_near(changes, key.as_bytes(), name.as_bytes()) {
-            return Some(name);
+    for key in keys {
+        if is_near(changes, text.as_bytes(), key.name().as_bytes()) {
+            return Some(*key);
         }
     }
     None
 }
 
-/// The key of some that is nearest to a key, by at most two changes; of several that are as near, the first one.
-pub fn nearest<'a>(key: &str, known: &[&'a str]) -> Option<&'a str>
-    ensures { option_map (λ k. k.now) result ≡ nearest key.now (map (λ k. k.now) known.now) }
+/// The key of some whose name is nearest to a text, by at most two changes; of several that are as near, the first one.
+pub fn nearest(text: &str, keys: &[Key]) -> Option<Key>
+    ensures { option_map name_of result ≡ nearest text.now (map name_of keys.now) }
 {
-    match first_near(1, key, known) {
-        Some(name) => Some(name),
-        None => first_near(2, key, known),
+    match first_near(1, text, keys) {
+        Some(key) => Some(key),
+        None => first_near(2, text, keys),
     }
 }

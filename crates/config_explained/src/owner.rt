@@ -1,28 +1,15 @@
 //! Whose keys a table of a configuration has.
-ghost use Rattle.std.specs.Prelude.{◌≡◌, ◌++◌, OnOk, map};
-ghost use Rattle.std.specs.List.{list_any};
-ghost use Rattle.std.specs.Str.{bytes_eq};
+ghost use Rattle.std.specs.Prelude.{◌≡◌, ◌++◌, OnOk};
+ghost use Rattle.config_explained.specs.KeyTable.{is_name_of};
 ghost use Rattle.config_explained.specs.Unknown.{hint, is_known, keys_of, owner_words, whose};
 ghost use Rattle.config_explained.specs.Unknown.Whose.{TheStation};
 
+use crate::key::{Key, SERVER_KEYS, STATION_KEYS};
 use crate::lines::put;
 use crate::nearest::nearest;
 use catalog::Station;
 use itoa::Buffer;
 use std::alloc::AllocError;
-
-/// The keys of the whole server.
-static SERVER_KEYS: [&str; 4] = ["title", "access", "max_connections", "station"];
-
-/// The keys of a station.
-static STATION_KEYS: [&str; 6] = [
-    "network",
-    "code",
-    "description",
-    "capacity",
-    "first",
-    "access",
-];
 
 /// Whose keys they are.
 #[derive(Clone, Copy)]
@@ -35,8 +22,8 @@ pub enum Owner<'a> {
 
 impl Owner<'_> {
     /// The keys that it has.
-    fn keys(self) -> &'static [&'static str]
-        ensures { map (λ k. k.now) result.now ≡ keys_of (whose self.entry) }
+    fn keys(self) -> &'static [Key]
+        ensures { result.now ≡ keys_of (whose self.entry) }
     {
         match self {
             Owner::Server => &SERVER_KEYS,
@@ -59,7 +46,7 @@ impl Owner<'_> {
             return Ok(());
         };
         put(text, b"; did you mean ")?;
-        put(text, near.as_bytes())?;
+        put(text, near.name().as_bytes())?;
         put(text, b"?")?;
         Ok(())
     }
@@ -75,12 +62,12 @@ impl Owner<'_> {
     }
 }
 
-/// Whether a key is one of some.
-fn is_among(key: &str, known: &[&str]) -> bool
-    ensures { result ≡ list_any (bytes_eq key.now) (map (λ k. k.now) known.now) }
+/// Whether a text is the name of one of some keys.
+fn is_among(name: &str, keys: &[Key]) -> bool
+    ensures { result ≡ is_name_of keys.now name.now }
 {
-    for name in known {
-        if key == *name {
+    for key in keys {
+        if name == key.name() {
             return true;
         }
     }

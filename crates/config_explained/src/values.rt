@@ -2,8 +2,9 @@
 ghost use Rattle.std.specs.Prelude.{◌≡◌, option_map};
 ghost use Rattle.toml.specs.Data.{get_member};
 ghost use Rattle.toml.specs.View.{table_view, view};
-ghost use Rattle.config_explained.specs.Values.{setting_at, station_at, value_at};
+ghost use Rattle.config_explained.specs.Values.{member_by, setting_at, station_at, value_at};
 
+use crate::key::{Key, key_at, station_key_at};
 use catalog::{StationStep, Step};
 use toml::{Table, Value};
 
@@ -18,7 +19,7 @@ pub(crate) fn value_of<'a>(table: &'a Table, key: &str) -> Option<&'a Value>
 fn station_at<'a>(table: &'a Table, place: usize) -> Option<&'a Value>
     ensures { option_map (λ v. view v.now) result ≡ station_at (table_view table.now) place }
 {
-    match value_of(table, "station") {
+    match value_of(table, Key::Station.name()) {
         Some(stations) => stations.get(place),
         None => None,
     }
@@ -30,13 +31,20 @@ fn setting_at<'a>(station: &'a Value, step: StationStep) -> Option<&'a Value>
 {
     match step {
         StationStep::Table => Some(station),
-        StationStep::Network => station.get("network"),
-        StationStep::Code => station.get("code"),
-        StationStep::Description => station.get("description"),
-        StationStep::Capacity => station.get("capacity"),
-        StationStep::First => station.get("first"),
-        StationStep::Access => station.get("access"),
-        StationStep::Codes => None,
+        _ => match station_key_at(step) {
+            Some(key) => station.get(key.name()),
+            None => None,
+        },
+    }
+}
+
+/// The value at a key of the whole server, if a step takes one.
+fn member_by<'a>(table: &'a Table, key: Option<Key>) -> Option<&'a Value>
+    ensures { option_map (λ v. view v.now) result ≡ member_by (table_view table.now) key }
+{
+    match key {
+        Some(key) => value_of(table, key.name()),
+        None => None,
     }
 }
 
@@ -45,14 +53,10 @@ pub(crate) fn value_at<'a>(table: &'a Table, step: Step) -> Option<&'a Value>
     ensures { option_map (λ v. view v.now) result ≡ value_at (table_view table.now) step }
 {
     match step {
-        Step::Text => None,
-        Step::Title => value_of(table, "title"),
-        Step::Access => value_of(table, "access"),
-        Step::MaxConnections => value_of(table, "max_connections"),
-        Step::Stations => value_of(table, "station"),
         Step::Station(place, step) => match station_at(table, place) {
             Some(station) => setting_at(station, step),
             None => None,
         },
+        _ => member_by(table, key_at(step)),
     }
 }

@@ -1,9 +1,6 @@
-use Rattle.std.proofs.Common.{◌≡◌, drop, map}
-use Rattle.std.specs.List.{list_any}
-use Rattle.std.specs.Str.{bytes_eq}
+use Rattle.std.proofs.Common.{◌≡◌, drop}
+use Rattle.config_explained.specs.KeyTable.{is_name_of}
 use Rattle.config_explained.proofs.owner.is_among.Given as goal
 
-abbrev pub invariant-loop-name : goal.invariant-loop-name
-invariant-loop-name l =
-    list_any (bytes_eq l.key) (map (λ k. k.now) l.known)
-    ≡ list_any (bytes_eq l.key) (map (λ k. k.now) (drop l.name-index l.known))
+abbrev pub invariant-loop-key : goal.invariant-loop-key
+invariant-loop-key l = is_name_of l.keys l.name ≡ is_name_of (drop l.key-index l.keys) l.name

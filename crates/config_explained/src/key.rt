@@ -1,0 +1,174 @@
+//! The keys of a configuration: the one table of their names, kinds and limits, and of what holds without them.
+ghost use Rattle.std.specs.Prelude.{◌≡◌, None, Some, option_map};
+ghost use Rattle.config_explained.specs.KeyTable.{ReadsTheTable, key_at, name_of, row_of, station_key_at};
+
+use crate::kind::Kind;
+use catalog::{StationStep, Step};
+
+/// A key of the whole server, or of a station.
+#[derive(Clone, Copy, Drop)]
+pub enum Key {
+    Title,
+    ServerAccess,
+    MaxConnections,
+    Station,
+    Network,
+    Code,
+    Description,
+    Capacity,
+    First,
+    Access,
+}
+
+/// The keys of the whole server.
+pub(crate) static SERVER_KEYS: [Key; 4] = [
+    Key::Title,
+    Key::ServerAccess,
+    Key::MaxConnections,
+    Key::Station,
+];
+
+/// The keys of a station.
+pub(crate) static STATION_KEYS: [Key; 6] = [
+    Key::Network,
+    Key::Code,
+    Key::Description,
+    Key::Capacity,
+    Key::First,
+    Key::Access,
+];
+
+/// What an access list may be.
+const LIST_LIMITS: &str =
+    "addresses and masks, separated by spaces and commas, as 10.0.0.7, 10.0.0.0/8";
+
+/// A row of the table.
+#[derive(Clone, Copy, Drop)]
+pub struct Row {
+    pub name: &'static str,
+    pub kind: Kind,
+    /// What is allowed.
+    pub limits: &'static str,
+    /// What holds without the key. None if it has to be there.
+    pub missing: Option<&'static str>,
+}
+
+/// The row of a key that has to be there.
+fn required(name: &'static str, kind: Kind, limits: &'static str) -> Row
+    ensures name { result.name.now ≡ name.now }
+    ensures kind { result.kind ≡ kind }
+    ensures limits { result.limits.now ≡ limits.now }
+    ensures missing { result.missing ≡ None }
+{
+    Row {
+        name,
+        kind,
+        limits,
+        missing: None,
+    }
+}
+
+/// The row of a key that may be missing, with what holds then.
+fn optional(name: &'static str, kind: Kind, limits: &'static str, missing: &'static str) -> Row
+    ensures name { result.name.now ≡ name.now }
+    ensures kind { result.kind ≡ kind }
+    ensures limits { result.limits.now ≡ limits.now }
+    ensures missing { option_map (λ t. t.now) result.missing ≡ Some missing.now }
+{
+    Row {
+        name,
+        kind,
+        limits,
+        missing: Some(missing),
+    }
+}
+
+impl Key {
+    /// Its row of the table.
+    pub fn row(self) -> Row
+        ensures name { result.name.now ≡ name_of self }
+        ensures kind { result.kind ≡ (row_of self).kind }
+        ensures limits { result.limits.now ≡ (row_of self).limits }
+        ensures missing { option_map (λ t. t.now) result.missing ≡ (row_of self).missing }
+    {
+        match self {
+            Key::Title => required("title", Kind::Text, "1 to 100 bytes of printable ASCII"),
+            Key::ServerAccess => optional(
+                "access",
+                Kind::Text,
+                LIST_LIMITS,
+                "everybody may use a station without a list of its own",
+            ),
+            Key::MaxConnections => optional(
+                "max_connections",
+                Kind::WholeNumber,
+                "a whole number from 1 to 10000",
+                "100",
+            ),
+            Key::Station => required("station", Kind::Tables, "1 to 1024 tables"),
+            Key::Network => required("network", Kind::Text, "1 to 2 of A to Z and 0 to 9"),
+            Key::Code => required("code", Kind::Text, "1 to 5 of A to Z and 0 to 9"),
+            Key::Description => {
+                required(
+                    "description",
+                    Kind::Text,
+                    "at most 60 bytes of printable ASCII",
+                )
+            }
+            Key::Capacity => required(
+                "capacity",
+                Kind::WholeNumber,
+                "a whole number from 1 to 65536",
+            ),
+            Key::First => optional("first", Kind::Text, "1 to 6 hexadecimal digits", "0"),
+            Key::Access => optional(
+                "access",
+                Kind::Text,
+                LIST_LIMITS,
+                "the list of the whole server holds",
+            ),
+        }
+    }
+
+    /// Its name.
+    pub fn name(self) -> &'static str
+        ensures { result.now ≡ name_of self }
+    {
+        self.row().name
+    }
+}
+
+/// The key whose value a step takes, where it takes one.
+pub(crate) fn key_at(step: Step) -> Option<Key>
+    ensures { result ≡ key_at step }
+{
+    match step {
+        Step::Text => None,
+        Step::Title => Some(Key::Title),
+        Step::Access => Some(Key::ServerAccess),
+        Step::MaxConnections => Some(Key::MaxConnections),
+        Step::Stations => Some(Key::Station),
+        Step::Station(_, step) => station_key_at(step),
+    }
+}
+
+/// The key whose value a step of a station takes, where it takes one.
+pub(crate) fn station_key_at(step: StationStep) -> Option<Key>
+    ensures { result ≡ station_key_at step }
+{
+    match step {
+        StationStep::Table | StationStep::Codes => None,
+        StationStep::Network => Some(Key::Network),
+        StationStep::Code => Some(Key::Code),
+        StationStep::Description => Some(Key::Description),
+        StationStep::Capacity => Some(Key::Capacity),
+        StationStep::First => Some(Key::First),
+        StationStep::Access => Some(Key::Access),
+    }
+}
+
+/// The table has each key that the reading takes, and no other: tables that have the same values at its keys are read
+/// the same, and a step takes each key.
+pub fn reads_the_table()
+    ensures { ReadsTheTable }
+{}
