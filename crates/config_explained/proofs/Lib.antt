@@ -8,3 +8,4 @@ mod HolderLemmas
 mod EntryLemmas
 mod OpenedLemmas
 mod KeyLemmas
+mod RemarkLemmas

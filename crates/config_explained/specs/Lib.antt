@@ -10,3 +10,4 @@ pub mod Unknown
 pub mod Seen
 pub mod Holders
 pub mod Opened
+pub mod Remarks

@@ -23,6 +23,7 @@ mod holders;
 mod lines;
 mod network;
 mod opened;
+mod remark;
 mod seen;
 
 pub use difference::{Difference, Setting, first_difference};
@@ -33,6 +34,7 @@ pub use kind::Kind;
 pub use network::Network;
 pub use opened::open_to_everybody;
 pub use place::{Place, line_from, place_of};
+pub use remark::{Remark, remarks};
 pub use seen::seen_by;
 pub use setting_texts::{key_of, limit_of, wanted_of};
 pub use unknown::unknown_keys;

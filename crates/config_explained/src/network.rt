@@ -88,7 +88,7 @@ fn leading_ones(text: &[u8]) -> Option<u32>
 }
 
 /// The mask of that many leading ones.
-fn ones(count: u32) -> u32
+pub(crate) fn ones(count: u32) -> u32
     requires { count ≤ 32 }
     ensures { result ≡ ones count }
 {

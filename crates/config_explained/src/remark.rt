@@ -1,0 +1,186 @@
+//! Entries of access lists that admit something else than their text looks like.
+ghost use Rattle.std.specs.Prelude.{◌≡◌, ◌≤◌, ◌++◌, ◌<◌, ◌^◌, IfOk, IfSome, OnOk, map, option_map};
+ghost use Rattle.std.specs.Str.{IsUtf8};
+ghost use Rattle.toml.specs.Parse.{parse_document};
+ghost use Rattle.toml.specs.View.{table_view};
+ghost use Rattle.protocol.specs.Catalog.{stations_of};
+ghost use Rattle.access_list.specs.Tokens.{is_separator};
+ghost use Rattle.config_explained.specs.Remarks.{entry_remark, has_leading_ones, list_remarks, remark_line, remark_of};
+ghost use Rattle.config_explained.specs.Remarks.{remark_words, remarks_from, remarks_if, remarks_text};
+ghost use Rattle.config_explained.specs.Remarks.{station_remarks};
+ghost use Rattle.config_explained.specs.Unknown.{whose};
+
+use crate::finding::text_at;
+use crate::lines::put;
+use crate::network::{Network, ones};
+use crate::owner::Owner;
+use access_list::list::is_separator;
+use catalog::keys::table_of;
+use catalog::{Config, ConfigFault, Station, StationStep, Step};
+use std::alloc::{AllocError, Global};
+use toml::Table;
+
+/// What an entry of an access list admits that its text doesn't show.
+#[derive(Clone, Copy, Drop)]
+pub enum Remark {
+    /// Its mask has no ones.
+    Everybody,
+    /// It is `0.0.0.0` alone, which is no client's address.
+    Nobody,
+    /// The ones of its mask are not on the left.
+    Scattered,
+    /// Its address has bits outside its mask, as `10.0.0.7/8`.
+    Outside,
+}
+
+/// Whether a mask has at most so many ones, all on the left.
+fn has_leading_ones(count: u32, mask: u32) -> bool
+    requires { count ≤ 32 }
+    ensures { result ≡ has_leading_ones count mask }
+{
+    if count == 0 {
+        return mask == ones(0);
+    }
+    mask == ones(count) || has_leading_ones(count - 1, mask)
+}
+
+impl Remark {
+    /// What is to be said of a network, if anything.
+    pub fn of(network: Network) -> Option<Remark>
+        ensures { result ≡ remark_of network }
+    {
+        if network.mask == 0 {
+            Some(Remark::Everybody)
+        } else if network.address == 0 && network.mask == ones(32) {
+            Some(Remark::Nobody)
+        } else if !has_leading_ones(32, network.mask) {
+            Some(Remark::Scattered)
+        } else if network.address & network.mask != network.address {
+            Some(Remark::Outside)
+        } else {
+            None
+        }
+    }
+
+    /// The words that say it.
+    fn words(self) -> &'static [u8]
+        ensures { result.now ≡ remark_words self }
+    {
+        match self {
+            Remark::Everybody => b"everybody is admitted",
+            Remark::Nobody => b"this address is nobody's",
+            Remark::Scattered => b"the ones of the mask are not on the left",
+            Remark::Outside => b"the bits of the address outside the mask don't count",
+        }
+    }
+}
+
+/// The line of an entry, if there is something to say.
+fn put_line(
+    text: &mut Vec<u8>,
+    entry: &[u8],
+    remark: Option<Remark>,
+    owner: Owner<'_>,
+) -> Result<(), AllocError>
+    ensures { OnOk result (text.new.items ≡ text.old.items ++ remark_line (whose owner.entry) entry.now remark) }
+{
+    let Some(remark) = remark else {
+        return Ok(());
+    };
+    put(text, b"seedlinkd: access ")?;
+    put(text, entry)?;
+    owner.put_words(text)?;
+    put(text, b": ")?;
+    put(text, remark.words())?;
+    put(text, b"\n")?;
+    Ok(())
+}
+
+/// The line of an entry, if it is one and there is something to say.
+fn put_entry(text: &mut Vec<u8>, entry: &[u8], owner: Owner<'_>) -> Result<(), AllocError>
+    ensures { OnOk result (text.new.items ≡ text.old.items ++ entry_remark (whose owner.entry) entry.now) }
+{
+    let remark = match Network::parse(entry) {
+        Some(network) => Remark::of(network),
+        None => None,
+    };
+    put_line(text, entry, remark, owner)
+}
+
+/// The lines of a list's entries.
+fn put_list_remarks(text: &mut Vec<u8>, list: &[u8], owner: Owner<'_>) -> Result<(), AllocError>
+    ensures { OnOk result (text.new.items ≡ text.old.items ++ list_remarks (whose owner.entry) list.now) }
+{
+    let entries = list.split(
+        |byte|
+            ensures { result ≡ is_separator byte.now }
+        { is_separator(*byte) },
+    );
+    for entry in entries {
+        put_entry(text, entry, owner)?;
+    }
+    Ok(())
+}
+
+/// The same of a list that may not be there.
+fn put_if(text: &mut Vec<u8>, list: Option<&[u8]>, owner: Owner<'_>) -> Result<(), AllocError>
+    ensures { OnOk result (text.new.items
+        ≡ text.old.items ++ remarks_if (whose owner.entry) (option_map (λ l. l.now) list.entry)) }
+{
+    match list {
+        Some(list) => put_list_remarks(text, list, owner),
+        None => Ok(()),
+    }
+}
+
+/// The lines of a station's own list.
+fn put_station(
+    text: &mut Vec<u8>,
+    table: &Table,
+    place: usize,
+    station: &Station,
+) -> Result<(), AllocError>
+    requires { place < 2 ^ 63 }
+    ensures { OnOk result (text.new.items
+        ≡ text.old.items ++ station_remarks (table_view table.now) place station.now.station) }
+{
+    let list = text_at(table, Step::Station(place, StationStep::Access));
+    put_if(text, list, Owner::Station(place + 1, station))
+}
+
+/// The lines of all stations' own lists.
+#[tactic(auto, using(crate::proofs::RemarkLemmas::remark_lemmas))]
+fn put_stations(text: &mut Vec<u8>, stations: &[Station], table: &Table) -> Result<(), AllocError>
+    ensures { OnOk result (text.new.items ≡ text.old.items
+        ++ remarks_from (table_view table.now) 0 (map (λ e. e.station) stations.now)) }
+{
+    for (place, station) in stations.iter().enumerate() {
+        put_station(text, table, place, station)?;
+    }
+    Ok(())
+}
+
+/// The lines of a configuration's lists.
+fn lines_of(alloc: Global, config: &Config, table: &Table) -> Result<Vec<u8>, AllocError>
+    ensures { IfOk result (λ lines. lines.items ≡ remarks_text (table_view table.now) (stations_of config.now)) }
+{
+    let mut lines = Vec::new(alloc);
+    put_if(&mut lines, text_at(table, Step::Access), Owner::Server)?;
+    put_stations(&mut lines, config.stations(), table)?;
+    Ok(lines)
+}
+
+/// The entries of a configuration's access lists that admit something else than their text looks like, a line each:
+/// first those of the server's list, then those of each station's own, with its number, from 1 on, and its codes. An
+/// entry is named if it admits everybody, if it is `0.0.0.0` alone, if the ones of its mask are not on the left, or if
+/// its address has bits outside its mask. The configuration is that of the text. Only memory can lack.
+pub fn remarks(alloc: Global, config: &Config, text: &[u8]) -> Result<Vec<u8>, AllocError>
+    ensures { IfOk result (λ lines. IsUtf8 text.now → IfSome (parse_document text.now)
+        (λ keys. lines.items ≡ remarks_text keys (stations_of config.now))) }
+{
+    match table_of(alloc, text) {
+        Ok(table) => lines_of(alloc, config, &table),
+        Err(ConfigFault::OutOfMemory) => Err(AllocError),
+        Err(_) => Ok(Vec::new(alloc)),
+    }
+}
