@@ -1,8 +1,9 @@
 -- Who may use each station, by the texts of a configuration's access lists. Seedlink's `access`; the lines are this
 -- project's own.
 use Rattle.std.specs.Prelude.{ℕ, ◌+◌, List, [], ◌∷◌, ◌++◌, Option, Some, None, codes}
+use Rattle.std.specs.Prelude.{option_map, position, slice_get}
 use Rattle.toml.specs.Data.{Members}
-use Rattle.protocol.specs.Catalog.{Station}
+use Rattle.protocol.specs.Catalog.{Config, Entry, Station, has_codes}
 use Rattle.protocol.specs.Pieces.{split, without_empty}
 use Rattle.access_list.specs.Tokens.{is_separator}
 use Rattle.catalog.specs.declared.error.Step.TheVariants as step
@@ -49,3 +50,18 @@ holders_from keys place (s ∷ ss) = holder_line s (list_at keys place) ++ holde
 -- the lines of all stations
 abbrev pub holders_text : Members → List Station → List ℕ
 holders_text keys ss = holders_from keys 0 ss
+
+-- the line of the station at a place, if there is one
+abbrev pub holder_at : Members → ℕ → Option Station → List ℕ
+holder_at keys place None = []
+holder_at keys place (Some s) = holder_line s (list_at keys place)
+
+-- of a place that was found, or not
+abbrev pub holder_found : Members → List Entry → Option ℕ → Option (List ℕ)
+holder_found keys es None = None
+holder_found keys es (Some place) = Some (holder_at keys place (option_map (λ e. e.station) (slice_get es place)))
+
+-- the line of the first station with these codes, if there is one
+abbrev pub holder_text : Members → Config → List ℕ → List ℕ → Option (List ℕ)
+holder_text keys config network code =
+    holder_found keys config.entries (position (λ e. has_codes network code e.station) config.entries)

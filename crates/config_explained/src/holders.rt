@@ -1,10 +1,11 @@
 //! Who may use each station.
-ghost use Rattle.std.specs.Prelude.{◌≡◌, ◌++◌, IfOk, IfSome, OnOk, map, option_map};
+ghost use Rattle.std.specs.Prelude.{◌≡◌, ◌++◌, IfOk, IfSome, OnOk, map, option_map, slice_get};
 ghost use Rattle.std.specs.Str.{IsUtf8};
 ghost use Rattle.toml.specs.Parse.{parse_document};
 ghost use Rattle.toml.specs.View.{table_view};
 ghost use Rattle.protocol.specs.Catalog.{stations_of};
-ghost use Rattle.config_explained.specs.Holders.{holder_line, holders_from, holders_text, list_at};
+ghost use Rattle.config_explained.specs.Holders.{holder_at, holder_line, holder_text, holders_from, holders_text};
+ghost use Rattle.config_explained.specs.Holders.{list_at};
 
 use crate::entries::put_list;
 use crate::finding::text_at;
@@ -62,4 +63,44 @@ pub fn holders_of(alloc: Global, config: &Config, text: &[u8]) -> Result<Vec<u8>
         Err(_) => {}
     }
     Ok(lines)
+}
+
+/// The line of the station at a place, if there is one.
+fn put_at(
+    text: &mut Vec<u8>,
+    stations: &[Station],
+    table: &Table,
+    place: usize,
+) -> Result<(), AllocError>
+    ensures { OnOk result (text.new.items ≡ text.old.items
+        ++ holder_at (table_view table.now) place (option_map (λ e. e.station) (slice_get stations.now place))) }
+{
+    match stations.get(place) {
+        Some(station) => put_holders(text, station, list_at(table, place)),
+        None => Ok(()),
+    }
+}
+
+/// The line of the first station of a configuration with these codes, as `holders_of` has it, if there is one. The
+/// configuration is that of the text. Only memory can lack.
+pub fn holder_of(
+    alloc: Global,
+    config: &Config,
+    text: &[u8],
+    network: &[u8],
+    code: &[u8],
+) -> Result<Option<Vec<u8>>, AllocError>
+    ensures { IfOk result (λ line. IsUtf8 text.now → IfSome (parse_document text.now)
+        (λ keys. option_map (λ l. l.items) line ≡ holder_text keys config.now network.now code.now)) }
+{
+    let Some(place) = config.place_of(network, code) else {
+        return Ok(None);
+    };
+    let mut line = Vec::new(alloc);
+    match table_of(alloc, text) {
+        Ok(table) => put_at(&mut line, config.stations(), &table, place)?,
+        Err(ConfigFault::OutOfMemory) => return Err(AllocError),
+        Err(_) => {}
+    }
+    Ok(Some(line))
 }

@@ -28,7 +28,7 @@ mod seen;
 
 pub use difference::{Difference, Setting, first_difference};
 pub use finding::{Finding, finding_of, text_at};
-pub use holders::holders_of;
+pub use holders::{holder_of, holders_of};
 pub use key::{Key, Row, reads_the_table};
 pub use kind::Kind;
 pub use network::Network;
