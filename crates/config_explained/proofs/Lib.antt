@@ -9,3 +9,5 @@ mod EntryLemmas
 mod OpenedLemmas
 mod KeyLemmas
 mod RemarkLemmas
+mod CoverageLemmas
+mod PartLemmas

@@ -11,3 +11,5 @@ pub mod Seen
 pub mod Holders
 pub mod Opened
 pub mod Remarks
+pub mod Coverage
+pub mod Parts

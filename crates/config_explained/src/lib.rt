@@ -18,11 +18,13 @@ mod nearest;
 mod owner;
 mod unknown;
 // view
+mod coverage;
 mod entries;
 mod holders;
 mod lines;
 mod network;
 mod opened;
+mod parts;
 mod remark;
 mod seen;
 
@@ -33,6 +35,7 @@ pub use key::{Key, Row, reads_the_table};
 pub use kind::Kind;
 pub use network::Network;
 pub use opened::open_to_everybody;
+pub use parts::parts_of;
 pub use place::{Place, line_from, place_of};
 pub use remark::{Remark, remarks};
 pub use seen::seen_by;
