@@ -120,6 +120,25 @@ fn read_command<'a>(alloc: Global) -> Built<'a>
     )
 }
 
+/// A command by its name.
+fn command_of<'a>(alloc: Global, name: &str) -> Built<'a> {
+    match name {
+        "check" => check_command(alloc),
+        "replay" => replay_command(alloc),
+        "view" => view_command(alloc),
+        "serve" => serve_command(alloc),
+        "feed" => feed_command(alloc),
+        "read" => read_command(alloc),
+        _ => bare(alloc),
+    }
+}
+
+/// A command by its name, whose usage begins with the program's.
+pub fn command_named<'a>(alloc: Global, name: &str) -> Built<'a> {
+    let whole = format!(in alloc; "seedlinkd {name}")?;
+    command_of(alloc, name)?.bin_name(whole.as_str())
+}
+
 /// The program before it has arguments and subcommands.
 #[tactic(auto, unfolding(crate::specs::Building::Builds))]
 fn bare<'a>(alloc: Global) -> Built<'a>

@@ -4,6 +4,7 @@
 mod argument;
 mod commands;
 mod job;
+mod mistakes;
 mod tables;
 mod words;
 

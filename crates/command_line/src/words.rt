@@ -17,6 +17,7 @@ use crate::job::{
     CheckOptions, Every, FeedOptions, Job, ReadOptions, Request, ServeOptions, ViewOptions,
     WordsFault,
 };
+use crate::mistakes::mistake_text;
 use clap::ArgMatches;
 use clap::error::ErrorKind;
 use std::alloc::{AllocError, Global};
@@ -31,7 +32,7 @@ fn text_at<'a>(arguments: &ArgMatches<'a>, name: &str) -> Option<&'a str>
 }
 
 /// All texts of an argument, where it has some.
-fn texts_at<'m, 'a>(arguments: &'m ArgMatches<'a>, name: &str) -> Option<&'m [&'a str]>
+pub fn texts_at<'m, 'a>(arguments: &'m ArgMatches<'a>, name: &str) -> Option<&'m [&'a str]>
     ensures { option_map (λ s. map (λ text. text.now) s.now) result
         ≡ all_of name.now (rows_of (found_of arguments.now)) }
 {
@@ -112,7 +113,7 @@ fn number_of(text: &[u8]) -> Option<usize>
 
 /// The number that an option has: the inner None where it is left out, and None where the text is no number of its
 /// range.
-fn number_in<'a>(arguments: &ArgMatches<'a>, name: &str) -> Option<Option<usize>>
+pub fn number_in<'a>(arguments: &ArgMatches<'a>, name: &str) -> Option<Option<usize>>
     ensures { result ≡ number_in name.now (rows_of (found_of arguments.now)) }
 {
     let Some(text) = text_at(arguments, name) else {
@@ -151,7 +152,7 @@ fn every_of(text: &[u8]) -> Option<Every>
 }
 
 /// How often an option says: the inner None where it is left out, and None where the text does not say it.
-fn every_in<'a>(arguments: &ArgMatches<'a>, name: &str) -> Option<Option<Every>>
+pub fn every_in<'a>(arguments: &ArgMatches<'a>, name: &str) -> Option<Option<Every>>
     ensures { result ≡ every_in name.now (rows_of (found_of arguments.now)) }
 {
     let Some(text) = text_at(arguments, name) else {
@@ -228,7 +229,7 @@ fn feed_job<'a>(alloc: Global, arguments: &ArgMatches<'a>) -> Result<Option<Job<
 }
 
 /// The options of `read`; None if the text of a number of seconds is not one.
-fn read_options<'a>(arguments: &ArgMatches<'a>) -> Option<ReadOptions<'a>>
+pub fn read_options<'a>(arguments: &ArgMatches<'a>) -> Option<ReadOptions<'a>>
     ensures { option_map options_asked result ≡ options_in (rows_of (found_of arguments.now)) }
 {
     let retry = number_in(arguments, "retry")?;
@@ -379,24 +380,11 @@ fn refused(alloc: Global, error: clap::Error) -> WordsFault
     }
 }
 
-/// What is wrong with words that `clap` takes and that are no job: those of `read` have no want, an end without a
-/// begin, or beside `--fetch`, `--retry` or `--state`, an archive beside an output, or a number with a sign or with
-/// leading zeros beyond ten digits; others have such a number, or a word that doesn't say how often something is done.
-fn mistake_in(matches: &ArgMatches<'_>) -> &'static str {
-    match matches.subcommand() {
-        Some(("read", _)) =>
-            "error: a WANT or --wants is needed; --end needs --begin, and can't be used with --fetch, --retry or \
-             --state; --archive can't be used with --output; N is 1 to 1000000000 in 1 to 10 decimal digits\n",
-        _ =>
-            "error: N is 1 to 1000000000 in 1 to 10 decimal digits, and an s behind it stands for seconds\n",
-    }
-}
-
-/// What the user is told of such words.
-fn mistaken(alloc: Global, text: &str) -> WordsFault
+/// What the user is told of words that `clap` takes and that are no job.
+fn mistaken(alloc: Global, matches: &ArgMatches<'_>) -> WordsFault
     ensures { HelpIs false result }
 {
-    match text.to_string(alloc) {
+    match mistake_text(alloc, matches) {
         Ok(text) => WordsFault::Refused {
             text,
             is_help: false,
@@ -428,7 +416,7 @@ pub fn read_words<'a>(alloc: Global, words: &'a [String]) -> Result<Request<'a>,
                 let is_verbose = is_verbose_anywhere(&matches);
                 Ok(Request { job, is_verbose })
             }
-            Ok(None) => Err(mistaken(alloc, mistake_in(&matches))),
+            Ok(None) => Err(mistaken(alloc, &matches)),
             Err(_) => Err(WordsFault::OutOfMemory),
         },
         Err(error) => Err(refused(alloc, error)),
