@@ -501,6 +501,88 @@ fn other_words_are_refused(rt: HostRuntime) -> Result<(), Fail> {
     Ok(())
 }
 
+/// Words of `read` and `feed` that don't go together, and what is said of them.
+static MISTAKES: [(&[&str], &str); 9] = [
+    (
+        &["read", "a:1"],
+        "error: a WANT or --wants is needed\n\nUsage: seedlinkd read ",
+    ),
+    (
+        &["read", "a:1", "GE_WLF", "--archive=d", "--output=f"],
+        "error: --archive can't be used with --output\n",
+    ),
+    (
+        &["read", "a:1", "GE_WLF", "--end=2024,3,1"],
+        "error: --end needs --begin\n",
+    ),
+    (
+        &[
+            "read",
+            "a:1",
+            "GE_WLF",
+            "--begin=2024,2,29",
+            "--end=2024,3,1",
+            "--fetch",
+        ],
+        "error: --end can't be used with --fetch\n",
+    ),
+    (
+        &[
+            "read",
+            "a:1",
+            "GE_WLF",
+            "--begin=2024,2,29",
+            "--end=2024,3,1",
+            "--retry=5",
+        ],
+        "error: --end can't be used with --retry\n",
+    ),
+    (
+        &[
+            "read",
+            "a:1",
+            "GE_WLF",
+            "--begin=2024,2,29",
+            "--end=2024,3,1",
+            "--state=s",
+        ],
+        "error: --end can't be used with --state\n",
+    ),
+    (
+        &["feed", "a:1", "f", "--strict", "--skip"],
+        "error: --strict can't be used with --skip\n\nUsage: seedlinkd feed ",
+    ),
+    (
+        &["view", "c", "10.0.0.7", "--station=GE_APE"],
+        "error: WHO can't be used with --station\n\nUsage: seedlinkd view ",
+    ),
+    (
+        &["serve", "c", "--listen=a", "--feed=b", "--reread=5m"],
+        "error: a period is N turns, as 600, or N seconds, as 60s",
+    ),
+];
+
+/// What the user is told of words behind the program's name that are refused.
+fn told(alloc: Global, words: &[&str]) -> Result<String, AllocError> {
+    let mut all = strings(alloc, &["seedlinkd"])?;
+    for word in words {
+        all.push(String::from_str(alloc, word)?)?;
+    }
+    match read_words(alloc, all.as_slice()) {
+        Err(WordsFault::Refused { text, .. }) => Ok(text),
+        _ => Ok(String::new(alloc)),
+    }
+}
+
+#[test]
+fn words_that_do_not_go_together_are_named(rt: HostRuntime) -> Result<(), Fail> {
+    for (words, mistake) in &MISTAKES {
+        let text = told(rt.alloc(), words)?;
+        assert!(rt; text.as_str().starts_with(*mistake), "{text}");
+    }
+    Ok(())
+}
+
 /// Whether words ask that faults are explained.
 fn is_verbose(alloc: Global, words: &[&str]) -> Result<bool, Fail> {
     let words = strings(alloc, words)?;
