@@ -33,6 +33,7 @@ failure_reason (failure.Check fault) = stream_reason fault
 failure_reason (failure.Records fault) = file_reason fault
 failure_reason failure.Address = reason.Address
 failure_reason failure.Client = reason.Address
+failure_reason failure.Station = reason.UnknownStation
 failure_reason (failure.Listen fault) = listen_reason fault
 failure_reason failure.Connect = reason.Connect
 failure_reason (failure.Reload fault) = reason.Different

@@ -39,6 +39,8 @@ pub enum Failure {
     Address,
     /// A word is no address.
     Client,
+    /// A configuration has no station that a word names.
+    Station,
     /// An address could not be listened on.
     Listen(ListenFault),
     /// No connection to the server could be made.
@@ -74,7 +76,7 @@ pub enum Failure {
 }
 
 impl Failure {
-    /// The reason by which the program reports it: 1 to 6, 10, 11, 20 to 25, 34, 40 to 47, 49, 51,
+    /// The reason by which the program reports it: 1 to 6, 10, 11, 20 to 25, 32, 34, 40 to 47, 49, 51,
     /// 52, 53, 60 or 61.
     pub fn reason(self) -> Reason
         ensures { result ≡ failure_reason self }
@@ -90,6 +92,7 @@ impl Failure {
             Failure::Records(fault) => fault.reason(),
             Failure::Address => Reason::Address,
             Failure::Client => Reason::Address,
+            Failure::Station => Reason::UnknownStation,
             Failure::Listen(fault) => fault.reason(),
             Failure::Connect => Reason::Connect,
             Failure::Reload(fault) => fault.reason(),
@@ -117,6 +120,7 @@ fn own_cause(failure: Failure) -> Option<&'static str> {
         Failure::UnknownKeys => "the configuration has keys that are not known",
         Failure::Address => "a word is no address with a port",
         Failure::Client => "a word is no address",
+        Failure::Station => "the configuration has no such station",
         Failure::Records(FileFault::Station) =>
             "no station has the record's network and station codes",
         Failure::Records(FileFault::Partial) => "the file ends inside a record",

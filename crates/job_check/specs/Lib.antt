@@ -1,3 +1,4 @@
 pub mod Listings
 pub mod Output
 pub mod Replaying
+pub mod Viewing

@@ -10,4 +10,4 @@ mod viewing;
 
 pub use checking::check_files;
 pub use replaying::{ReplayStyle, replay, replay_files};
-pub use viewing::{list_holders, list_seen, view_file};
+pub use viewing::{list_holders, list_seen, list_station, view_file};

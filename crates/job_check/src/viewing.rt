@@ -1,18 +1,22 @@
 //! What a configuration lets whom see.
-ghost use Rattle.std.specs.Prelude.{IfSome, OnOk};
+ghost use Rattle.std.specs.Prelude.{◌≡◌, IfOk, IfSome, OnOk, is_some};
 ghost use Rattle.std.specs.Str.{IsUtf8};
 ghost use Rattle.std.specs.Io.KnownBytes.{Appends};
 ghost use Rattle.std.specs.Net.Addr.{ipv4_bits};
 ghost use Rattle.toml.specs.Parse.{parse_document};
 ghost use Rattle.protocol.specs.Catalog.{stations_of, view_of};
-ghost use Rattle.config_explained.specs.Holders.{holders_text};
+ghost use Rattle.config_explained.specs.Holders.{holder_text, holders_text};
+ghost use Rattle.job_check.specs.Viewing.{or_nothing};
+ghost use Rattle.config_explained.specs.Parts.{parts_text};
 ghost use Rattle.config_explained.specs.Seen.{seen_text};
 
 use access_list::address;
 use catalog::Config;
-use config_explained::{holders_of, seen_by};
+use command_line::ViewOptions;
+use config_explained::{Network, holder_of, holders_of, parts_of, remarks, seen_by};
 use incidents::{Failure, Incident};
 use job_base::{config_in, tell_unknown_keys, text_at};
+use shown_lines::ShownText;
 use sl_io::{Outer, Sink, StreamFault, write_all};
 use std::alloc::Global;
 use std::io;
@@ -62,25 +66,184 @@ pub fn list_holders<W: Sink>(
     }
 }
 
-/// The address that a word is.
-fn address_in<'a>(word: &'a str) -> Result<Ipv4Addr, Incident<'a>> {
-    match address(word.as_bytes()) {
-        Some(address) => Ok(address),
-        None => Err(Failure::Client.in_word(word)),
+/// Writes the line of the station of a configuration with these codes, `NET STA LIST` as `list_holders` has it. Answers
+/// whether there is one.
+pub fn list_station<W: Sink>(
+    alloc: Global,
+    config: &Config,
+    text: &[u8],
+    network: &[u8],
+    code: &[u8],
+    out: &mut W,
+) -> Result<bool, StreamFault>
+    ensures lines { IfOk result (λ _. IsUtf8 text.now → IfSome (parse_document text.now) (λ keys.
+        Appends (W.written out.old) (W.written out.new)
+        (or_nothing (holder_text keys config.now network.now code.now)))) }
+    ensures found { IfOk result (λ found. IsUtf8 text.now → IfSome (parse_document text.now) (λ keys.
+        found ≡ is_some (holder_text keys config.now network.now code.now))) }
+{
+    match holder_of(alloc, config, text, network, code) {
+        Ok(Some(line)) => match write_text(line.as_slice(), out) {
+            Ok(()) => Ok(true),
+            Err(fault) => Err(fault),
+        },
+        Ok(None) => match write_text(b"", out) {
+            Ok(()) => Ok(false),
+            Err(fault) => Err(fault),
+        },
+        Err(_) => Err(StreamFault::OutOfMemory),
     }
 }
 
-/// Writes what an address sees of a configuration, or without an address all stations with whom they are open to.
-fn write_view<R: Print + AllocGlobal>(
+/// Writes all stations of a configuration, in order, a line each: `NET STA all` if every address of a network may use
+/// the station, `none` if no address of it may, else `some`.
+pub fn list_parts<W: Sink>(
+    alloc: Global,
+    config: &Config,
+    text: &[u8],
+    network: Network,
+    out: &mut W,
+) -> Result<(), StreamFault>
+    ensures { OnOk result (IsUtf8 text.now → IfSome (parse_document text.now) (λ keys.
+        Appends (W.written out.old) (W.written out.new) (parts_text keys network (stations_of config.now)))) }
+{
+    match parts_of(alloc, config, text, network) {
+        Ok(lines) => write_text(lines.as_slice(), out),
+        Err(_) => Err(StreamFault::OutOfMemory),
+    }
+}
+
+/// What is written of a configuration.
+#[derive(Clone, Copy)]
+enum Asked<'a> {
+    /// All stations, with whom they are open to.
+    Everything,
+    /// What an address sees.
+    Address(Ipv4Addr),
+    /// How much of a network sees each station.
+    Network(Network),
+    /// Who may use the station that a word names.
+    Station(&'a str),
+}
+
+/// The address, or the network, that a word is.
+fn who_in<'a>(word: &'a str) -> Result<Asked<'a>, Incident<'a>> {
+    match address(word.as_bytes()) {
+        Some(address) => Ok(Asked::Address(address)),
+        None => match Network::parse(word.as_bytes()) {
+            Some(network) => Ok(Asked::Network(network)),
+            None => Err(Failure::Client.in_word(word)),
+        },
+    }
+}
+
+/// What the words ask for.
+fn asked_in<'a>(options: &ViewOptions<'a>) -> Result<Asked<'a>, Incident<'a>> {
+    match (options.station, options.who) {
+        (Some(word), _) => Ok(Asked::Station(word)),
+        (None, Some(word)) => who_in(word),
+        (None, None) => Ok(Asked::Everything),
+    }
+}
+
+/// Names the entries of a configuration's lists that admit something else than their text looks like, a line each on
+/// the standard error.
+fn tell_remarks<R: Eprint + AllocGlobal>(
     rt: &R,
     config: &Config,
     text: &[u8],
-    address: Option<Ipv4Addr>,
 ) -> Result<(), StreamFault> {
+    match remarks(rt.alloc(), config, text) {
+        Ok(lines) => {
+            if let Ok(lines) = str::from_utf8(lines.as_slice()) {
+                let _ = eprint!(rt; "{}", ShownText(lines));
+            }
+            Ok(())
+        }
+        Err(_) => Err(StreamFault::OutOfMemory),
+    }
+}
+
+/// Writes all stations with whom they are open to, and then names what the lists don't look like.
+fn write_all_stations<R: Print + Eprint + AllocGlobal>(
+    rt: &R,
+    config: &Config,
+    text: &[u8],
+) -> Result<(), Failure> {
     let mut out = Outer::new(io::writer(rt));
-    match address {
-        Some(address) => list_seen(rt.alloc(), config, address, &mut out),
-        None => list_holders(rt.alloc(), config, text, &mut out),
+    match list_holders(rt.alloc(), config, text, &mut out) {
+        Ok(()) => match tell_remarks(rt, config, text) {
+            Ok(()) => Ok(()),
+            Err(fault) => Err(Failure::Check(fault)),
+        },
+        Err(fault) => Err(Failure::Check(fault)),
+    }
+}
+
+/// Writes what an address sees.
+fn write_seen<R: Print + AllocGlobal>(
+    rt: &R,
+    config: &Config,
+    address: Ipv4Addr,
+) -> Result<(), Failure> {
+    let mut out = Outer::new(io::writer(rt));
+    match list_seen(rt.alloc(), config, address, &mut out) {
+        Ok(()) => Ok(()),
+        Err(fault) => Err(Failure::Check(fault)),
+    }
+}
+
+/// Writes how much of a network sees each station.
+fn write_parts<R: Print + AllocGlobal>(
+    rt: &R,
+    config: &Config,
+    text: &[u8],
+    network: Network,
+) -> Result<(), Failure> {
+    let mut out = Outer::new(io::writer(rt));
+    match list_parts(rt.alloc(), config, text, network, &mut out) {
+        Ok(()) => Ok(()),
+        Err(fault) => Err(Failure::Check(fault)),
+    }
+}
+
+/// Writes who may use the station that a word names, `NET_STA`. It fails if there is none.
+fn write_station<R: Print + AllocGlobal>(
+    rt: &R,
+    config: &Config,
+    text: &[u8],
+    word: &str,
+) -> Result<(), Failure> {
+    let Some((network, code)) = word.split_once('_') else {
+        return Err(Failure::Station);
+    };
+    let mut out = Outer::new(io::writer(rt));
+    let (network, code) = (network.as_bytes(), code.as_bytes());
+    match list_station(rt.alloc(), config, text, network, code, &mut out) {
+        Ok(true) => Ok(()),
+        Ok(false) => Err(Failure::Station),
+        Err(fault) => Err(Failure::Check(fault)),
+    }
+}
+
+/// Writes what is asked of a configuration.
+fn write_view<'a, R: Print + Eprint + AllocGlobal>(
+    rt: &R,
+    path: &'a str,
+    config: &Config,
+    text: &[u8],
+    asked: &Asked<'a>,
+) -> Result<(), Incident<'a>> {
+    let (written, word) = match *asked {
+        Asked::Everything => (write_all_stations(rt, config, text), None),
+        Asked::Address(address) => (write_seen(rt, config, address), None),
+        Asked::Network(network) => (write_parts(rt, config, text, network), None),
+        Asked::Station(word) => (write_station(rt, config, text, word), Some(word)),
+    };
+    match (written, word) {
+        (Ok(()), _) => Ok(()),
+        (Err(Failure::Station), Some(word)) => Err(Failure::Station.in_word(word)),
+        (Err(failure), _) => Err(failure.in_file(path)),
     }
 }
 
@@ -90,16 +253,12 @@ fn view_config<'a, R: Print + Eprint + AllocGlobal>(
     path: &'a str,
     config: &Config,
     text: &[u8],
-    address: Option<Ipv4Addr>,
+    asked: &Asked<'a>,
     is_strict: bool,
 ) -> Result<(), Incident<'a>> {
     match tell_unknown_keys(rt, path, config, text, is_strict) {
-        Ok(()) => {}
-        Err(incident) => return Err(incident),
-    }
-    match write_view(rt, config, text, address) {
-        Ok(()) => Ok(()),
-        Err(fault) => Err(Failure::Check(fault).in_file(path)),
+        Ok(()) => write_view(rt, path, config, text, asked),
+        Err(incident) => Err(incident),
     }
 }
 
@@ -108,11 +267,11 @@ fn view_text<'a, R: Print + Eprint + AllocGlobal>(
     rt: &R,
     path: &'a str,
     text: &[u8],
-    address: Option<Ipv4Addr>,
+    asked: &Asked<'a>,
     is_strict: bool,
 ) -> Result<(), Incident<'a>> {
     match config_in(rt.alloc(), path, text) {
-        Ok(config) => view_config(rt, path, &config, text, address, is_strict),
+        Ok(config) => view_config(rt, path, &config, text, asked, is_strict),
         Err(incident) => Err(incident),
     }
 }
@@ -121,29 +280,25 @@ fn view_text<'a, R: Print + Eprint + AllocGlobal>(
 fn view_at<'a, R: Files + Print + Eprint + AllocGlobal>(
     rt: &R,
     path: &'a str,
-    address: Option<Ipv4Addr>,
+    asked: &Asked<'a>,
     is_strict: bool,
 ) -> Result<(), Incident<'a>> {
     match text_at(rt, path) {
-        Ok(text) => view_text(rt, path, text.as_slice(), address, is_strict),
+        Ok(text) => view_text(rt, path, text.as_slice(), asked, is_strict),
         Err(incident) => Err(incident),
     }
 }
 
-/// Writes what an address sees of the configuration in a file, or without an address all stations with whom they are
-/// open to. Keys that are not known are named on the standard error, and with `is_strict` the configuration is refused
-/// for them. The address is judged before the file is opened.
+/// Writes what an address sees of the configuration in a file, or how much of a network sees each station, or who may
+/// use a station of it, or all stations with whom they are open to. In the last case entries of lists that admit
+/// something else than they look like are named on the standard error. So are keys that are not known, and if the
+/// options are strict the configuration is refused for them. The word is judged before the file is opened.
 pub fn view_file<'a, R: Files + Print + Eprint + AllocGlobal>(
     rt: &R,
-    path: &'a str,
-    word: Option<&'a str>,
-    is_strict: bool,
+    options: ViewOptions<'a>,
 ) -> Result<(), Incident<'a>> {
-    match word {
-        Some(word) => match address_in(word) {
-            Ok(address) => view_at(rt, path, Some(address), is_strict),
-            Err(incident) => Err(incident),
-        },
-        None => view_at(rt, path, None, is_strict),
+    match asked_in(&options) {
+        Ok(asked) => view_at(rt, options.config, &asked, options.is_strict),
+        Err(incident) => Err(incident),
     }
 }

@@ -41,7 +41,7 @@ where
             script,
             is_text,
         } => replay_files(rt, style_of(is_text), config, script),
-        Job::View(options) => view_file(rt, options.config, options.who, options.is_strict),
+        Job::View(options) => view_file(rt, options),
         Job::Serve(options) => serve_sockets(
             rt,
             ServeRequest {
