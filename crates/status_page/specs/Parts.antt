@@ -1,0 +1,58 @@
+-- Parts of an answer, and their texts. HTML: character references. Prometheus, text format 0.0.4: values of labels.
+use Rattle.std.specs.Prelude.{ℕ, ℤ, pos, negsuc, ◌==◌, ◌||◌, ◌/◌, nat_lt, if◌then◌else◌, List, [], ◌∷◌, ◌++◌, codes}
+use Rattle.std.specs.Prelude.{decimal, flat_map, slice_index}
+use Rattle.iso_time.specs.Written.{moment_text}
+use Rattle.status_page.specs.declared.parts.Part.{Part}
+use Rattle.status_page.specs.declared.parts.Part.TheVariants.{Text, Number, Html, Label, Shown, Moment, Seconds}
+
+-- a byte of a text as HTML has it: `&` is 38, `<` is 60, `>` is 62, `"` is 34, `'` is 39
+abbrev pub html_byte : ℕ → List ℕ
+html_byte b =
+    if b == 38 then codes "&amp;" else if b == 60 then codes "&lt;" else if b == 62 then codes "&gt;"
+    else if b == 34 then codes "&quot;" else if b == 39 then codes "&#39;" else b ∷ []
+
+abbrev pub html : List ℕ → List ℕ
+html bytes = flat_map html_byte bytes
+
+-- a byte of the value of a label: `\` is 92, `"` is 34, LF is 10, `n` is 110
+abbrev pub label_byte : ℕ → List ℕ
+label_byte b =
+    if b == 92 then 92 ∷ 92 ∷ [] else if b == 34 then 92 ∷ 34 ∷ [] else if b == 10 then 92 ∷ 110 ∷ [] else b ∷ []
+
+abbrev pub label : List ℕ → List ℕ
+label bytes = flat_map label_byte bytes
+
+-- a byte of a text that is shown: what controls a terminal is `?`
+abbrev pub shown_byte : ℕ → List ℕ
+shown_byte b = if nat_lt b 32 || (b == 127) then codes "?" else b ∷ []
+
+abbrev pub shown : List ℕ → List ℕ
+shown bytes = flat_map shown_byte bytes
+
+-- a tick in whole seconds since 1970; 0 before that
+abbrev pub unix_seconds : ℤ → List ℕ
+unix_seconds (pos n) = decimal (n / 10000)
+unix_seconds (negsuc n) = decimal 0
+
+abbrev pub part_text : Part → List ℕ
+part_text (Text bytes) = bytes.now
+part_text (Number n) = decimal n
+part_text (Html bytes) = html bytes.now
+part_text (Label bytes) = label bytes.now
+part_text (Shown bytes) = shown bytes.now
+part_text (Moment moment) = moment_text moment
+part_text (Seconds moment) = unix_seconds moment
+
+abbrev pub parts_text : List Part → List ℕ
+parts_text ps = flat_map part_text ps
+
+-- texts, one after the other
+abbrev pub joined : List (List ℕ) → List ℕ
+joined [] = []
+joined (t ∷ ts) = t ++ joined ts
+
+-- an address of four bytes, as `10.0.0.7`
+abbrev pub address_text : List ℕ → List ℕ
+address_text a =
+    joined (decimal (slice_index a 0) ∷ codes "." ∷ decimal (slice_index a 1) ∷ codes "." ∷ decimal (slice_index a 2)
+    ∷ codes "." ∷ decimal (slice_index a 3) ∷ [])

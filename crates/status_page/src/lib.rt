@@ -1,0 +1,16 @@
+//! What a server's status port answers: pages and lists of a plain value, and nothing of servers or sockets. The text
+//! of each answer is a definition of that value.
+#![tactic(auto)]
+
+mod answers;
+pub mod laws;
+mod metrics;
+pub mod page;
+mod parts;
+mod plain;
+mod request;
+mod value;
+
+pub use answers::write_answer;
+pub use request::{Request, Target, request_in};
+pub use value::{ClientStatus, LastRecord, NamedCount, StationStatus, StatusValue};

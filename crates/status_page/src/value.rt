@@ -1,0 +1,106 @@
+//! What is told of a server.
+ghost use Rattle.std.specs.Prelude.{◌≡◌};
+ghost use Rattle.status_page.specs.Values.{any_silent, is_silent};
+
+use sl_time::Tick;
+
+/// How often something happened, by its name.
+#[derive(Clone, Copy)]
+pub struct NamedCount<'a> {
+    pub name: &'a [u8],
+    pub count: u64,
+}
+
+/// From when to when a record goes.
+#[derive(Clone, Copy)]
+pub struct LastRecord {
+    /// The moment of its first sample.
+    pub start: Tick,
+    /// The moment at which its samples are over.
+    pub stop: Tick,
+}
+
+/// What is told of a station.
+#[derive(Clone, Copy)]
+pub struct StationStatus<'a> {
+    pub network: &'a [u8],
+    pub code: &'a [u8],
+    pub description: &'a [u8],
+    /// How many of its records are held, and how many are at most.
+    pub held: u64,
+    pub capacity: u64,
+    /// The number that its next record will have, in six hexadecimal digits.
+    pub next_number: [u8; 6],
+    /// How many of its records came since the server began.
+    pub records: u64,
+    /// The last record that came.
+    pub last: Option<LastRecord>,
+    /// How many seconds ago it came, or the server began if none came.
+    pub age: u64,
+    /// How many records came in each of the last 60 minutes, the oldest first.
+    pub minutes: &'a [u32],
+    /// How many clients named it.
+    pub followers: u64,
+}
+
+impl<'a> StationStatus<'a> {
+    /// Whether nothing came for so many seconds.
+    pub fn is_silent(&self, silent_after: u64) -> bool
+        ensures { result ≡ is_silent silent_after self.now }
+    {
+        silent_after <= self.age
+    }
+}
+
+/// What is told of a client.
+#[derive(Clone, Copy)]
+pub struct ClientStatus {
+    /// The number of its port, as the log has it.
+    pub number: u64,
+    /// Its address, four bytes.
+    pub address: [u8; 4],
+    /// For how many seconds it is here.
+    pub seconds: u64,
+    /// How many stations it named.
+    pub named: u64,
+    /// How many records of these came that its transfer has not looked at, wanted or not.
+    pub behind: u64,
+}
+
+/// What is told of a server.
+#[derive(Clone, Copy)]
+pub struct StatusValue<'a> {
+    pub title: &'a [u8],
+    /// The program with its version and its logic.
+    pub version: &'a [u8],
+    /// When it began, by the system's clock, if that told the time.
+    pub began: Option<Tick>,
+    /// How many seconds ago that was.
+    pub passed: u64,
+    /// After how many seconds without a record a station is silent.
+    pub silent_after: u64,
+    /// How many clients and feeds are connected.
+    pub open_clients: u64,
+    pub open_feeds: u64,
+    /// How many records were taken and refused.
+    pub records: u64,
+    pub refused: u64,
+    /// How many records were refused, by reason.
+    pub refusals: &'a [NamedCount<'a>],
+    /// How many connections were turned away, by reason.
+    pub away: &'a [NamedCount<'a>],
+    pub stations: &'a [StationStatus<'a>],
+    pub clients: &'a [ClientStatus],
+}
+
+/// Whether some station is silent.
+pub fn is_any_silent(stations: &[StationStatus<'_>], silent_after: u64) -> bool
+    ensures { result ≡ any_silent silent_after stations.now }
+{
+    for station in stations {
+        if station.is_silent(silent_after) {
+            return true;
+        }
+    }
+    false
+}
