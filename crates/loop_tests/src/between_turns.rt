@@ -94,6 +94,7 @@ fn a_server_asks_and_reports_when_it_is_due(rt: HostRuntime) -> Result<(), Fail>
     };
     run_over(rt.alloc(), &mut between, timetable)?;
     assert!(rt; were_made(&between, &ASKED));
+    assert_eq!(rt; between.watched(), 7);
     Ok(())
 }
 

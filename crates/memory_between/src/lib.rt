@@ -1,13 +1,15 @@
 //! What a server asks and reports between its turns, answered and kept in memory, for tests.
 #![tactic(auto)]
 
-ghost use Rattle.std.specs.Prelude.{◌≡◌, Some, [], ◌∷◌, IfOk};
+ghost use Rattle.std.specs.Prelude.{◌≡◌, ◌+◌, ◌-◌, ◌^◌, min, Some, [], ◌∷◌, IfOk};
 ghost use Rattle.memory_between.specs.Made.{told, made_value};
 ghost use Rattle.serving.specs.Asked.{Tells};
 ghost use Rattle.serving.specs.Asked.Asked.{Configuration, Keeps, Looks, Refuses, Reports};
 ghost use Rattle.serving.specs.Ahead.{ahead_of};
 
 use catalog::Config;
+use event_loop::Loop;
+use ports::Ports;
 use serving::{Activity, Ahead, Between, Due, Refusal};
 use sl_packet::Seq;
 use std::alloc::{AllocError, Global};
@@ -33,6 +35,7 @@ pub struct MemoryBetween {
     due: Vec<Due>,
     made: Vec<Made>,
     lost: bool,
+    watched: u64,
 }
 
 impl MemoryBetween {
@@ -47,6 +50,7 @@ impl MemoryBetween {
             due: Vec::new(alloc),
             made: Vec::new(alloc),
             lost: false,
+            watched: 0,
         }
     }
 
@@ -69,6 +73,13 @@ impl MemoryBetween {
         ensures { result.now ≡ self.now.made.items }
     {
         self.made.as_slice()
+    }
+
+    /// How often a server was lent; at most 2^64 - 1.
+    pub fn watched(&self) -> u64
+        ensures { result ≡ self.now.watched }
+    {
+        self.watched
     }
 
     // The next answer of the script.
@@ -165,6 +176,13 @@ impl Between for MemoryBetween {
             Err(_) => self.lost = true,
         }
         answer
+    }
+
+    fn watch<P: Ports>(&mut self, _server: &Loop<P>)
+        ensures untold { told self.new ≡ told self.old }
+        ensures counted { self.new ≡ record self.old { watched = min (self.old.watched + 1) (2 ^ 64 - 1) } }
+    {
+        self.watched = self.watched.saturating_add(1);
     }
 }
 

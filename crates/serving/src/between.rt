@@ -1,5 +1,5 @@
 //! What a server asks and reports between its turns.
-ghost use Rattle.std.specs.Prelude.{List, [], ◌∷◌, None};
+ghost use Rattle.std.specs.Prelude.{◌≡◌, List, [], ◌∷◌, None};
 ghost use Rattle.std.specs.declared.option.Option.{Option};
 ghost use Rattle.serving.specs.Asked.{Asked, Tells};
 ghost use Rattle.serving.specs.Asked.Asked.{Configuration, Keeps, Looks, Refuses, Reports};
@@ -8,6 +8,8 @@ ghost use Rattle.serving.specs.Ahead.{ahead_of};
 use crate::activity::Activity;
 use crate::ahead::Ahead;
 use catalog::Config;
+use event_loop::Loop;
+use ports::Ports;
 
 /// What a server could not do: why a configuration did not come into force, or numbers were not kept.
 #[derive(Drop)]
@@ -56,6 +58,11 @@ pub trait Between {
     /// The numbers of the stations are to be kept, for a server that is begun later.
     fn keep(&mut self, numbers: &Ahead<'_>) -> Result<(), Self::Fault>
         ensures call { Tells (asked self.old) (asked self.new) (Keeps (ahead_of numbers.now) result ∷ []) };
+
+    /// Lends the server, after a turn and what was due: whoever wants to tell others how it stands may look at it. This
+    /// is no call that is told, and nothing of the server changes.
+    fn watch<P: Ports>(&mut self, server: &Loop<P>)
+        ensures untold { asked self.new ≡ asked self.old };
 }
 
 /// There is no other configuration.
@@ -92,4 +99,6 @@ impl Between for NothingBetween {
     fn keep(&mut self, _numbers: &Ahead<'_>) -> Result<(), NoConfiguration> {
         Ok(())
     }
+
+    fn watch<P: Ports>(&mut self, _server: &Loop<P>) {}
 }

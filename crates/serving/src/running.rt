@@ -116,8 +116,8 @@ pub struct Stopped {
     pub reread: bool,
 }
 
-/// Does what is to be done after so many turns, where the numbers were kept last at these levels of the stations.
-fn stop<P: Ports, B: Between>(
+/// Does what is due after so many turns, where the numbers were kept last at these levels of the stations.
+fn act<P: Ports, B: Between>(
     server: &mut Loop<P>,
     between: &mut B,
     timetable: &Timetable,
@@ -140,6 +140,26 @@ fn stop<P: Ports, B: Between>(
         kept,
         reread: due.reread,
     }
+}
+
+/// Does what is to be done after so many turns, where the numbers were kept last at these levels of the stations: what
+/// is due, and then the server is lent to whoever watches it.
+fn stop<P: Ports, B: Between>(
+    server: &mut Loop<P>,
+    between: &mut B,
+    timetable: &Timetable,
+    done: u64,
+    kept: u64,
+) -> Stopped
+    ensures stops { (config : ProtocolConfig) (w : World) → StandsAt server.old.server config w →
+        SomeStop timetable.now done config w server.old kept (B.asked between.old) server.new result
+        (B.asked between.new) }
+    ensures seats { server.new.seats ≡ server.old.seats }
+    ensures max_clients { server.new.max_clients ≡ server.old.max_clients }
+{
+    let stopped = act(server, between, timetable, done, kept);
+    between.watch(server);
+    stopped
 }
 
 /// How many failed turns in a row still count after a stop: none if the configuration was asked for.

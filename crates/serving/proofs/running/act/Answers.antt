@@ -1,5 +1,5 @@
 use Rattle.serving.proofs.StopLemmas.{stops-silent, stops-told}
-use Rattle.serving.proofs.running.stop.Goals as goal
+use Rattle.serving.proofs.running.act.Goals as goal
 
 pub returns-then-due-clause-stops : goal.returns-then-due-clause-stops
 returns-then-due-clause-stops g c = λ config w stands.
