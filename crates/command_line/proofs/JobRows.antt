@@ -8,7 +8,7 @@ use Rattle.command_line.specs.declared.job.Every.TheVariants.{Seconds, Turns}
 use Rattle.command_line.specs.Commands.{program_app}
 use Rattle.command_line.specs.Jobs.{every_of, job_of, verbose_of}
 use Rattle.command_line.specs.Jobs.{CheckAsked, FeedAsked, ReadAsked, ServeAsked, ViewAsked}
-use Rattle.command_line.specs.Jobs.Asked.{Check, Replay, View, Serve, Feed, Read}
+use Rattle.command_line.specs.Jobs.Asked.{Check, Replay, View, Serve, Feed, Status, Read}
 
 abbrev replay_words : List Text
 replay_words = codes "seedlinkd" ∷ codes "replay" ∷ codes "island.toml" ∷ codes "hello.script" ∷ []
@@ -72,6 +72,9 @@ plain config listen feed =
       feed_from = None;
       per_address = None;
       numbers = None;
+      status = None;
+      status_from = None;
+      silent = None;
       is_logged = false;
       is_strict = false;
     }
@@ -155,6 +158,29 @@ pub limited_asked : job_of limited_words
     { feed_from = Some (codes "10.0.0.7, 10.1.0.0/16"); per_address = Some 3 }))
 unfolding clap_on_literals
 limited_asked = refl
+
+abbrev page_words : List Text
+page_words =
+    codes "seedlinkd" ∷ codes "serve" ∷ codes "c" ∷ codes "--status" ∷ codes "d" ∷ codes "--feed=b"
+    ∷ codes "--listen=a" ∷ codes "--status-from=10.0.0.7" ∷ codes "--silent=60" ∷ []
+
+pub page_asked : job_of page_words
+    ≡ Some (Serve (record (plain (codes "c") (codes "a") (codes "b"))
+    { status = Some (codes "d"); status_from = Some (codes "10.0.0.7"); silent = Some 60 }))
+unfolding clap_on_literals
+page_asked = refl
+
+-- what is said of a status page that there is not
+pub no_page :
+    job_of (codes "seedlinkd" ∷ codes "serve" ∷ codes "c" ∷ codes "--feed=b" ∷ codes "--listen=a"
+    ∷ codes "--silent=60" ∷ [])
+    ≡ None
+unfolding clap_on_literals
+no_page = refl
+
+pub status_asked : job_of (codes "seedlinkd" ∷ codes "status" ∷ codes "a" ∷ []) ≡ Some (Status (codes "a"))
+unfolding clap_on_literals
+status_asked = refl
 
 abbrev log_words : List Text
 log_words =

@@ -85,6 +85,9 @@ pub record ServeAsked : Type 0 where
   pub feed_from : Option (List ℕ)
   pub per_address : Option ℕ
   pub numbers : Option (List ℕ)
+  pub status : Option (List ℕ)
+  pub status_from : Option (List ℕ)
+  pub silent : Option ℕ
   pub is_logged : Bool
   pub is_strict : Bool
 
@@ -101,6 +104,9 @@ serve_options_asked o =
       feed_from = option_map (λ list. list.now) o.feed_from;
       per_address = o.per_address;
       numbers = option_map (λ file. file.now) o.numbers;
+      status = option_map (λ text. text.now) o.status;
+      status_from = option_map (λ list. list.now) o.status_from;
+      silent = o.silent;
       is_logged = o.is_logged;
       is_strict = o.is_strict;
     }
@@ -146,6 +152,7 @@ pub data Asked : Type 0 where
   View : (options : ViewAsked) → Asked
   Serve : (options : ServeAsked) → Asked
   Feed : (server : List ℕ) → (files : List (List ℕ)) → (options : FeedAsked) → Asked
+  Status : (server : List ℕ) → Asked
   Read : (server : List ℕ) → (wants : List (List ℕ)) → (options : ReadAsked) → Asked
 
 -- the job that the code has
@@ -156,6 +163,7 @@ asked (job.View options) = View (view_options_asked options)
 asked (job.Serve options) = Serve (serve_options_asked options)
 asked (job.Feed server files options) =
     Feed server.now (map (λ file. file.now) files.items) (feed_options_asked options)
+asked (job.Status server) = Status server.now
 asked (job.Read server wants options) =
     Read server.now (map (λ want. want.now) wants.items) (options_asked options)
 
@@ -247,11 +255,21 @@ every_of text = every_at text (position is_s text)
 abbrev pub every_in : Text → List Row → Option (Option Every)
 every_in name rows = spelled every_of (first_of name rows)
 
+-- they say something of a status page that is not asked for
+abbrev pub is_without_page : ServeAsked → Bool
+is_without_page o = not (is_some o.status) && (is_some o.status_from || is_some o.silent)
+
+-- the job of `serve`, unless they do
+abbrev pub serving : ServeAsked → Option Asked
+serving o = if is_without_page o then None else Some (Serve o)
+
 -- a server's job, where all of it is there
 abbrev pub with_server : Option (List ℕ) → Option (List ℕ) → Option (List ℕ)
-    → Option (Option ℕ) → Option (Option Every) → Option (Option Every) → Option (Option ℕ) → List Row → Option Asked
-with_server (Some config) (Some listen) (Some feed) (Some turns) (Some reread) (Some report) (Some per_address) rows =
-    Some (Serve (record {
+    → Option (Option ℕ) → Option (Option Every) → Option (Option Every) → Option (Option ℕ) → Option (Option ℕ)
+    → List Row → Option Asked
+with_server (Some config) (Some listen) (Some feed) (Some turns) (Some reread) (Some report) (Some per_address)
+    (Some silent) rows =
+    serving (record {
       config = config;
       listen = listen;
       feed = feed;
@@ -261,16 +279,19 @@ with_server (Some config) (Some listen) (Some feed) (Some turns) (Some reread) (
       feed_from = first_of (codes "feed-from") rows;
       per_address = per_address;
       numbers = first_of (codes "numbers") rows;
+      status = first_of (codes "status") rows;
+      status_from = first_of (codes "status-from") rows;
+      silent = silent;
       is_logged = flag_in (codes "log") rows;
       is_strict = flag_in (codes "strict") rows;
-    }))
-with_server _ _ _ _ _ _ _ rows = None
+    })
+with_server _ _ _ _ _ _ _ _ rows = None
 
 abbrev pub serve_asked : List Row → Option Asked
 serve_asked rows =
     with_server (first_of (codes "CONFIG") rows) (first_of (codes "listen") rows) (first_of (codes "feed") rows)
     (number_in (codes "turns") rows) (every_in (codes "reread") rows) (every_in (codes "report") rows)
-    (number_in (codes "per-address") rows) rows
+    (number_in (codes "per-address") rows) (number_in (codes "silent") rows) rows
 
 -- the options of `feed`, unless both `--strict` and `--skip` were given
 abbrev pub one_way : FeedAsked → Option FeedAsked
@@ -358,6 +379,10 @@ read_asked rows =
     with_wants (options_in rows) (first_of (codes "SERVER") rows)
     (wants_beside (options_in rows) (all_of (codes "WANT") rows))
 
+-- the job of `status`
+abbrev pub status_asked : List Row → Option Asked
+status_asked rows = option_map Status (first_of (codes "SERVER") rows)
+
 -- the job of a subcommand with its arguments
 abbrev pub asked_by : Option (Text × List Row) → Option Asked
 asked_by None = None
@@ -367,7 +392,8 @@ asked_by (Some p) =
     else if bytes_eq p.0 (codes "view") then view_asked p.1
     else if bytes_eq p.0 (codes "serve") then serve_asked p.1
     else if bytes_eq p.0 (codes "feed") then feed_asked p.1
-    else if bytes_eq p.0 (codes "read") then read_asked p.1 else None
+    else if bytes_eq p.0 (codes "read") then read_asked p.1
+    else if bytes_eq p.0 (codes "status") then status_asked p.1 else None
 
 -- the job that words ask
 abbrev pub job_of : List Text → Option Asked

@@ -1,7 +1,7 @@
 //! What the user is told of words that `clap` takes and that are no job.
 use crate::commands::command_named;
 use crate::job::ReadOptions;
-use crate::words::{every_in, number_in, read_options, texts_at};
+use crate::words::{every_in, number_in, read_options, text_at, texts_at};
 use clap::ArgMatches;
 use clap::error::ErrorKind;
 use std::alloc::{AllocError, Global};
@@ -54,8 +54,15 @@ fn is_no_number(arguments: &ArgMatches<'_>, name: &str) -> bool {
 fn serve_mistake(arguments: &ArgMatches<'_>) -> &'static str {
     if is_no_period(arguments, "reread") || is_no_period(arguments, "report") {
         PERIOD
-    } else {
+    } else if is_no_number(arguments, "turns")
+        || is_no_number(arguments, "per-address")
+        || is_no_number(arguments, "silent")
+    {
         NUMBER
+    } else if text_at(arguments, "status-from").is_some() {
+        "--status-from needs --status"
+    } else {
+        "--silent needs --status"
     }
 }
 

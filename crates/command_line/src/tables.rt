@@ -11,7 +11,7 @@ const STRICT_HELP: &str = "Refuses a CONFIG with keys that are not known";
 /// What `--iso` does.
 const ISO_HELP: &str = "Writes times as 2024-02-29T00:00:00.0000Z";
 
-pub static SERVE: [Argument<'static>; 11] = [
+pub static SERVE: [Argument<'static>; 14] = [
     Wanted("CONFIG", CONFIG_HELP),
     Needed("listen", "A:P", "Address and port for clients"),
     Needed("feed", "A:P", "Address and port for feeds of records"),
@@ -43,6 +43,16 @@ pub static SERVE: [Argument<'static>; 11] = [
     Flag(
         "log",
         "Writes a line on standard error for each client and feed that comes or goes",
+    ),
+    Value("status", "A:P", "Address and port for the status page"),
+    Value(
+        "status-from",
+        "LIST",
+        "Shows the status page to these addresses alone, as 10.0.0.7, 10.0.0.0/8",
+    ),
+    Number(
+        "silent",
+        "Calls a station silent on the status page after N seconds without a record, 1 to 1000000000",
     ),
     Flag("strict", STRICT_HELP),
 ];
@@ -125,6 +135,11 @@ pub static READ: [Argument<'static>; 12] = [
         "Adds each record to FILE; - is standard output",
     ),
 ];
+
+pub static STATUS: [Argument<'static>; 1] = [Wanted(
+    "SERVER",
+    "Address and port of the status page, as 127.0.0.1:18002",
+)];
 
 pub static VIEW: [Argument<'static>; 4] = [
     Wanted("CONFIG", CONFIG_HELP),

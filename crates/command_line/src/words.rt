@@ -8,7 +8,7 @@ ghost use Rattle.command_line.specs.Jobs.{every_in, every_of, feed_options_asked
 ghost use Rattle.command_line.specs.Jobs.{is_askable, is_spelled, job_of, number_in};
 ghost use Rattle.command_line.specs.Jobs.{number_of};
 ghost use Rattle.command_line.specs.Jobs.{options_asked, options_in, read_asked, replay_asked};
-ghost use Rattle.command_line.specs.Jobs.{seconds_if, serve_asked};
+ghost use Rattle.command_line.specs.Jobs.{is_without_page, seconds_if, serve_asked, serve_options_asked, status_asked};
 ghost use Rattle.command_line.specs.Jobs.{verbose_by, verbose_in, verbose_of, view_asked, wants_by};
 ghost use Rattle.command_line.specs.declared.job.WordsFault.TheVariants.{OutOfMemory};
 
@@ -25,7 +25,7 @@ use text_parts::decimal;
 use text_parts::separators::cut_at;
 
 /// The text of an argument, where it has one.
-fn text_at<'a>(arguments: &ArgMatches<'a>, name: &str) -> Option<&'a str>
+pub fn text_at<'a>(arguments: &ArgMatches<'a>, name: &str) -> Option<&'a str>
     ensures { option_map (λ s. s.now) result ≡ first_of name.now (rows_of (found_of arguments.now)) }
 {
     arguments.get_str(name)
@@ -164,6 +164,13 @@ pub fn every_in<'a>(arguments: &ArgMatches<'a>, name: &str) -> Option<Option<Eve
     }
 }
 
+/// Whether they say something of a status page that is not asked for.
+fn is_without_page(options: &ServeOptions<'_>) -> bool
+    ensures { result ≡ is_without_page (serve_options_asked options.now) }
+{
+    options.status.is_none() && (options.status_from.is_some() || options.silent.is_some())
+}
+
 fn serve_job<'a>(arguments: &ArgMatches<'a>) -> Option<Job<'a>>
     ensures { option_map asked result ≡ serve_asked (rows_of (found_of arguments.now)) }
 {
@@ -174,8 +181,9 @@ fn serve_job<'a>(arguments: &ArgMatches<'a>) -> Option<Job<'a>>
     let reread = every_in(arguments, "reread")?;
     let report = every_in(arguments, "report")?;
     let per_address = number_in(arguments, "per-address")?;
+    let silent = number_in(arguments, "silent")?;
     let is_strict = has_flag(arguments, "strict");
-    Some(Job::Serve(ServeOptions {
+    let options = ServeOptions {
         config,
         listen,
         feed,
@@ -185,9 +193,16 @@ fn serve_job<'a>(arguments: &ArgMatches<'a>) -> Option<Job<'a>>
         feed_from: text_at(arguments, "feed-from"),
         per_address,
         numbers: text_at(arguments, "numbers"),
+        status: text_at(arguments, "status"),
+        status_from: text_at(arguments, "status-from"),
+        silent,
         is_logged: has_flag(arguments, "log"),
         is_strict,
-    }))
+    };
+    if is_without_page(&options) {
+        return None;
+    }
+    Some(Job::Serve(options))
 }
 
 /// The options of `feed`; None if the text of the number is not one, or if `--strict` and `--skip` stand together.
@@ -308,6 +323,13 @@ fn read_job<'a>(alloc: Global, arguments: &ArgMatches<'a>) -> Result<Option<Job<
     }))
 }
 
+fn status_job<'a>(arguments: &ArgMatches<'a>) -> Option<Job<'a>>
+    ensures { option_map asked result ≡ status_asked (rows_of (found_of arguments.now)) }
+{
+    let server = text_at(arguments, "SERVER")?;
+    Some(Job::Status { server })
+}
+
 fn job_in<'a>(alloc: Global, matches: &ArgMatches<'a>) -> Result<Option<Job<'a>>, AllocError>
     ensures { IfOk result (λ job. option_map asked job ≡ asked_by (subcommand_rows_of matches.now)) }
 {
@@ -326,6 +348,8 @@ fn job_in<'a>(alloc: Global, matches: &ArgMatches<'a>) -> Result<Option<Job<'a>>
         feed_job(alloc, arguments)
     } else if name == "read" {
         read_job(alloc, arguments)
+    } else if name == "status" {
+        Ok(status_job(arguments))
     } else {
         Ok(None)
     }

@@ -301,6 +301,9 @@ fn a_list_of_feeders(rt: HostRuntime) -> Result<(), Fail> {
         feed_from: Some("10.0.0.7, 10.0.0.0/33, localhost"),
         per_address: None,
         numbers: None,
+        status: None,
+        status_from: None,
+        silent: None,
         is_logged: false,
         is_strict: false,
     });

@@ -94,6 +94,9 @@ fn is_serve(job: &Job<'_>, ends: Option<usize>, list: Option<&str>, most: Option
                 feed_from,
                 per_address,
                 numbers: None,
+                status: None,
+                status_from: None,
+                silent: None,
                 is_logged: false,
                 is_strict: false,
             },
@@ -217,6 +220,44 @@ fn serve_has_who_may_connect(rt: HostRuntime) -> Result<(), Fail> {
     )?;
     let job = request_of(rt.alloc(), &words)?.job;
     assert!(rt; is_serve(&job, None, Some("10.0.0.7, 10.1.0.0/16"), Some(3)));
+    Ok(())
+}
+
+#[test]
+fn serve_may_have_a_status_page(rt: HostRuntime) -> Result<(), Fail> {
+    let words = strings(
+        rt.alloc(),
+        &[
+            "seedlinkd",
+            "serve",
+            "c",
+            "--listen=a",
+            "--feed=b",
+            "--status",
+            "d:4",
+            "--status-from=10.0.0.7",
+            "--silent=60",
+        ],
+    )?;
+    let job = request_of(rt.alloc(), &words)?.job;
+    let is_page = matches!(
+        job,
+        Job::Serve(ServeOptions {
+            status: Some("d:4"),
+            status_from: Some("10.0.0.7"),
+            silent: Some(60),
+            ..
+        })
+    );
+    assert!(rt; is_page);
+    Ok(())
+}
+
+#[test]
+fn status_has_a_server(rt: HostRuntime) -> Result<(), Fail> {
+    let words = strings(rt.alloc(), &["seedlinkd", "status", "a:3"])?;
+    let job = request_of(rt.alloc(), &words)?.job;
+    assert!(rt; matches!(job, Job::Status { server: "a:3" }));
     Ok(())
 }
 
@@ -445,8 +486,17 @@ fn help_is_told(rt: HostRuntime) -> Result<(), Fail> {
 
 #[test]
 fn other_words_are_refused(rt: HostRuntime) -> Result<(), Fail> {
-    let all: [&[&str]; 18] = [
+    let all: [&[&str]; 20] = [
         &[],
+        &["seedlinkd", "status"],
+        &[
+            "seedlinkd",
+            "serve",
+            "c",
+            "--listen=a:1",
+            "--feed=b:2",
+            "--silent=60",
+        ],
         &["seedlinkd", "view", "c", "10.0.0.7", "--station=GE_APE"],
         &["seedlinkd", "feed", "a:1", "f", "--strict", "--skip"],
         &["seedlinkd", "read", "a:1", "GE_WLF", "--retry=0"],
@@ -502,7 +552,7 @@ fn other_words_are_refused(rt: HostRuntime) -> Result<(), Fail> {
 }
 
 /// Words of `read` and `feed` that don't go together, and what is said of them.
-static MISTAKES: [(&[&str], &str); 9] = [
+static MISTAKES: [(&[&str], &str); 10] = [
     (
         &["read", "a:1"],
         "error: a WANT or --wants is needed\n\nUsage: seedlinkd read ",
@@ -559,6 +609,10 @@ static MISTAKES: [(&[&str], &str); 9] = [
     (
         &["serve", "c", "--listen=a", "--feed=b", "--reread=5m"],
         "error: a period is N turns, as 600, or N seconds, as 60s",
+    ),
+    (
+        &["serve", "c", "--listen=a", "--feed=b", "--silent=60"],
+        "error: --silent needs --status\n",
     ),
 ];
 
