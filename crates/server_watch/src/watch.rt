@@ -1,0 +1,272 @@
+//! A server that is watched.
+ghost use Rattle.std.specs.Prelude.{◌≡◌, length};
+ghost use Rattle.protocol.specs.Catalog.{Config as ProtocolConfig};
+ghost use Rattle.protocol.specs.World.{World};
+ghost use Rattle.server_core.specs.ServerValues.{StandsAt};
+ghost use Rattle.event_loop.specs.Hearing.{clients_in, feeds_in};
+
+use crate::arrivals::Arrivals;
+use crate::behind::behind_of;
+use crate::minutes::Minutes;
+use catalog::{Config, Station};
+use event_loop::{Loop, Role, Seat};
+use ports::Ports;
+use server_core::Server;
+use session_state::{Session, State};
+use sl_time::Tick;
+use station_ring::{Ring, Rings};
+use status_page::{ClientStatus, LastRecord, NamedCount, StationStatus, StatusValue};
+use std::alloc::{AllocError, Global};
+use std::net::Ipv4Addr;
+
+/// How many clients are told of at most.
+const CLIENTS: usize = 1_000;
+
+/// A client that is here: its port, from where it came, and when, in milliseconds since the server began.
+#[derive(Clone, Copy, Drop)]
+pub struct Visitor {
+    pub port: u64,
+    pub address: Ipv4Addr,
+    pub since: u64,
+}
+
+/// What else is told of a server: what the server itself doesn't know.
+#[derive(Clone, Copy)]
+pub struct Told<'a> {
+    /// The program with its version and its logic.
+    pub version: &'a [u8],
+    /// When it began, by the system's clock.
+    pub began: Option<Tick>,
+    /// After how many seconds without a record a station is silent.
+    pub silent_after: u64,
+    /// How many records were refused, by reason.
+    pub refusals: &'a [NamedCount<'a>],
+    /// How many connections were turned away, by reason.
+    pub away: &'a [NamedCount<'a>],
+}
+
+/// What was seen of a server.
+#[derive(Drop)]
+pub struct Watch {
+    arrivals: Vec<Arrivals>,
+    minutes: Minutes,
+    followers: Vec<u64>,
+    clients: Vec<ClientStatus>,
+    /// The second of the last look at records, and that of the last look at clients.
+    noted: Option<u64>,
+    gathered: Option<u64>,
+}
+
+impl Watch {
+    /// A server with that configuration that begins now: the time is 0. Only memory can lack.
+    pub fn new(alloc: Global, config: &Config) -> Result<Watch, AllocError> {
+        let stations = config.stations().len();
+        let mut arrivals = Vec::with_capacity(alloc, stations)?;
+        arrivals.resize(stations, Arrivals { seen: 0, last: 0 })?;
+        let mut followers = Vec::with_capacity(alloc, stations)?;
+        followers.resize(stations, 0)?;
+        let clients = Vec::with_capacity(alloc, CLIENTS.min(config.max_connections()))?;
+        Ok(Watch {
+            arrivals,
+            minutes: Minutes::new(alloc, stations)?,
+            followers,
+            clients,
+            noted: None,
+            gathered: None,
+        })
+    }
+
+    /// Looks at the records that came, once a second. It takes no memory.
+    pub fn note(&mut self, now: u64, rings: &Rings) {
+        let second = now / 1_000;
+        if self.noted == Some(second) {
+            return;
+        }
+        self.noted = Some(second);
+        self.minutes.advance(second / 60);
+        for (place, arrivals) in self.arrivals.iter_mut().enumerate() {
+            if let Some(ring) = rings.ring(place) {
+                let came = arrivals.note(ring.pushes(), now);
+                if came > 0 {
+                    self.minutes.add(place, came);
+                }
+            }
+        }
+    }
+
+    /// Nobody follows a station.
+    fn forget(&mut self) {
+        self.clients.clear();
+        for followers in self.followers.iter_mut() {
+            *followers = 0;
+        }
+    }
+
+    /// Counts a client among the followers of the stations that it named.
+    fn follow(&mut self, session: &Session) {
+        for choice in session.choices() {
+            if let Some(followers) = self.followers.get_mut(choice.station) {
+                *followers = followers.saturating_add(1);
+            }
+        }
+    }
+
+    /// Tells of a client, if not as many are told of already as are at most.
+    fn tell(&mut self, server: &Server, seat: &Seat, now: u64, visitors: &[Visitor]) {
+        let Role::Client(client) = &seat.role else {
+            return;
+        };
+        let Some(session) = server.session(client) else {
+            return;
+        };
+        self.follow(session);
+        if self.clients.len() < CLIENTS {
+            let status = client_status(server.rings(), session, seat.port, now, visitors);
+            let _ = self.clients.push(status);
+        }
+    }
+
+    /// Looks at the clients, once a second at most.
+    pub fn gather<P: Ports>(&mut self, now: u64, server: &Loop<P>, visitors: &[Visitor]) {
+        let second = now / 1_000;
+        if self.gathered == Some(second) {
+            return;
+        }
+        self.gathered = Some(second);
+        self.forget();
+        for seat in server.seats() {
+            self.tell(server.server(), seat, now, visitors);
+        }
+        self.minutes.order();
+    }
+
+    /// What is told of the station at a place, if one is there.
+    fn station_at<'x>(
+        &'x self,
+        now: u64,
+        place: usize,
+        station: &'x Station,
+        rings: &Rings,
+    ) -> Option<StationStatus<'x>> {
+        let ring = rings.ring(place)?;
+        let arrivals = self.arrivals.get(place)?;
+        let followers = self.followers.get(place)?;
+        Some(StationStatus {
+            network: station.network(),
+            code: station.code(),
+            description: station.description(),
+            held: held_of(ring),
+            capacity: station.capacity() as u64,
+            next_number: ring.next_number().digits(),
+            records: ring.pushes(),
+            last: last_of(ring),
+            age: arrivals.age(now),
+            minutes: self.minutes.of(place),
+            followers: *followers,
+        })
+    }
+
+    /// What is told of all stations, in the order of the configuration or by age. The list is made anew; only memory
+    /// for it can lack.
+    pub fn stations<'x, P: Ports>(
+        &'x self,
+        alloc: Global,
+        now: u64,
+        server: &'x Loop<P>,
+        is_by_age: bool,
+    ) -> Result<Vec<StationStatus<'x>>, AllocError> {
+        let config = server.server().config();
+        let rings = server.rings();
+        let mut stations = Vec::with_capacity(alloc, config.stations().len())?;
+        for (place, station) in config.stations().iter().enumerate() {
+            if let Some(status) = self.station_at(now, place, station, rings) {
+                // There is room for it.
+                let _ = stations.push(status);
+            }
+        }
+        if is_by_age {
+            stations.sort_by_key(|station| u64::MAX - station.age)?;
+        }
+        Ok(stations)
+    }
+
+    /// What is told of the server, with what is told of its stations.
+    pub fn status<'x, P: Ports>(
+        &'x self,
+        now: u64,
+        server: &'x Loop<P>,
+        told: Told<'x>,
+        stations: &'x [StationStatus<'x>],
+    ) -> StatusValue<'x>
+        ensures stations { result.stations ≡ stations.entry }
+        ensures records { (config : ProtocolConfig) (w : World) → StandsAt server.now.server config w →
+            result.records ≡ length w.history }
+        ensures open_clients { result.open_clients ≡ clients_in server.now.seats }
+        ensures open_feeds { result.open_feeds ≡ feeds_in server.now.seats }
+        ensures refused { result.refused ≡ server.now.refused }
+        ensures title { result.title.now ≡ server.now.server.config.title }
+        ensures silent_after { result.silent_after ≡ told.entry.silent_after }
+    {
+        StatusValue {
+            title: server.server().config().title(),
+            version: told.version,
+            began: told.began,
+            passed: now / 1_000,
+            silent_after: told.silent_after,
+            open_clients: server.clients() as u64,
+            open_feeds: server.feeds() as u64,
+            records: server.arrivals(),
+            refused: server.refused(),
+            refusals: told.refusals,
+            away: told.away,
+            stations,
+            clients: self.clients.as_slice(),
+        }
+    }
+}
+
+/// How many records a ring holds.
+fn held_of(ring: &Ring) -> u64 {
+    let pushes = ring.pushes();
+    match ring.oldest() {
+        Some(oldest) => pushes.saturating_sub(oldest),
+        None => 0,
+    }
+}
+
+/// The last record of a ring.
+fn last_of(ring: &Ring) -> Option<LastRecord> {
+    let held = ring.get(ring.pushes().checked_sub(1)?)?;
+    Some(LastRecord {
+        start: held.summary.start,
+        stop: held.summary.stop,
+    })
+}
+
+/// What is told of a client.
+fn client_status(
+    rings: &Rings,
+    session: &Session,
+    port: u64,
+    now: u64,
+    visitors: &[Visitor],
+) -> ClientStatus {
+    let at = match visitors.binary_search_by_key(&port, |visitor| visitor.port) {
+        Ok(at) => at,
+        Err(at) => at,
+    };
+    let (address, since) = match visitors.get(at) {
+        Some(visitor) if visitor.port == port => (visitor.address.octets(), visitor.since),
+        _ => ([0; 4], now),
+    };
+    ClientStatus {
+        number: port,
+        address,
+        seconds: now.saturating_sub(since) / 1_000,
+        named: session.choices().len() as u64,
+        behind: match session.state() {
+            State::Transfer(_) => behind_of(rings, session.choices()),
+            _ => 0,
+        },
+    }
+}
