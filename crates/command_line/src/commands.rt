@@ -12,7 +12,7 @@ use std::alloc::{AllocError, Global};
 
 /// What `--version` prints after the program's name: the version, and the logic of the toolchain with which each
 /// function was proved before the program was built.
-const VERSION: &str = "0.1.0 (each function proved, logic dac8208d650f15bf)";
+pub const VERSION: &str = "0.1.0 (each function proved, logic dac8208d650f15bf)";
 
 /// A command that is being built, unless memory ran out on the way.
 type Built<'a> = Result<Command<'a>, AllocError>;

@@ -8,6 +8,7 @@ mod mistakes;
 mod tables;
 mod words;
 
+pub use commands::VERSION;
 pub use job::{
     CheckOptions, Every, FeedOptions, Job, ReadOptions, Request, ServeOptions, ViewOptions,
     WordsFault,

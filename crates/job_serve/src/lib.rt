@@ -3,12 +3,14 @@
 #![tactic(auto)]
 
 mod admitting;
+mod counts;
 mod descriptors;
 mod numbers;
 mod operator;
 mod refusals;
 mod sockets;
 mod spare;
+mod status;
 mod timetable;
 mod visits;
 

@@ -11,12 +11,14 @@ ghost use Rattle.incidents.specs.declared.incident.Incident.{Incident};
 
 use crate::numbers::NumberFile;
 use crate::spare::Spare;
+use crate::status::StatusDesk;
 use crate::timetable::{seconds_in, timetable_of};
 use crate::visits::SharedLines;
 use catalog::Config;
 use command_line::ServeOptions;
 use config_explained::{Difference, first_difference};
 use error_lines::{Device, Line};
+use event_loop::Loop;
 use incidents::{Failure, Incident, Site, Told};
 use job_base::{config_in, plain_text_at, refuse_unknown, unknown_lines};
 use ports::Ports;
@@ -67,6 +69,8 @@ pub struct Operator<'r, 'a, 'l, R, D> {
     /// The lines that named such keys last.
     unknown: Vec<u8>,
     errors: &'l SharedLines<D>,
+    /// The status port, if there is one.
+    status: Option<StatusDesk<'l>>,
     /// The configuration that the server began with.
     begun: Config,
     /// What the configuration that was read last differs in first, but for access lists.
@@ -127,6 +131,7 @@ impl<'r, 'a, 'l, R: Files<File = File> + Clock + AllocGlobal, D> Operator<'r, 'a
         request: ServeRequest<'a>,
         numbers: Option<NumberFile<'a>>,
         errors: &'l SharedLines<D>,
+        status: Option<StatusDesk<'l>>,
     ) -> Result<Operator<'r, 'a, 'l, R, D>, Incident<'a>>
         ensures { IfErr result (λ incident. incident.failure ≡ Serve OutOfMemory) }
     {
@@ -151,6 +156,7 @@ impl<'r, 'a, 'l, R: Files<File = File> + Clock + AllocGlobal, D> Operator<'r, 'a
             is_strict: options.is_strict,
             unknown: Vec::new(rt.alloc()),
             errors,
+            status,
             begun,
             difference: None,
         })
@@ -279,17 +285,34 @@ impl<'r, 'a, 'l, R: Files<File = File> + Clock + AllocGlobal, D: Device> Between
         self.last_keep = LastKeep::Succeeded;
         Ok(())
     }
+
+    /// What is asked at the status port is answered.
+    fn watch<P: Ports>(&mut self, server: &Loop<P>) {
+        if self.status.is_none() {
+            return;
+        }
+        if let (Some(now), Some(status)) = (self.passed(), &mut self.status) {
+            status.look(self.rt.alloc(), now, server);
+        }
+    }
 }
 
 /// Runs a new server with the configuration that was read from a file over ports, as the words say, with lines to a
-/// device and the numbers in a file, if there is one, and gives the ports back.
-pub fn serve_by<'a, R: Files<File = File> + Clock + AllocGlobal, P: Ports + Drop, D: Device + Drop>(
+/// device, the numbers in a file and a status port, if there are any, and gives the ports back.
+pub fn serve_by<
+    'a,
+    'l,
+    R: Files<File = File> + Clock + AllocGlobal,
+    P: Ports + Drop,
+    D: Device + Drop,
+>(
     rt: &R,
     config: Config,
     ports: P,
     request: ServeRequest<'a>,
     numbers: Option<NumberFile<'a>>,
-    errors: &SharedLines<D>,
+    errors: &'l SharedLines<D>,
+    status: Option<StatusDesk<'l>>,
 ) -> Result<P, Incident<'a>>
     ensures served { IfOk result (λ left.
         ServedByFile (timetable_of request.entry.options) config (P.calls ports) (P.calls left)) }
@@ -297,7 +320,7 @@ pub fn serve_by<'a, R: Files<File = File> + Clock + AllocGlobal, P: Ports + Drop
         EndedByFile (timetable_of request.entry.options) config (P.calls ports)) }
 {
     let timetable = timetable_of(&request.options);
-    let mut operator = match Operator::new(rt, &config, request, numbers, errors) {
+    let mut operator = match Operator::new(rt, &config, request, numbers, errors, status) {
         Ok(operator) => operator,
         Err(incident) => return Err(incident),
     };

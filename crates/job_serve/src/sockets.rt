@@ -2,9 +2,11 @@
 ghost use Rattle.std.specs.Prelude.{◌≡◌, ◌+◌, [], IfOk};
 
 use crate::admitting::admission_of;
+use crate::counts::SharedCounts;
 use crate::descriptors::tell_missing;
 use crate::numbers::NumberFile;
 use crate::operator::{ServeRequest, serve_by};
+use crate::status::{StatusDesk, StatusDoor, listen_for_status, status_door};
 use crate::visits::{SharedLines, VisitLines};
 use catalog::Config;
 use command_line::ServeOptions;
@@ -14,6 +16,7 @@ use job_base::{ServerAddress, checked_config_at, plain_at, server_of};
 use logged_ports::LoggedPorts;
 use serving::ServeFault;
 use socket_ports::{Admission, MioPorts};
+use status_ports::StatusPorts;
 use std::alloc::AllocError;
 use std::fs::File;
 use std::net::Net;
@@ -25,6 +28,7 @@ struct Opened<'a> {
     clients: ServerAddress<'a>,
     feeds: ServerAddress<'a>,
     admission: Admission,
+    status: Option<StatusDoor<'a>>,
     config: Config,
     numbers: Option<NumberFile<'a>>,
 }
@@ -38,6 +42,7 @@ fn open<'a, R: Files<File = File> + Eprint + AllocGlobal>(
     let clients = server_of(options.listen)?;
     let feeds = server_of(options.feed)?;
     let admission = admission_of(rt.alloc(), options)?;
+    let status = status_door(rt.alloc(), options)?;
     if options.reread.is_some() {
         plain_at(rt, options.config)?;
     }
@@ -48,6 +53,7 @@ fn open<'a, R: Files<File = File> + Eprint + AllocGlobal>(
         clients,
         feeds,
         admission,
+        status,
         config,
         numbers,
     })
@@ -80,11 +86,13 @@ pub fn serve_sockets<'a, R: Files<File = File> + Eprint + Clock + Net + AllocGlo
         clients,
         feeds,
         admission,
+        status,
         config,
         numbers,
     } = open(rt, &request.options)?;
     let ports = listen(rt, clients, feeds, admission)?;
-    let mut ports = run(rt, config, ports, request, numbers)?;
+    let status = listen_for_status(rt, status)?;
+    let mut ports = run(rt, config, ports, request, numbers, status)?;
     ports.finish();
     Ok(())
 }
@@ -96,49 +104,89 @@ fn run<'a, R: Files<File = File> + Eprint + Clock + AllocGlobal>(
     ports: MioPorts,
     request: ServeRequest<'a>,
     numbers: Option<NumberFile<'a>>,
+    status: Option<StatusPorts>,
 ) -> Result<MioPorts, Incident<'a>> {
     let lines = SharedLines::new(StandardError::open(rt));
-    if request.options.is_logged {
-        run_logged(rt, config, ports, request, numbers, &lines)
-    } else {
-        serve_by(rt, config, ports, request, numbers, &lines)
+    match status {
+        Some(status) => run_watched(rt, config, ports, request, numbers, &lines, status),
+        None => {
+            if request.options.is_logged {
+                run_logged(rt, config, ports, request, numbers, &lines, None)
+            } else {
+                serve_by(rt, config, ports, request, numbers, &lines, None)
+            }
+        }
     }
 }
 
-/// How many feeds can be connected.
-const FEEDS: usize = 16;
-
-/// Ports that tell who comes and goes, and how many records of each feed were refused.
-fn ports_that_log<'r, 'l, R: AllocGlobal, D: Device + Drop>(
-    rt: &'r R,
-    config: &Config,
-    ports: MioPorts,
-    lines: &'l SharedLines<D>,
-) -> Result<LoggedPorts<MioPorts, VisitLines<'r, 'l, R, D>>, AllocError>
-    ensures inner { IfOk result (λ logged. logged.inner ≡ ports) }
-    ensures room { IfOk result (λ logged. logged.visitors.room ≡ config.now.max_connections + 16) }
-{
-    let room = config.max_connections() + FEEDS;
-    let journal = VisitLines::new(rt, rt.alloc(), lines)?;
-    LoggedPorts::new(rt.alloc(), ports, room, journal)
+/// The want of memory for a server.
+fn no_memory<'a>() -> Incident<'a> {
+    Incident {
+        failure: Failure::Serve(ServeFault::OutOfMemory),
+        site: Site::Unnamed,
+    }
 }
 
-/// The same, and tells who comes and goes.
-fn run_logged<'a, R: Files<File = File> + Clock + AllocGlobal, D: Device + Drop>(
+/// The same, with a status port.
+fn run_watched<'a, R: Files<File = File> + Clock + AllocGlobal, D: Device + Drop>(
     rt: &R,
     config: Config,
     ports: MioPorts,
     request: ServeRequest<'a>,
     numbers: Option<NumberFile<'a>>,
     lines: &SharedLines<D>,
+    status: StatusPorts,
 ) -> Result<MioPorts, Incident<'a>> {
-    let Ok(logged) = ports_that_log(rt, &config, ports, lines) else {
-        return Err(Incident {
-            failure: Failure::Serve(ServeFault::OutOfMemory),
-            site: Site::Unnamed,
-        });
+    let Ok(counts) = SharedCounts::new(rt.alloc(), config.max_connections()) else {
+        return Err(no_memory());
     };
-    match serve_by(rt, config, logged, request, numbers, lines) {
+    let silent = request.options.silent;
+    match StatusDesk::new(rt, rt.alloc(), status, &config, silent, &counts) {
+        Ok(desk) => run_logged(rt, config, ports, request, numbers, lines, Some(desk)),
+        Err(_) => Err(no_memory()),
+    }
+}
+
+/// How many feeds can be connected.
+const FEEDS: usize = 16;
+
+/// Ports that tell who comes and goes, and how many records of each feed were refused: in lines, if there are any, and
+/// in counts, if there are some.
+fn ports_that_log<'r, 'l, R: Clock + AllocGlobal, D: Device + Drop>(
+    rt: &'r R,
+    config: &Config,
+    ports: MioPorts,
+    lines: Option<&'l SharedLines<D>>,
+    counts: Option<&'l SharedCounts>,
+) -> Result<LoggedPorts<MioPorts, VisitLines<'r, 'l, R, D>>, AllocError>
+    ensures inner { IfOk result (λ logged. logged.inner ≡ ports) }
+    ensures room { IfOk result (λ logged. logged.visitors.room ≡ config.now.max_connections + 16) }
+{
+    let room = config.max_connections() + FEEDS;
+    let journal = VisitLines::new(rt, rt.alloc(), lines, counts)?;
+    LoggedPorts::new(rt.alloc(), ports, room, journal)
+}
+
+/// Serves, tells who comes and goes if that is wanted, and counts it for a status port if there is one.
+fn run_logged<'a, 'l, R: Files<File = File> + Clock + AllocGlobal, D: Device + Drop>(
+    rt: &R,
+    config: Config,
+    ports: MioPorts,
+    request: ServeRequest<'a>,
+    numbers: Option<NumberFile<'a>>,
+    lines: &'l SharedLines<D>,
+    status: Option<StatusDesk<'l>>,
+) -> Result<MioPorts, Incident<'a>> {
+    let counts = status.as_ref().map(|desk| desk.counts());
+    let log = if request.options.is_logged {
+        Some(lines)
+    } else {
+        None
+    };
+    let Ok(logged) = ports_that_log(rt, &config, ports, log, counts) else {
+        return Err(no_memory());
+    };
+    match serve_by(rt, config, logged, request, numbers, lines, status) {
         Ok(logged) => {
             let (ports, _journal) = logged.into_parts();
             Ok(ports)

@@ -2,6 +2,7 @@
 ghost use Rattle.std.specs.Prelude.{[], ◌∷◌, None};
 ghost use Rattle.logged_ports.specs.Visits.{Notes};
 
+use crate::counts::SharedCounts;
 use crate::refusals::{RefusalLog, RefusedLine, RefusedText};
 use error_lines::{Device, ErrorLines, Line};
 use logged_ports::{Journal, Visit};
@@ -10,6 +11,7 @@ use std::alloc::{AllocError, Global};
 use std::cell::RefCell;
 use std::fmt::{Display, Write};
 use std::rt::Clock;
+use std::time::Duration;
 
 /// Lines to a device that several parts of a server write.
 #[derive(Drop)]
@@ -34,27 +36,45 @@ impl<D: Device> SharedLines<D> {
 }
 
 /// A journal whose entries are lines, as `seedlinkd: open 17 10.0.0.7`. Of records that were refused it writes one for
-/// each cause of a feed, and for each unknown station one an hour.
+/// each cause of a feed, and for each unknown station one an hour. It counts what a status port tells of visits, if
+/// there is one.
 #[derive(Drop)]
 pub struct VisitLines<'r, 'l, R, D> {
     rt: &'r R,
-    lines: &'l SharedLines<D>,
+    /// None if no line is written.
+    lines: Option<&'l SharedLines<D>>,
     refusals: RefusalLog,
+    counts: Option<&'l SharedCounts>,
+    /// When the server began, by the system's clock.
+    began: Duration,
 }
 
-impl<'r, 'l, R, D> VisitLines<'r, 'l, R, D> {
-    /// A journal that wrote nothing yet. It fails only for want of memory.
+impl<'r, 'l, R: Clock, D> VisitLines<'r, 'l, R, D> {
+    /// A journal that wrote and counted nothing yet. It fails only for want of memory.
     pub fn new(
         rt: &'r R,
         alloc: Global,
-        lines: &'l SharedLines<D>,
+        lines: Option<&'l SharedLines<D>>,
+        counts: Option<&'l SharedCounts>,
     ) -> Result<VisitLines<'r, 'l, R, D>, AllocError> {
         let refusals = RefusalLog::new(alloc)?;
         Ok(VisitLines {
             rt,
             lines,
             refusals,
+            counts,
+            began: rt.monotonic().unwrap_or(Duration::ZERO),
         })
+    }
+
+    /// How many milliseconds have passed since the server began; 0 if the system can't tell the time.
+    fn passed(&self) -> u64 {
+        match self.rt.monotonic() {
+            Ok(now) => {
+                u64::try_from(now.saturating_sub(self.began).as_millis()).unwrap_or(u64::MAX)
+            }
+            Err(_) => 0,
+        }
     }
 }
 
@@ -67,15 +87,42 @@ fn line_of(text: impl Display + Drop) -> Line {
 
 impl<'r, 'l, R: Clock, D: Device> VisitLines<'r, 'l, R, D> {
     /// A record of a feed was refused, of which the visit tells.
-    fn note_refused(&mut self, visit: &Visit, port: u64, refusal: Refusal) {
+    fn write_refused(
+        &mut self,
+        lines: &SharedLines<D>,
+        visit: &Visit,
+        port: u64,
+        refusal: Refusal,
+    ) {
         let now = match self.rt.monotonic() {
             Ok(now) => u64::try_from(now.as_millis()).unwrap_or(u64::MAX),
             Err(_) => 0,
         };
         match self.refusals.see(port, refusal, now) {
-            Some(RefusedLine::First) => self.lines.write_line(&line_of(visit)),
-            Some(more) => self.lines.write_line(&line_of(RefusedText(more))),
+            Some(RefusedLine::First) => lines.write_line(&line_of(visit)),
+            Some(more) => lines.write_line(&line_of(RefusedText(more))),
             None => {}
+        }
+    }
+
+    /// Writes the line of a visit, if one is due.
+    fn write(&mut self, lines: &SharedLines<D>, visit: &Visit) {
+        match visit {
+            Visit::Refused {
+                port,
+                record: _,
+                refusal,
+            } => self.write_refused(lines, visit, *port, *refusal),
+            Visit::FeedOver {
+                port,
+                address: _,
+                records: _,
+                refused: _,
+            } => {
+                self.refusals.forget(*port);
+                lines.write_line(&line_of(visit));
+            }
+            _ => lines.write_line(&line_of(visit)),
         }
     }
 }
@@ -87,22 +134,11 @@ impl<'r, 'l, R: Clock, D: Device> Journal for VisitLines<'r, 'l, R, D> {
     fn note(&mut self, visit: Visit)
         ensures { Notes None None (visit ∷ []) }
     {
-        match visit {
-            Visit::Refused {
-                port,
-                record: _,
-                refusal,
-            } => self.note_refused(&visit, port, refusal),
-            Visit::FeedOver {
-                port,
-                address: _,
-                records: _,
-                refused: _,
-            } => {
-                self.refusals.forget(port);
-                self.lines.write_line(&line_of(visit));
-            }
-            _ => self.lines.write_line(&line_of(visit)),
+        if let Some(counts) = self.counts {
+            counts.note(&visit, self.passed());
+        }
+        if let Some(lines) = self.lines {
+            self.write(lines, &visit);
         }
     }
 }

@@ -1,0 +1,162 @@
+//! The status port of a server: between its turns it is looked at, and what is asked is answered.
+use crate::counts::SharedCounts;
+use access_list::AccessList;
+use catalog::Config;
+use command_line::{ServeOptions, VERSION};
+use event_loop::Loop;
+use incidents::Incident;
+use job_base::{ServerAddress, server_of};
+use ports::Ports;
+use server_watch::{Told, Watch};
+use sl_time::Tick;
+use socket_ports::ListenError;
+use status_page::Target;
+use status_ports::{Asked, StatusPorts};
+use std::alloc::{AllocError, Global};
+use std::net::Net;
+use std::rt::Clock;
+use std::time::Duration;
+
+/// How many milliseconds lie between two looks at the port, and so between two answers.
+const PACE: u64 = 10;
+
+/// After how many seconds without a record a station is silent, if the command line doesn't say it.
+const SILENT: usize = 600;
+
+/// Where the status port is to be, and from where it may be asked.
+#[derive(Drop)]
+pub struct StatusDoor<'a> {
+    address: ServerAddress<'a>,
+    list: Option<AccessList>,
+}
+
+/// From where a status port may be asked, by the list that a word spells; this machine alone without one.
+fn list_of<'a>(alloc: Global, word: Option<&'a str>) -> Result<Option<AccessList>, Incident<'a>> {
+    match word {
+        Some(word) => match AccessList::parse(alloc, word.as_bytes()) {
+            Ok(list) => Ok(Some(list)),
+            Err(fault) => Err(Incident::of_list(word, fault)),
+        },
+        None => Ok(None),
+    }
+}
+
+/// Where the status port is to be, if the words of a command line name one.
+pub fn status_door<'a>(
+    alloc: Global,
+    options: &ServeOptions<'a>,
+) -> Result<Option<StatusDoor<'a>>, Incident<'a>> {
+    match options.status {
+        Some(word) => {
+            let address = server_of(word)?;
+            let list = list_of(alloc, options.status_from)?;
+            Ok(Some(StatusDoor { address, list }))
+        }
+        None => Ok(None),
+    }
+}
+
+/// Listens there, if there is to be a status port.
+pub fn listen_for_status<'a, R: Net + AllocGlobal>(
+    rt: &R,
+    door: Option<StatusDoor<'a>>,
+) -> Result<Option<StatusPorts>, Incident<'a>> {
+    let Some(door) = door else {
+        return Ok(None);
+    };
+    let StatusDoor { address, list } = door;
+    match StatusPorts::listen(rt, rt.alloc(), address.endpoint.socket_address(), list) {
+        Ok(ports) => Ok(Some(ports)),
+        Err(reason) => Err(Incident::of_listening(
+            address.word,
+            address.word,
+            ListenError::Clients(reason),
+        )),
+    }
+}
+
+/// A status port, and what is seen of the server.
+#[derive(Drop)]
+pub struct StatusDesk<'l> {
+    ports: StatusPorts,
+    watch: Watch,
+    counts: &'l SharedCounts,
+    began: Option<Tick>,
+    silent_after: u64,
+    /// When it was looked at last.
+    looked: Option<u64>,
+}
+
+/// The moment that a clock tells, as a length of time since 1970.
+fn tick_of(now: Duration) -> Option<Tick> {
+    let ticks = i64::try_from(now.as_micros() / 100).ok()?;
+    Some(Tick::new(ticks))
+}
+
+impl<'l> StatusDesk<'l> {
+    /// A desk at a port that is listened on, for a server with that configuration that begins now. Only memory can
+    /// lack.
+    pub fn new(
+        rt: &impl Clock,
+        alloc: Global,
+        ports: StatusPorts,
+        config: &Config,
+        silent: Option<usize>,
+        counts: &'l SharedCounts,
+    ) -> Result<StatusDesk<'l>, AllocError> {
+        let watch = Watch::new(alloc, config)?;
+        let began = match rt.since_1970() {
+            Ok(now) => tick_of(now),
+            Err(_) => None,
+        };
+        Ok(StatusDesk {
+            ports,
+            watch,
+            counts,
+            began,
+            silent_after: silent.unwrap_or(SILENT) as u64,
+            looked: None,
+        })
+    }
+
+    /// What its journal counts.
+    pub fn counts(&self) -> &'l SharedCounts {
+        self.counts
+    }
+
+    /// Looks at the server and at the port, at a time in milliseconds since the server began, and answers one request
+    /// if there is one. It never waits.
+    pub fn look<P: Ports>(&mut self, alloc: Global, now: u64, server: &Loop<P>) {
+        if self
+            .looked
+            .is_some_and(|looked| now.saturating_sub(looked) < PACE)
+        {
+            return;
+        }
+        self.looked = Some(now);
+        self.watch.note(now, server.rings());
+        if let Some(asked) = self.ports.look(now) {
+            self.answer(alloc, now, server, asked);
+        }
+    }
+
+    /// Answers a request. Without memory for what is told, it is not answered, and closed when its time is over.
+    fn answer<P: Ports>(&mut self, alloc: Global, now: u64, server: &Loop<P>, asked: Asked) {
+        let Some(counts) = self.counts.counts() else {
+            return;
+        };
+        let told = Told {
+            version: VERSION.as_bytes(),
+            began: self.began,
+            silent_after: self.silent_after,
+            refusals: counts.refusals.as_slice(),
+            away: counts.away.as_slice(),
+        };
+        let is_by_age = matches!(asked.request.target, Target::PageByAge);
+        self.watch.gather(now, server, counts.visitors.as_slice());
+        if let Ok(stations) = self.watch.stations(alloc, now, server, is_by_age) {
+            let status = self.watch.status(now, server, told, stations.as_slice());
+            self.ports.answer(asked, &status, now);
+        }
+    }
+}
