@@ -68,9 +68,9 @@ class Argument:
 def commands():
     """The commands with their arguments, in order."""
     source = read(f"{TOP}/crates/command_line/src/tables.rt")
-    for table, rows in re.findall(r"^pub static ([A-Z]+): .*?= \[\n(.*?)^\];", source, re.M | re.S):
+    for table, rows in re.findall(r"^pub static ([A-Z]+): [^=]*= \[(.*?)\];$", source, re.M | re.S):
         command = table.lower()
-        found = re.findall(r"\b([A-Z][a-z]+)\((.*?)\),\n", rows, re.S)
+        found = re.findall(r"\b([A-Z][a-z]+)\((.*?)\),\n", f"{rows.rstrip(',' + chr(10))},\n", re.S)
         yield command, [Argument(command, kind, re.findall(r'"((?:[^"\\]|\\.)*)"', texts)) for kind, texts in found]
 
 

@@ -16,7 +16,7 @@ _seedlinkd() {
             serve) options+=" --listen --feed --turns --reread --report --feed-from --per-address --numbers --log --status --status-from --silent --strict" ;;
             feed) options+=" --from --config --strict --skip" ;;
             read) options+=" --fetch --begin --end --retry --timeout --wants --archive --state --iso --output" ;;
-            status) options+=" --station --strict" ;;
+            view) options+=" --station --strict" ;;
             check) options+=" --iso --summary --quiet --gaps --config" ;;
             replay) options+=" --text" ;;
             # end options
@@ -24,12 +24,12 @@ _seedlinkd() {
         mapfile -t COMPREPLY < <(compgen -W "$options" -- "$current")
     elif [ -z "$command" ]; then
         # begin commands
-        mapfile -t COMPREPLY < <(compgen -W "serve feed read status check replay" -- "$current")
+        mapfile -t COMPREPLY < <(compgen -W "serve feed read status view check replay" -- "$current")
         # end commands
     else
         case $command,$previous,$count in
             # begin files
-            *,--archive,* | *,--config,* | *,--numbers,* | *,--output,* | *,--state,* | *,--wants,* | serve,serve,0 | feed,*,[1-9]* | status,status,0 | status,*,1 | check,*,[0-9]* | replay,replay,0 | replay,*,1)
+            *,--archive,* | *,--config,* | *,--numbers,* | *,--output,* | *,--state,* | *,--wants,* | serve,serve,0 | feed,*,[1-9]* | view,view,0 | view,*,1 | check,*,[0-9]* | replay,replay,0 | replay,*,1)
             # end files
                 mapfile -t COMPREPLY < <(compgen -f -- "$current") ;;
         esac

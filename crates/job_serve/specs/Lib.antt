@@ -1,4 +1,5 @@
 pub mod Admitting
+pub mod Cuts
 pub mod Refusals
 pub mod Serving
 pub mod Timetables

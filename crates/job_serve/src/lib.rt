@@ -4,12 +4,14 @@
 
 mod admitting;
 mod counts;
+mod cuts;
 mod descriptors;
 mod numbers;
 mod operator;
 mod refusals;
 mod sockets;
 mod spare;
+mod starting;
 mod status;
 mod timetable;
 mod visits;

@@ -11,6 +11,7 @@ ghost use Rattle.incidents.specs.declared.incident.Incident.{Incident};
 
 use crate::numbers::NumberFile;
 use crate::spare::Spare;
+use crate::starting::InForceLine;
 use crate::status::StatusDesk;
 use crate::timetable::{seconds_in, timetable_of};
 use crate::visits::SharedLines;
@@ -35,6 +36,14 @@ pub struct ServeRequest<'a> {
     pub options: ServeOptions<'a>,
     /// Whether a configuration that is not taken is explained.
     pub is_verbose: bool,
+}
+
+/// What the files of a server said when it began.
+#[derive(Drop)]
+pub struct ServedFiles<'a> {
+    /// The text of its configuration.
+    pub text: Vec<u8>,
+    pub numbers: Option<NumberFile<'a>>,
 }
 
 /// How the last keep of numbers went.
@@ -71,8 +80,12 @@ pub struct Operator<'r, 'a, 'l, R, D> {
     errors: &'l SharedLines<D>,
     /// The status port, if there is one.
     status: Option<StatusDesk<'l>>,
-    /// The configuration that the server began with.
-    begun: Config,
+    /// Whether it is told when another configuration comes into force.
+    is_logged: bool,
+    /// The text of the configuration that was read last.
+    text: Vec<u8>,
+    /// The configuration in force.
+    in_force: Config,
     /// What the configuration that was read last differs in first, but for access lists.
     difference: Option<Difference>,
 }
@@ -109,6 +122,16 @@ impl<'r, 'a, 'l, R, D: Device> Operator<'r, 'a, 'l, R, D> {
         self.tell(&incident);
     }
 
+    /// Another configuration comes into force, of another text than the last one: that is told, and which clients it
+    /// cuts.
+    fn note_in_force(&mut self, alloc: Global, config: &Config) {
+        let cut = self.errors.cut(&self.in_force, config);
+        self.errors.tell(InForceLine { cut });
+        if let Ok(copy) = config.copy(alloc) {
+            self.in_force = copy;
+        }
+    }
+
     /// Tells that numbers could not be kept, but not again until they were kept: a keep that fails is tried again after
     /// each turn. Before any were kept, that ends the run, which tells it then.
     fn note_unkept(&mut self, incident: Incident<'a>) {
@@ -129,13 +152,13 @@ impl<'r, 'a, 'l, R: Files<File = File> + Clock + AllocGlobal, D> Operator<'r, 'a
         rt: &'r R,
         config: &Config,
         request: ServeRequest<'a>,
-        numbers: Option<NumberFile<'a>>,
+        files: ServedFiles<'a>,
         errors: &'l SharedLines<D>,
         status: Option<StatusDesk<'l>>,
     ) -> Result<Operator<'r, 'a, 'l, R, D>, Incident<'a>>
         ensures { IfErr result (λ incident. incident.failure ≡ Serve OutOfMemory) }
     {
-        let Ok(begun) = config.copy(rt.alloc()) else {
+        let Ok(in_force) = config.copy(rt.alloc()) else {
             return Err(Incident {
                 failure: Failure::Serve(ServeFault::OutOfMemory),
                 site: Site::Unnamed,
@@ -148,7 +171,7 @@ impl<'r, 'a, 'l, R: Files<File = File> + Clock + AllocGlobal, D> Operator<'r, 'a
             began: rt.monotonic().unwrap_or(Duration::ZERO),
             reread: Pace::new(seconds_in(options.reread)),
             report: Pace::new(seconds_in(options.report)),
-            numbers,
+            numbers: files.numbers,
             spare: Spare::new(rt),
             last_keep: LastKeep::Missing,
             unkept: Site::Unnamed,
@@ -157,7 +180,9 @@ impl<'r, 'a, 'l, R: Files<File = File> + Clock + AllocGlobal, D> Operator<'r, 'a
             unknown: Vec::new(rt.alloc()),
             errors,
             status,
-            begun,
+            is_logged: options.is_logged,
+            text: files.text,
+            in_force,
             difference: None,
         })
     }
@@ -210,9 +235,10 @@ fn line_of(incident: &Incident<'_>, is_verbose: bool) -> Line {
 }
 
 impl<'r, 'a, 'l, R: Files<File = File> + AllocGlobal, D: Device> Operator<'r, 'a, 'l, R, D> {
-    /// The configuration as it is now. Keys that are not known are named if they are others than those that were named
-    /// last, and if it is strict, the configuration is refused for them.
-    fn read_config(&mut self) -> Result<Config, Incident<'a>> {
+    /// The configuration as it is now, and whether its text is another one than the last one. Keys that are not known are
+    /// named if they are others than those that were named last, and if it is strict, the configuration is refused for
+    /// them.
+    fn read_config(&mut self) -> Result<(Config, bool), Incident<'a>> {
         self.spare.let_go();
         let text = plain_text_at(self.rt, self.path);
         self.spare.take(self.rt);
@@ -222,7 +248,9 @@ impl<'r, 'a, 'l, R: Files<File = File> + AllocGlobal, D: Device> Operator<'r, 'a
         let lines = unknown_lines(alloc, self.path, &config, text.as_slice())?;
         self.tell_unknown(lines);
         refuse_unknown(self.path, self.unknown.as_slice(), self.is_strict)?;
-        Ok(config)
+        let is_new = text.as_slice() != self.text.as_slice();
+        self.text = text;
+        Ok((config, is_new))
     }
 }
 
@@ -246,14 +274,21 @@ impl<'r, 'a, 'l, R: Files<File = File> + Clock + AllocGlobal, D: Device> Between
     }
 
     fn configuration(&mut self) -> Result<Config, Incident<'a>> {
-        let mut config = self.read_config()?;
+        let (mut config, is_new) = self.read_config()?;
         if let Some(file) = &self.numbers {
             file.begin(&mut config);
         }
-        self.difference = match first_difference(self.rt.alloc(), &self.begun, &config) {
-            Ok(difference) => difference,
-            Err(_) => None,
-        };
+        let alloc = self.rt.alloc();
+        match first_difference(alloc, &self.in_force, &config) {
+            Ok(None) => {
+                self.difference = None;
+                if self.is_logged && is_new {
+                    self.note_in_force(alloc, &config);
+                }
+            }
+            Ok(difference) => self.difference = difference,
+            Err(_) => self.difference = None,
+        }
         Ok(config)
     }
 
@@ -297,8 +332,8 @@ impl<'r, 'a, 'l, R: Files<File = File> + Clock + AllocGlobal, D: Device> Between
     }
 }
 
-/// Runs a new server with the configuration that was read from a file over ports, as the words say, with lines to a
-/// device, the numbers in a file and a status port, if there are any, and gives the ports back.
+/// Runs a new server with the configuration that was read from a file over ports, as the words say and its files did,
+/// with lines to a device and a status port, if there is one, and gives the ports back.
 pub fn serve_by<
     'a,
     'l,
@@ -310,7 +345,7 @@ pub fn serve_by<
     config: Config,
     ports: P,
     request: ServeRequest<'a>,
-    numbers: Option<NumberFile<'a>>,
+    files: ServedFiles<'a>,
     errors: &'l SharedLines<D>,
     status: Option<StatusDesk<'l>>,
 ) -> Result<P, Incident<'a>>
@@ -320,7 +355,7 @@ pub fn serve_by<
         EndedByFile (timetable_of request.entry.options) config (P.calls ports)) }
 {
     let timetable = timetable_of(&request.options);
-    let mut operator = match Operator::new(rt, &config, request, numbers, errors, status) {
+    let mut operator = match Operator::new(rt, &config, request, files, errors, status) {
         Ok(operator) => operator,
         Err(incident) => return Err(incident),
     };

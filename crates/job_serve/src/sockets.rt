@@ -5,19 +5,21 @@ use crate::admitting::admission_of;
 use crate::counts::SharedCounts;
 use crate::descriptors::tell_missing;
 use crate::numbers::NumberFile;
-use crate::operator::{ServeRequest, serve_by};
+use crate::operator::{ServeRequest, ServedFiles, serve_by};
+use crate::starting::StartLine;
 use crate::status::{StatusDesk, StatusDoor, listen_for_status, status_door};
 use crate::visits::{SharedLines, VisitLines};
 use catalog::Config;
 use command_line::ServeOptions;
+use config_explained::open_to_everybody;
 use error_lines::{Device, StandardError};
 use incidents::{Failure, Incident, Site};
-use job_base::{ServerAddress, checked_config_at, plain_at, server_of};
+use job_base::{ServerAddress, config_in, plain_at, server_of, tell_unknown_keys, text_at};
 use logged_ports::LoggedPorts;
 use serving::ServeFault;
 use socket_ports::{Admission, MioPorts};
 use status_ports::StatusPorts;
-use std::alloc::AllocError;
+use std::alloc::{AllocError, Global};
 use std::fs::File;
 use std::net::Net;
 use std::rt::{Clock, Files};
@@ -30,7 +32,9 @@ struct Opened<'a> {
     admission: Admission,
     status: Option<StatusDoor<'a>>,
     config: Config,
-    numbers: Option<NumberFile<'a>>,
+    /// How many of its stations everybody may use, if that is told.
+    open: usize,
+    files: ServedFiles<'a>,
 }
 
 /// Takes the words, and reads the files that they name. The keys of the configuration that are not known are named. A
@@ -46,7 +50,11 @@ fn open<'a, R: Files<File = File> + Eprint + AllocGlobal>(
     if options.reread.is_some() {
         plain_at(rt, options.config)?;
     }
-    let mut config = checked_config_at(rt, options.config, options.is_strict)?;
+    let Configured {
+        mut config,
+        text,
+        open,
+    } = config_for(rt, options)?;
     tell_missing(rt, config.max_connections());
     let numbers = numbers_for(rt, options.numbers, &mut config)?;
     Ok(Opened {
@@ -55,8 +63,46 @@ fn open<'a, R: Files<File = File> + Eprint + AllocGlobal>(
         admission,
         status,
         config,
-        numbers,
+        open,
+        files: ServedFiles { text, numbers },
     })
+}
+
+/// A configuration, its text, and how many of its stations everybody may use, if that is told.
+#[derive(Drop)]
+struct Configured {
+    config: Config,
+    text: Vec<u8>,
+    open: usize,
+}
+
+/// The configuration. Keys of it that are not known are named.
+fn config_for<'a, R: Files<File = File> + Eprint + AllocGlobal>(
+    rt: &R,
+    options: &ServeOptions<'a>,
+) -> Result<Configured, Incident<'a>> {
+    let path = options.config;
+    let text = text_at(rt, path)?;
+    let config = config_in(rt.alloc(), path, text.as_slice())?;
+    tell_unknown_keys(rt, path, &config, text.as_slice(), options.is_strict)?;
+    let open = open_for(rt.alloc(), options, &config, text.as_slice())?;
+    Ok(Configured { config, text, open })
+}
+
+/// How many stations everybody may use, if that is told.
+fn open_for<'a>(
+    alloc: Global,
+    options: &ServeOptions<'a>,
+    config: &Config,
+    text: &[u8],
+) -> Result<usize, Incident<'a>> {
+    if !options.is_logged {
+        return Ok(0);
+    }
+    match open_to_everybody(alloc, config, text) {
+        Ok(open) => Ok(open),
+        Err(_) => Err(Failure::OutOfMemory.in_file(options.config)),
+    }
 }
 
 /// Listens at two addresses, for clients and for feeds, of which those are taken that are admitted.
@@ -88,32 +134,60 @@ pub fn serve_sockets<'a, R: Files<File = File> + Eprint + Clock + Net + AllocGlo
         admission,
         status,
         config,
-        numbers,
+        open,
+        files,
     } = open(rt, &request.options)?;
     let ports = listen(rt, clients, feeds, admission)?;
     let status = listen_for_status(rt, status)?;
-    let mut ports = run(rt, config, ports, request, numbers, status)?;
+    let lines = lines_for(rt, &request.options, &config)?;
+    if request.options.is_logged {
+        let (for_clients, for_feeds) = ports.bound();
+        lines.tell(StartLine {
+            stations: config.stations().len(),
+            open,
+            clients: (clients.endpoint.address, for_clients),
+            feeds: (feeds.endpoint.address, for_feeds),
+        });
+    }
+    let mut ports = run(rt, config, ports, request, files, &lines, status)?;
     ports.finish();
     Ok(())
 }
 
-/// Serves over ports that are listened on, with lines to the standard error, and gives the ports back.
-fn run<'a, R: Files<File = File> + Eprint + Clock + AllocGlobal>(
+/// Lines to the standard error, with room for all clients if the log tells of them.
+fn lines_for<'a, R: Eprint + AllocGlobal>(
+    rt: &R,
+    options: &ServeOptions<'a>,
+    config: &Config,
+) -> Result<SharedLines<StandardError>, Incident<'a>> {
+    let clients = if options.is_logged {
+        config.max_connections()
+    } else {
+        0
+    };
+    match SharedLines::new(rt.alloc(), StandardError::open(rt), clients) {
+        Ok(lines) => Ok(lines),
+        Err(_) => Err(no_memory()),
+    }
+}
+
+/// Serves over ports that are listened on, with lines to a device, and gives the ports back.
+fn run<'a, R: Files<File = File> + Clock + AllocGlobal, D: Device + Drop>(
     rt: &R,
     config: Config,
     ports: MioPorts,
     request: ServeRequest<'a>,
-    numbers: Option<NumberFile<'a>>,
+    files: ServedFiles<'a>,
+    lines: &SharedLines<D>,
     status: Option<StatusPorts>,
 ) -> Result<MioPorts, Incident<'a>> {
-    let lines = SharedLines::new(StandardError::open(rt));
     match status {
-        Some(status) => run_watched(rt, config, ports, request, numbers, &lines, status),
+        Some(status) => run_watched(rt, config, ports, request, files, lines, status),
         None => {
             if request.options.is_logged {
-                run_logged(rt, config, ports, request, numbers, &lines, None)
+                run_logged(rt, config, ports, request, files, lines, None)
             } else {
-                serve_by(rt, config, ports, request, numbers, &lines, None)
+                serve_by(rt, config, ports, request, files, lines, None)
             }
         }
     }
@@ -133,7 +207,7 @@ fn run_watched<'a, R: Files<File = File> + Clock + AllocGlobal, D: Device + Drop
     config: Config,
     ports: MioPorts,
     request: ServeRequest<'a>,
-    numbers: Option<NumberFile<'a>>,
+    files: ServedFiles<'a>,
     lines: &SharedLines<D>,
     status: StatusPorts,
 ) -> Result<MioPorts, Incident<'a>> {
@@ -142,7 +216,7 @@ fn run_watched<'a, R: Files<File = File> + Clock + AllocGlobal, D: Device + Drop
     };
     let silent = request.options.silent;
     match StatusDesk::new(rt, rt.alloc(), status, &config, silent, &counts) {
-        Ok(desk) => run_logged(rt, config, ports, request, numbers, lines, Some(desk)),
+        Ok(desk) => run_logged(rt, config, ports, request, files, lines, Some(desk)),
         Err(_) => Err(no_memory()),
     }
 }
@@ -173,7 +247,7 @@ fn run_logged<'a, 'l, R: Files<File = File> + Clock + AllocGlobal, D: Device + D
     config: Config,
     ports: MioPorts,
     request: ServeRequest<'a>,
-    numbers: Option<NumberFile<'a>>,
+    files: ServedFiles<'a>,
     lines: &'l SharedLines<D>,
     status: Option<StatusDesk<'l>>,
 ) -> Result<MioPorts, Incident<'a>> {
@@ -186,7 +260,7 @@ fn run_logged<'a, 'l, R: Files<File = File> + Clock + AllocGlobal, D: Device + D
     let Ok(logged) = ports_that_log(rt, &config, ports, log, counts) else {
         return Err(no_memory());
     };
-    match serve_by(rt, config, logged, request, numbers, lines, status) {
+    match serve_by(rt, config, logged, request, files, lines, status) {
         Ok(logged) => {
             let (ports, _journal) = logged.into_parts();
             Ok(ports)

@@ -3,34 +3,68 @@ ghost use Rattle.std.specs.Prelude.{[], ◌∷◌, None};
 ghost use Rattle.logged_ports.specs.Visits.{Notes};
 
 use crate::counts::SharedCounts;
+use crate::cuts::OpenClients;
 use crate::refusals::{RefusalLog, RefusedLine, RefusedText};
+use catalog::Config;
 use error_lines::{Device, ErrorLines, Line};
 use logged_ports::{Journal, Visit};
 use ports::Refusal;
 use std::alloc::{AllocError, Global};
 use std::cell::RefCell;
-use std::fmt::{Display, Write};
+use std::fmt::{self, Display, Formatter, Write};
+use std::net::Ipv4Addr;
 use std::rt::Clock;
 use std::time::Duration;
 
-/// Lines to a device that several parts of a server write.
+/// Lines to a device that several parts of a server write, and which clients are open of whom they tell.
 #[derive(Drop)]
 pub struct SharedLines<D> {
     lines: RefCell<ErrorLines<D>>,
+    clients: RefCell<OpenClients>,
 }
 
 impl<D: Device> SharedLines<D> {
-    /// Lines to a device, of which none was dropped.
-    pub fn new(device: D) -> SharedLines<D> {
-        SharedLines {
+    /// Lines to a device, of which none was dropped. There is room for so many clients. It fails only for want of memory.
+    pub fn new(alloc: Global, device: D, clients: usize) -> Result<SharedLines<D>, AllocError> {
+        let clients = OpenClients::new(alloc, clients)?;
+        Ok(SharedLines {
             lines: RefCell::new(ErrorLines::new(device)),
-        }
+            clients: RefCell::new(clients),
+        })
     }
 
     /// Writes a line, or drops it if the device doesn't take it at once.
     pub fn write_line(&self, line: &Line) {
         if let Ok(mut lines) = self.lines.try_borrow_mut() {
             let _is_written = lines.write_line(line);
+        }
+    }
+
+    /// Writes a line of the server's log.
+    pub fn tell(&self, text: impl Display + Drop) {
+        self.write_line(&line_of(text));
+    }
+
+    /// A client comes to a port, whose number is higher than those before.
+    fn open(&self, port: u64, address: Ipv4Addr) {
+        if let Ok(mut clients) = self.clients.try_borrow_mut() {
+            clients.open(port, address);
+        }
+    }
+
+    /// A client is gone. Whether a new configuration cut it.
+    fn close(&self, port: u64) -> bool {
+        match self.clients.try_borrow_mut() {
+            Ok(mut clients) => clients.close(port),
+            Err(_) => false,
+        }
+    }
+
+    /// Another configuration comes into force. How many clients it cuts.
+    pub fn cut(&self, old: &Config, new: &Config) -> usize {
+        match self.clients.try_borrow_mut() {
+            Ok(mut clients) => clients.cut(old, new),
+            Err(_) => 0,
         }
     }
 }
@@ -122,8 +156,34 @@ impl<'r, 'l, R: Clock, D: Device> VisitLines<'r, 'l, R, D> {
                 self.refusals.forget(*port);
                 lines.write_line(&line_of(visit));
             }
+            Visit::Open { port, address } => {
+                lines.open(*port, *address);
+                lines.tell(*visit);
+            }
+            Visit::Close {
+                port,
+                address: _,
+                bytes: _,
+            } => {
+                if lines.close(*port) {
+                    lines.tell(CutVisit(*visit));
+                } else {
+                    lines.tell(*visit);
+                }
+            }
             _ => lines.write_line(&line_of(visit)),
         }
+    }
+}
+
+/// The end of a client that a new configuration cut: `close 17 10.0.0.7 bytes 52000 cut`.
+#[derive(Clone, Copy, Drop)]
+struct CutVisit(Visit);
+
+impl Display for CutVisit {
+    fn fmt<W: Write>(&self, f: &mut Formatter<W>) -> fmt::Result {
+        let visit = &self.0;
+        write!(f, "{visit} cut")
     }
 }
 
