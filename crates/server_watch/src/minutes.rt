@@ -67,7 +67,7 @@ impl Minutes {
 
     /// Puts all counts in order, the oldest first.
     pub fn order(&mut self) {
-        let oldest = ((self.minute + 1) % 60) as usize;
+        let oldest = ((self.minute % 60 + 1) % 60) as usize;
         for at in 0..self.ordered.len().min(self.counts.len()) {
             let column = (oldest + at % MINUTES) % MINUTES;
             let from = (at - at % MINUTES).saturating_add(column);
