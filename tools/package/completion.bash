@@ -24,7 +24,7 @@ _seedlinkd() {
         mapfile -t COMPREPLY < <(compgen -W "$options" -- "$current")
     elif [ -z "$command" ]; then
         # begin commands
-        mapfile -t COMPREPLY < <(compgen -W "serve feed read status view check replay" -- "$current")
+        mapfile -t COMPREPLY < <(compgen -W "serve feed read view check replay" -- "$current")
         # end commands
     else
         case $command,$previous,$count in

@@ -8,7 +8,7 @@ use Rattle.command_line.specs.declared.job.Every.TheVariants.{Seconds, Turns}
 use Rattle.command_line.specs.Commands.{program_app}
 use Rattle.command_line.specs.Jobs.{every_of, job_of, verbose_of}
 use Rattle.command_line.specs.Jobs.{CheckAsked, FeedAsked, ReadAsked, ServeAsked, ViewAsked}
-use Rattle.command_line.specs.Jobs.Asked.{Check, Replay, View, Serve, Feed, Status, Read}
+use Rattle.command_line.specs.Jobs.Asked.{Check, Replay, View, Serve, Feed, Read}
 
 abbrev replay_words : List Text
 replay_words = codes "seedlinkd" ∷ codes "replay" ∷ codes "island.toml" ∷ codes "hello.script" ∷ []
@@ -177,10 +177,6 @@ pub no_page :
     ≡ None
 unfolding clap_on_literals
 no_page = refl
-
-pub status_asked : job_of (codes "seedlinkd" ∷ codes "status" ∷ codes "a" ∷ []) ≡ Some (Status (codes "a"))
-unfolding clap_on_literals
-status_asked = refl
 
 abbrev log_words : List Text
 log_words =

@@ -152,7 +152,6 @@ pub data Asked : Type 0 where
   View : (options : ViewAsked) → Asked
   Serve : (options : ServeAsked) → Asked
   Feed : (server : List ℕ) → (files : List (List ℕ)) → (options : FeedAsked) → Asked
-  Status : (server : List ℕ) → Asked
   Read : (server : List ℕ) → (wants : List (List ℕ)) → (options : ReadAsked) → Asked
 
 -- the job that the code has
@@ -163,7 +162,6 @@ asked (job.View options) = View (view_options_asked options)
 asked (job.Serve options) = Serve (serve_options_asked options)
 asked (job.Feed server files options) =
     Feed server.now (map (λ file. file.now) files.items) (feed_options_asked options)
-asked (job.Status server) = Status server.now
 asked (job.Read server wants options) =
     Read server.now (map (λ want. want.now) wants.items) (options_asked options)
 
@@ -379,10 +377,6 @@ read_asked rows =
     with_wants (options_in rows) (first_of (codes "SERVER") rows)
     (wants_beside (options_in rows) (all_of (codes "WANT") rows))
 
--- the job of `status`
-abbrev pub status_asked : List Row → Option Asked
-status_asked rows = option_map Status (first_of (codes "SERVER") rows)
-
 -- the job of a subcommand with its arguments
 abbrev pub asked_by : Option (Text × List Row) → Option Asked
 asked_by None = None
@@ -392,8 +386,7 @@ asked_by (Some p) =
     else if bytes_eq p.0 (codes "view") then view_asked p.1
     else if bytes_eq p.0 (codes "serve") then serve_asked p.1
     else if bytes_eq p.0 (codes "feed") then feed_asked p.1
-    else if bytes_eq p.0 (codes "read") then read_asked p.1
-    else if bytes_eq p.0 (codes "status") then status_asked p.1 else None
+    else if bytes_eq p.0 (codes "read") then read_asked p.1 else None
 
 -- the job that words ask
 abbrev pub job_of : List Text → Option Asked

@@ -34,10 +34,6 @@ pub enum Job<'a> {
         files: Vec<&'a str>,
         options: FeedOptions<'a>,
     },
-    /// `status A:P`: reads the status page of a server.
-    Status {
-        server: &'a str,
-    },
     /// `read A:P WANT.. ..`: asks a server for records, as its options say. Without a want they name a file of wants.
     Read {
         server: &'a str,
@@ -109,11 +105,11 @@ pub struct ServeOptions<'a> {
     pub per_address: Option<usize>,
     /// `--numbers FILE`: the stations begin with the numbers in it, and it keeps numbers for the next run.
     pub numbers: Option<&'a str>,
-    /// `--status A:P`: where its status page is served; nowhere without one.
+    /// `--status A:P`: where it tells how it stands; nowhere without one.
     pub status: Option<&'a str>,
-    /// `--status-from LIST`: the addresses that may read it; all without a list. Only beside `status`.
+    /// `--status-from LIST`: the addresses that may ask there; those of this machine without a list. Only beside `status`.
     pub status_from: Option<&'a str>,
-    /// `--silent N`: a station counts as silent on it after so many seconds without a record. Only beside `status`.
+    /// `--silent N`: a station counts as silent there after so many seconds without a record. Only beside `status`.
     pub silent: Option<usize>,
     /// `--log`: it is told who comes and goes.
     pub is_logged: bool,

@@ -44,15 +44,19 @@ pub static SERVE: [Argument<'static>; 14] = [
         "log",
         "Writes a line on standard error for each client and feed that comes or goes",
     ),
-    Value("status", "A:P", "Address and port for the status page"),
+    Value(
+        "status",
+        "A:P",
+        "Address and port where it tells how it stands, over HTTP",
+    ),
     Value(
         "status-from",
         "LIST",
-        "Shows the status page to these addresses alone, as 10.0.0.7, 10.0.0.0/8",
+        "Tells it to these addresses alone, as 10.0.0.7, 10.0.0.0/8; to this machine without a list",
     ),
     Number(
         "silent",
-        "Calls a station silent on the status page after N seconds without a record, 1 to 1000000000",
+        "Calls a station silent there after N seconds without a record, 1 to 1000000000",
     ),
     Flag("strict", STRICT_HELP),
 ];
@@ -135,11 +139,6 @@ pub static READ: [Argument<'static>; 12] = [
         "Adds each record to FILE; - is standard output",
     ),
 ];
-
-pub static STATUS: [Argument<'static>; 1] = [Wanted(
-    "SERVER",
-    "Address and port of the status page, as 127.0.0.1:18002",
-)];
 
 pub static VIEW: [Argument<'static>; 4] = [
     Wanted("CONFIG", CONFIG_HELP),

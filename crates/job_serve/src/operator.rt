@@ -235,9 +235,9 @@ fn line_of(incident: &Incident<'_>, is_verbose: bool) -> Line {
 }
 
 impl<'r, 'a, 'l, R: Files<File = File> + AllocGlobal, D: Device> Operator<'r, 'a, 'l, R, D> {
-    /// The configuration as it is now, and whether its text is another one than the last one. Keys that are not known are
-    /// named if they are others than those that were named last, and if it is strict, the configuration is refused for
-    /// them.
+    /// The configuration as it is now, and whether its text is another one than the last one. Keys that are not known
+    /// are named if they are others than those that were named last, and if it is strict, the configuration is refused
+    /// for them.
     fn read_config(&mut self) -> Result<(Config, bool), Incident<'a>> {
         self.spare.let_go();
         let text = plain_text_at(self.rt, self.path);

@@ -24,7 +24,8 @@ pub struct SharedLines<D> {
 }
 
 impl<D: Device> SharedLines<D> {
-    /// Lines to a device, of which none was dropped. There is room for so many clients. It fails only for want of memory.
+    /// Lines to a device, of which none was dropped. There is room for so many clients. It fails only for want of
+    /// memory.
     pub fn new(alloc: Global, device: D, clients: usize) -> Result<SharedLines<D>, AllocError> {
         let clients = OpenClients::new(alloc, clients)?;
         Ok(SharedLines {

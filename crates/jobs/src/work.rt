@@ -3,7 +3,7 @@ ghost use Rattle.std.specs.Prelude.{◌≡◌};
 ghost use Rattle.jobs.specs.Words.{style_by};
 
 use command_line::Job;
-use incidents::{Failure, Incident};
+use incidents::Incident;
 use job_base::is_terminal;
 use job_check::{ReplayStyle, check_files, replay_files, view_file};
 use job_feed::feed_files;
@@ -54,7 +54,6 @@ where
             files,
             options,
         } => feed_files(rt, server, files.as_slice(), options, is_verbose),
-        Job::Status { server } => Err(Failure::Connect.in_word(server)),
         Job::Read {
             server,
             wants,

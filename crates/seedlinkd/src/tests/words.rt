@@ -253,14 +253,6 @@ fn serve_may_have_a_status_page(rt: HostRuntime) -> Result<(), Fail> {
     Ok(())
 }
 
-#[test]
-fn status_has_a_server(rt: HostRuntime) -> Result<(), Fail> {
-    let words = strings(rt.alloc(), &["seedlinkd", "status", "a:3"])?;
-    let job = request_of(rt.alloc(), &words)?.job;
-    assert!(rt; matches!(job, Job::Status { server: "a:3" }));
-    Ok(())
-}
-
 /// A number, and whether it counts seconds and not turns.
 type Period = (usize, bool);
 
@@ -486,9 +478,8 @@ fn help_is_told(rt: HostRuntime) -> Result<(), Fail> {
 
 #[test]
 fn other_words_are_refused(rt: HostRuntime) -> Result<(), Fail> {
-    let all: [&[&str]; 20] = [
+    let all: [&[&str]; 19] = [
         &[],
-        &["seedlinkd", "status"],
         &[
             "seedlinkd",
             "serve",
