@@ -44,7 +44,9 @@ fn a_station_that_is_not_expected_is_refused(rt: HostRuntime) -> Result<(), Fail
         &mut source,
         &mut sink,
     )?;
-    assert!(rt; sink.bytes() == b"1 refused 32 UnknownStation GE APE\n2 refused 2 Quality\n".as_slice());
+    assert!(rt;
+        sink.bytes() == b"1 refused 32 UnknownStation GE APE\n2 refused 2 Quality\n".as_slice()
+    );
     assert!(rt; finding.is_some_and(|finding| finding.fault == FileFault::Station));
     Ok(())
 }
