@@ -1,5 +1,5 @@
-//! Tests of the whole core: marks of a crowd, rows of bits, what is listed of random configurations, and random lists of
-//! events, records and clients, at the server and at small plain programs that share no code with it. Nothing but tests.
+//! Tests of the whole core: marks of a crowd, what is listed of random configurations, and random lists of events,
+//! records and clients, at the server and at small plain programs that share no code with it. Nothing but tests.
 #![tactic(auto)]
 
 #[cfg(test)]
@@ -8,8 +8,6 @@ mod marks;
 mod random;
 #[cfg(test)]
 mod random_records;
-#[cfg(test)]
-mod rows;
 #[cfg(test)]
 mod slots;
 #[cfg(test)]
