@@ -40,12 +40,12 @@ pub fn finding_of(lost: &RefusedRecord) -> Finding {
 /// A file whose records are judged as they are read. Once sixteen in a row can't be read, that is told, or, if it is
 /// strict, they are the last that is read, and the next read fails.
 #[derive(Drop)]
-pub struct Judged<'t, R, T, S> {
-    rt: &'t R,
+pub struct Judged<'r, 's, 't, 'f, R, T, S> {
+    rt: &'r R,
     inner: Aligned<T>,
-    stations: &'t S,
+    stations: &'s S,
     tally: &'t mut FeedTally,
-    file: &'t str,
+    file: &'f str,
     is_strict: bool,
     /// How many bytes of the file are before the next one.
     offset: u64,
@@ -58,17 +58,17 @@ pub struct Judged<'t, R, T, S> {
     kind: Option<FileKind>,
 }
 
-impl<'t, R: Eprint, T, S: Stations> Judged<'t, R, T, S> {
+impl<'r, 's, 't, 'f, R: Eprint, T, S: Stations> Judged<'r, 's, 't, 'f, R, T, S> {
     /// The records of a file from an offset on.
     pub fn new(
-        rt: &'t R,
+        rt: &'r R,
         inner: Aligned<T>,
-        stations: &'t S,
+        stations: &'s S,
         tally: &'t mut FeedTally,
-        file: &'t str,
+        file: &'f str,
         is_strict: bool,
         offset: u64,
-    ) -> Judged<'t, R, T, S> {
+    ) -> Judged<'r, 's, 't, 'f, R, T, S> {
         Judged {
             rt,
             inner,
@@ -140,7 +140,7 @@ impl<'t, R: Eprint, T, S: Stations> Judged<'t, R, T, S> {
     }
 }
 
-impl<R: Eprint, T: Read, S: Stations> Read for Judged<'_, R, T, S> {
+impl<R: Eprint, T: Read, S: Stations> Read for Judged<'_, '_, '_, '_, R, T, S> {
     fn read(&mut self, block: &mut [u8]) -> io::Result<usize> {
         if self.is_over {
             return Err(io::Error::from(ErrorKind::InvalidData));

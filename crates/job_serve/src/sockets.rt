@@ -139,7 +139,12 @@ pub fn serve_sockets<'a, R: Files<File = File> + Eprint + Clock + Net + AllocGlo
     } = open(rt, &request.options)?;
     let ports = listen(rt, clients, feeds, admission)?;
     let status = listen_for_status(rt, status)?;
-    let lines = lines_for(rt, &request.options, &config)?;
+    let lines = lines_for(
+        rt.alloc(),
+        StandardError::open(rt),
+        &request.options,
+        &config,
+    )?;
     if request.options.is_logged {
         let (for_clients, for_feeds) = ports.bound();
         lines.tell(StartLine {
@@ -154,18 +159,19 @@ pub fn serve_sockets<'a, R: Files<File = File> + Eprint + Clock + Net + AllocGlo
     Ok(())
 }
 
-/// Lines to the standard error, with room for all clients if the log tells of them.
-fn lines_for<'a, R: Eprint + AllocGlobal>(
-    rt: &R,
+/// Lines to a device, with room for all clients if the log tells of them.
+fn lines_for<'a, D: Device + Drop>(
+    alloc: Global,
+    device: D,
     options: &ServeOptions<'a>,
     config: &Config,
-) -> Result<SharedLines<StandardError>, Incident<'a>> {
+) -> Result<SharedLines<D>, Incident<'a>> {
     let clients = if options.is_logged {
         config.max_connections()
     } else {
         0
     };
-    match SharedLines::new(rt.alloc(), StandardError::open(rt), clients) {
+    match SharedLines::new(alloc, device, clients) {
         Ok(lines) => Ok(lines),
         Err(_) => Err(no_memory()),
     }

@@ -23,7 +23,7 @@ pub struct SharedLines<D> {
     clients: RefCell<OpenClients>,
 }
 
-impl<D: Device> SharedLines<D> {
+impl<D: Device + Drop> SharedLines<D> {
     /// Lines to a device, of which none was dropped. There is room for so many clients. It fails only for want of
     /// memory.
     pub fn new(alloc: Global, device: D, clients: usize) -> Result<SharedLines<D>, AllocError> {
@@ -33,7 +33,9 @@ impl<D: Device> SharedLines<D> {
             clients: RefCell::new(clients),
         })
     }
+}
 
+impl<D: Device> SharedLines<D> {
     /// Writes a line, or drops it if the device doesn't take it at once.
     pub fn write_line(&self, line: &Line) {
         if let Ok(mut lines) = self.lines.try_borrow_mut() {
