@@ -1,5 +1,4 @@
 pub mod Admitting
-pub mod Cuts
 pub mod Refusals
 pub mod Serving
 pub mod Timetables

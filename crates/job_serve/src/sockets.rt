@@ -208,13 +208,13 @@ fn no_memory<'a>() -> Incident<'a> {
 }
 
 /// The same, with a status port.
-fn run_watched<'a, R: Files<File = File> + Clock + AllocGlobal, D: Device + Drop>(
-    rt: &R,
+fn run_watched<'a, 'l, R: Files<File = File> + Clock + AllocGlobal, D: Device + Drop>(
+    rt: &'l R,
     config: Config,
     ports: MioPorts,
     request: ServeRequest<'a>,
     files: ServedFiles<'a>,
-    lines: &SharedLines<D>,
+    lines: &'l SharedLines<D>,
     status: StatusPorts,
 ) -> Result<MioPorts, Incident<'a>> {
     let Ok(counts) = SharedCounts::new(rt.alloc(), config.max_connections()) else {
@@ -232,13 +232,13 @@ const FEEDS: usize = 16;
 
 /// Ports that tell who comes and goes, and how many records of each feed were refused: in lines, if there are any, and
 /// in counts, if there are some.
-fn ports_that_log<'r, 'l, R: Clock + AllocGlobal, D: Device + Drop>(
-    rt: &'r R,
+fn ports_that_log<'l, R: Clock + AllocGlobal, D: Device + Drop>(
+    rt: &'l R,
     config: &Config,
     ports: MioPorts,
     lines: Option<&'l SharedLines<D>>,
     counts: Option<&'l SharedCounts>,
-) -> Result<LoggedPorts<MioPorts, VisitLines<'r, 'l, R, D>>, AllocError>
+) -> Result<LoggedPorts<MioPorts, VisitLines<'l, R, D>>, AllocError>
     ensures inner { IfOk result (λ logged. logged.inner ≡ ports) }
     ensures room { IfOk result (λ logged. logged.visitors.room ≡ config.now.max_connections + 16) }
 {
@@ -249,7 +249,7 @@ fn ports_that_log<'r, 'l, R: Clock + AllocGlobal, D: Device + Drop>(
 
 /// Serves, tells who comes and goes if that is wanted, and counts it for a status port if there is one.
 fn run_logged<'a, 'l, R: Files<File = File> + Clock + AllocGlobal, D: Device + Drop>(
-    rt: &R,
+    rt: &'l R,
     config: Config,
     ports: MioPorts,
     request: ServeRequest<'a>,
@@ -257,7 +257,10 @@ fn run_logged<'a, 'l, R: Files<File = File> + Clock + AllocGlobal, D: Device + D
     lines: &'l SharedLines<D>,
     status: Option<StatusDesk<'l>>,
 ) -> Result<MioPorts, Incident<'a>> {
-    let counts = status.as_ref().map(|desk| desk.counts());
+    let counts = match &status {
+        Some(desk) => Some(desk.counts()),
+        None => None,
+    };
     let log = if request.options.is_logged {
         Some(lines)
     } else {

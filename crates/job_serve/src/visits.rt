@@ -76,8 +76,8 @@ impl<D: Device> SharedLines<D> {
 /// each cause of a feed, and for each unknown station one an hour. It counts what a status port tells of visits, if
 /// there is one.
 #[derive(Drop)]
-pub struct VisitLines<'r, 'l, R, D> {
-    rt: &'r R,
+pub struct VisitLines<'l, R, D> {
+    rt: &'l R,
     /// None if no line is written.
     lines: Option<&'l SharedLines<D>>,
     refusals: RefusalLog,
@@ -86,14 +86,14 @@ pub struct VisitLines<'r, 'l, R, D> {
     began: Duration,
 }
 
-impl<'r, 'l, R: Clock, D> VisitLines<'r, 'l, R, D> {
+impl<'l, R: Clock, D> VisitLines<'l, R, D> {
     /// A journal that wrote and counted nothing yet. It fails only for want of memory.
     pub fn new(
-        rt: &'r R,
+        rt: &'l R,
         alloc: Global,
         lines: Option<&'l SharedLines<D>>,
         counts: Option<&'l SharedCounts>,
-    ) -> Result<VisitLines<'r, 'l, R, D>, AllocError> {
+    ) -> Result<VisitLines<'l, R, D>, AllocError> {
         let refusals = RefusalLog::new(alloc)?;
         Ok(VisitLines {
             rt,
@@ -122,7 +122,7 @@ fn line_of(text: impl Display + Drop) -> Line {
     line
 }
 
-impl<'r, 'l, R: Clock, D: Device> VisitLines<'r, 'l, R, D> {
+impl<'l, R: Clock, D: Device> VisitLines<'l, R, D> {
     /// A record of a feed was refused, of which the visit tells.
     fn write_refused(
         &mut self,
@@ -190,7 +190,7 @@ impl Display for CutVisit {
     }
 }
 
-impl<'r, 'l, R: Clock, D: Device> Journal for VisitLines<'r, 'l, R, D> {
+impl<'l, R: Clock, D: Device> Journal for VisitLines<'l, R, D> {
     // What the standard error takes, no contract can say.
     ghost noted = { λ _. None };
 
