@@ -64,7 +64,7 @@ impl OpenClients {
         for client in self.clients.iter_mut() {
             if !client.is_cut && !sees_alike(old, new, client.address) {
                 client.is_cut = true;
-                count += 1;
+                count = count.saturating_add(1);
             }
         }
         count
