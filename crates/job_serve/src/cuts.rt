@@ -60,7 +60,7 @@ impl OpenClients {
     /// Another configuration comes into force. How many clients it cuts: those whose address sees other stations under
     /// it.
     pub fn cut(&mut self, old: &Config, new: &Config) -> usize {
-        let mut count = 0;
+        let mut count: usize = 0;
         for client in self.clients.iter_mut() {
             if !client.is_cut && !sees_alike(old, new, client.address) {
                 client.is_cut = true;
