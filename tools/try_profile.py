@@ -281,7 +281,7 @@ def main():
         page = file.read()
     try_tables(page)
     written = subprocess.run([f"{TOP}/tools/write_manual.py", "--check"], check=False)
-    check(written.returncode == 0, "the manual, the completion or the usages are not as the tables of the options")
+    check(written.returncode == 0, "the manual or the usages are not as the tables of the options")
     count = try_examples(page)
     try_dialogue()
     if failures:

@@ -1,12 +1,11 @@
 #!/usr/bin/env python3
-"""Writes what docs/seedlinkd.8, docs/PROFILE.md and tools/package/completion.bash say of the options, from the program's own tables.
+"""Writes what docs/seedlinkd.8 and docs/PROFILE.md say of the options, from the program's own tables.
 
-    tools/write_manual.py            writes all three
+    tools/write_manual.py            writes both
     tools/write_manual.py --check    writes nothing, and fails if they differ or if the page leaves out an option or a fault
 
 The tables are crates/command_line/src/tables.rt, a row for each argument of each command. What is written stands between the lines
-'begin NAME' and 'end NAME' of each file: `synopsis` and `usage COMMAND` of the page, `usages` of the profile, and `options`,
-`commands` and `files` of the completion.
+'begin NAME' and 'end NAME' of each file: `synopsis` and `usage COMMAND` of the page, and `usages` of the profile.
 What an option does is written by hand. The check wants each option in the part of the page on its command, and each fault of
 crates/protocol/src/reason.rt in the list of faults, under its number and name.
 """
@@ -18,7 +17,6 @@ import sys
 TOP = os.path.dirname(os.path.dirname(os.path.realpath(__file__)))
 PAGE = f"{TOP}/docs/seedlinkd.8"
 PROFILE = f"{TOP}/docs/PROFILE.md"
-COMPLETION = f"{TOP}/tools/package/completion.bash"
 
 # What a value is called in the page, by what the program calls it; others are as they are, in small letters.
 VALUES = {"A:P": "Ar address : Ns Ar port", "N|Ns": "Ar n Ns Op Li s", "NET_STA": "Ar network Ns _ Ns Ar station"}
@@ -105,35 +103,6 @@ def usages(tables):
     yield from ("    seedlinkd --help | --version", "")
 
 
-def completion_options(tables):
-    for command, arguments in tables:
-        options = "".join(f" --{argument.name}" for argument in arguments if argument.is_option)
-        if options:
-            yield f'            {command}) options+="{options}" ;;'
-
-
-def completion_commands(tables):
-    yield f'        mapfile -t COMPREPLY < <(compgen -W "{" ".join(command for command, _ in tables)}" -- "$current")'
-
-
-def takes_files(argument):
-    return argument.is_option and argument.value in ("FILE", "DIR", "CONFIG")
-
-
-def completion_files(tables):
-    """The places in which a file's name is completed: after an option that takes one, and where a command takes one."""
-    names = {argument.name for _, arguments in tables for argument in arguments if takes_files(argument)}
-    cases = [f"*,--{name},*" for name in sorted(names)]
-    for command, arguments in tables:
-        texts = [argument for argument in arguments if not argument.is_option]
-        for at, argument in enumerate(texts):
-            if argument.name in ("CONFIG", "SCRIPT", "WHO"):
-                cases.append(f"{command},*,{at}" if at else f"{command},{command},0")
-            elif argument.name == "FILE":
-                cases.append(f"{command},*,[{at}-9]*")
-    yield f"            {' | '.join(cases)})"
-
-
 def put(text, name, lines):
     """A file with other lines between the marks of that name."""
     marks = re.compile(rf"(^[^\n]*\bbegin {name}\n).*?(^[^\n]*\bend {name}$)", re.M | re.S)
@@ -151,12 +120,6 @@ def page_with(page, tables):
 
 def profile_with(profile, tables):
     return put(profile, "usages -->", usages(tables))
-
-
-def completion_with(completion, tables):
-    completion = put(completion, "options", completion_options(tables))
-    completion = put(completion, "commands", completion_commands(tables))
-    return put(completion, "files", completion_files(tables))
 
 
 def left_out(page, tables):
@@ -177,7 +140,7 @@ def main():
     tables = list(commands())
     is_check = sys.argv[1:] == ["--check"]
     failures = []
-    for path, written in ((PAGE, page_with), (PROFILE, profile_with), (COMPLETION, completion_with)):
+    for path, written in ((PAGE, page_with), (PROFILE, profile_with)):
         old = read(path)
         new = written(old, tables)
         if is_check and new != old:

@@ -49,18 +49,11 @@ fn is_replay(job: &Job<'_>, wanted: (&str, &str), text: bool) -> bool {
     }
 }
 
-/// Whether it is the job of checking this file with these options.
-fn is_check(job: &Job<'_>, wanted: &str, told: &CheckOptions<'_>) -> bool {
+/// The options of the job of checking this file.
+fn checks<'a>(job: &Job<'a>, wanted: &str) -> Option<CheckOptions<'a>> {
     match job {
-        Job::Check { files, options } => {
-            files.as_slice() == [wanted].as_slice()
-                && options.is_iso == told.is_iso
-                && options.has_summary == told.has_summary
-                && options.is_quiet == told.is_quiet
-                && options.has_gaps == told.has_gaps
-                && options.config == told.config
-        }
-        _ => false,
+        Job::Check { files, options } if files.as_slice() == [wanted].as_slice() => Some(*options),
+        _ => None,
     }
 }
 
@@ -79,8 +72,7 @@ fn is_view(job: &Job<'_>, word: Option<&str>, of: Option<&str>) -> bool {
     }
 }
 
-/// Whether it is the job of serving C at a:1 with feeds at b:2, for so many turns, with these limits and no other
-/// option.
+/// Whether it is the job of serving C at a:1 with feeds at b:2, for so many turns and with these limits.
 fn is_serve(job: &Job<'_>, ends: Option<usize>, list: Option<&str>, most: Option<usize>) -> bool {
     match job {
         Job::Serve(
@@ -89,16 +81,9 @@ fn is_serve(job: &Job<'_>, ends: Option<usize>, list: Option<&str>, most: Option
                 listen: "a:1",
                 feed: "b:2",
                 turns,
-                reread: None,
-                report: None,
                 feed_from,
                 per_address,
-                numbers: None,
-                status: None,
-                status_from: None,
-                silent: None,
-                is_logged: false,
-                is_strict: false,
+                ..
             },
         ) => *turns == ends && *feed_from == list && *per_address == most,
         _ => false,
@@ -128,14 +113,15 @@ fn replay_may_write_text(rt: HostRuntime) -> Result<(), Fail> {
 fn check_has_one_text(rt: HostRuntime) -> Result<(), Fail> {
     let words = strings(rt.alloc(), &["seedlinkd", "check", "records.mseed"])?;
     let job = request_of(rt.alloc(), &words)?.job;
-    let plain = CheckOptions {
-        is_iso: false,
-        has_summary: false,
-        is_quiet: false,
-        has_gaps: false,
-        config: None,
-    };
-    assert!(rt; is_check(&job, "records.mseed", &plain));
+    let is_plain = matches!(
+        checks(&job, "records.mseed"),
+        Some(CheckOptions {
+            is_iso: false,
+            is_quiet: false,
+            ..
+        })
+    );
+    assert!(rt; is_plain);
     Ok(())
 }
 
@@ -155,14 +141,18 @@ fn check_has_options(rt: HostRuntime) -> Result<(), Fail> {
         ],
     )?;
     let job = request_of(rt.alloc(), &words)?.job;
-    let wanted = CheckOptions {
-        is_iso: true,
-        has_summary: false,
-        is_quiet: true,
-        has_gaps: true,
-        config: Some("c"),
-    };
-    assert!(rt; is_check(&job, "f", &wanted));
+    let is_wanted = matches!(
+        checks(&job, "f"),
+        Some(CheckOptions {
+            is_iso: true,
+            has_summary: false,
+            is_quiet: true,
+            has_gaps: true,
+            config: Some("c"),
+            ..
+        })
+    );
+    assert!(rt; is_wanted);
     Ok(())
 }
 
@@ -366,32 +356,15 @@ fn a_report_goes_by_turns_or_seconds(rt: HostRuntime) -> Result<(), Fail> {
     Ok(())
 }
 
-/// No option of `feed`.
-const PLAIN_FEED: FeedOptions<'static> = FeedOptions {
-    from: None,
-    config: None,
-    is_strict: false,
-    skips: false,
-};
-
-/// Whether it is the feeder's job with a file and the standard input after it, and with those options.
-fn is_feed(job: &Job<'_>, wanted: FeedOptions<'_>) -> bool {
+/// The options of the feeder's job with a file and the standard input after it.
+fn feeds<'a>(job: &Job<'a>) -> Option<FeedOptions<'a>> {
     match job {
         Job::Feed {
-            server,
+            server: "a:1",
             files,
             options,
-        } => {
-            *server == "a:1"
-                && options.from == wanted.from
-                && options.config == wanted.config
-                && options.is_strict == wanted.is_strict
-                && options.skips == wanted.skips
-                && files.len() == 2
-                && files.first() == Some(&"records.mseed")
-                && files.last() == Some(&"-")
-        }
-        _ => false,
+        } if files.as_slice() == ["records.mseed", "-"].as_slice() => Some(*options),
+        _ => None,
     }
 }
 
@@ -402,7 +375,15 @@ fn feed_has_a_server_and_files(rt: HostRuntime) -> Result<(), Fail> {
         &["seedlinkd", "feed", "a:1", "records.mseed", "-"],
     )?;
     let job = request_of(rt.alloc(), &words)?.job;
-    assert!(rt; is_feed(&job, PLAIN_FEED));
+    let is_plain = matches!(
+        feeds(&job),
+        Some(FeedOptions {
+            from: None,
+            is_strict: false,
+            ..
+        })
+    );
+    assert!(rt; is_plain);
     Ok(())
 }
 
@@ -421,11 +402,8 @@ fn feed_may_begin_at_a_record(rt: HostRuntime) -> Result<(), Fail> {
         ],
     )?;
     let job = request_of(rt.alloc(), &words)?.job;
-    let wanted = FeedOptions {
-        from: Some(6),
-        ..PLAIN_FEED
-    };
-    assert!(rt; is_feed(&job, wanted));
+    let is_wanted = matches!(feeds(&job), Some(FeedOptions { from: Some(6), .. }));
+    assert!(rt; is_wanted);
     Ok(())
 }
 
@@ -444,12 +422,15 @@ fn feed_may_skip_what_is_not_valid(rt: HostRuntime) -> Result<(), Fail> {
         ],
     )?;
     let job = request_of(rt.alloc(), &words)?.job;
-    let wanted = FeedOptions {
-        config: Some("c"),
-        skips: true,
-        ..PLAIN_FEED
-    };
-    assert!(rt; is_feed(&job, wanted));
+    let is_wanted = matches!(
+        feeds(&job),
+        Some(FeedOptions {
+            config: Some("c"),
+            skips: true,
+            ..
+        })
+    );
+    assert!(rt; is_wanted);
     Ok(())
 }
 
