@@ -3,7 +3,7 @@
 
     tools/refuse_memory.py [CALL..]
 
-A CALL is one of `memory_tests`, or `program`, which replays an example with the program itself. Without a CALL all are tried. A
+A CALL is one of `test_memory`, or `program`, which replays an example with the program itself. Without a CALL all are tried. A
 refused allocation is one that answers null, by a small library that stands before the C library. It needs `cc`.
 """
 
@@ -111,7 +111,7 @@ def try_call(name, library, folder):
         words = [f"{TOP}/crates/seedlinkd/out/seedlinkd", "replay", f"{TOP}/examples/island.toml", f"{TOP}/examples/transfer.script"]
         whole = subprocess.run(words, capture_output=True, check=True).stdout
         return refuse_each(name, words, lambda ended: of_program(whole, ended), library, folder)
-    words = [f"{TOP}/crates/memory_tests/out/memory_tests", name]
+    words = [f"{TOP}/crates/test_memory/out/test_memory", name]
     return refuse_each(name, words, of_call, library, folder)
 
 

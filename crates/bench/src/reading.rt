@@ -1,6 +1,6 @@
 //! A reader over memory: packets are read, cut out and listed.
 use crate::centre::{record_of, told};
-use packet_listing::{Nowhere, Times, read_over};
+use reader_run::{Nowhere, Times, read_over};
 use sl_io::{MemorySink, MemorySource};
 use sl_packet::{Seq, frame};
 use slreader::{Plan, Want, Window};

@@ -3,7 +3,7 @@ use crate::clients::Answer;
 use crate::fault::Fault;
 use crate::line::{Line, word_and_rest};
 use crate::spelling::shown;
-use record_listing::{AllStations, Finding, ListingOptions, RecordCheck, Times, check_records};
+use record_check::{AllStations, Finding, ListingOptions, RecordCheck, Times, check_records};
 use sl_io::{MemorySink, MemorySource};
 use std::alloc::Global;
 use std::fs;

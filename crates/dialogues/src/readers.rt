@@ -3,7 +3,7 @@ use crate::clients::{Answer, compare_numbers};
 use crate::fault::Fault;
 use crate::line::{Line, number_of};
 use crate::spelling::{shown, spelled};
-use packet_listing::{Nowhere, Times, read_over};
+use reader_run::{Nowhere, Times, read_over};
 use sl_io::{MemorySink, MemorySource};
 use slreader::{Plan, Want, Window};
 use std::alloc::Global;

@@ -12,7 +12,7 @@ use Rattle.catalog.specs.Keys.{text_at, text_if_any, number_at, number_if_any, e
 use Rattle.catalog.specs.Reading.{config_of, stations_of, station_values, station_of, entry_of}
 use Rattle.catalog.specs.Settings.{title_of, access_of, connections_of, network_of, code_of, description_of}
 use Rattle.catalog.specs.Settings.{capacity_of, first_of}
-use Rattle.record_listing.specs.Listing.{reading_of}
+use Rattle.record_check.specs.Listing.{reading_of}
 use Rattle.event_script.specs.Dialogue.{dialogue_of}
 use Rattle.event_script.specs.Script.{config_told, event_of}
 use Rattle.event_script.specs.Spelling.{spelled_byte}

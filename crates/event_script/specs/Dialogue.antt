@@ -9,9 +9,9 @@ use Rattle.protocol.specs.Record.{Facts}
 use Rattle.protocol.specs.declared.record.RecordFault.{RecordFault}
 use Rattle.protocol.specs.World.{Event, Handed}
 use Rattle.protocol.specs.World.Event.{Open, Bytes, Take, Close, Arrive, Reload}
-use Rattle.record_listing.specs.Listing.{header_text, reading_of, refusal_text}
-use Rattle.record_listing.specs.declared.fault.FileFault.TheVariants.{Record}
-use Rattle.record_listing.specs.declared.options.Times.TheVariants.{Ticks}
+use Rattle.record_check.specs.Listing.{header_text, reading_of, refusal_text}
+use Rattle.record_check.specs.declared.fault.FileFault.TheVariants.{Record}
+use Rattle.record_check.specs.declared.options.Times.TheVariants.{Ticks}
 use Rattle.event_script.specs.Spelling.{spelled}
 
 -- ---- what a client sends and is handed

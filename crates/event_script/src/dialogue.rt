@@ -3,8 +3,8 @@ ghost use Rattle.std.specs.Prelude.{◌≡◌, ◌<◌, ◌≤◌, ◌+◌, ◌-
 ghost use Rattle.std.specs.Prelude.{IfOk, OnOk};
 ghost use Rattle.std.specs.Net.Addr.{ipv4_bits};
 ghost use Rattle.server_core.specs.Runs.{event_value, handed_value};
-ghost use Rattle.record_listing.specs.Listing.{reading_of, refusal_text};
-ghost use Rattle.record_listing.specs.declared.fault.FileFault.TheVariants.{Record};
+ghost use Rattle.record_check.specs.Listing.{reading_of, refusal_text};
+ghost use Rattle.record_check.specs.declared.fault.FileFault.TheVariants.{Record};
 ghost use Rattle.event_script.specs.Dialogue.{arrival_line, arrival_text, client_line, dialogue_of};
 ghost use Rattle.event_script.specs.Dialogue.{event_line, handed_text, marked_text, nothing_text, opened_after};
 ghost use Rattle.event_script.specs.Dialogue.{packet_facts, packet_text, received_text, sent_text, take_line};
@@ -13,13 +13,13 @@ ghost use Rattle.event_script.specs.Dialogue.{address_text, is_packet, takes_aft
 use crate::spelling::put_spelled;
 use itoa::Buffer;
 use mseed_header::{Header, RecordFault, read};
-use record_listing::{Times, put_header};
+use record_check::{Times, put_header};
 use server_core::{Event, Handed};
 use std::alloc::{AllocError, Global};
 use std::net::Ipv4Addr;
 
 /// What a record says, or why it is refused.
-#[tactic(auto, unfolding(record_listing::specs::Listing::reading_of))]
+#[tactic(auto, unfolding(record_check::specs::Listing::reading_of))]
 fn reading_of(record: &[u8; 512]) -> Result<Header<'_>, RecordFault>
     ensures { result ≡ reading_of «record».now }
 {

@@ -1,8 +1,8 @@
 //! Records out of bytes.
 ghost use Rattle.std.specs.Prelude.{◌≡◌, ◌++◌, length, take};
 
+use sl_packet::Unfinished;
 use std::marker::Model;
-use unfinished::Unfinished;
 
 /// The length of a record, in bytes.
 const RECORD: usize = 512;

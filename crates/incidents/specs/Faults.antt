@@ -6,11 +6,11 @@ use Rattle.catalog.specs.Faults.{config_reason}
 use Rattle.feeder.specs.Sending.{send_reason}
 use Rattle.sl_time.specs.Parsed.{time_reason}
 use Rattle.slreader.specs.Faults.{reader_reason}
-use Rattle.packet_listing.specs.Faults.{listing_reason}
+use Rattle.reader_run.specs.Faults.{listing_reason}
 use Rattle.serving.specs.Faults.{serve_reason}
-use Rattle.socket_ports.specs.Faults.{listen_reason}
+use Rattle.ports_socket.specs.Faults.{listen_reason}
 use Rattle.sl_io.specs.Faults.{stream_reason}
-use Rattle.record_listing.specs.Listing.{file_reason}
+use Rattle.record_check.specs.Listing.{file_reason}
 use Rattle.incidents.specs.declared.failure.Failure.{Failure}
 use Rattle.incidents.specs.declared.failure.Failure.TheVariants as failure
 use Rattle.incidents.specs.declared.faults.ReplayFault.{ReplayFault}

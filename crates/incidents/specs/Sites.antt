@@ -11,8 +11,8 @@ use Rattle.incidents.specs.declared.site.Site.TheVariants.{Unnamed, File, Settin
 use Rattle.incidents.specs.declared.site.Site.TheVariants.{Unwritten, Word}
 use Rattle.incidents.specs.declared.site.Site.TheVariants.{AccessWord, Want, Server, Socket}
 use Rattle.access_list.specs.Tokens.{first_refused}
-use Rattle.socket_ports.specs.declared.fault.ListenError.{ListenError}
-use Rattle.socket_ports.specs.declared.fault.ListenError.TheVariants as error
+use Rattle.ports_socket.specs.declared.fault.ListenError.{ListenError}
+use Rattle.ports_socket.specs.declared.fault.ListenError.TheVariants as error
 use Rattle.slreader.specs.declared.fault.ReaderFault.{ReaderFault}
 use Rattle.slreader.specs.declared.fault.ReaderFault.TheVariants as reader
 use Rattle.slreader.specs.WordParts.{wrong_part}

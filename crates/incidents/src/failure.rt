@@ -5,15 +5,15 @@ ghost use Rattle.incidents.specs.Faults.{failure_reason};
 use crate::faults::{NumbersFault, ReplayFault, StateFault, WantsFault};
 use catalog::ConfigFault;
 use feeder::SendFault;
-use packet_listing::ListingFault;
+use ports_socket::ListenFault;
 use protocol::reason::Reason;
-use record_listing::FileFault;
+use reader_run::ListingFault;
+use record_check::FileFault;
 use server_core::ReloadFault;
 use serving::ServeFault;
 use sl_io::StreamFault;
 use sl_time::TimeFault;
 use slreader::ReaderFault;
-use socket_ports::ListenFault;
 use std::fmt::{self, Formatter, Write};
 
 /// What keeps the program from doing its job, once its words are read.

@@ -2,7 +2,7 @@
 ghost use Rattle.std.specs.Prelude.{◌≡◌};
 ghost use Rattle.incidents.specs.Kinds.{kind_by_signature};
 
-use record_listing::{AllStations, Detail, FeedTally};
+use record_check::{AllStations, Detail, FeedTally};
 use std::fmt::{self, Display, Formatter, Write};
 
 /// What a file is that is no file of records of 512 bytes.

@@ -1,6 +1,6 @@
 //! The stations of a configuration, of which a file may have records.
 use catalog::Config;
-use record_listing::Stations;
+use record_check::Stations;
 
 /// The stations of a configuration, of which a file may have records.
 #[derive(Clone, Copy)]

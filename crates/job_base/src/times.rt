@@ -2,7 +2,7 @@
 ghost use Rattle.std.specs.Prelude.{◌≡◌};
 ghost use Rattle.job_base.specs.Times.{times_by};
 
-use record_listing::Times;
+use record_check::Times;
 
 /// How times are written, by whether `--iso` was given.
 pub fn times_of(is_iso: bool) -> Times

@@ -1,6 +1,6 @@
 -- What a check lists, by the words of a command line.
 use Rattle.std.specs.Prelude.{Bool, not}
-use Rattle.record_listing.specs.declared.options.ListingOptions.{ListingOptions}
+use Rattle.record_check.specs.declared.options.ListingOptions.{ListingOptions}
 use Rattle.job_base.specs.Times.{times_by}
 
 -- what is listed, by `--iso`, `--summary`, `--quiet` and `--gaps`

@@ -10,7 +10,7 @@ use job_base::{
     Begun, ConfiguredStations, FirstBytes, ReasonKeeper, Watched, config_at, is_output_terminal,
     is_terminal, size_of, times_of,
 };
-use record_listing::{AllStations, Finding, ListingOptions, RecordCheck, Stations};
+use record_check::{AllStations, Finding, ListingOptions, RecordCheck, Stations};
 use sl_io::{Outer, StreamFault};
 use std::fs::File;
 use std::io::{self, Read};

@@ -2,7 +2,7 @@
 use crate::folders::{FolderFault, files_below};
 use incidents::{Failure, FileKind, FoundFault, FoundFile, Incident, Site};
 use job_base::unopened;
-use record_listing::Finding;
+use record_check::Finding;
 use shown_lines::ShownLine;
 use sl_io::StreamFault;
 use std::alloc::{AllocError, Global};

@@ -16,7 +16,7 @@ use job_base::{
     ConfiguredStations, ReasonKeeper, ServerAddress, Watched, checked_config_at, connection,
     is_terminal, open, server_of, size_of,
 };
-use record_listing::{AllStations, FeedTally, Stations};
+use record_check::{AllStations, FeedTally, Stations};
 use sl_io::{DeviceFault, Outer};
 use std::fs::File;
 use std::io::{self, Read};

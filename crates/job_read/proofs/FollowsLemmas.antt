@@ -3,8 +3,8 @@ use Rattle.std.proofs.Common.{◌≡◌, ℕ, List, subst}
 use Rattle.std.specs.Prelude.{Option}
 use Rattle.slreader.specs.Tallies.{TallyValue}
 use Rattle.slreader.specs.Wants.{WantValue}
-use Rattle.packet_listing.specs.Following.{Follows}
-use Rattle.packet_listing.specs.Keeping.{Deed, KeepsBehind}
+use Rattle.reader_run.specs.Following.{Follows}
+use Rattle.reader_run.specs.Keeping.{Deed, KeepsBehind}
 
 -- the same of wants that are equal
 pub behind-of : (wants wants' : List WantValue) (t : TallyValue) (records : Option (List ℕ)) (x y : Option (List Deed))

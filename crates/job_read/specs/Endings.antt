@@ -1,7 +1,7 @@
 -- Why a reading over connections ends, and whether another one is made.
 use Rattle.std.specs.Prelude.{ℕ, ◌&&◌, ◌||◌, not, nat_lt, Bool, true, false}
-use Rattle.packet_listing.specs.declared.fault.ListingFault.{ListingFault}
-use Rattle.packet_listing.specs.declared.fault.ListingFault.TheVariants as listing
+use Rattle.reader_run.specs.declared.fault.ListingFault.{ListingFault}
+use Rattle.reader_run.specs.declared.fault.ListingFault.TheVariants as listing
 use Rattle.incidents.specs.declared.failure.Failure.{Failure}
 use Rattle.incidents.specs.declared.failure.Failure.TheVariants as failure
 use Rattle.slreader.specs.declared.fault.ReaderFault.TheVariants as reader

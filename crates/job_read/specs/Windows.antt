@@ -5,7 +5,7 @@ use Rattle.std.specs.Borrow.{Bor}
 use Rattle.protocol.specs.Time.{time_of}
 use Rattle.sl_time.specs.Parsed.{parsed}
 use Rattle.sl_time.specs.declared.command.TimeFault.{TimeFault}
-use Rattle.iso_time.specs.Spelled.{command_text}
+use Rattle.sl_time.specs.Spelled.{command_text}
 use Rattle.slreader.specs.Words.{WindowValue}
 use Rattle.slreader.specs.Words.WindowValue.{Following, Held, Between}
 use Rattle.incidents.specs.declared.failure.Failure.{Failure}

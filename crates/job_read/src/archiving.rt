@@ -9,7 +9,7 @@ use crate::torn::tell_torn;
 use crate::unplaced::UnplacedCount;
 use incidents::{Failure, FoundFault, FoundFile, Incident, Site};
 use job_base::{descriptor_limit, unopened};
-use packet_listing::Nowhere;
+use reader_run::Nowhere;
 use record_archive::{
     Archive, ArchiveFault, ContinuedFiles, ContinuedOutput, DiskFiles, FileFailure, FileLength,
     FilePlace, ONE_FILE, RecordFiles, StationCodes, StationLocks, TopFault, Unnamed, lock_stations,

@@ -4,7 +4,7 @@ ghost use Rattle.job_read.specs.Endings.{goes_on, is_mendable, is_wrong, lost, u
 
 use crate::places::Places;
 use incidents::Failure;
-use packet_listing::ListingFault;
+use reader_run::ListingFault;
 use slreader::ReaderFault;
 
 /// Whether another connection may mend a failure: none could be made, or it ended before the end of the transfer.

@@ -1,14 +1,14 @@
 //! Servers that are asked for what a reading wants.
 ghost use Rattle.std.specs.Prelude.{◌≡◌, IfErr, OnOk};
-ghost use Rattle.packet_listing.specs.Breaks.{StopsVisits};
-ghost use Rattle.packet_listing.specs.Following.{Follows};
-ghost use Rattle.packet_listing.specs.Keeping.{KeepsBehind};
-ghost use Rattle.packet_listing.specs.Visits.{EndsVisits, asking, progress};
+ghost use Rattle.reader_run.specs.Breaks.{StopsVisits};
+ghost use Rattle.reader_run.specs.Following.{Follows};
+ghost use Rattle.reader_run.specs.Keeping.{KeepsBehind};
+ghost use Rattle.reader_run.specs.Visits.{EndsVisits, asking, progress};
 
 use crate::hearing::{HeardLines, Listener};
 use crate::notices::{ErrorTeller, RefusalTeller};
 use crate::reading::Reading;
-use packet_listing::{Break, Keeper, ListingFault, Servers, follow};
+use reader_run::{Break, Keeper, ListingFault, Servers, follow};
 use sl_io::Sink;
 use slreader::{ReaderFault, Tally};
 use std::alloc::Global;

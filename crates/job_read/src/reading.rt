@@ -18,9 +18,9 @@ use job_base::{
     ReasonKeeper, ServerAddress, StandardError as Eprinted, server_of, tell_incident, times_of,
     unopened,
 };
-use packet_listing::{Break, Nowhere};
+use reader_run::{Break, Nowhere};
 use record_archive::FileLength;
-use record_listing::Times;
+use record_check::Times;
 use sl_io::{Outer, Sink};
 use slreader::{Tally, Want};
 use std::alloc::{AllocError, Global};

@@ -7,7 +7,7 @@ use crate::clock::milliseconds;
 use crate::silence::is_silent;
 use incidents::{Failure, Incident, Site, StateFault};
 use job_base::{place_of, replace};
-use packet_listing::{KeepFault, Keeper, ListingFault};
+use reader_run::{KeepFault, Keeper, ListingFault};
 use reader_state::{State, read_state, write_state};
 use record_archive::{FileFailure, FileLength, ONE_FILE};
 use sl_io::{Outer, ReadFault, Sink, read_all};

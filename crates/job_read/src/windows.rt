@@ -7,8 +7,7 @@ ghost use Rattle.job_read.specs.Windows.{IsNoMoment, IsMoment, IsMomentOf, Refus
 
 use command_line::ReadOptions;
 use incidents::{Failure, Incident, Site};
-use iso_time::command_time;
-use sl_time::Tick;
+use sl_time::{Tick, command_time};
 use slreader::Window;
 use std::alloc::Global;
 

@@ -6,7 +6,7 @@ ghost use Rattle.incidents.specs.declared.failure.Failure.TheVariants.{OutOfMemo
 use access_list::AccessList;
 use command_line::ServeOptions;
 use incidents::{Failure, Incident};
-use socket_ports::Admission;
+use ports_socket::Admission;
 use std::alloc::Global;
 
 /// Who may connect, by the words of a command line: feeds from the addresses of a list alone, if there is one, and at

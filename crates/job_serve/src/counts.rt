@@ -1,7 +1,7 @@
 //! What the journal counts for the status port: who is here since when, and how often whom it turned away and which
 //! records it refused.
-use logged_ports::Visit;
 use ports::{AwayReason, Refusal};
+use ports_logged::Visit;
 use protocol::reason::Reason;
 use server_watch::Visitor;
 use status_page::NamedCount;

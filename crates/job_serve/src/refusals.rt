@@ -2,8 +2,8 @@
 ghost use Rattle.std.specs.Prelude.{◌≡◌, ◌<◌, IfSome, length};
 ghost use Rattle.job_serve.specs.Refusals.{is_due, told_count, with_record};
 
-use logged_ports::ShownCodes;
 use ports::{RecordCodes, Refusal};
+use ports_logged::ShownCodes;
 use protocol::reason::Reason;
 use std::alloc::{AllocError, Global};
 use std::fmt::{self, Display, Formatter, Write};

@@ -1,14 +1,14 @@
 //! Lines that several parts of a server write, and among them who comes and goes.
 ghost use Rattle.std.specs.Prelude.{[], ◌∷◌, None};
-ghost use Rattle.logged_ports.specs.Visits.{Notes};
+ghost use Rattle.ports_logged.specs.Visits.{Notes};
 
 use crate::counts::SharedCounts;
 use crate::cuts::OpenClients;
 use crate::refusals::{RefusalLog, RefusedLine, RefusedText};
 use catalog::Config;
 use error_lines::{Device, ErrorLines, Line};
-use logged_ports::{Journal, Visit};
 use ports::Refusal;
+use ports_logged::{Journal, Visit};
 use std::alloc::{AllocError, Global};
 use std::cell::RefCell;
 use std::fmt::{self, Display, Formatter, Write};

@@ -1,7 +1,7 @@
 //! A server with its ports, and the dialogue with it.
 use catalog::Config;
 use event_loop::Loop;
-use socket_ports::{Admission, MioPorts};
+use ports_socket::{Admission, MioPorts};
 use std::io;
 use std::io::{ErrorKind, Read, Write};
 use std::net::{Ipv4Addr, Net, OpenStream, SocketAddr, SocketAddrV4, TcpStream};

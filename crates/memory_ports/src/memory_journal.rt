@@ -1,8 +1,8 @@
 //! A journal in memory.
 ghost use Rattle.std.specs.Prelude.{◌≡◌, [], IsFalse, Some, None, if◌then◌else◌};
-ghost use Rattle.logged_ports.specs.Visits.{Notes};
+ghost use Rattle.ports_logged.specs.Visits.{Notes};
 
-use logged_ports::{Journal, Visit};
+use ports_logged::{Journal, Visit};
 use std::alloc::Global;
 
 /// A journal in memory, that keeps all visits. Only if there was no memory to keep one does it stop telling them.

@@ -6,8 +6,8 @@ ghost use Rattle.ports.specs.Calls.Call.{Next, Read, Write, Shut};
 ghost use Rattle.ports.specs.Decisions.{Decides};
 ghost use Rattle.memory_ports.specs.Guests.{address_of};
 
-use logged_ports::{Away, Doors};
 use ports::{Decision, Got, Happening, PortFault, Ports, Put};
+use ports_logged::{Away, Doors};
 use std::alloc::Global;
 use std::net::Ipv4Addr;
 

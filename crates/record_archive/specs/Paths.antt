@@ -3,7 +3,7 @@
 use Rattle.std.specs.Prelude.{ℕ, ◌+◌, ◌/◌, ◌%◌, Bool, true, false, ◌&&◌, not, ◌==◌, nat_lt, List, [], ◌∷◌, ◌++◌}
 use Rattle.std.specs.List.{list_all}
 use Rattle.protocol.specs.Record.{Facts, trimmed}
-use Rattle.record_listing.specs.Listing.{kind_letter}
+use Rattle.record_check.specs.Listing.{kind_letter}
 
 -- a byte that prints, but `/`
 abbrev pub is_name_byte : ℕ → Bool

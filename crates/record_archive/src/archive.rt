@@ -14,10 +14,10 @@ use crate::lengths::FileLength;
 use crate::placing::{ArchiveFault, Place, Placed, put_record};
 use crate::stations::StationCodes;
 use sl_io::{DeviceFault, Sink};
+use sl_packet::Unfinished;
 use std::alloc::Global;
 use std::fs::File;
 use std::rt::{Clock, Files};
-use unfinished::Unfinished;
 
 /// An archive of some stations in folders, to which the bytes of records are written, in whatever pieces. A record is
 /// put into its file once its last byte came, if it is of one of the stations. Memory is taken only for the texts of

@@ -11,9 +11,9 @@ use crate::files::RecordFiles;
 use crate::folders::FolderFault;
 use crate::lengths::FileLength;
 use sl_io::{DeviceFault, Sink};
+use sl_packet::Unfinished;
 use std::fs::File;
 use std::rt::{Clock, Files};
-use unfinished::Unfinished;
 
 /// The name of the one file.
 pub const ONE_FILE: &str = "-";

@@ -6,7 +6,7 @@ ghost use Rattle.record_archive.specs.Paths.{channel_text, codes_text, file_text
 ghost use Rattle.record_archive.specs.Paths.{is_name, is_name_byte, is_reserved, last_digit, three_digits, with_mark};
 
 use mseed_header::{Header, trimmed};
-use record_listing::kind_letter;
+use record_check::kind_letter;
 use sl_time::DayOfYear;
 use std::alloc::AllocError;
 

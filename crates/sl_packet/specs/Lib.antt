@@ -1,3 +1,4 @@
 pub mod Progress
 pub mod States
 pub mod Cuts
+pub mod UnfinishedValues

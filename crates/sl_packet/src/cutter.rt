@@ -3,9 +3,9 @@ ghost use Rattle.std.specs.Prelude.{◌≡◌, ◌+◌, ◌<◌, ◌++◌, lengt
 ghost use Rattle.sl_packet.specs.States.{end_piece};
 
 use crate::packets::{PACKET, may_continue};
+use crate::unfinished::Unfinished;
 use protocol::reason::Reason;
 use std::marker::Model;
-use unfinished::Unfinished;
 
 /// A byte fits no stream of packets: it stands neither in a packet nor in the end, or behind the end.
 #[derive(Clone, Copy, Debug, Drop)]

@@ -5,7 +5,9 @@
 mod cutter;
 mod packets;
 pub mod sequence;
+mod unfinished;
 
 pub use cutter::{Cut, Fed, NotAPacket, PacketCutter};
 pub use packets::{frame, header};
 pub use sequence::Seq;
+pub use unfinished::Unfinished;

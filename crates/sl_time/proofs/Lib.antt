@@ -1,2 +1,6 @@
 mod CalendarLemmas
 mod PartLemmas
+pub mod DateLemmas
+pub mod MomentLemmas
+pub mod ReadLemmas
+mod WorkedMoments

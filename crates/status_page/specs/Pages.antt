@@ -2,7 +2,7 @@
 -- HTML: a text of others stands in it escaped. SVG: a path of bars.
 use Rattle.std.specs.Prelude.{ℕ, ℤ, ◌-◌, ◌*◌, ◌/◌, nat_lt, if◌then◌else◌, List, [], ◌∷◌, ◌++◌, codes, decimal}
 use Rattle.std.specs.Prelude.{flat_map, Option, Some, None, Bool}
-use Rattle.iso_time.specs.Written.{moment_text}
+use Rattle.sl_time.specs.Written.{moment_text}
 use Rattle.status_page.specs.declared.value.StatusValue.{StatusValue}
 use Rattle.status_page.specs.declared.value.StationStatus.{StationStatus}
 use Rattle.status_page.specs.declared.value.ClientStatus.{ClientStatus}

@@ -1,7 +1,7 @@
 -- Parts of an answer, and their texts. HTML: character references. Prometheus, text format 0.0.4: values of labels.
 use Rattle.std.specs.Prelude.{ℕ, ℤ, pos, negsuc, ◌==◌, ◌||◌, ◌/◌, nat_lt, if◌then◌else◌, List, [], ◌∷◌, ◌++◌, codes}
 use Rattle.std.specs.Prelude.{decimal, flat_map, slice_index}
-use Rattle.iso_time.specs.Written.{moment_text}
+use Rattle.sl_time.specs.Written.{moment_text}
 use Rattle.status_page.specs.declared.parts.Part.{Part}
 use Rattle.status_page.specs.declared.parts.Part.TheVariants.{Text, Number, Html, Label, Shown, Moment, Seconds}
 

@@ -1,7 +1,7 @@
 -- What a terminal and a watchdog read. The lines are this project's own: columns are separated by tabs.
 use Rattle.std.specs.Prelude.{ℕ, if◌then◌else◌, List, [], ◌∷◌, ◌++◌, codes, decimal, flat_map}
 use Rattle.std.specs.Prelude.{Option, Some, None}
-use Rattle.iso_time.specs.Written.{moment_text}
+use Rattle.sl_time.specs.Written.{moment_text}
 use Rattle.status_page.specs.declared.value.StatusValue.{StatusValue}
 use Rattle.status_page.specs.declared.value.StationStatus.{StationStatus}
 use Rattle.status_page.specs.declared.value.ClientStatus.{ClientStatus}

@@ -1,12 +1,11 @@
 //! Parts of an answer. What others wrote stands in it escaped, or shown.
 ghost use Rattle.std.specs.Prelude.{◌≡◌, ◌++◌, OnOk, decimal};
-ghost use Rattle.iso_time.specs.Written.{moment_text};
+ghost use Rattle.sl_time.specs.Written.{moment_text};
 ghost use Rattle.status_page.specs.Parts.{address_text, html, html_byte, label, label_byte, part_text, parts_text};
 ghost use Rattle.status_page.specs.Parts.{shown, shown_byte, unix_seconds};
 
-use iso_time::put_moment;
 use itoa::Buffer;
-use sl_time::Tick;
+use sl_time::{Tick, put_moment};
 use std::alloc::AllocError;
 
 /// A part of an answer.

@@ -5,7 +5,7 @@ use command_line::{CheckOptions, FeedOptions, Job, ReadOptions, ServeOptions};
 use config_explained::{finding_of, first_difference};
 use jobs::ReplayStyle::Hexadecimal;
 use jobs::{Failure, Incident, replay, run_job};
-use record_listing::{AllStations, ListingOptions, check_records};
+use record_check::{AllStations, ListingOptions, check_records};
 use sl_io::{MemorySink, MemorySource};
 use std::alloc::Global;
 use std::test::Fail;

@@ -1,7 +1,7 @@
 -- Each way out reads the used bytes as the feed does.
 use Rattle.std.proofs.Common.{◌-◌, ◌++◌, length, take, refl, ap, ◌∙◌, arith}
 use Rattle.std.proofs.lemmas.List.{nil_from_length}
-use Rattle.unfinished.specs.UnfinishedValues.{UnfinishedValue}
+use Rattle.sl_packet.specs.UnfinishedValues.{UnfinishedValue}
 use Rattle.feeder.proofs.CutterLemmas.{reads_piece, reads_record}
 use Rattle.feeder.proofs.cutter.FeedCutter.feed.Goals as goal
 

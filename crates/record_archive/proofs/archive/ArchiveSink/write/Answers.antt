@@ -3,7 +3,7 @@ use Rattle.std.proofs.Common.{sym, take, ◌∙◌}
 use Rattle.std.specs.Prelude.{if◌then◌else◌}
 use Rattle.std.proofs.lemmas.Bool.Decides.{nat_tests}
 use Rattle.std.proofs.lemmas.List.{length-take-le}
-use Rattle.unfinished.specs.UnfinishedValues.{UnfinishedValue}
+use Rattle.sl_packet.specs.UnfinishedValues.{UnfinishedValue}
 use Rattle.record_archive.specs.Archives.{CountsAll, HoldsMore, whole_with}
 use Rattle.record_archive.proofs.archive.ArchiveSink.write.Given as given
 use Rattle.record_archive.proofs.archive.ArchiveSink.write.Goals as goal

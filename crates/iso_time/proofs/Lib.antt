@@ -1,4 +1,0 @@
-pub mod DateLemmas
-pub mod MomentLemmas
-pub mod ReadLemmas
-mod WorkedMoments

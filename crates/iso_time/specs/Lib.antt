@@ -1,3 +1,0 @@
-pub mod Moments
-pub mod Spelled
-pub mod Written

@@ -1,0 +1,10 @@
+-- Visits that are noted in a journal.
+-- Journals are this project's own. Left out: when something is noted, and whether anybody reads it.
+use Rattle.std.specs.Prelude.{◌≡◌, List, ◌++◌, Option, Some, None}
+use Rattle.ports_logged.specs.declared.visit.Visit.{Visit}
+
+-- Those visits were noted between the two, where the journal tells them after it.
+abbrev pub Notes : Option (List Visit) → Option (List Visit) → List Visit → Type 0
+Notes old None visits = Unit {0}
+Notes (Some before) (Some after) visits = after ≡ before ++ visits
+Notes None (Some after) visits = ⊥

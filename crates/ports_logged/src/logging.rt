@@ -1,0 +1,228 @@
+//! Ports over ports that note who comes and goes.
+ghost use Rattle.std.specs.Prelude.{◌≡◌, ◌<◌, [], ◌∷◌, IfOk, None, find, length, map};
+ghost use Rattle.sl_io.specs.Counts.{CountsFailure};
+ghost use Rattle.ports.specs.Calls.{Tells, given, taken, IsGiven, IsTaken};
+ghost use Rattle.ports.specs.Calls.Call.{Next, Read, Write, Shut};
+ghost use Rattle.ports.specs.Decisions.{Decides};
+ghost use Rattle.ports.specs.declared.decisions.Decision.TheVariants.{LetIn};
+ghost use Rattle.ports_logged.specs.Decided.{count_of_read, counted_at, decided_notes, decided_visitors};
+ghost use Rattle.ports_logged.specs.Decided.{over_if};
+ghost use Rattle.ports_logged.specs.Visitors.{giving, is_at, taking, without};
+ghost use Rattle.ports_logged.specs.Visits.{Notes};
+
+use crate::traffic::Traffic;
+use crate::visit::{Away, Visit};
+use crate::visitor::Visitor;
+use crate::visitors::Visitors;
+use crate::{Doors, Journal};
+use ports::{Decision, Got, Happening, Party, PortFault, Ports, Put};
+use std::alloc::{AllocError, Global};
+use std::net::Ipv4Addr;
+
+/// Ports over others. Each call is passed on with its answer, and what is decided of a port is noted: who is let in or
+/// turned away, and at the end how many bytes a client took, or how many whole records a feed gave, and how many of
+/// them were refused.
+///
+/// Ports join at rising numbers. One that does not, or for which there is no room, is let in without being followed,
+/// and its end is not noted.
+#[derive(Drop)]
+pub struct LoggedPorts<P, J> {
+    inner: P,
+    visitors: Visitors,
+    journal: J,
+}
+
+/// Notes connections that were turned away.
+fn note_all<J: Journal>(journal: &mut J, away: &[Away])
+    ensures { Notes (J.noted journal.old) (J.noted journal.new) (map Visit.Away away.now) }
+{
+    for one in away {
+        journal.note(Visit::Away(*one));
+    }
+}
+
+/// Who is let in is followed, and noted.
+fn let_in<J: Journal>(
+    visitors: &mut Visitors,
+    journal: &mut J,
+    port: u64,
+    party: Party,
+    address: Ipv4Addr,
+)
+    ensures visitors { visitors.new ≡ decided_visitors port (LetIn party) address visitors.old }
+    ensures notes { Notes (J.noted journal.old) (J.noted journal.new)
+        (decided_notes port (LetIn party) address visitors.old) }
+{
+    visitors.add(Visitor::new(port, party, address));
+    journal.note(match party {
+        Party::Client => Visit::Open { port, address },
+        Party::Feed => Visit::Feed { port, address },
+    });
+}
+
+/// Whoever was at a port is gone, and it is noted what went over it.
+fn let_go<J: Journal>(visitors: &mut Visitors, journal: &mut J, port: u64)
+    ensures visitors { visitors.new ≡ record visitors.old { present = without port visitors.old.present } }
+    ensures notes { Notes (J.noted journal.old) (J.noted journal.new)
+        (over_if (find (is_at port) visitors.old.present)) }
+{
+    match visitors.remove(port) {
+        Some(gone) => journal.note(gone.end()),
+        None => {}
+    }
+}
+
+/// What is decided of a port, whose connection came from an address, is noted.
+fn decide<J: Journal>(
+    visitors: &mut Visitors,
+    journal: &mut J,
+    port: u64,
+    decision: Decision,
+    address: Ipv4Addr,
+)
+    ensures visitors { visitors.new ≡ decided_visitors port decision address visitors.old }
+    ensures notes { Notes (J.noted journal.old) (J.noted journal.new)
+        (decided_notes port decision address visitors.old) }
+{
+    match decision {
+        Decision::LetIn(party) => let_in(visitors, journal, port, party, address),
+        Decision::TurnedAway(reason) => journal.note(Visit::Away(Away { address, reason })),
+        Decision::Ends(_) => let_go(visitors, journal, port),
+        Decision::Refused(refusal) => {
+            let record = visitors.records(port);
+            visitors.count(port, Traffic::refused_record());
+            journal.note(Visit::Refused {
+                port,
+                record,
+                refusal,
+            });
+        }
+    }
+}
+
+impl<P, J> LoggedPorts<P, J> {
+    /// Ports over others, at which nobody is, where so many connections can be followed. It fails only for want of
+    /// memory.
+    pub fn new(
+        alloc: Global,
+        inner: P,
+        room: usize,
+        journal: J,
+    ) -> Result<LoggedPorts<P, J>, AllocError>
+    where
+        P: Drop,
+        J: Drop,
+        ensures inner { IfOk result (λ ports. ports.inner ≡ inner) }
+        ensures visitors { IfOk result (λ ports. ports.visitors
+            ≡ record { room = room; last = None; present = [] }) }
+        ensures journal { IfOk result (λ ports. ports.journal ≡ journal) }
+    {
+        let visitors = Visitors::new(alloc, room)?;
+        Ok(LoggedPorts {
+            inner,
+            visitors,
+            journal,
+        })
+    }
+
+    /// The inner ports and the journal.
+    pub fn into_parts(self) -> (P, J)
+        ensures inner { result.0 ≡ self.inner }
+        ensures journal { result.1 ≡ self.journal }
+    {
+        let LoggedPorts {
+            inner,
+            visitors: _,
+            journal,
+        } = self;
+        (inner, journal)
+    }
+}
+
+impl<P: Doors, J: Journal> Ports for LoggedPorts<P, J> {
+    ghost calls = { λ s. P.calls s.inner };
+
+    ghost failures = { λ s. P.failures s.inner };
+
+    ghost decided = { λ s. P.decided s.inner };
+
+    fn next(&mut self) -> Result<Happening, PortFault>
+        ensures call { Tells (P.calls self.old.inner) (P.calls self.new.inner) (Next result ∷ []) }
+        ensures failure { CountsFailure (P.failures self.old.inner) (P.failures self.new.inner) result }
+        ensures decided { P.decided self.new.inner ≡ P.decided self.old.inner }
+        ensures visitors { self.new.visitors ≡ self.old.visitors }
+        ensures notes { Notes (J.noted self.old.journal) (J.noted self.new.journal)
+            (map Visit.Away (P.turned_away self.new.inner)) }
+    {
+        let answer = self.inner.next();
+        note_all(&mut self.journal, self.inner.turned_away());
+        answer
+    }
+
+    fn read(&mut self, port: u64, buffer: &mut [u8]) -> Result<Got, PortFault>
+        requires { 0 < length buffer.old }
+        ensures bound { IsGiven result (length buffer.new) }
+        ensures call { Tells (P.calls self.old.inner) (P.calls self.new.inner)
+            (Read port (length buffer.new) (given result buffer.new) ∷ []) }
+        ensures failure { CountsFailure (P.failures self.old.inner) (P.failures self.new.inner) result }
+        ensures decided { P.decided self.new.inner ≡ P.decided self.old.inner }
+        ensures visitors { self.new.visitors ≡ counted_at port (giving (count_of_read result)) self.old.visitors }
+        ensures journal { self.new.journal ≡ self.old.journal }
+    {
+        let answer = self.inner.read(port, buffer);
+        let count = match answer {
+            Ok(Got::Bytes(count)) => count,
+            _ => 0,
+        };
+        self.visitors.count(port, Traffic::bytes_given(count));
+        answer
+    }
+
+    fn write(&mut self, port: u64, bytes: &[u8]) -> Result<Put, PortFault>
+        requires { 0 < length bytes.now }
+        ensures bound { IsTaken result (length bytes.now) }
+        ensures call { Tells (P.calls self.old.inner) (P.calls self.new.inner) (Write port bytes.now result ∷ []) }
+        ensures failure { CountsFailure (P.failures self.old.inner) (P.failures self.new.inner) result }
+        ensures decided { P.decided self.new.inner ≡ P.decided self.old.inner }
+        ensures visitors { self.new.visitors ≡ counted_at port (taking (taken result)) self.old.visitors }
+        ensures journal { self.new.journal ≡ self.old.journal }
+    {
+        let answer = self.inner.write(port, bytes);
+        let count = match answer {
+            Ok(Put::Took(count)) => count,
+            _ => 0,
+        };
+        self.visitors.count(port, Traffic::bytes_taken(count));
+        answer
+    }
+
+    fn shut(&mut self, port: u64)
+        ensures call { Tells (P.calls self.old.inner) (P.calls self.new.inner) (Shut port ∷ []) }
+        ensures failures { P.failures self.new.inner ≡ P.failures self.old.inner }
+        ensures decided { P.decided self.new.inner ≡ P.decided self.old.inner }
+        ensures visitors { self.new.visitors ≡ self.old.visitors }
+        ensures journal { self.new.journal ≡ self.old.journal }
+    {
+        self.inner.shut(port);
+    }
+
+    fn tell(&mut self, port: u64, decision: Decision)
+        ensures calls { P.calls self.new.inner ≡ P.calls self.old.inner }
+        ensures failures { P.failures self.new.inner ≡ P.failures self.old.inner }
+        ensures decides { Decides (P.decided self.old.inner) (P.decided self.new.inner) ((port, decision) ∷ []) }
+        ensures visitors { self.new.visitors
+            ≡ decided_visitors port decision (P.address self.old.inner port) self.old.visitors }
+        ensures notes { Notes (J.noted self.old.journal) (J.noted self.new.journal)
+            (decided_notes port decision (P.address self.old.inner port) self.old.visitors) }
+    {
+        let address = self.inner.address(port);
+        self.inner.tell(port, decision);
+        decide(
+            &mut self.visitors,
+            &mut self.journal,
+            port,
+            decision,
+            address,
+        );
+    }
+}

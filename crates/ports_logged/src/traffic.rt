@@ -1,0 +1,60 @@
+//! What goes over a port.
+ghost use Rattle.std.specs.Prelude.{◌≡◌};
+ghost use Rattle.ports_logged.specs.Visitors.{giving, joined_traffic, refusing, taking};
+
+/// What went over a port. Each count stays at 2^64 - 1.
+#[derive(Clone, Copy, Drop)]
+pub struct Traffic {
+    /// How many bytes it gave.
+    pub given: u64,
+    /// How many bytes it took.
+    pub taken: u64,
+    /// How many of the records that it gave were refused.
+    pub refused: u64,
+}
+
+impl Traffic {
+    /// So many bytes that a port gave.
+    pub fn bytes_given(count: usize) -> Traffic
+        ensures { result ≡ giving count }
+    {
+        Traffic {
+            given: count as u64,
+            taken: 0,
+            refused: 0,
+        }
+    }
+
+    /// So many bytes that a port took.
+    pub fn bytes_taken(count: usize) -> Traffic
+        ensures { result ≡ taking count }
+    {
+        Traffic {
+            given: 0,
+            taken: count as u64,
+            refused: 0,
+        }
+    }
+
+    /// A record that a port gave and that was refused.
+    pub fn refused_record() -> Traffic
+        ensures { result ≡ refusing }
+    {
+        Traffic {
+            given: 0,
+            taken: 0,
+            refused: 1,
+        }
+    }
+
+    /// With more.
+    pub fn and(self, more: Traffic) -> Traffic
+        ensures { result ≡ joined_traffic self more }
+    {
+        Traffic {
+            given: self.given.saturating_add(more.given),
+            taken: self.taken.saturating_add(more.taken),
+            refused: self.refused.saturating_add(more.refused),
+        }
+    }
+}

@@ -1,0 +1,357 @@
+//! The connections, each under a key of its own, and the open ones among them by their numbers.
+ghost use Rattle.std.specs.Prelude.{◌≡◌, ◌-◌, ◌<◌, ◌++◌, ◌∷◌, [], IfNone, IfOk, IfSome, None, length, take, true};
+ghost use Rattle.std.specs.Bool.{OnFalse, OnTrue};
+ghost use Rattle.std.specs.List.{Contains};
+ghost use Rattle.slab.specs.Slab.{Updates, get};
+ghost use Rattle.ports.specs.Calls.{IsGiven, IsTaken};
+ghost use Rattle.ports_socket.specs.Connections.{OnlySends, ReadsFrom, WritesTo, all_but, numbers, sockets_of};
+ghost use Rattle.ports_socket.specs.Connections.{value_of};
+ghost use Rattle.ports_socket.specs.Places.{AreBelow, AreOthers, IsPlaceOf, Rise, closed_from, numbers_of};
+ghost use Rattle.ports_socket.specs.Reads.{given_bytes};
+
+use crate::ahead::AheadPool;
+use crate::connection::{Connection, Held, Readiness, Told};
+use crate::lingering::Lingering;
+use crate::pool::Pool;
+use ports::{Got, PortFault, Put};
+use slab::Slab;
+use std::alloc::{AllocError, Global};
+use std::marker::Model;
+
+/// Where a connection is found: its number, and the key under which it is kept.
+#[derive(Clone, Copy, Drop)]
+pub struct Place {
+    pub number: u64,
+    pub key: usize,
+}
+
+/// The connections that are kept: the open ones, each with a number of its own, and those that linger. In a contract
+/// they are what each open one holds, by rising number.
+#[derive(Drop)]
+pub struct Connections {
+    slots: Slab<Held>,
+    /// The open ones, by rising number.
+    opened: Vec<Place>,
+    lingering: Lingering,
+}
+
+impl Model for Connections {
+    ghost use Rattle.std.specs.Prelude.{List};
+    ghost use Rattle.ports_socket.specs.Connections.{ConnectionValue, values};
+    ghost use Rattle.ports_socket.specs.Places.{IsTable, connections_at};
+
+    ghost Value = { List ConnectionValue };
+
+    ghost view = { λ c. values (connections_at c.slots c.opened.items) };
+
+    ghost invariant = { λ c. IsTable c.slots c.opened.items };
+}
+
+/// Which of the open connections has a number, by halving.
+fn place_of(places: &[Place], number: u64) -> Option<usize>
+    requires { Rise (numbers_of places.now) }
+    ensures found { IfSome result (IsPlaceOf number (numbers_of places.now)) }
+    ensures absent { IfNone result (AreOthers number (numbers_of places.now)) }
+{
+    match places.binary_search_by_key(&number, |place| place.number) {
+        Ok(at) => Some(at),
+        Err(_) => None,
+    }
+}
+
+/// Whether a number is above those of all open connections.
+fn is_above(number: u64, places: &[Place]) -> bool
+    requires { Rise (numbers_of places.now) }
+    ensures { result ≡ true → AreBelow number (numbers_of places.now) }
+{
+    match places.last() {
+        Some(last) => last.number < number,
+        None => true,
+    }
+}
+
+/// What is kept under a key goes.
+fn free(slots: &mut Slab<Held>, key: usize)
+    ensures { Updates slots.old slots.new key None }
+{
+    let _gone = slots.try_remove(key);
+}
+
+/// What is kept under a key is not open any more.
+fn close(slots: &mut Slab<Held>, key: usize)
+    ensures { Updates slots.old slots.new key (closed_from (get slots.old key)) }
+{
+    if let Some(held) = slots.get_mut(key) {
+        held.is_open = false;
+    }
+}
+
+impl Connections {
+    /// None are open. It fails only for want of memory.
+    pub fn new(alloc: Global) -> Result<Connections, AllocError>
+        ensures { IfOk result (λ connections. connections ≡ []) }
+    {
+        let lingering = Lingering::new(alloc)?;
+        Ok(Connections {
+            slots: Slab::new(alloc),
+            opened: Vec::new(alloc),
+            lingering,
+        })
+    }
+
+    /// How many are open.
+    pub fn len(&self) -> usize
+        ensures { result ≡ length self.now }
+    {
+        self.opened.len()
+    }
+
+    /// The key that the next connection will have. No other is kept under it.
+    pub fn next_key(&self) -> usize {
+        self.slots.vacant_key()
+    }
+
+    /// Where the open connection with a number is.
+    pub fn find(&self, number: u64) -> Option<Place>
+        ensures number { IfSome result (λ place. place.number ≡ number) }
+        ensures open { IfSome result (λ place. Contains (numbers self.now) number) }
+        ensures absent { IfNone result (all_but number self.now ≡ self.now) }
+    {
+        let at = place_of(self.opened.as_slice(), number)?;
+        Some(self.opened[at])
+    }
+
+    /// Whether the connection at a place is open.
+    pub fn contains(&self, place: Place) -> bool
+        ensures { result ≡ true → Contains (numbers self.now) place.number }
+    {
+        match self.slots.get(place.key) {
+            Some(held) => held.is_port(place.number),
+            None => false,
+        }
+    }
+
+    /// Adds a connection under the next key, if its number is above those of all others, and if there is memory for it.
+    /// Whether that is done.
+    pub fn push(&mut self, connection: Connection) -> bool
+        ensures added { OnTrue result (self.new ≡ self.old ++ value_of connection ∷ []) }
+        ensures refused { OnFalse result (self.new ≡ self.old) }
+    {
+        let number = connection.number;
+        if !is_above(number, self.opened.as_slice()) {
+            return false;
+        }
+        if self.opened.reserve(1).is_err() || self.slots.reserve(1).is_err() {
+            return false;
+        }
+        let key = self.slots.insert_reserved(Held::new(connection));
+        self.opened.push_reserved(Place { number, key });
+        true
+    }
+
+    /// Drops the last one.
+    pub fn pop(&mut self)
+        ensures { self.new ≡ take (length self.old - 1) self.old }
+    {
+        let Some(place) = self.opened.pop() else {
+            return;
+        };
+        free(&mut self.slots, place.key);
+    }
+
+    /// Ends the connection with a number. It lingers, if it took bytes, until the last of them have gone.
+    pub fn shut(&mut self, number: u64, pool: &mut Pool, aheads: &mut AheadPool)
+        ensures { self.new ≡ all_but number self.old }
+    {
+        if let Some(key) = self.leave(number) {
+            self.linger(key, pool, aheads);
+        }
+    }
+
+    /// The connection with a number is not open any more. The key under which it is kept.
+    fn leave(&mut self, number: u64) -> Option<usize>
+        ensures { self.new ≡ all_but number self.old }
+    {
+        let at = place_of(self.opened.as_slice(), number)?;
+        let key = self.opened.remove(at).key;
+        close(&mut self.slots, key);
+        Some(key)
+    }
+
+    /// A connection that was shut lingers from now on, if it has something to wait for. Its room to read ahead is given
+    /// back.
+    fn linger(&mut self, key: usize, pool: &mut Pool, aheads: &mut AheadPool)
+        ensures { self.new ≡ self.old }
+    {
+        let Some(held) = self.slots.get_mut(key) else {
+            return;
+        };
+        if held.is_open {
+            return;
+        }
+        if !held.end(pool, aheads) {
+            self.drop_shut(key);
+            return;
+        }
+        if let Some(oldest) = self.lingering.add(key) {
+            self.drop_shut(oldest);
+        }
+    }
+
+    /// Drops a connection that was shut.
+    fn drop_shut(&mut self, key: usize)
+        ensures { self.new ≡ self.old }
+    {
+        let Some(held) = self.slots.get(key) else {
+            return;
+        };
+        if held.is_open {
+            return;
+        }
+        free(&mut self.slots, key);
+    }
+
+    /// Drops the connection that lingers longest, so that its descriptor is free.
+    pub fn drop_oldest(&mut self)
+        ensures { self.new ≡ self.old }
+    {
+        if let Some(oldest) = self.lingering.take_oldest() {
+            self.drop_shut(oldest);
+        }
+    }
+
+    /// Reads from the connection at a place, after so many polls. One that is not open is over.
+    pub fn read(
+        &mut self,
+        place: Place,
+        buffer: &mut [u8],
+        polls: u64,
+        aheads: &mut AheadPool,
+    ) -> Result<Got, PortFault>
+        requires { 0 < length buffer.old }
+        ensures bound { IsGiven result (length buffer.new) }
+        ensures reads { ReadsFrom place.number result (given_bytes result buffer.new) self.old self.new }
+        ensures sockets { sockets_of self.new ≡ sockets_of self.old }
+    {
+        let Some(held) = self.slots.get_mut(place.key) else {
+            return Ok(Got::Closed);
+        };
+        if !held.is_port(place.number) {
+            return Ok(Got::Closed);
+        }
+        held.connection.read(buffer, polls, aheads)
+    }
+
+    /// Has the connection at a place take bytes, after so many polls. One that is not open takes none.
+    pub fn write(
+        &mut self,
+        place: Place,
+        bytes: &[u8],
+        polls: u64,
+        pool: &mut Pool,
+    ) -> Result<Put, PortFault>
+        ensures bound { IsTaken result (length bytes.now) }
+        ensures writes { WritesTo place.number bytes.now result self.old self.new }
+        ensures sockets { sockets_of self.new ≡ sockets_of self.old }
+    {
+        let Some(held) = self.slots.get_mut(place.key) else {
+            return Ok(Put::Later);
+        };
+        if !held.is_port(place.number) {
+            return Ok(Put::Later);
+        }
+        held.connection.write(bytes, polls, pool)
+    }
+
+    /// Sends what waits at the connection at a place, as far as the system takes it. If that fails, the next read or
+    /// write tells it.
+    pub fn flush(&mut self, place: Place, pool: &mut Pool)
+        ensures sends { OnlySends self.old self.new }
+        ensures sockets { sockets_of self.new ≡ sockets_of self.old }
+    {
+        let Some(held) = self.slots.get_mut(place.key) else {
+            return;
+        };
+        if !held.is_port(place.number) {
+            return;
+        }
+        let _ = held.connection.flush(pool);
+    }
+
+    /// Notes what happened to the connection under a key, after so many polls: where it is, if it is open, and what is
+    /// to be told of it.
+    pub fn mark(
+        &mut self,
+        key: usize,
+        event: Readiness,
+        polls: u64,
+        pool: &mut Pool,
+    ) -> Option<(Place, Told)>
+        ensures open { IfSome result (λ told. Contains (numbers self.new) told.0.number) }
+        ensures sends { OnlySends self.old self.new }
+        ensures sockets { sockets_of self.new ≡ sockets_of self.old }
+    {
+        let held = self.slots.get_mut(key)?;
+        if !held.is_open {
+            self.go_on(key, event.is_writable, pool);
+            return None;
+        }
+        let number = held.connection.number;
+        let told = held.connection.mark(event, polls, pool);
+        Some((Place { number, key }, told))
+    }
+
+    /// An event came of a connection that was shut. The system may take bytes again.
+    fn go_on(&mut self, key: usize, is_writable: bool, pool: &mut Pool)
+        ensures { self.new ≡ self.old }
+    {
+        let Some(held) = self.slots.get_mut(key) else {
+            return;
+        };
+        if held.is_open {
+            return;
+        }
+        if held.go_on(is_writable, pool) {
+            return;
+        }
+        self.lingering.remove(key);
+        self.drop_shut(key);
+    }
+
+    /// Whether the connection at a place is to be listed: there may be more to be read after the next poll though no
+    /// event comes, and it is not listed yet.
+    pub fn is_due(&self, place: Place, polls: u64) -> bool {
+        match self.slots.get(place.key) {
+            Some(held) => {
+                held.is_port(place.number)
+                    && !held.connection.is_listed()
+                    && held.connection.is_due(polls)
+            }
+            None => false,
+        }
+    }
+
+    /// Notes whether the connection at a place is listed. Whether it is open.
+    pub fn set_listed(&mut self, place: Place, is_listed: bool) -> bool
+        ensures open { result ≡ true → Contains (numbers self.new) place.number }
+        ensures same { self.new ≡ self.old }
+    {
+        let Some(held) = self.slots.get_mut(place.key) else {
+            return false;
+        };
+        if !held.is_port(place.number) {
+            return false;
+        }
+        held.connection.set_listed(is_listed);
+        true
+    }
+
+    /// How many bytes they have not sent, those that linger with them.
+    pub fn unsent_count(&self) -> usize {
+        let mut count = 0usize;
+        for (_, held) in self.slots.iter() {
+            count = count.saturating_add(held.connection.unsent_count());
+        }
+        count
+    }
+}

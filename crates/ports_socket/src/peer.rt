@@ -1,0 +1,33 @@
+//! Whose an open port is.
+ghost use Rattle.std.specs.Prelude.{◌≡◌};
+ghost use Rattle.ports_socket.specs.Doors.{other_kind};
+
+use std::net::Ipv4Addr;
+
+/// Whose connection it is.
+#[derive(Clone, Copy, Drop)]
+pub enum Kind {
+    Client,
+    Feed,
+}
+
+impl Kind {
+    /// The other one.
+    pub fn other(self) -> Kind
+        ensures { result ≡ other_kind self }
+    {
+        match self {
+            Kind::Client => Kind::Feed,
+            Kind::Feed => Kind::Client,
+        }
+    }
+}
+
+/// Whose an open port is.
+#[derive(Clone, Copy, Drop)]
+pub struct Peer {
+    pub number: u64,
+    pub kind: Kind,
+    /// The address that the system reported for its connection.
+    pub address: Ipv4Addr,
+}

@@ -1,0 +1,24 @@
+//! A reader over a connection: what it asks is written, what comes is read, and each packet is a line of a listing.
+#![tactic(auto)]
+
+mod fault;
+mod following;
+mod keeping;
+mod memory_keeper;
+mod memory_servers;
+mod nowhere;
+mod output;
+mod pieces;
+mod reading;
+mod servers;
+mod texts;
+
+pub use fault::ListingFault;
+pub use following::{Break, follow};
+pub use keeping::{KeepFault, Keeper, NothingKept};
+pub use memory_keeper::{Done, MemoryKeeper};
+pub use memory_servers::{Called, MemoryServers, NoServer};
+pub use nowhere::Nowhere;
+pub use reading::{read_further, read_over};
+pub use record_check::Times;
+pub use servers::Servers;

@@ -1,0 +1,177 @@
+//! What is told of a dialogue and was not written yet.
+ghost use Rattle.std.specs.Prelude.{◌≡◌, ◌++◌, ◌∷◌, [], map, OnOk};
+ghost use Rattle.reader_run.specs.Lines.{refusal_at, refusal_line};
+
+use crate::texts::{put_packet, record_of, refusal_line};
+use record_check::Times;
+use slreader::{GivenPacket, Plan, Want, What};
+use std::alloc::{AllocError, Global};
+use std::marker::Model;
+
+/// The line of a want, if it is refused.
+#[derive(Drop)]
+pub(crate) struct RefusalLine {
+    line: Vec<u8>,
+}
+
+impl Model for RefusalLine {
+    ghost use Rattle.std.specs.Prelude.{ℕ, List};
+
+    ghost Value = { List ℕ };
+
+    ghost view = { λ r. r.line.items };
+}
+
+/// The lines of wants, if they are refused.
+fn put_refusals(
+    alloc: Global,
+    refusals: &mut Vec<RefusalLine>,
+    wants: &[Want<'_>],
+) -> Result<(), AllocError>
+    ensures { OnOk result (refusals.new.items ≡ refusals.old.items ++ map refusal_line wants.now) }
+{
+    for want in wants {
+        refusals.push(RefusalLine {
+            line: refusal_line(alloc, want)?,
+        })?;
+    }
+    Ok(())
+}
+
+fn put_refusal(
+    alloc: Global,
+    refusals: &mut Vec<RefusalLine>,
+    want: &Want<'_>,
+) -> Result<(), AllocError>
+    ensures { OnOk result (refusals.new.items ≡ refusals.old.items ++ refusal_line want.now ∷ []) }
+{
+    refusals.push(RefusalLine {
+        line: refusal_line(alloc, want)?,
+    })?;
+    Ok(())
+}
+
+/// The line of a want; that of a want that is not there is empty.
+fn refusal_at(refusals: &[RefusalLine], want: usize) -> &[u8]
+    ensures { result.now ≡ refusal_at refusals.now want }
+{
+    match refusals.get(want) {
+        Some(refusal) => &refusal.line,
+        None => &[],
+    }
+}
+
+/// The lines and the records that were not written yet.
+#[derive(Drop)]
+pub(crate) struct Output {
+    refusals: Vec<RefusalLine>,
+    times: Times,
+    lines: Vec<u8>,
+    records: Vec<u8>,
+    /// The line that is being made.
+    line: Vec<u8>,
+}
+
+impl Model for Output {
+    ghost use Rattle.reader_run.specs.Lines.{OutputValue};
+
+    ghost Value = { OutputValue };
+
+    ghost view = { λ o. record {
+      style = record { refusals = o.refusals.items; times = o.times };
+      lines = o.lines.items;
+      records = o.records.items;
+    } };
+}
+
+impl Output {
+    ghost use Rattle.std.specs.Prelude.{◌≡◌, ◌++◌, [], IfOk, OnErr, OnOk};
+    ghost use Rattle.slreader.specs.Views.{plan_value};
+    ghost use Rattle.slreader.specs.Whats.{what_value};
+    ghost use Rattle.reader_run.specs.Lines.{nothing_told, packet_line, refusal_at, record_of, told};
+
+    /// Nothing is told.
+    pub(crate) fn new(alloc: Global, times: Times, plan: &Plan<'_>) -> Result<Output, AllocError>
+        ensures { IfOk result (λ o. o ≡ nothing_told times (plan_value plan.now)) }
+    {
+        let mut refusals = Vec::new(alloc);
+        match plan {
+            Plan::Uni(want) => put_refusal(alloc, &mut refusals, want)?,
+            Plan::Multi(wants) => put_refusals(alloc, &mut refusals, wants)?,
+        }
+        Ok(Output {
+            refusals,
+            times,
+            lines: Vec::new(alloc),
+            records: Vec::new(alloc),
+            line: Vec::new(alloc),
+        })
+    }
+
+    /// The record of a packet, and its line; or neither.
+    fn put_packet(&mut self, packet: &GivenPacket<'_>) -> Result<(), AllocError>
+        ensures told { OnOk result (self.new ≡ record self.old {
+          lines = self.old.lines ++ packet_line self.old.style.times packet.now;
+          records = self.old.records ++ record_of packet.now;
+        }) }
+        ensures kept { OnErr result (self.new ≡ self.old) }
+    {
+        self.line.clear();
+        put_packet(&mut self.line, self.times, packet)?;
+        let before = self.records.len();
+        self.records.extend_from_slice(record_of(packet.bytes()))?;
+        match self.lines.extend_from_slice(&self.line) {
+            Ok(()) => Ok(()),
+            Err(error) => {
+                self.records.truncate(before);
+                Err(error)
+            }
+        }
+    }
+
+    /// The line of a want that is refused; or nothing.
+    fn put_refused(&mut self, want: usize) -> Result<(), AllocError>
+        ensures told { OnOk result
+            (self.new ≡ record self.old { lines = self.old.lines ++ refusal_at self.old.style.refusals want }) }
+        ensures kept { OnErr result (self.new ≡ self.old) }
+    {
+        self.lines
+            .extend_from_slice(refusal_at(&self.refusals, want))
+    }
+
+    /// Tells what was given; or nothing.
+    pub(crate) fn put(&mut self, what: What<'_>) -> Result<(), AllocError>
+        ensures told { OnOk result (self.new ≡ told self.old (what_value what.entry)) }
+        ensures kept { OnErr result (self.new ≡ self.old) }
+    {
+        match what {
+            What::Nothing => Ok(()),
+            What::Hello => Ok(()),
+            What::Refused(want) => self.put_refused(want),
+            What::Packet(packet) => self.put_packet(&packet),
+            What::End => Ok(()),
+        }
+    }
+
+    /// The lines.
+    pub(crate) fn lines(&self) -> &[u8]
+        ensures { result.now ≡ self.now.lines }
+    {
+        self.lines.as_slice()
+    }
+
+    /// The records.
+    pub(crate) fn records(&self) -> &[u8]
+        ensures { result.now ≡ self.now.records }
+    {
+        self.records.as_slice()
+    }
+
+    /// All of it is written.
+    pub(crate) fn clear(&mut self)
+        ensures { self.new ≡ record self.old { lines = []; records = [] } }
+    {
+        self.lines.clear();
+        self.records.clear();
+    }
+}

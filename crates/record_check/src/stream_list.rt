@@ -1,0 +1,105 @@
+//! The streams of a file of records, each found by what it is known by.
+ghost use Rattle.std.specs.Prelude.{◌≡◌, ◌++◌, ◌∷◌, [], None, OnOk, OnErr};
+ghost use Rattle.record_check.specs.Index.{name_of, place_in, AreCodes, Finds};
+ghost use Rattle.record_check.specs.Streams.{begun};
+
+use crate::stream_name::StreamName;
+use crate::streams::{Seam, Stream};
+use mseed_header::Header;
+use std::alloc::{AllocError, Global};
+use std::collections::HashMap;
+use std::marker::Model;
+
+/// Streams in the order in which they began, with the place of each by its name.
+#[derive(Drop)]
+pub(crate) struct StreamList {
+    alloc: Global,
+    streams: Vec<Stream>,
+    places: HashMap<StreamName, usize>,
+}
+
+impl Model for StreamList {
+    ghost use Rattle.std.specs.Prelude.{List};
+    ghost use Rattle.record_check.specs.Index.{Finds};
+    ghost use Rattle.record_check.specs.Streams.{StreamValue};
+
+    ghost Value = { List StreamValue };
+
+    ghost view = { λ s. s.streams.items };
+
+    ghost invariant = { λ s. Finds s.places s.streams.items };
+}
+
+/// A stream more, which begins with a record of no other stream. It fails only if memory can't be allocated, and then
+/// nothing changes.
+fn begin(
+    alloc: Global,
+    streams: &mut Vec<Stream>,
+    places: &mut HashMap<StreamName, usize>,
+    name: StreamName,
+    header: &Header<'_>,
+) -> Result<(), AllocError>
+    requires name { name ≡ name_of header.now }
+    requires codes { AreCodes header.now }
+    requires none { place_in places.old header.now ≡ None }
+    requires finds { Finds places.old streams.old.items }
+    ensures begun { OnOk result (streams.new.items ≡ streams.old.items ++ begun header.now ∷ []) }
+    ensures same { OnErr result (streams.new.items ≡ streams.old.items) }
+    ensures finds { Finds places.new streams.new.items }
+{
+    let stream = Stream::new(alloc, header)?;
+    streams.reserve(1)?;
+    places.insert(name, streams.len())?;
+    streams.push(stream)?;
+    Ok(())
+}
+
+impl StreamList {
+    ghost use Rattle.std.specs.Prelude.{◌≡◌, [], IfOk, OnOk};
+    ghost use Rattle.record_check.specs.Streams.{seam_in, streams_with};
+
+    /// There is none.
+    pub(crate) fn new(alloc: Global) -> StreamList
+        ensures { result ≡ [] }
+    {
+        StreamList {
+            alloc,
+            streams: Vec::new(alloc),
+            places: HashMap::new(alloc),
+        }
+    }
+
+    /// The streams.
+    pub(crate) fn as_slice(&self) -> &[Stream]
+        ensures { result.now ≡ self.now }
+    {
+        self.streams.as_slice()
+    }
+
+    /// One record more: it belongs to one of the streams, or begins one. It is found by its name, and no other stream
+    /// is looked at. It answers what lies between the record and the one before it.
+    pub(crate) fn put(&mut self, header: &Header<'_>) -> Result<Seam, AllocError>
+        ensures put { OnOk result (self.new ≡ streams_with self.old header.now) }
+        ensures seam { IfOk result (λ seam. seam ≡ seam_in self.old header.now) }
+    {
+        let name = StreamName::of(header);
+        match self.places.get(&name) {
+            Some(place) => {
+                let stream = &mut self.streams[*place];
+                let seam = stream.seam_at(header.start());
+                stream.go_on(header);
+                Ok(seam)
+            }
+            None => {
+                begin(
+                    self.alloc,
+                    &mut self.streams,
+                    &mut self.places,
+                    name,
+                    header,
+                )?;
+                Ok(Seam::Even)
+            }
+        }
+    }
+}

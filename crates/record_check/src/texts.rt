@@ -1,0 +1,362 @@
+//! The texts of what a record says, put behind a text.
+ghost use Rattle.std.specs.Prelude.{◌≡◌, ◌∷◌, ◌++◌, [], OnOk, IfOk, map, decimal};
+ghost use Rattle.record_check.specs.Listing.{extent_text, header_text, partial_line, partial_text};
+ghost use Rattle.record_check.specs.Listing.{record_line, record_text, refusal_text, refused_text, seam_text};
+ghost use Rattle.record_check.specs.Listing.{span_text, stranger_text};
+ghost use Rattle.record_check.specs.Listing.{stream_line, stream_lines, streams_text, summary_text};
+ghost use Rattle.record_check.specs.Words.{duration_text, kind_letter, shown_byte, shown_place, stream_text};
+ghost use Rattle.record_check.specs.Words.{time_text, word_text};
+
+use crate::fault::FileFault;
+use crate::listing::{Refused, Said};
+use crate::options::{ListingOptions, Times};
+use crate::streams::{Seam, Stream, ticks_after};
+use itoa::{Buffer, Integer};
+use mseed_header::{Header, Kind};
+use sl_time::{Tick, put_moment, put_seconds};
+use std::alloc::AllocError;
+
+/// A byte of a code: `?` stands for one that does not print, or is a space.
+fn shown_byte(byte: u8) -> u8
+    ensures { result ≡ shown_byte byte }
+{
+    match byte {
+        33..=126 => byte,
+        _ => b'?',
+    }
+}
+
+/// A byte of a location or channel, where `-` stands for a space.
+fn shown_place(byte: u8) -> u8
+    ensures { result ≡ shown_place byte }
+{
+    match byte {
+        b' ' => b'-',
+        _ => shown_byte(byte),
+    }
+}
+
+/// A record's type, by its letter: D (data), E (event), C (calibration), O (opaque), T (timing) or L (log).
+pub fn kind_letter(kind: Kind) -> u8
+    ensures { result ≡ kind_letter kind }
+{
+    match kind {
+        Kind::D => b'D',
+        Kind::E => b'E',
+        Kind::C => b'C',
+        Kind::O => b'O',
+        Kind::T => b'T',
+        Kind::L => b'L',
+    }
+}
+
+/// A code.
+fn put_shown(text: &mut Vec<u8>, code: &[u8]) -> Result<(), AllocError>
+    ensures { OnOk result (text.new.items ≡ text.old.items ++ map shown_byte code.now) }
+{
+    for byte in code {
+        text.push(shown_byte(*byte))?;
+    }
+    Ok(())
+}
+
+/// A code and a space.
+fn put_code(text: &mut Vec<u8>, code: &[u8]) -> Result<(), AllocError>
+    ensures { OnOk result (text.new.items ≡ text.old.items ++ word_text (map shown_byte code.now)) }
+{
+    put_shown(text, code)?;
+    text.push(b' ')?;
+    Ok(())
+}
+
+/// A location or channel, and a space.
+fn put_place(text: &mut Vec<u8>, code: &[u8]) -> Result<(), AllocError>
+    ensures { OnOk result (text.new.items ≡ text.old.items ++ word_text (map shown_place code.now)) }
+{
+    for byte in code {
+        text.push(shown_place(*byte))?;
+    }
+    text.push(b' ')?;
+    Ok(())
+}
+
+/// The decimal digits of a number, behind a minus sign where it is below 0.
+fn put_number<N: Integer>(text: &mut Vec<u8>, number: N) -> Result<(), AllocError>
+    ensures { OnOk result (text.new.items ≡ text.old.items ++ N.text number) }
+{
+    let mut buffer = Buffer::new();
+    text.extend_from_slice(buffer.format(number).as_bytes())?;
+    Ok(())
+}
+
+/// A number and a space.
+fn put_number_word<N: Integer>(text: &mut Vec<u8>, number: N) -> Result<(), AllocError>
+    ensures { OnOk result (text.new.items ≡ text.old.items ++ word_text (N.text number)) }
+{
+    put_number(text, number)?;
+    text.push(b' ')?;
+    Ok(())
+}
+
+/// A time, and a space.
+fn put_time(text: &mut Vec<u8>, times: Times, moment: Tick) -> Result<(), AllocError>
+    ensures { OnOk result (text.new.items ≡ text.old.items ++ word_text (time_text times moment)) }
+{
+    match times {
+        Times::Ticks => put_number(text, moment.value())?,
+        Times::Iso => put_moment(text, moment)?,
+    }
+    text.push(b' ')?;
+    Ok(())
+}
+
+/// A length of time.
+fn put_duration(text: &mut Vec<u8>, times: Times, ticks: u128) -> Result<(), AllocError>
+    ensures { OnOk result (text.new.items ≡ text.old.items ++ duration_text times ticks) }
+{
+    match times {
+        Times::Ticks => put_number(text, ticks),
+        Times::Iso => put_seconds(text, ticks),
+    }
+}
+
+/// Network, station, location and channel, each with a space behind it.
+fn put_codes(
+    text: &mut Vec<u8>,
+    network: &[u8],
+    station: &[u8],
+    location: &[u8; 2],
+    channel: &[u8; 3],
+) -> Result<(), AllocError>
+    ensures { OnOk result
+        (text.new.items ≡ text.old.items ++ stream_text network.now station.now location.now channel.now) }
+{
+    put_code(text, network)?;
+    put_code(text, station)?;
+    put_place(text, location)?;
+    put_place(text, channel)?;
+    Ok(())
+}
+
+/// A type's letter, and a space.
+fn put_kind(text: &mut Vec<u8>, kind: Kind) -> Result<(), AllocError>
+    ensures { OnOk result (text.new.items ≡ text.old.items ++ word_text (kind_letter kind ∷ [])) }
+{
+    text.push(kind_letter(kind))?;
+    text.push(b' ')?;
+    Ok(())
+}
+
+fn put_extent(text: &mut Vec<u8>, times: Times, header: &Header<'_>) -> Result<(), AllocError>
+    ensures { OnOk result (text.new.items ≡ text.old.items ++ extent_text times header.now) }
+{
+    put_kind(text, header.kind())?;
+    put_time(text, times, header.start())?;
+    put_time(text, times, header.end())?;
+    put_number(text, header.samples())?;
+    Ok(())
+}
+
+fn put_refusal(text: &mut Vec<u8>, fault: FileFault) -> Result<(), AllocError>
+    ensures { OnOk result (text.new.items ≡ text.old.items ++ refusal_text fault) }
+{
+    text.extend_from_slice(b"refused ")?;
+    let reason = fault.reason();
+    put_number_word(text, reason.number())?;
+    text.extend_from_slice(reason.name().as_bytes())?;
+    Ok(())
+}
+
+/// What a header says: `NET STA LOC CHA TYPE START END SAMPLES`, with each space of the location or channel as `-`, and
+/// each other byte of a code that is not 33 to 126 as `?`.
+#[tactic(auto, using(crate::proofs::TextLemmas::joins_two))]
+pub fn put_header(text: &mut Vec<u8>, times: Times, header: &Header<'_>) -> Result<(), AllocError>
+    ensures { OnOk result (text.new.items ≡ text.old.items ++ header_text times header.now) }
+{
+    put_codes(
+        text,
+        header.network(),
+        header.station(),
+        header.location(),
+        header.channel(),
+    )?;
+    put_extent(text, times, header)?;
+    Ok(())
+}
+
+/// The codes of the station of which a record is refused, after a space.
+fn put_stranger(text: &mut Vec<u8>, header: &Header<'_>) -> Result<(), AllocError>
+    ensures { OnOk result (text.new.items ≡ text.old.items ++ stranger_text header.now) }
+{
+    text.push(b' ')?;
+    put_code(text, header.network())?;
+    put_shown(text, header.station())?;
+    Ok(())
+}
+
+/// Why a record is refused, and of which station it is if that is why.
+fn put_refused(text: &mut Vec<u8>, refused: &Refused<'_>) -> Result<(), AllocError>
+    ensures { OnOk result (text.new.items ≡ text.old.items ++ refused_text refused.now) }
+{
+    match refused {
+        Refused::Unread(fault) => put_refusal(text, FileFault::Record(*fault)),
+        Refused::Stranger(header) => {
+            put_refusal(text, FileFault::Station)?;
+            put_stranger(text, header)
+        }
+    }
+}
+
+/// What a record says, or why it is refused.
+fn put_record(text: &mut Vec<u8>, times: Times, said: &Said<'_>) -> Result<(), AllocError>
+    ensures { OnOk result (text.new.items ≡ text.old.items ++ record_text times said.now) }
+{
+    match said {
+        Ok(header) => put_header(text, times, header),
+        Err(refused) => put_refused(text, refused),
+    }
+}
+
+/// The line of a record, if lines are asked for.
+pub(crate) fn put_line(
+    text: &mut Vec<u8>,
+    options: ListingOptions,
+    number: u128,
+    said: &Said<'_>,
+) -> Result<(), AllocError>
+    ensures { OnOk result (text.new.items ≡ text.old.items ++ record_line options number said.now) }
+{
+    if options.has_lines {
+        put_number_word(text, number)?;
+        put_record(text, options.times, said)?;
+        text.push(b'\n')?;
+    }
+    Ok(())
+}
+
+/// The line of the bytes that are left over, where there are some.
+fn put_partial(text: &mut Vec<u8>, count: usize) -> Result<(), AllocError>
+    ensures { OnOk result (text.new.items ≡ text.old.items ++ partial_text count) }
+{
+    if count == 0 {
+        return Ok(());
+    }
+    text.extend_from_slice(b"partial ")?;
+    put_number_word(text, count)?;
+    text.extend_from_slice(b"bytes\n")?;
+    Ok(())
+}
+
+/// The same, if lines are asked for.
+pub(crate) fn put_rest(
+    text: &mut Vec<u8>,
+    options: ListingOptions,
+    count: usize,
+) -> Result<(), AllocError>
+    ensures { OnOk result (text.new.items ≡ text.old.items ++ partial_line options count) }
+{
+    if options.has_lines {
+        put_partial(text, count)?;
+    }
+    Ok(())
+}
+
+/// A stream's type, how many records it has, its earliest start and latest end, and its gaps and overlaps.
+fn put_summary(text: &mut Vec<u8>, times: Times, stream: &Stream) -> Result<(), AllocError>
+    ensures { OnOk result (text.new.items ≡ text.old.items ++ summary_text times stream.now) }
+{
+    put_kind(text, stream.kind())?;
+    put_number_word(text, stream.records())?;
+    put_time(text, times, stream.first())?;
+    put_time(text, times, stream.last())?;
+    put_number_word(text, stream.gaps())?;
+    put_number(text, stream.overlaps())?;
+    Ok(())
+}
+
+/// The line of a stream.
+fn put_stream(text: &mut Vec<u8>, times: Times, stream: &Stream) -> Result<(), AllocError>
+    ensures { OnOk result (text.new.items ≡ text.old.items ++ stream_line times stream.now) }
+{
+    put_codes(
+        text,
+        stream.network(),
+        stream.station(),
+        stream.location(),
+        stream.channel(),
+    )?;
+    put_summary(text, times, stream)?;
+    text.push(b'\n')?;
+    Ok(())
+}
+
+/// The lines of streams.
+fn put_streams(text: &mut Vec<u8>, times: Times, streams: &[Stream]) -> Result<(), AllocError>
+    ensures { OnOk result (text.new.items ≡ text.old.items ++ stream_lines times streams.now) }
+{
+    for stream in streams {
+        put_stream(text, times, stream)?;
+    }
+    Ok(())
+}
+
+/// The same, if they are asked for.
+pub(crate) fn put_summaries(
+    text: &mut Vec<u8>,
+    options: ListingOptions,
+    streams: &[Stream],
+) -> Result<(), AllocError>
+    ensures { OnOk result (text.new.items ≡ text.old.items ++ streams_text options streams.now) }
+{
+    if options.has_summary {
+        put_streams(text, options.times, streams)?;
+    }
+    Ok(())
+}
+
+/// The stream of a record, from when to when, and how long that is.
+fn put_span(
+    text: &mut Vec<u8>,
+    times: Times,
+    header: &Header<'_>,
+    from: Tick,
+    to: Tick,
+) -> Result<(), AllocError>
+    ensures { OnOk result (text.new.items ≡ text.old.items ++ span_text times header.now from to) }
+{
+    put_codes(
+        text,
+        header.network(),
+        header.station(),
+        header.location(),
+        header.channel(),
+    )?;
+    put_kind(text, header.kind())?;
+    put_time(text, times, from)?;
+    put_time(text, times, to)?;
+    put_duration(text, times, ticks_after(from, to))?;
+    text.push(b'\n')?;
+    Ok(())
+}
+
+/// The line of what lies between a record and the one before it in its stream.
+pub(crate) fn put_seam(
+    text: &mut Vec<u8>,
+    times: Times,
+    header: &Header<'_>,
+    seam: Seam,
+) -> Result<(), AllocError>
+    ensures { OnOk result (text.new.items ≡ text.old.items ++ seam_text times header.now seam) }
+{
+    match seam {
+        Seam::Even => Ok(()),
+        Seam::Gap { from, to } => {
+            text.extend_from_slice(b"gap ")?;
+            put_span(text, times, header, from, to)
+        }
+        Seam::Overlap { from, to } => {
+            text.extend_from_slice(b"overlap ")?;
+            put_span(text, times, header, from, to)
+        }
+    }
+}

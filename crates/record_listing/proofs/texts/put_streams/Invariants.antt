@@ -1,6 +1,0 @@
-use Rattle.std.proofs.Common.{◌≡◌, ◌++◌, take}
-use Rattle.record_listing.specs.Listing.{stream_lines}
-use Rattle.record_listing.proofs.texts.put_streams.Given as goal
-
-abbrev pub invariant-loop-stream : goal.invariant-loop-stream
-invariant-loop-stream l = l.text.items ≡ l.fn.text.items ++ stream_lines l.times (take l.stream-index l.streams)

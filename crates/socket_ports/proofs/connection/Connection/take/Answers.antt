@@ -1,8 +1,0 @@
-use Rattle.socket_ports.specs.Waiting.{waiting_in}
-use Rattle.socket_ports.proofs.WaitingLemmas.{taken_after}
-use Rattle.socket_ports.proofs.connection.Connection.take.Goals as goal
-
-pub returns-clause-order : goal.returns-clause-order
-returns-clause-order c =
-    taken_after (waiting_in c.args.self.now.unsent) (waiting_in c.make_room.new.self.unsent) c.args.bytes.now
-    c.gather.result (waiting_in c.gather.new.self.unsent) c.make_room.ensures.gone c.gather.ensures.order

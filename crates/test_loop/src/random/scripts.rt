@@ -1,0 +1,114 @@
+//! Scripts of ports: what happens, what each port gives, and what it takes.
+use oracle_server::records::Arrival;
+use oracle_server::sites::Centre;
+use std::alloc::{AllocError, Global};
+use std::io;
+
+/// What happens at some port.
+#[derive(Clone, Copy, Debug, Drop)]
+pub enum Happens {
+    /// A client joins from one of the three addresses.
+    Joins(u64, usize),
+    FeedJoins(u64),
+    MayBeRead(u64),
+    MayBeWritten(u64),
+    Quiet,
+}
+
+/// What a read of a port finds.
+#[derive(Drop)]
+pub enum Finds {
+    Bytes(Vec<u8>),
+    Later,
+    TheEnd,
+    Failure,
+}
+
+/// What comes of a write.
+#[derive(Clone, Copy, Debug, Drop)]
+pub enum Takes {
+    /// At most so many bytes are taken.
+    Upto(usize),
+    Later,
+    Failure,
+}
+
+/// A line of a script.
+#[derive(Drop)]
+pub enum Line {
+    Happens(Happens),
+    Reads(u64, Finds),
+    Writes(u64, Takes),
+}
+
+/// A script, and what it is played on.
+#[derive(Drop)]
+pub struct Scene {
+    pub centre: Centre,
+    /// How many clients may be connected.
+    pub most: usize,
+    pub turns: usize,
+    /// How many happenings a turn has at most, and how many reads and writes a port has in it.
+    pub limit: usize,
+    /// Which call fails, counted from 1, or 0 if none does.
+    pub due: u64,
+    pub lines: Vec<Line>,
+    /// The records of which the feeds are made.
+    pub arrivals: Vec<Arrival>,
+}
+
+impl Finds {
+    pub fn copy(&self, alloc: Global) -> Result<Finds, AllocError> {
+        Ok(match self {
+            Finds::Bytes(bytes) => Finds::Bytes(bytes.as_slice().to_vec(alloc)?),
+            Finds::Later => Finds::Later,
+            Finds::TheEnd => Finds::TheEnd,
+            Finds::Failure => Finds::Failure,
+        })
+    }
+}
+
+impl Line {
+    fn copy(&self, alloc: Global) -> Result<Line, AllocError> {
+        Ok(match self {
+            Line::Happens(happens) => Line::Happens(*happens),
+            Line::Reads(port, finds) => Line::Reads(*port, finds.copy(alloc)?),
+            Line::Writes(port, takes) => Line::Writes(*port, *takes),
+        })
+    }
+}
+
+/// All lines but the one at a place.
+pub fn without(alloc: Global, lines: &[Line], place: usize) -> Result<Vec<Line>, AllocError> {
+    let mut left = Vec::new(alloc);
+    for (at, line) in lines.iter().enumerate() {
+        if at != place {
+            left.push(line.copy(alloc)?)?;
+        }
+    }
+    Ok(left)
+}
+
+fn show_finds(rt: &HostRuntime, port: u64, finds: &Finds) -> io::Result<()> {
+    match finds {
+        Finds::Bytes(bytes) => {
+            eprint!(rt; "{port} gives ")?;
+            for byte in bytes.as_slice() {
+                eprint!(rt; "{byte:02x}")?;
+            }
+            eprintln!(rt; "")
+        }
+        Finds::Later => eprintln!(rt; "{port} gives later"),
+        Finds::TheEnd => eprintln!(rt; "{port} ends"),
+        Finds::Failure => eprintln!(rt; "{port} fails at a read"),
+    }
+}
+
+/// Prints a line.
+pub fn show(rt: &HostRuntime, line: &Line) -> io::Result<()> {
+    match line {
+        Line::Happens(happens) => eprintln!(rt; "happens {happens:?}"),
+        Line::Reads(port, finds) => show_finds(rt, *port, finds),
+        Line::Writes(port, takes) => eprintln!(rt; "{port} takes {takes:?}"),
+    }
+}
