@@ -1,4 +1,7 @@
 //! What a server is set up with.
+//!
+//! The codes of a place that isn't there in the configuration are empty, in the code as in the definitions, so that
+//! comparing stations asks nothing of a caller. No such place comes up.
 ghost use Rattle.std.specs.Prelude.{◌≡◌, ◌≢◌, ◌<◌, ◌≤◌, All, length, slice_get, option_map, unwrap_or, false, IfOk};
 ghost use Rattle.std.specs.Prelude.{IfErr, OnOk, Ok, Err, Some, None, IfSome};
 ghost use Rattle.std.specs.List.{position};

@@ -1,4 +1,12 @@
 //! Where the stations of a configuration stand, by their codes.
+//!
+//! A record that arrives finds its station in a map from codes to places (the kit's `HashMap`), which is made with the
+//! configuration. Codes that are longer than a station's may be are found nowhere.
+//!
+//! A station's codes are looked up as two numbers, in the index of a configuration alone: the digits of each are the
+//! code's length and its bytes, so two codes have one number only if they are the same. To hash and compare lists of
+//! bytes took 170 instructions more a record, and told a hidden station from one that is not there by 55. Everywhere
+//! else codes are bytes.
 ghost use Rattle.std.specs.Prelude.{◌≡◌, ◌≤◌, All, IfOk, None, length};
 ghost use Rattle.protocol.specs.Reading.{Not};
 ghost use Rattle.catalog.specs.Places.{HasDistinctCodes};

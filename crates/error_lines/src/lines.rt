@@ -1,4 +1,8 @@
 //! Lines, and how many were dropped.
+//!
+//! A line to standard error is dropped rather than waited for, and the next one says how many were. Pipes and terminals
+//! are opened a second time, so that not to wait is a setting of this program alone and not of the shell that started
+//! it.
 ghost use Rattle.std.specs.Prelude.{◌≡◌, ◌==◌, ◌<◌, ◌≤◌, length, false};
 ghost use Rattle.arrayvec.specs.ArrayString.{array_string_len};
 ghost use Rattle.error_lines.specs.ErrorLines.{lines_value};

@@ -1,4 +1,10 @@
 //! The pass over a feed's port.
+//!
+//! A read of a feed's port asks for at most 512 bytes, so that one pass of a feed brings no more records than one pass
+//! of a client takes. Sockets may read ahead in larger pieces.
+//!
+//! That a port's read gives at most as many bytes as it was asked for, and what a feed left over is less than a record,
+//! is said of each read of a feed. So each brings at most one record, and a turn at most `limit` of each of 16 feeds.
 ghost use Rattle.std.specs.Prelude.{◌≡◌, ℕ, ◌<◌, ◌≤◌, Bool, [], ◌∷◌, length};
 ghost use Rattle.protocol.specs.Catalog.{Config};
 ghost use Rattle.protocol.specs.World.{World};

@@ -1,4 +1,10 @@
 //! The pass over a client's port.
+//!
+//! A pass asks once whether its client is marked, and then offers until nothing is found. Were it to ask before each
+//! offer, the offer that finds nothing would never be made, and no mark would ever be cleared.
+//!
+//! A take of a run is what the loop does with a client: an offer, a copy of what waits, and the taking of what was
+//! copied. There is no call of its own for it.
 ghost use Rattle.std.specs.Prelude.{◌≡◌, ◌<◌, ◌≤◌, true, [], ◌∷◌, length, Some, option_map};
 ghost use Rattle.protocol.specs.Client.{offered};
 ghost use Rattle.protocol.specs.Catalog.{Config};

@@ -1,4 +1,7 @@
 //! The loop: what happens at its ports, and each port's pass in turn.
+//!
+//! A client whose connection is over is closed once its port may be written to: a port that answered Later is not
+//! offered anything before it is told writable again.
 ghost use Rattle.std.specs.Prelude.{◌≡◌, ◌+◌, ◌<◌, ◌≤◌, ℕ, [], List, IfOk, MatchResult, OnErr, codes, is_ok, length};
 ghost use Rattle.std.specs.Prelude.{◌≢◌, drop, false, take, true};
 ghost use Rattle.std.specs.declared.option.Option.{Option};

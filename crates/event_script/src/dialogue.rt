@@ -1,4 +1,9 @@
 //! The dialogue of a script: a line an event, with what each take was handed.
+//!
+//! A replay as text has the form of the files that `dialogues` plays, with the number of a client for its name. A
+//! packet and an arrival are written by what their records say, since the digits of 512 bytes tell a reader nothing.
+//! Whether the server takes a record or a configuration is not written: `run` hands out what clients are handed and no
+//! more, and that shows it.
 ghost use Rattle.std.specs.Prelude.{◌≡◌, ◌<◌, ◌≤◌, ◌+◌, ◌-◌, ◌^◌, ◌∷◌, ◌++◌, [], drop, map, length, codes, decimal};
 ghost use Rattle.std.specs.Prelude.{IfOk, OnOk};
 ghost use Rattle.std.specs.Net.Addr.{ipv4_bits};

@@ -1,4 +1,7 @@
 //! How far a job is with a file of records, for a user at a terminal.
+//!
+//! How far a job is goes to standard error alone and only at a terminal, so that logs and mails of cron stay as they
+//! are. `check` is silent while its lines go to the same terminal, since these show it.
 ghost use Rattle.std.specs.Prelude.{◌≡◌};
 
 use std::fs::File;

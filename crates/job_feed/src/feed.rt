@@ -1,4 +1,11 @@
 //! A feed under way: a connection, and how many bytes of records it has taken.
+//!
+//! `feed` asks its connection how it ended. Nothing is answered to a feed, so all that it has is the end. It shuts its
+//! sending half after the last record and reads until the server ends the other. A server that goes or turns a feed
+//! away can end its half in order too, before the records come to it; the system resets the connection only after that.
+//! So `feed` looks for an end before it shuts, and takes a shut that fails for one. After the end it asks whether the
+//! system still has a peer of the connection: it has none if the server's end came after the feed's own had arrived,
+//! and still has one if both were on their way.
 ghost use Rattle.std.specs.Prelude.{◌≡◌, ◌+◌, ◌-◌, ◌^◌, ◌/◌, length, min, take, IfErr, IfOk, IfSome, OnErr, OnOk};
 ghost use Rattle.feeder.specs.Sending.{whole_part};
 ghost use Rattle.job_feed.specs.Handing.{CountsBeginning, counted_part};

@@ -1,4 +1,7 @@
 //! Files of records go to a server.
+//!
+//! `feed -` opens `/dev/stdin`. The toolchain's own standard input reads a byte at a time from a pipe. Standard input
+//! that is a socket can't be opened so.
 ghost use Rattle.std.specs.Prelude.{◌≡◌, ◌/◌, IfOk, IfSome, OnOk};
 ghost use Rattle.job_feed.specs.Skipping.{first_record};
 

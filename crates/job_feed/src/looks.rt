@@ -1,4 +1,10 @@
 //! Files of records are looked at before any of them is sent.
+//!
+//! `feed` looks at all files before it sends one, and opens the next once it has sent the one before: a misspelled last
+//! file is to send nothing, but a file may be a pipe whose writer comes later, and a thousand files may be more than a
+//! process can have open. So a plain file is opened and closed again, and of a pipe or a device it is only seen that it
+//! is there: to open a pipe waits for its writer, and to close it may end that. A file that goes between the look and
+//! its turn is told then, after the records of the files before it were sent.
 ghost use Rattle.std.specs.Prelude.{All, Ok, OnOk};
 
 use incidents::Incident;

@@ -1,4 +1,7 @@
 //! What a job that feeds has sent, for its user.
+//!
+//! What `feed` says that it sent is what its connection took, in bytes, divided by 512. A feed port answers nothing, so
+//! how many of them the server has read is known only at the end, or from the server's log.
 ghost use Rattle.std.specs.Prelude.{◌≡◌, ◌+◌, ◌-◌, ◌^◌, min, nat_lt, None, Some, if◌then◌else◌};
 
 use shown_lines::ShownLine;

@@ -1,4 +1,8 @@
 //! Connections to servers that are asked one after the other.
+//!
+//! A reader notices a server whose machine has vanished by the options that a server sets for its clients
+//! (`notice_silence`): it is asked for after 30 seconds of silence, and the connection fails after 90. A feed has none
+//! of them: it sends, and a server that reads slowly is not gone.
 ghost use Rattle.std.specs.Prelude.{◌≡◌, true, false, IfErr, None, OnOk};
 ghost use Rattle.job_read.specs.Endings.{goes_on};
 ghost use Rattle.job_read.specs.Places.{place_after};

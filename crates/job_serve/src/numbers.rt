@@ -1,4 +1,8 @@
 //! The file in which a server keeps numbers for its next run.
+//!
+//! A keep that fails is tried again after each turn. A young station may reach the kept number within two turns, so
+//! waiting for more records would be too late. A write to a full disk mostly fails before anything is synced. It is
+//! reported once, and again only after a keep that succeeded.
 ghost use Rattle.std.specs.Prelude.{◌≡◌};
 ghost use Rattle.catalog.specs.Numbers.{config_by};
 ghost use Rattle.number_file.specs.Tables.{with_nexts};

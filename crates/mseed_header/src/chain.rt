@@ -1,4 +1,7 @@
 //! The chain of blockettes.
+//!
+//! The facts of a record count the blockettes of its chain, though no client is told: so that what `Header::links`
+//! answers is exact, and not only bounded. The offsets rise from 48 to at most 508, so there are at most 461.
 ghost use Rattle.std.specs.Prelude.{◌≡◌, ◌<◌, ◌≤◌, IfSome, IsTrue};
 ghost use Rattle.protocol.specs.Record.{fits as spec_fits, kind_of_type as spec_kind_of_type, word as spec_word};
 ghost use Rattle.mseed_header.specs.Chain.{told_of, told_with};

@@ -1,4 +1,6 @@
 //! Records made of fields.
+//!
+//! A made record is laid out in an `ArrayVec` of 512 bytes and read back by the crate's own reader.
 ghost use Rattle.std.specs.Prelude.{◌≡◌, IsTrue, codes};
 ghost use Rattle.std.specs.Ordering.{int_eq};
 ghost use Rattle.std.specs.Result.{result_ok};

@@ -1,4 +1,8 @@
 //! Ports over ports that note who comes and goes.
+//!
+//! Who comes and goes is noted by ports over ports (`ports_logged`), so that `serve` without `--log` runs over the
+//! sockets themselves. They note what the loop says, and add what the loop doesn't know: the address of each
+//! connection, how many bytes went over its port, and who was turned away before a port joined (the trait `Doors`).
 ghost use Rattle.std.specs.Prelude.{◌≡◌, ◌<◌, [], ◌∷◌, IfOk, None, find, length, map};
 ghost use Rattle.sl_io.specs.Counts.{CountsFailure};
 ghost use Rattle.ports.specs.Calls.{Tells, given, taken, IsGiven, IsTaken};

@@ -1,4 +1,9 @@
 //! What is noted of visits.
+//!
+//! A journal is told at once, and keeps nothing that waits: the lines go to the standard error as all others do, so
+//! that what can't be written is dropped and counted in one place. The lines of visits and those of reports and faults
+//! are written through one cell, since what counts the lines that were dropped, and knows whether the last one was cut,
+//! must be one.
 use ports::{AwayReason, RecordCodes, Refusal};
 use std::fmt::{self, Display, Formatter, Write};
 use std::net::Ipv4Addr;

@@ -1,4 +1,8 @@
 //! Who is connected.
+//!
+//! Who is at the open ports is kept in one table, by rising number of the ports, in which one is found by halving. Its
+//! room is made at the start: `max_connections`, and 16. The records of a feed are the bytes that it gave, divided by
+//! 512.
 ghost use Rattle.std.specs.Prelude.{◌≡◌, ◌≤◌, ◌<◌, [], None, IfErr, IfOk, find, map};
 ghost use Rattle.ports_logged.specs.Visitors.{IsGapFor, IsVisitorAt, Rise, is_at, is_next, with_traffic, with_visitor};
 ghost use Rattle.ports_logged.specs.Visitors.{records_given, without};

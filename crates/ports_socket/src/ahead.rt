@@ -1,4 +1,7 @@
 //! Bytes of feeds that were read ahead of whoever takes them.
+//!
+//! Room to read feeds ahead is made at the start for sixteen feeds, as many as the loop lets be open, and lent at a
+//! feed's first read. So a feed that is turned away unread costs none, and no read needs memory.
 ghost use Rattle.std.specs.Prelude.{◌≡◌, [], IfOk, IfSome, drop, length, min, take};
 ghost use Rattle.std.specs.List.{All};
 ghost use Rattle.ports_socket.specs.Receipts.{IsFilled, IsReceived};

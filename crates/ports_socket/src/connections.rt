@@ -1,4 +1,9 @@
 //! The connections, each under a key of its own, and the open ones among them by their numbers.
+//!
+//! A connection is found once in a port's turn, by halving over the numbers of the open ones, and then by its key: a
+//! pass writes up to 64 packets to one port, and among 5,000 connections a halving has thirteen steps. Connections
+//! stand in a slab, so that none is moved when another ends. A new one is registered only once no event of the last
+//! poll is left: so none of these can reach it by a key that a closed connection had.
 ghost use Rattle.std.specs.Prelude.{◌≡◌, ◌-◌, ◌<◌, ◌++◌, ◌∷◌, [], IfNone, IfOk, IfSome, None, length, take, true};
 ghost use Rattle.std.specs.Bool.{OnFalse, OnTrue};
 ghost use Rattle.std.specs.List.{Contains};

@@ -1,5 +1,10 @@
 //! What a client's connection gives: so many bytes between two polls, so that one that sends without an end keeps nobody
 //! waiting; and the end of what it sends, and when that is told.
+//!
+//! A client's end is told once nothing moved to it from one poll to the next, and nothing waits for it. The system
+//! reports a peer that has closed its connection and one that has closed its sending half alone in the same way; the
+//! first finds out by the next write, and the second still reads. So a client that has left keeps its place for a poll
+//! longer.
 ghost use Rattle.std.specs.Prelude.{◌≡◌, ◌+◌, ◌-◌, ◌≤◌, ◌↔◌, IsTrue, Some, is_some};
 ghost use Rattle.ports_socket.specs.Ends.{IsBefore, IsPast, first_found};
 

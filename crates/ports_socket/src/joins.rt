@@ -1,4 +1,10 @@
 //! How many connections are taken between two polls, so that no crowd at the doors keeps those waiting that are inside.
+//!
+//! Joins and reads are rationed by the sockets, and not by the loop: when a port is readable, when its end is told and
+//! in which order happenings come is left to ports. At most 16 ports join between two polls, since a poll is all that a
+//! feed with a record has to wait for; clients and feeds join by turns. A client gives at most 4,096 bytes, which is
+//! four times what it has room for, and is told again after the next poll. Feeds are not rationed: what they bring is
+//! what everybody waits for, and their events are told first.
 ghost use Rattle.std.specs.Prelude.{◌≡◌, ◌+◌, ◌<◌, ◌≤◌, ◌↔◌, IsTrue};
 
 /// How many connections are taken at most between two polls.

@@ -1,4 +1,9 @@
 //! Connections that the loop has shut, and that stay until their last bytes have gone to the peer.
+//!
+//! A connection that is closed with bytes unread would make the system drop what is on its way to the peer. So a shut
+//! port that took bytes lingers: its last bytes are sent, the peer is told the end, and what it still sends is passed
+//! over until it ends too. At most 1,024 linger; the oldest goes first, also if the system has no descriptor for a new
+//! connection.
 ghost use Rattle.std.specs.Prelude.{◌≡◌, ◌==◌, ◌∷◌, ◌++◌, [], IfNone, IfOk, IfSome, length, not};
 ghost use Rattle.std.specs.List.{filter};
 

@@ -1,4 +1,8 @@
 //! Ports over sockets.
+//!
+//! Ports over sockets keep no runtime. The runtime opens sockets, and what is open reads, writes and waits by itself.
+//! Why an address can't be listened on is a `ListenError`, with the system's reason, and its `fault` is the number that
+//! is reported.
 ghost use Rattle.std.specs.Prelude.{◌≡◌, ◌<◌, [], ◌∷◌, length, IfOk, None};
 ghost use Rattle.sl_io.specs.Counts.{CountsFailure};
 ghost use Rattle.ports.specs.Calls.{Tells, given, IsGiven, IsTaken};

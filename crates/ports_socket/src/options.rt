@@ -2,6 +2,11 @@
 //!
 //! Those of clients and feeds are set at the sockets that are listened on: Linux gives each connection those of the
 //! socket that took it.
+//!
+//! Options of connections are set at the sockets that listen. Linux gives each connection those of the socket that took
+//! it, which spares six calls a connection, and a system that refuses one of them refuses it at the start (46 Listen).
+//! A peer is asked after 30 seconds of silence, six times, every ten seconds; bytes that it does not take wait as long,
+//! 90 seconds, so a client that stalls for longer loses its connection.
 use libc::net as c;
 use mio::net::TcpListener;
 use std::io;

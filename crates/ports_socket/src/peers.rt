@@ -1,4 +1,12 @@
 //! The ports that joined, and whose the open ones are.
+//!
+//! Who may connect is decided before a port joins, in `ports_socket`: the loop and its contract know nothing of it. Who
+//! may feed is a list of the command line and not of the configuration, so that it stands where the feed port does and
+//! no reread changes it. Whose the open ports are is kept beside the connections, by rising number, in entries of 24
+//! bytes, of which one is found by halving. The clients of an address are counted by halving too, among the addresses
+//! of all clients, which stand there in order, each as often as it has clients: to go over all open ports at each join
+//! took 12 instructions a port. Connections that are turned away count among the sixteen between two polls, so a crowd
+//! at the feed port costs no more than one that joins.
 ghost use Rattle.std.specs.Prelude.{◌≡◌, ◌<◌, ◌^◌, ◌↔◌, [], IsTrue, IfErr, IfOk, OnErr, OnOk, true};
 ghost use Rattle.std.specs.Net.Addr.{ipv4_bits};
 ghost use Rattle.ports_socket.specs.Admissions.{IsAdmitted, is_client};

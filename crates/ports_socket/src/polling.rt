@@ -1,4 +1,9 @@
 //! What the system says happened at the sockets, and which ports are told though it says nothing.
+//!
+//! After a turn in which bytes were handed on, the next poll does not wait, although mostly nothing is left to do. The
+//! ports can't tell whether a pass ended because nothing more waited or because it had made its last write. Nor does
+//! the system report again what it reported before, so a client whose bytes had no room could wait for 100 ms, with the
+//! rest of them unread. The poll costs one system call for a lone record that all readers have.
 ghost use Rattle.std.specs.Prelude.{◌≡◌, ◌+◌, ◌<◌, ◌^◌, [], IfNone, IfSome, length};
 
 use crate::connections::Place;

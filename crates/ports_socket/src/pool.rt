@@ -1,5 +1,8 @@
-//! Buffers for bytes that wait to be sent. A port has one only while it holds something. What was gathered for one port
-//! is sent before another one's turn, so that a single buffer serves all ports whose sockets take everything.
+//! Buffers for bytes that wait to be sent. A port has one only while it holds something.
+//!
+//! What a port took is sent when the next port has its turn, by one write of up to 64 packets. So one buffer serves all
+//! ports whose sockets take everything, and stays in the processor's cache. To hold the bytes of a port that filled its
+//! turn, and to send those of two turns by one write, was tried in C and spared nothing.
 ghost use Rattle.std.specs.Prelude.{◌≡◌, ◌≤◌, [], IfSome, drop, length, vec_len};
 ghost use Rattle.std.specs.List.{All};
 

@@ -1,4 +1,9 @@
 //! What a reader leaves for one that is begun later.
+//!
+//! What keeps a state is a trait (`Keeper`) with a record of its deeds in order: that the records were made to last,
+//! and that a tally was kept. So the order of the two is a clause (`KeepsBehind`), of a keeper in memory that tells its
+//! deeds as of the program's, which tells none. The clause holds over all connections, since the loop over them
+//! (`follow`) is a function over a trait too (`Servers`).
 ghost use Rattle.std.specs.Prelude.{◌≡◌, ◌∷◌, [], List, ℕ, None, OnErr, OnOk};
 ghost use Rattle.std.specs.declared.option.Option.{Option};
 ghost use Rattle.sl_io.specs.Counts.{CountsFailure};

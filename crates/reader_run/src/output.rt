@@ -1,4 +1,8 @@
 //! What is told of a dialogue and was not written yet.
+//!
+//! A packet that can't be kept as a whole is not listed. Its line is made apart, its record is added to those that are
+//! to be written, and then the line to the lines, or neither. What a read brought is written records first. So the
+//! order holds at a refused allocation too, and not only where a writer fails.
 ghost use Rattle.std.specs.Prelude.{◌≡◌, ◌++◌, ◌∷◌, [], map, OnOk};
 ghost use Rattle.reader_run.specs.Lines.{refusal_at, refusal_line};
 

@@ -1,4 +1,8 @@
 //! A reader over a connection.
+//!
+//! `read_over` has an output for lines and one for records, beside the plan, the connection's reader and its writer. So
+//! a listing and a file of records come from one reading; a writer that keeps nothing (`Nowhere`) stands for an output
+//! that nobody wants.
 ghost use Rattle.std.specs.Prelude.{◌≡◌, ◌≢◌, ◌⊎◌, ◌≤◌, ◌∷◌, [], false, length, true, vec_len, Err, IfErr, IfOk, OnErr, OnOk, ℕ};
 ghost use Rattle.std.specs.Prelude.{if◌then◌else◌};
 ghost use Rattle.slreader.specs.declared.fault.ReaderFault.TheVariants.{Limit, OutOfMemory};

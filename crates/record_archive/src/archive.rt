@@ -1,4 +1,8 @@
 //! An archive to which records are written.
+//!
+//! Files of an archive are put on the disk only for a state. Without one the system does it when it likes. With one
+//! each file that was added to has to be: those that are kept open when the state is written, each once, and those that
+//! were let go before, when that was.
 ghost use Rattle.std.specs.Prelude.{◌≡◌, ◌≢◌, ◌≤◌, ◌<◌, ◌+◌, ◌++◌, ◌∷◌, [], length, take, IfOk, None, OnErr, OnOk};
 ghost use Rattle.std.specs.Io.{WritesAtMost};
 ghost use Rattle.std.specs.Io.KnownBytes.{WriteAppends};

@@ -1,4 +1,7 @@
 //! Files of records that are known by names.
+//!
+//! A path is looked at before each record. It costs a call of the system a record. Once a second would leave what comes
+//! in between in a file that is gone, while the state counts it.
 ghost use Rattle.std.specs.Prelude.{◌≡◌, ◌<◌, ℕ, List, length, IfOk, OnErr, OnOk};
 ghost use Rattle.std.specs.declared.option.Option.{Option};
 ghost use Rattle.record_archive.specs.Files.{Tells, TellsSame, AddsTo, MakesSafe};

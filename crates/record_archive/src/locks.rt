@@ -1,4 +1,7 @@
 //! The locks of the stations of an archive.
+//!
+//! The lock of an archive is one a station. Files of two stations are never the same, so readers of other stations have
+//! nothing to do with each other.
 use crate::stations::StationCodes;
 use std::alloc::Global;
 use std::fs::{self, File, OpenOptions, TryLockError};

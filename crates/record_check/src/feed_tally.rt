@@ -1,4 +1,7 @@
 //! What servers make of the records of a feed.
+//!
+//! Which power of two a record gives as its length is found by trying: it is the byte in whose place 9 lets the record
+//! be read. So the reader of records has no second answer for this one line, which is written once a feed.
 ghost use Rattle.std.specs.Prelude.{◌≡◌, Err};
 ghost use Rattle.record_check.specs.Checks.{piece_read};
 ghost use Rattle.record_check.specs.Listing.{fault_of};

@@ -1,4 +1,7 @@
 //! What a check has listed so far.
+//!
+//! The number of a record in a listing is counted in 128 bits, since 2^64 - 1 reads of 64 KiB can hold more than 2^64
+//! records.
 ghost use Rattle.std.specs.Prelude.{◌≡◌};
 ghost use Rattle.record_check.specs.Listing.{fault_of, judged, reading_of, refusal as spec_refusal};
 

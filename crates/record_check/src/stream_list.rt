@@ -1,4 +1,10 @@
 //! The streams of a file of records, each found by what it is known by.
+//!
+//! The streams of a check are a list with an index of their codes. A file may have as many streams as records, and a
+//! list that is walked over for each record would take the square of that. The index is a `HashMap`, as that of the
+//! stations of a configuration: the codes are spelled as numbers, so a record takes one look-up, whatever the number of
+//! streams. The list keeps the order of the first records. What is kept grows by streams alone, and a check without
+//! `--summary` keeps none.
 ghost use Rattle.std.specs.Prelude.{◌≡◌, ◌++◌, ◌∷◌, [], None, OnOk, OnErr};
 ghost use Rattle.record_check.specs.Index.{name_of, place_in, AreCodes, Finds};
 ghost use Rattle.record_check.specs.Streams.{begun};

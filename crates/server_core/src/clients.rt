@@ -1,4 +1,13 @@
 //! The open clients of a server: their numbers, and the slots in which their sessions are.
+//!
+//! A server that 2^64 - 1 clients came to lets in no more: `open` fails as where memory lacks. At a thousand clients a
+//! second that is after 500 million years.
+//!
+//! The number of the client stands at each slot as long as the client is open: the marks are bits by slots, so the
+//! marked clients, and no others, are listed 64 slots at a time, without a walk over all that are open.
+//!
+//! An open client's address stands beside its number and slot, so that its view under new access lists can be found.
+//! What `Server` says of itself has it as long as the client is open.
 ghost use Rattle.std.specs.Prelude.{◌≡◌, ◌≢◌, ◌+◌, ℕ, ◌∷◌, ◌++◌, [], IfOk, OnOk, OnErr, IfSome, Some, None, true};
 ghost use Rattle.std.specs.Prelude.{◌<◌, false, is_some, length, slice_set};
 ghost use Rattle.std.specs.Net.Addr.{ipv4_bits};

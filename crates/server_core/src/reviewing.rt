@@ -1,4 +1,17 @@
 //! Clients that a new configuration cuts.
+//!
+//! `Server::reload` looks at a client's stations only if what changed may concern its address. First it compares the
+//! two configurations' lists station by station, once, token by token. Then it asks for each open client whether both
+//! configurations answer its address the same under the server's list, and at each station whose own list changed. If
+//! they do, the address sees the same stations under both, and the client has the view that it had before: it costs
+//! some hundred instructions, and not a walk over all stations. Otherwise all stations are walked over, as they are if
+//! the own lists of more than 256 stations changed: to ask two configurations about so many costs half of the walk or
+//! more. The 256 places stand on the stack, so that a reload allocates nothing and keeps nothing.
+//!
+//! A server says of itself that each session has the view of its address or is cut. This is what a client that is
+//! passed over rests on. It holds when a client opens, and a reload leaves it so. No other call changes a view, and a
+//! client that is cut stays so, whatever it sends or takes: the definitions say this of a client after any history.
+//! Therefore a server also says that there is a history whose records its rings hold.
 ghost use Rattle.std.specs.Prelude.{◌≡◌, ◌≢◌, ℕ, length, not, Some, true};
 ghost use Rattle.std.specs.Net.Addr.{ipv4_bits};
 ghost use Rattle.protocol.specs.Catalog.{view_of, is_same_but_for_access, is_same_view};

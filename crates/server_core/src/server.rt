@@ -1,4 +1,7 @@
 //! All clients of a server.
+//!
+//! `Server::ready` borrows the server to change it, since it moves cursors past what is not wanted: asking again then
+//! looks at no record twice. It is no event: the server stands for the same world, with the same marks.
 ghost use Rattle.std.specs.Prelude.{OnErr, option_map, ◌≡◌, ◌≢◌, ◌-◌, ◌^◌, Err, ◌<◌, ◌≤◌, [], ◌∷◌, ◌++◌, length};
 ghost use Rattle.std.specs.Prelude.{slice_get, slice_index_or, IfOk, OnOk, Ok, Some, None, ℕ, not, false, is_some};
 ghost use Rattle.std.specs.Prelude.{◌+◌, is_ok, true};

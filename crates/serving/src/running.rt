@@ -1,4 +1,7 @@
 //! A server over ports, turn after turn.
+//!
+//! Failed turns in a row are counted anew when the configuration is read again, and not at a report: a run is made of
+//! blocks between two readings of the configuration, of which each may end with 40 by itself.
 ghost use Rattle.std.specs.Prelude.{◌≡◌, ◌≤◌, ◌+◌, ◌<◌, OnErr, OnOk};
 ghost use Rattle.protocol.specs.Catalog.{Config as ProtocolConfig};
 ghost use Rattle.protocol.specs.World.{World};

@@ -1,4 +1,9 @@
 //! When a server stops between its turns.
+//!
+//! What is due by time is asked between turns, once after each turn, and only if something goes by time. What is
+//! answered is done before the next turn, so the relation of a run needs no clock: in memory the answers are told, and
+//! over the system's clock none are. A reread by time is the same reread. A look at a clock that fails is no time, and
+//! nothing is due then.
 ghost use Rattle.std.specs.Prelude.{◌≡◌, Some, None, false};
 ghost use Rattle.serving.specs.Timetables.{due_after, is_due, is_keep_due, turns_of};
 

@@ -1,4 +1,7 @@
 //! The stations that a client names, and what it asks of each.
+//!
+//! Requests are the named stations that have an action (`Session::choices`), and no list of their own: a transfer in
+//! uni-station mode is one named station. A request's first arrival is the count of all arrivals before it.
 ghost use Rattle.std.specs.Prelude.{◌≡◌, ◌<◌, ◌++◌, ◌∷◌, []};
 ghost use Rattle.std.specs.Vec.{vec_capacity, vec_len};
 ghost use Rattle.session_state.specs.Entries.{after_pass};

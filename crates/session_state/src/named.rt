@@ -1,4 +1,9 @@
 //! The stations that a client named, with the selectors of each.
+//!
+//! A session takes all of its memory when it is made: room for 255 stations and one pool of 1,024 patterns, so that no
+//! command of a client can fail for want of memory. The stations of a transfer are lent without their patterns, which
+//! lie in the pool, and `Session::passes` asks those of one station alone. Uni-station mode is kept as one station that
+//! has no place yet.
 ghost use Rattle.std.specs.Prelude.{◌≡◌, ◌≢◌, ◌<◌, ◌∷◌, [], ℕ, None, Some, IfOk, IfSome, length, map, option_map};
 ghost use Rattle.std.specs.Prelude.{◌==◌, slice_get, slice_set, filter_map, is_some, position};
 ghost use Rattle.std.specs.List.{list_any};

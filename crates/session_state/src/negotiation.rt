@@ -1,4 +1,11 @@
 //! What was negotiated, in uni-station or multi-station mode, and what commands change of it.
+//!
+//! What a session is to do is one enum, `Instruction`, with a case for each thing that it can do, and `Session::answer`
+//! does it. `Command` is what a line says, and stays apart from it: it names a station by its codes and a pattern by
+//! its text. What DATA, FETCH and TIME ask is an `Action` in both. Whether the client sees that station, and whether
+//! the pattern is valid, is decided when the `Command` becomes an `Instruction`. `Change` is a second enum, since an
+//! instruction says what to do and carries the station or the selector, while a change says what came of it (done,
+//! refused, or a transfer starts), which depends on what was negotiated.
 ghost use Rattle.std.specs.Prelude.{◌≡◌, ◌<◌, [], IfOk, IfSome, None, Some, length, map, option_map, slice_get};
 ghost use Rattle.protocol.specs.Catalog.{Config as ProtocolConfig};
 ghost use Rattle.protocol.specs.Session.{act, choices_of, choose_station, end_multi, select};

@@ -1,4 +1,7 @@
 //! One client's side of the server.
+//!
+//! Three calls serve `transfer` alone: `keep` takes the first arrival that a request wants and its cursor, `put` takes a
+//! packet with the position after it, and `state` tells which of its states a session is in without the data of it.
 ghost use Rattle.std.specs.Prelude.{◌≡◌, ◌≢◌, ◌≤◌, ◌<◌, ◌+◌, ◌-◌, ◌&&◌, IfOk, IfSome, OnErr, List, [], ◌∷◌, ◌++◌};
 ghost use Rattle.std.specs.Prelude.{length, drop};
 ghost use Rattle.std.specs.Prelude.{◌↔◌, map, nat_lt, not, is_ok, is_some, true, false, codes, ℕ, Some, slice_get};

@@ -1,4 +1,10 @@
 //! The bytes that wait for a client: the answers to its commands, the lines of a listing, and packets.
+//!
+//! Whether nothing waits is asked by one test, and not by the form of the waiting bytes, so that a session that keeps
+//! its waiting bytes in a buffer answers it by a comparison.
+//!
+//! What waits for a client is an array and a count, and not the kit's vector, which overwrites the 520 bytes with zeros
+//! each time that it is emptied: 87 instructions a packet.
 ghost use Rattle.std.specs.Prelude.{◌≡◌, ◌≤◌, ◌<◌, ◌+◌, ◌++◌, ◌∷◌, [], length};
 ghost use Rattle.protocol.specs.Catalog.{end_line, station_line};
 ghost use Rattle.protocol.specs.Packet.{packet};

@@ -1,4 +1,7 @@
 //! Readers and writers of which one call fails.
+//!
+//! A failure is tried at each place by readers, writers and ports that pass all calls on but one, which fails and
+//! reaches nothing. They count for themselves, since the one below never saw that call.
 ghost use Rattle.std.specs.Prelude.{◌≡◌, ◌==◌, ◌+◌, ◌-◌, ◌%◌, ◌^◌};
 
 use crate::Counts;

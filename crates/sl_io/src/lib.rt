@@ -1,6 +1,9 @@
 //! The lowest layer of input and output: readers and writers of bytes that count their failures, their calls and their
 //! empty writes, and that tell their bytes where these are known. What stands above is stated over these counts and
 //! bytes, so that a fault of input or output comes only with a failure.
+//!
+//! Readers and writers tell their bytes by an optional list, as those of std do: none where they don't tell. That a
+//! read fails for want of a count of calls (2^64 - 1 of them) is a case of the contract and of no program.
 #![tactic(auto)]
 
 ghost use Rattle.std.specs.Prelude.{ℕ, List};

@@ -1,4 +1,8 @@
 //! Commands out of lines, by their words.
+//!
+//! `command` takes a line, as the cutter lends it, and not its bytes: a line that is too long is Bad whatever it holds,
+//! so the function over lines is the whole. The toolchain does not pass a command with its borrowed words on as an
+//! argument (it holds types that are seen as numbers), so a caller matches on the call.
 ghost use Rattle.std.specs.Prelude.{◌≡◌, List, ℕ, ℤ, Option, Some};
 ghost use Rattle.protocol.specs.Command.{Command as ProtocolCommand, command_of, command_of_words, named, numbered};
 ghost use Rattle.protocol.specs.Command.{timed, uppercased, words};

@@ -1,4 +1,10 @@
 //! Packets out of bytes (SeedLink 3, data packets and the end of a transfer).
+//!
+//! The bytes of an unfinished end count as the rest of a packet cutter: after `EN` two bytes rest. They may still
+//! become an end, and a stream that ends there is cut off as one that ends in a packet.
+//!
+//! A packet cutter says, where it fails, that the bytes hold one that no stream goes on with: it does not fail before a
+//! packet or an end that becomes whole.
 ghost use Rattle.std.specs.Prelude.{◌≡◌, ◌+◌, ◌<◌, ◌++◌, length, drop, codes};
 ghost use Rattle.sl_packet.specs.States.{end_piece};
 

@@ -1,4 +1,8 @@
 //! The days of the calendar, by `jiff_core`.
+//!
+//! Civil dates and their day numbers are those of `jiff_core`, which is the calendar under `jiff`; the definitions have
+//! a calendar of their own only to say what is meant, and the two are proved equal. `jiff` adds time zones, durations
+//! and formatting, which the program doesn't use and which each crate above would have to load.
 ghost use Rattle.std.specs.Prelude.{◌≡◌, ◌+◌, ◌-◌, ◌≤◌, if◌then◌else◌, pos, ◌≤ℤ◌, unsigned_abs, IfSome, is_some};
 ghost use Rattle.sl_time.specs.Dates.{is_date};
 ghost use Rattle.jiff_core.specs.Date.{IsYmd};

@@ -1,4 +1,7 @@
 //! The commands that a reader has not asked yet.
+//!
+//! An answer that comes early counts. What is asked depends on the bytes that came alone, and not on what was sent. So
+//! several commands can wait to be sent, and `read_over` sends what was asked last before it ends.
 ghost use Rattle.std.specs.Prelude.{◌≡◌, ◌+◌, IfSome};
 ghost use Rattle.slreader.specs.Lines.{size_of};
 

@@ -1,4 +1,7 @@
 //! The lines of a plan's commands (SeedLink 3, commands).
+//!
+//! The want of each command stands beside its line, and the last command has none. The transfer begins once the last
+//! command is asked: END, or the action of a plan of one want.
 ghost use Rattle.std.specs.Prelude.{◌≡◌, ◌++◌, ◌∷◌, [], IfOk, OnOk, codes, length};
 ghost use Rattle.std.specs.Option.{option_copied};
 ghost use Rattle.slreader.specs.Wants.{action_line as spec_action_line, argument, command_of, commands_from};

@@ -1,4 +1,7 @@
 //! Wants that go on after the packets that were given.
+//!
+//! `next_wanted` goes by the codes of the records that can be read. In a plan of one want each packet counts, also one
+//! whose record can't be read.
 ghost use Rattle.std.specs.Prelude.{◌≡◌, ◌++◌, IfOk, OnOk};
 ghost use Rattle.slreader.specs.GoingOn.{action_after, after, plan_on, want_on, wants_on};
 ghost use Rattle.slreader.specs.Views.{plan_value};

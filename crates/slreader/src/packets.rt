@@ -1,4 +1,7 @@
 //! Packets of a transfer.
+//!
+//! A packet is copied to a buffer of the reader before it is lent, whether it came in one piece or in several. So what
+//! a call lends borrows from the reader alone, and not from the piece.
 ghost use Rattle.std.specs.Prelude.{◌≡◌, ◌≢◌, ◌≤◌, IfOk, OnOk, length};
 ghost use Rattle.sl_packet.specs.Progress.Progress.{Faulty};
 ghost use Rattle.slreader.specs.Dialogue.{ReaderValue, at_stage, read_first};

@@ -1,4 +1,6 @@
 //! A reader.
+//!
+//! A plan lends its texts, so that the words of a command line need no copies. `ReaderCore` copies what it needs.
 use crate::came::{Came, what_of};
 use crate::dialogue::Dialogue;
 use crate::fault::ReaderFault;

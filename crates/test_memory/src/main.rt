@@ -6,6 +6,11 @@
 //! the call was refused, it ends with status 3 and says nothing. Without a CALL all of them are made.
 //!
 //! `tools/refuse_memory.py` refuses each allocation in turn.
+//!
+//! An allocation is refused from outside, by a small library that stands before the C library and answers null at the
+//! allocation that is due, and not by an allocator of our own: every call takes the kit's `Global`, and so the program
+//! is tried as it is. `test_memory` looks at what comes of it in the same process, where the next allocation succeeds
+//! again.
 #![tactic(auto)]
 
 mod centre;

@@ -1,4 +1,7 @@
 //! Numbers as decimal digits spell them, with leading zeros or without. No call takes memory.
+//!
+//! Decimal digits are read by a function of this project (`text_parts::decimal::number`): std's `parse` takes a sign
+//! before them, and any count of digits.
 
 ghost use Rattle.std.specs.Prelude.{◌≡◌, ◌<◌, ◌≤◌, ◌^◌, IfSome, length};
 ghost use Rattle.protocol.specs.Time.{decimal_digit, decimal_number, digits_between};

@@ -1,4 +1,16 @@
 //! What is sent next.
+//!
+//! The position in the definitions' history from which a transfer goes on stays a number in the session's state, since
+//! the definitions have it. It only rises when a packet is chosen, so what was unwanted stays unwanted.
+//!
+//! Where `choose` answers Nothing the session is as it was but for its cursors (`but_for_cursors`). No client can tell
+//! the difference: the client that the session is doesn't depend on them.
+//!
+//! An offer walks over a client's requests once, and looks at a ring only if something was pushed to it since the last
+//! look. A session also keeps how many records had arrived when all of its requests had last looked. If no record has
+//! arrived since, nothing was pushed to any ring, so the walk looks at no ring and compares only the stamps that the
+//! cursors hold (`glance`). A heap of the cursors would save that walk, but has to be mended at each arrival for each
+//! client.
 ghost use Rattle.std.specs.Prelude.{◌≡◌, ◌≢◌, ◌≤◌, ◌<◌, ◌+◌, [], ◌∷◌, List, ℕ, codes, length, map, slice_get};
 ghost use Rattle.std.specs.Prelude.{filter_map, option_map, IfSome, Some, None, true, false, not, ℤ, Option};
 ghost use Rattle.std.specs.List.{list_all};

@@ -1,4 +1,7 @@
 //! How far the requests of a transfer have come.
+//!
+//! A TIME request with an end keeps the last place that it passed whose record starts after that end. Once it has
+//! passed all, its window is over if that record is still held.
 ghost use Rattle.std.specs.Prelude.{◌≡◌, ◌<◌, Some, is_some, length, slice_get};
 ghost use Rattle.transfer.specs.Cursors.{cursors_of};
 

@@ -1,4 +1,9 @@
 //! What a request makes of records by their briefs alone.
+//!
+//! A station whose streams are all refused is passed at once. While fewer than 64 streams of a station have a number,
+//! each of its records has one of them. So a search asks the patterns of the streams first, up to one that passes, and
+//! looks at no record if none does. It does so only without an end of TIME, since of records that start after that end
+//! the last one has to be known.
 ghost use Rattle.std.specs.Prelude.{◌≡◌, ◌<◌, ℕ, List, Some, None, IfSome, length, slice_get, slice_set, true, false};
 ghost use Rattle.session_state.specs.Choices.{chosen_of};
 ghost use Rattle.session_state.specs.NamedValues.{Choice, entry_of};

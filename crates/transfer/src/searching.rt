@@ -1,4 +1,13 @@
 //! The first record from a place on that a request wants.
+//!
+//! A lone record is looked for at its station alone. Of two stations' rings together no more is pushed than arrives
+//! (`GrowByOne`), so if one ring got as many records as arrived since a session's last look, no other ring got any
+//! (`HaveLookedAt`). Which ring that may be is told by the rings, as a hint with no contract: the station of the last
+//! record. The counts decide, so a wrong hint costs a walk and no answer. The request of that station is found by its
+//! place, in a table of bytes that each session has for the places in its view (`Entries::find`). So a client that
+//! follows 255 stations costs a lone record what one that follows a single station does. A session also keeps which
+//! requests may have a record ahead (`Ahead`), as part of what it says of itself and not of what others see: with none,
+//! or one alone, an offer compares no cursors.
 ghost use Rattle.std.specs.Prelude.{◌≡◌, ◌≤◌, ◌<◌, ◌+◌, ℕ, List, Some, length, slice_get};
 ghost use Rattle.session_state.specs.Choices.{chosen_of};
 ghost use Rattle.session_state.specs.NamedValues.{Choice, entry_of};

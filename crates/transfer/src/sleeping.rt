@@ -1,4 +1,9 @@
 //! Laws of transfers that wait for records.
+//!
+//! Whether an offer would find something can be asked without making one (`transfer::finds`). It moves the cursors past
+//! what is not wanted, so that asking again costs little, and changes nothing else. Where nothing is found the session
+//! `Sleeps`: what its stations hold is not wanted, and more may come. That is said of the rings alone, and not of the
+//! history, so that it plainly stays true while other rings change.
 ghost use Rattle.std.specs.Prelude.{◌≡◌, ℕ, List, Some, is_some, slice_get, true};
 ghost use Rattle.protocol.specs.Catalog.{Config as ProtocolConfig};
 ghost use Rattle.protocol.specs.Client.{offered};

@@ -1,4 +1,9 @@
 //! Where a transfer starts.
+//!
+//! `start` and `choose` take the rings of all stations as one value (`station_ring::Rings`), with the count of all
+//! arrivals, and `choose` the configuration, where a slice of rings could be thought of. A stamp is the count of all
+//! arrivals before, which is the position in the definitions' history; so `DATA` without a number needs that count, and
+//! one equation (`rings ≡ holdings_of config history`) says what is held.
 ghost use Rattle.std.specs.Prelude.{◌≡◌, ◌≤◌, List, slice_get, Some};
 ghost use Rattle.protocol.specs.Catalog.{Config as ProtocolConfig};
 ghost use Rattle.protocol.specs.History.{Arrival, first_wanted};

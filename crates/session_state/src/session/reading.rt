@@ -1,4 +1,8 @@
 //! How a session reads what came, line by line: what a line asks, and the steps that it takes by it.
+//!
+//! Unread bytes lie in a buffer of 2,048 bytes, twice as many as there may be. New bytes are appended after them. Only
+//! when the end of the buffer is reached do the unread bytes move to its front, and then at least 1,024 bytes were read
+//! since the last move.
 ghost use Rattle.std.specs.Prelude.{◌≡◌, ◌≢◌, ◌≤◌, ◌<◌, ◌+◌, ℕ, List, [], ◌∷◌, ◌++◌, length, drop, nat_lt, None, true};
 ghost use Rattle.std.specs.Prelude.{false};
 ghost use Rattle.std.specs.List.{before_first, list_any};
