@@ -3,7 +3,7 @@ use crate::fault::Fault;
 use crate::line::{Line, number_and_rest, number_of};
 use crate::records::{Arrived, packet_line, told_packet};
 use crate::spelling::{shown, spelled};
-use server_core::{Client, Offer, Refusal, Server};
+use server_core::{Client, Offer, ReceiveRefusal, Server};
 use std::alloc::{AllocError, Global};
 
 /// A client, and what it took that no line has compared yet.
@@ -151,7 +151,7 @@ fn close(server: &mut Server, caller: &mut Caller) -> Answer {
 /// Whether the server knows no open client with this number, in each call.
 fn is_gone(server: &mut Server, client: &Client) -> bool {
     server.room(client).is_err()
-        && server.receive(client, b"HELLO\r") == Err(Refusal::Gone)
+        && server.receive(client, b"HELLO\r") == Err(ReceiveRefusal::Gone)
         && server.offer(client).is_err()
         && server.waiting(client).is_err()
         && server.marked(client).is_err()

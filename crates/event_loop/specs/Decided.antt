@@ -15,8 +15,8 @@ use Rattle.ports.specs.declared.decisions.Decision.{Decision}
 use Rattle.ports.specs.declared.decisions.Decision.TheVariants.{LetIn, Refused, TurnedAway}
 use Rattle.ports.specs.declared.decisions.Party.TheVariants.{Client, Feed}
 use Rattle.ports.specs.declared.decisions.RecordCodes.{RecordCodes}
-use Rattle.ports.specs.declared.decisions.Refusal.{Refusal}
-use Rattle.ports.specs.declared.decisions.Refusal.TheVariants.{Other, Unknown}
+use Rattle.ports.specs.declared.decisions.RecordRefusal.{RecordRefusal}
+use Rattle.ports.specs.declared.decisions.RecordRefusal.TheVariants.{Other, Unknown}
 use Rattle.event_loop.specs.declared.seat.Seat.{Seat}
 use Rattle.event_loop.specs.Hearing.{clients_in, feeds_in, is_seated}
 
@@ -48,7 +48,7 @@ codes_in r = record {
 }
 
 -- why a record is refused, by the fault that answers it
-abbrev pub refusal_of : ArriveFault → List ℕ → Refusal
+abbrev pub refusal_of : ArriveFault → List ℕ → RecordRefusal
 refusal_of UnknownStation r = Unknown (codes_in r)
 refusal_of (Record f) r = Other (record_reason f)
 refusal_of Exhausted r = Other reason.Exhausted

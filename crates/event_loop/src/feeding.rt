@@ -18,7 +18,7 @@ ghost use Rattle.event_loop.specs.Sleeping.{IsQuiet};
 use crate::deciding::end;
 use crate::passes::Onward;
 use feeder::{FeedCutter, Feeding};
-use ports::{Decision, Ending, Got, PortFault, Ports, RecordCodes, Refusal};
+use ports::{Decision, Ending, Got, PortFault, Ports, RecordCodes, RecordRefusal};
 use protocol::reason::Reason;
 use server_core::{ArriveFault, Server};
 
@@ -33,13 +33,13 @@ fn codes_in(whole: &[u8; 512]) -> RecordCodes
 }
 
 /// Why a record is refused, by the fault that answers it.
-fn refusal_of(fault: ArriveFault, whole: &[u8; 512]) -> Refusal
+fn refusal_of(fault: ArriveFault, whole: &[u8; 512]) -> RecordRefusal
     ensures { result ≡ refusal_of fault whole.now }
 {
     match fault {
-        ArriveFault::UnknownStation => Refusal::Unknown(codes_in(whole)),
-        ArriveFault::Record(fault) => Refusal::Other(fault.reason()),
-        ArriveFault::Exhausted => Refusal::Other(Reason::Exhausted),
+        ArriveFault::UnknownStation => RecordRefusal::Unknown(codes_in(whole)),
+        ArriveFault::Record(fault) => RecordRefusal::Other(fault.reason()),
+        ArriveFault::Exhausted => RecordRefusal::Other(Reason::Exhausted),
     }
 }
 

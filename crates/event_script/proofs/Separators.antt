@@ -13,7 +13,7 @@ use Rattle.std.proofs.lemmas.List.Sums.{fails_before_first}
 use Rattle.protocol.specs.Made.{IsCodeByte}
 use Rattle.protocol.specs.Time.{decimal_digit, decimal_number}
 use Rattle.protocol.proofs.FoundLemmas.{both}
-use Rattle.event_script.specs.Script.{Cut, Six, cut_by, decimal_of, six_in, six_of}
+use Rattle.event_script.specs.Script.{ScriptCut, Six, cut_by, decimal_of, six_in, six_of}
 
 -- ---- texts without a separator
 
@@ -96,7 +96,7 @@ six-whole s text x e = sym (join_with_byte-slice_split s text)
 -- ---- one cut after the other
 
 -- where there is a separator
-next-part : (s : ℕ) (text : List ℕ) (cut : Cut) → Some cut ≡ cut_by s text
+next-part : (s : ℕ) (text : List ℕ) (cut : ScriptCut) → Some cut ≡ cut_by s text
     → slice_split (λ b. b == s) text ≡ cut.front ∷ slice_split (λ b. b == s) cut.rest
 next-part s text cut e =
     both (nat_lt (position_or_len (λ b. b == s) text) (length text))
@@ -126,22 +126,22 @@ last-part s text e =
     slice_split_none (λ b. b == s) text (λ k d h. fails_before_first (λ b. b == s) text k d (omega arith)))
 
 -- A text is cut so, one cut behind the other, and that is left.
-abbrev pub IsCutInto : ℕ → List ℕ → List Cut → List ℕ → Type 0
+abbrev pub IsCutInto : ℕ → List ℕ → List ScriptCut → List ℕ → Type 0
 IsCutInto s text [] rest = text ≡ rest
 IsCutInto s text (c ∷ cs) rest = (Some c ≡ cut_by s text) × IsCutInto s c.rest cs rest
 
 -- what stands before the separators, and more parts
-abbrev pub fronts : List Cut → List (List ℕ) → List (List ℕ)
+abbrev pub fronts : List ScriptCut → List (List ℕ) → List (List ℕ)
 fronts [] parts = parts
 fronts (c ∷ cs) parts = c.front ∷ fronts cs parts
 
-parts-cut : (s : ℕ) (text : List ℕ) (cs : List Cut) (rest : List ℕ) → IsCutInto s text cs rest
+parts-cut : (s : ℕ) (text : List ℕ) (cs : List ScriptCut) (rest : List ℕ) → IsCutInto s text cs rest
     → slice_split (λ b. b == s) text ≡ fronts cs (slice_split (λ b. b == s) rest)
 parts-cut s text [] rest e = ap (slice_split (λ b. b == s)) e
 parts-cut s text (c ∷ cs) rest e = next-part s text c e.0 ∙ ap (λ ps. c.front ∷ ps) (parts-cut s c.rest cs rest e.1)
 
 -- the parts of a text whose rest has no separator
-pub six-cut : (s : ℕ) (text : List ℕ) (cs : List Cut) (rest : List ℕ) → IsCutInto s text cs rest → None ≡ cut_by s rest
+pub six-cut : (s : ℕ) (text : List ℕ) (cs : List ScriptCut) (rest : List ℕ) → IsCutInto s text cs rest → None ≡ cut_by s rest
     → six_of s text ≡ six_in (fronts cs (rest ∷ []))
 six-cut s text cs rest e last = ap six_in (parts-cut s text cs rest e ∙ ap (fronts cs) (last-part s rest last))
 
@@ -150,7 +150,7 @@ seven a b c d e f [] h = absurd (omega arith)
 seven a b c d e f (g ∷ more) h = refl
 
 -- behind five cuts there is one more
-pub six-passed : (s : ℕ) (text : List ℕ) (a b c d e : Cut) (rest : List ℕ) (o : Option Cut)
+pub six-passed : (s : ℕ) (text : List ℕ) (a b c d e : ScriptCut) (rest : List ℕ) (o : Option ScriptCut)
     → IsCutInto s text (a ∷ b ∷ c ∷ d ∷ e ∷ []) rest → o ≡ cut_by s rest → is_some o ≡ true → six_of s text ≡ None
 six-passed s text a b c d e rest None cuts is some = absurd (true≢false (sym some))
 six-passed s text a b c d e rest (Some f) cuts is some =
@@ -160,7 +160,7 @@ six-passed s text a b c d e rest (Some f) cuts is some =
     (omega (arith, length-slice_split (λ x. x == s) f.rest))
 
 -- behind five cuts there is none
-pub six-ended : (s : ℕ) (text : List ℕ) (cs : List Cut) (rest : List ℕ) (o : Option Cut) → IsCutInto s text cs rest
+pub six-ended : (s : ℕ) (text : List ℕ) (cs : List ScriptCut) (rest : List ℕ) (o : Option ScriptCut) → IsCutInto s text cs rest
     → o ≡ cut_by s rest → is_some o ≡ false → six_of s text ≡ six_in (fronts cs (rest ∷ []))
 six-ended s text cs rest None cuts is none = six-cut s text cs rest cuts is
 six-ended s text cs rest (Some f) cuts is none = absurd (true≢false none)

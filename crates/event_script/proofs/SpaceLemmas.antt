@@ -6,7 +6,7 @@ use Rattle.std.proofs.lemmas.Bool.{ltb-true}
 use Rattle.std.proofs.lemmas.Bool.Decides.{nat_tests}
 use Rattle.std.proofs.lemmas.List.Folds.{list_any_none}
 use Rattle.protocol.proofs.FoundLemmas.{both}
-use Rattle.event_script.specs.Script.{Cut, cut_of, decimal_of}
+use Rattle.event_script.specs.Script.{ScriptCut, cut_of, decimal_of}
 use Rattle.event_script.proofs.Separators.{number-lacks}
 
 -- what parts two words
@@ -25,7 +25,7 @@ seam (b ∷ bs) h =
     rw (n, one) (ap (λ l. b ∷ l) (seam bs h')))
 
 -- a cut text is its front, a space and its rest
-pub cut-whole : (text : List ℕ) (cut : Cut) → cut_of text ≡ Some cut → text ≡ cut.front ++ 32 ∷ cut.rest
+pub cut-whole : (text : List ℕ) (cut : ScriptCut) → cut_of text ≡ Some cut → text ≡ cut.front ++ 32 ∷ cut.rest
 cut-whole text cut e =
     both (nat_lt (position_or_len is_space text) (length text))
     (λ y. let is : Some

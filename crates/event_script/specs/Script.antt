@@ -48,21 +48,21 @@ hex_record_of digits = option_and_then whole_record (hex_of digits)
 -- ---- lines
 
 -- What stands before a separator, and what stands behind it.
-pub record Cut : Type 0 where
+pub record ScriptCut : Type 0 where
   pub front : List ℕ
   pub rest : List ℕ
 
 -- by the place of a separator, where there is one
-abbrev pub cut_at : List ℕ → Option ℕ → Option Cut
+abbrev pub cut_at : List ℕ → Option ℕ → Option ScriptCut
 cut_at text None = None
 cut_at text (Some place) = Some (record { front = take place text; rest = drop (place + 1) text })
 
 -- a text cut at its first separator; none where it has none
-abbrev pub cut_by : ℕ → List ℕ → Option Cut
+abbrev pub cut_by : ℕ → List ℕ → Option ScriptCut
 cut_by separator text = cut_at text (position (λ b. b == separator) text)
 
 -- a text cut at its first space
-abbrev pub cut_of : List ℕ → Option Cut
+abbrev pub cut_of : List ℕ → Option ScriptCut
 cut_of text = cut_by 32 text
 
 -- A client's number, and what stands behind the space that follows it.
@@ -76,7 +76,7 @@ addressed_by rest None = None
 addressed_by rest (Some client) = Some (record { client = client; rest = rest })
 
 -- a cut text whose front is a client's number
-abbrev pub addressed_in : Cut → Option Addressed
+abbrev pub addressed_in : ScriptCut → Option Addressed
 addressed_in cut = addressed_by cut.rest (decimal_of cut.front)
 
 -- a text that begins with a client's number and a space
@@ -223,7 +223,7 @@ named_event name rest =
     else None
 
 -- the event of a cut line
-abbrev pub event_in : Cut → Option Event
+abbrev pub event_in : ScriptCut → Option Event
 event_in cut = named_event cut.front cut.rest
 
 -- The event of a line, without its end: `open ADDRESS`, `bytes C HEX`, `line C TEXT`, `take C N`, `close C`, `arrive

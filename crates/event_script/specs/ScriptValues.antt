@@ -3,9 +3,9 @@ use Rattle.std.specs.Prelude.{◌≡◌, List, ◌++◌, Option, Some, None, Res
 use Rattle.protocol.specs.World.{Event as ProtocolEvent}
 use Rattle.server_core.specs.Runs.{event_value}
 use Rattle.server_core.specs.declared.events.Event.{Event}
-use Rattle.event_script.specs.Script.{Cut as ScriptCut, Addressed as ScriptAddressed, Six as ScriptSix}
+use Rattle.event_script.specs.Script.{ScriptCut as ScriptCut, Addressed as ScriptAddressed, Six as ScriptSix}
 use Rattle.event_script.specs.Script.{Start as ScriptStart}
-use Rattle.event_script.specs.declared.cuts.Cut.{Cut}
+use Rattle.event_script.specs.declared.cuts.ScriptCut.{ScriptCut}
 use Rattle.event_script.specs.declared.cuts.Addressed.{Addressed}
 use Rattle.event_script.specs.declared.cuts.Six.{Six}
 use Rattle.event_script.specs.declared.arrive.Start.{Start}
@@ -13,7 +13,7 @@ use Rattle.event_script.specs.declared.fault.ScriptFault.{ScriptFault}
 use Rattle.event_script.specs.declared.fault.ScriptFault.TheVariants.{Script}
 
 -- a cut text
-abbrev pub cut_value : Cut → ScriptCut
+abbrev pub cut_value : ScriptCut → ScriptCut
 cut_value cut = record { front = cut.front.now; rest = cut.rest.now }
 
 -- a text that begins with a client's number

@@ -8,7 +8,7 @@ use text_parts::separators;
 
 /// A text cut at its first separator.
 #[derive(Clone, Copy)]
-pub(crate) struct Cut<'a> {
+pub(crate) struct ScriptCut<'a> {
     pub front: &'a [u8],
     pub rest: &'a [u8],
 }
@@ -32,11 +32,11 @@ pub(crate) struct Six<'a> {
 }
 
 /// A text cut at its first separator; None where it has none.
-pub(crate) fn cut_at(separator: u8, text: &[u8]) -> Option<Cut<'_>>
+pub(crate) fn cut_at(separator: u8, text: &[u8]) -> Option<ScriptCut<'_>>
     ensures { option_map cut_value result ≡ cut_by separator text.now }
 {
     let (front, rest) = separators::cut_at(text, separator)?;
-    Some(Cut { front, rest })
+    Some(ScriptCut { front, rest })
 }
 
 /// A text that begins with a client's number and a space.

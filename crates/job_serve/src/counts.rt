@@ -1,6 +1,6 @@
 //! What the journal counts for the status port: who is here since when, and how often whom it turned away and which
 //! records it refused.
-use ports::{AwayReason, Refusal};
+use ports::{AwayReason, RecordRefusal};
 use ports_logged::Visit;
 use protocol::reason::Reason;
 use server_watch::Visitor;
@@ -105,10 +105,10 @@ impl Counts {
 }
 
 /// The name of a reason for which a record is refused.
-fn name_of_refusal(refusal: &Refusal) -> &'static str {
+fn name_of_refusal(refusal: &RecordRefusal) -> &'static str {
     match refusal {
-        Refusal::Unknown(_) => Reason::UnknownStation.name(),
-        Refusal::Other(reason) => reason.name(),
+        RecordRefusal::Unknown(_) => Reason::UnknownStation.name(),
+        RecordRefusal::Other(reason) => reason.name(),
     }
 }
 

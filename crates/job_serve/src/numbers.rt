@@ -12,7 +12,7 @@ use catalog::{Config, ConfigFault, KeptNumber};
 use incidents::{Failure, Incident, NumbersFault, Site};
 use job_base::replace;
 use number_file::{NumberTable, read_numbers};
-use serving::{Ahead, ServeFault};
+use serving::{NumbersAhead, ServeFault};
 use sl_io::{Outer, ReadFault, read_all};
 use std::alloc::{AllocError, Global};
 use std::fs::{File, OpenOptions, TryLockError};
@@ -84,7 +84,11 @@ impl<'a> NumberFile<'a> {
 
     /// Keeps the numbers of a server's stations: the file is written anew under another name, which then takes its
     /// place. It takes no memory once it was written.
-    pub fn keep<R: Files>(&mut self, rt: &R, numbers: &Ahead<'_>) -> Result<(), Incident<'a>> {
+    pub fn keep<R: Files>(
+        &mut self,
+        rt: &R,
+        numbers: &NumbersAhead<'_>,
+    ) -> Result<(), Incident<'a>> {
         set_numbers(&mut self.table, numbers);
         if self.table.write(&mut self.text).is_err() {
             return Err(Incident::from(Failure::OutOfMemory));
@@ -105,7 +109,7 @@ impl<'a> NumberFile<'a> {
 }
 
 /// The numbers of a server's stations take the place of those in a table.
-fn set_numbers(table: &mut NumberTable, numbers: &Ahead<'_>)
+fn set_numbers(table: &mut NumberTable, numbers: &NumbersAhead<'_>)
     ensures { table.new ≡ with_nexts table.old (ahead_of numbers.now) }
 {
     for place in 0..numbers.count() {

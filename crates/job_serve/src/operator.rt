@@ -23,7 +23,9 @@ use event_loop::Loop;
 use incidents::{Failure, Incident, Site, Told};
 use job_base::{config_in, plain_text_at, refuse_unknown, unknown_lines};
 use ports::Ports;
-use serving::{Activity, Ahead, Between, Due, Pace, Refusal, ServeFault, Timetable, serve_between};
+use serving::{
+    Activity, Between, Due, NumbersAhead, Pace, Refusal, ServeFault, Timetable, serve_between,
+};
 use std::alloc::Global;
 use std::fmt::Write;
 use std::fs::File;
@@ -309,7 +311,7 @@ impl<'r, 'a, 'l, R: Files<File = File> + Clock + AllocGlobal, D: Device> Between
         self.errors.write_line(&line);
     }
 
-    fn keep(&mut self, numbers: &Ahead<'_>) -> Result<(), Incident<'a>> {
+    fn keep(&mut self, numbers: &NumbersAhead<'_>) -> Result<(), Incident<'a>> {
         let Some(file) = &mut self.numbers else {
             return Ok(());
         };

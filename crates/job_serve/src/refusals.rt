@@ -2,7 +2,7 @@
 ghost use Rattle.std.specs.Prelude.{◌≡◌, ◌<◌, IfSome, length};
 ghost use Rattle.job_serve.specs.Refusals.{is_due, told_count, with_record};
 
-use ports::{RecordCodes, Refusal};
+use ports::{RecordCodes, RecordRefusal};
 use ports_logged::ShownCodes;
 use protocol::reason::Reason;
 use std::alloc::{AllocError, Global};
@@ -149,10 +149,10 @@ impl RefusalLog {
     }
 
     /// A record of a feed was refused. What a line tells of it, if one is due.
-    pub fn see(&mut self, port: u64, refusal: Refusal, now: u64) -> Option<RefusedLine> {
+    pub fn see(&mut self, port: u64, refusal: RecordRefusal, now: u64) -> Option<RefusedLine> {
         match refusal {
-            Refusal::Unknown(codes) => self.see_station(codes, now),
-            Refusal::Other(reason) => self.see_cause(port, reason),
+            RecordRefusal::Unknown(codes) => self.see_station(codes, now),
+            RecordRefusal::Other(reason) => self.see_cause(port, reason),
         }
     }
 

@@ -7,7 +7,7 @@ use crate::cuts::OpenClients;
 use crate::refusals::{RefusalLog, RefusedLine, RefusedText};
 use catalog::Config;
 use error_lines::{Device, ErrorLines, Line};
-use ports::Refusal;
+use ports::RecordRefusal;
 use ports_logged::{Journal, Visit};
 use std::alloc::{AllocError, Global};
 use std::cell::RefCell;
@@ -129,7 +129,7 @@ impl<'l, R: Clock, D: Device> VisitLines<'l, R, D> {
         lines: &SharedLines<D>,
         visit: &Visit,
         port: u64,
-        refusal: Refusal,
+        refusal: RecordRefusal,
     ) {
         let now = match self.rt.monotonic() {
             Ok(now) => u64::try_from(now.as_millis()).unwrap_or(u64::MAX),

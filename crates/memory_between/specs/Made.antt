@@ -1,13 +1,13 @@
 -- The calls that answers in memory kept.
 use Rattle.std.specs.Prelude.{ℕ, if◌then◌else◌, List, map, Option, Some, None}
-use Rattle.memory_between.specs.declared.Made.{Made}
-use Rattle.memory_between.specs.declared.Made.TheVariants.{Looked, Configuration, Refused, Report, Keep}
+use Rattle.memory_between.specs.declared.MadeBetween.{MadeBetween}
+use Rattle.memory_between.specs.declared.MadeBetween.TheVariants.{Looked, Configuration, Refused, Report, Keep}
 use Rattle.memory_between.specs.declared.MemoryBetween.{MemoryBetween}
 use Rattle.serving.specs.Asked.{Asked}
 use Rattle.serving.specs.Asked.Asked.{Configuration as AskedConfiguration, Looks, Refuses, Reports, Keeps}
 
 -- a call
-abbrev pub made_value : Made → Asked ℕ
+abbrev pub made_value : MadeBetween → Asked ℕ
 made_value (Looked due) = Looks due
 made_value (Configuration answer) = AskedConfiguration answer
 made_value (Refused refusal) = Refuses refusal

@@ -10,13 +10,13 @@ ghost use Rattle.serving.specs.Ahead.{ahead_of};
 use catalog::Config;
 use event_loop::Loop;
 use ports::Ports;
-use serving::{Activity, Ahead, Between, Due, Refusal};
+use serving::{Activity, Between, Due, NumbersAhead, Refusal};
 use sl_packet::Seq;
 use std::alloc::{AllocError, Global};
 
 /// A call that was made, and its answer.
 #[derive(Drop)]
-pub enum Made {
+pub enum MadeBetween {
     Looked(Due),
     Configuration(Result<Config, u8>),
     Refused(Refusal<u8>),
@@ -33,7 +33,7 @@ pub struct MemoryBetween {
     script: Vec<Result<Config, u8>>,
     unkept: Vec<bool>,
     due: Vec<Due>,
-    made: Vec<Made>,
+    made: Vec<MadeBetween>,
     lost: bool,
     watched: u64,
 }
@@ -69,7 +69,7 @@ impl MemoryBetween {
     }
 
     /// All calls that were kept, in order, with their answers.
-    pub fn made(&self) -> &[Made]
+    pub fn made(&self) -> &[MadeBetween]
         ensures { result.now ≡ self.now.made.items }
     {
         self.made.as_slice()
@@ -115,7 +115,7 @@ impl MemoryBetween {
         }
     }
 
-    fn remember(&mut self, made: Made)
+    fn remember(&mut self, made: MadeBetween)
         ensures kept { Tells (told self.old) (told self.new) (made_value made ∷ []) }
     {
         if self.made.push(made).is_err() {
@@ -133,7 +133,7 @@ impl Between for MemoryBetween {
         ensures call { Tells (told self.old) (told self.new) (Looks result ∷ []) }
     {
         let due = self.due_next();
-        self.remember(Made::Looked(due));
+        self.remember(MadeBetween::Looked(due));
         due
     }
 
@@ -143,13 +143,13 @@ impl Between for MemoryBetween {
         match self.answer() {
             Ok(config) => {
                 match config.copy(self.alloc) {
-                    Ok(copy) => self.remember(Made::Configuration(Ok(copy))),
+                    Ok(copy) => self.remember(MadeBetween::Configuration(Ok(copy))),
                     Err(_) => self.lost = true,
                 }
                 Ok(config)
             }
             Err(fault) => {
-                self.remember(Made::Configuration(Err(fault)));
+                self.remember(MadeBetween::Configuration(Err(fault)));
                 Err(fault)
             }
         }
@@ -158,21 +158,21 @@ impl Between for MemoryBetween {
     fn refused(&mut self, refusal: Refusal<u8>)
         ensures call { Tells (told self.old) (told self.new) (Refuses refusal ∷ []) }
     {
-        self.remember(Made::Refused(refusal));
+        self.remember(MadeBetween::Refused(refusal));
     }
 
     fn report(&mut self, activity: Activity)
         ensures call { Tells (told self.old) (told self.new) (Reports activity ∷ []) }
     {
-        self.remember(Made::Report(activity));
+        self.remember(MadeBetween::Report(activity));
     }
 
-    fn keep(&mut self, numbers: &Ahead<'_>) -> Result<(), u8>
+    fn keep(&mut self, numbers: &NumbersAhead<'_>) -> Result<(), u8>
         ensures call { Tells (told self.old) (told self.new) (Keeps (ahead_of numbers.now) result ∷ []) }
     {
         let answer = self.kept();
         match numbers_of(self.alloc, numbers) {
-            Ok(numbers) => self.remember(Made::Keep(numbers, answer)),
+            Ok(numbers) => self.remember(MadeBetween::Keep(numbers, answer)),
             Err(_) => self.lost = true,
         }
         answer
@@ -187,7 +187,7 @@ impl Between for MemoryBetween {
 }
 
 /// The numbers once more. Only memory can lack.
-fn numbers_of(alloc: Global, numbers: &Ahead<'_>) -> Result<Vec<Seq>, AllocError>
+fn numbers_of(alloc: Global, numbers: &NumbersAhead<'_>) -> Result<Vec<Seq>, AllocError>
     ensures { IfOk result (λ copy. copy.items ≡ ahead_of numbers.now) }
 {
     let mut copy = Vec::new(alloc);

@@ -56,7 +56,7 @@ pub struct RecordCodes {
 
 /// Why a record is refused.
 #[derive(Clone, Copy, Drop)]
-pub enum Refusal {
+pub enum RecordRefusal {
     /// No station has its codes.
     Unknown(RecordCodes),
     /// Another reason.
@@ -73,5 +73,5 @@ pub enum Decision {
     /// The port is shut next.
     Ends(Ending),
     /// A record of 512 bytes that it gave is refused.
-    Refused(Refusal),
+    Refused(RecordRefusal),
 }

@@ -15,7 +15,7 @@ mod answers;
 mod decisions;
 
 pub use answers::{Got, Happening, PortFault, Put};
-pub use decisions::{AwayReason, Decision, Ending, Party, RecordCodes, Refusal};
+pub use decisions::{AwayReason, Decision, Ending, Party, RecordCodes, RecordRefusal};
 
 /// Where clients and feeds join, each at a port of its own number. No port joins twice. The count of failures is a
 /// number below 2^64 that goes on at 0 after 2^64 - 1: a call fails only with one failure more.

@@ -4,7 +4,7 @@
 //! that what can't be written is dropped and counted in one place. The lines of visits and those of reports and faults
 //! are written through one cell, since what counts the lines that were dropped, and knows whether the last one was cut,
 //! must be one.
-use ports::{AwayReason, RecordCodes, Refusal};
+use ports::{AwayReason, RecordCodes, RecordRefusal};
 use std::fmt::{self, Display, Formatter, Write};
 use std::net::Ipv4Addr;
 
@@ -40,7 +40,7 @@ pub enum Visit {
     Refused {
         port: u64,
         record: u64,
-        refusal: Refusal,
+        refusal: RecordRefusal,
     },
     /// A feed's port was shut, after it gave so many whole records of 512 bytes, of which so many were refused; at most
     /// 2^64 - 1 of each.
@@ -82,17 +82,17 @@ fn put_refusal<W: Write>(
     f: &mut Formatter<W>,
     port: u64,
     record: u64,
-    refusal: &Refusal,
+    refusal: &RecordRefusal,
 ) -> fmt::Result {
     match refusal {
-        Refusal::Unknown(codes) => {
+        RecordRefusal::Unknown(codes) => {
             let codes = ShownCodes(*codes);
             write!(
                 f,
                 "feed {port} refused {codes}, an unknown station, first at record {record}"
             )
         }
-        Refusal::Other(reason) => {
+        RecordRefusal::Other(reason) => {
             let number = reason.number();
             let name = reason.name();
             write!(

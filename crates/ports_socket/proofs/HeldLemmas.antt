@@ -8,8 +8,8 @@ use Rattle.ports.specs.declared.answers.PortFault.{PortFault}
 use Rattle.ports.specs.declared.answers.Put.{Put}
 use Rattle.slab.specs.Slab.{Slab, Updates, get, with_value}
 use Rattle.ports_socket.specs.declared.connection.Connection.{Connection}
-use Rattle.ports_socket.specs.declared.connections.Place.{Place}
-use Rattle.ports_socket.specs.declared.connection.Held.{Held}
+use Rattle.ports_socket.specs.declared.connections.ConnectionPlace.{ConnectionPlace}
+use Rattle.ports_socket.specs.declared.connection.KeptConnection.{KeptConnection}
 use Rattle.ports_socket.specs.Connections.{OnlySends, ReadsFrom, WritesTo, ahead_in, numbers, socket_of, sockets_of}
 use Rattle.ports_socket.specs.Connections.{value_of, values}
 use Rattle.ports_socket.specs.Places.{IsTable, connections_at}
@@ -22,7 +22,7 @@ use Rattle.ports_socket.proofs.TableLemmas.{written, written-table, wrote, wrote
 
 -- ---- one that is open
 
-module _ (slots : Slab Held) (ps : List Place) (key : ℕ) (h : Held) (table : IsTable slots ps)
+module _ (slots : Slab KeptConnection) (ps : List ConnectionPlace) (key : ℕ) (h : KeptConnection) (table : IsTable slots ps)
     (kept : get slots key ≡ Some h) (opened : h.is_open ≡ true) where
   -- the number of one that is kept, and not shut, is among those of the open ones
   pub open-contains : Contains (numbers (values (connections_at slots ps))) h.connection.number
@@ -33,7 +33,7 @@ module _ (slots : Slab Held) (ps : List Place) (key : ℕ) (h : Held) (table : I
 
   module _ (n : ℕ) (number : h.connection.number ≡ n) (d : Connection)
       (socket : socket_of d ≡ socket_of h.connection) where
-    abbrev new : Slab Held
+    abbrev new : Slab KeptConnection
     new = with_value slots key (record h { connection = d })
 
     abbrev before : List Connection
@@ -90,7 +90,7 @@ module _ (slots : Slab Held) (ps : List Place) (key : ℕ) (h : Held) (table : I
 
 -- ---- what is written as it was, and what joins and leaves
 
-pub unchanged : (slots : Slab Held) (ps : List Place) (key : ℕ) (h : Held) → get slots key ≡ Some h
+pub unchanged : (slots : Slab KeptConnection) (ps : List ConnectionPlace) (key : ℕ) (h : KeptConnection) → get slots key ≡ Some h
     → values (connections_at (with_value slots key h) ps) ≡ values (connections_at slots ps)
 unchanged slots ps key h kept = ap (λ s. values (connections_at s ps)) (wrote-same slots key h kept)
 
@@ -101,12 +101,12 @@ values-last zero (c ∷ d ∷ ds) is = absurd (omega (arith, is))
 values-last (suc k) (c ∷ cs) is = ap (λ l. value_of c ∷ l) (values-last k cs (omega (arith, is)))
 
 -- the last of them went
-pub popped-values : (slots new : Slab Held) (ps front : List Place) (p : Place) → IsTable slots ps
+pub popped-values : (slots new : Slab KeptConnection) (ps front : List ConnectionPlace) (p : ConnectionPlace) → IsTable slots ps
     → ps ≡ front ++ p ∷ [] → Updates slots new p.key None
     → values (connections_at new front)
     ≡ take (length (values (connections_at slots ps)) - 1) (values (connections_at slots ps))
 popped-values slots new ps front p table parts updates =
-    let end : IsLast ps front p = subst (λ (l : List Place). IsLast l front p) (sym parts) (last front p) in
+    let end : IsLast ps front p = subst (λ (l : List ConnectionPlace). IsLast l front p) (sym parts) (last front p) in
     let cs = connections_at slots ps in
     let long : length cs ≡ suc (length front) =
     length-there slots ps table.there ∙ ap length parts ∙ omega (arith, length_push front p) in
@@ -117,13 +117,13 @@ popped-values slots new ps front p table parts updates =
     ∙ values-last (length front) cs long
     ∙ ap (λ k. take k (values cs)) (sym counted)
 
-pub popped-table : (slots new : Slab Held) (ps front : List Place) (p : Place) → IsTable slots ps
+pub popped-table : (slots new : Slab KeptConnection) (ps front : List ConnectionPlace) (p : ConnectionPlace) → IsTable slots ps
     → ps ≡ front ++ p ∷ [] → Updates slots new p.key None → IsTable new front
 popped-table slots new ps front p table parts updates =
-    let end : IsLast ps front p = subst (λ (l : List Place). IsLast l front p) (sym parts) (last front p) in
+    let end : IsLast ps front p = subst (λ (l : List ConnectionPlace). IsLast l front p) (sym parts) (last front p) in
     subst (IsTable new) end.left (left-table slots new ps (length front) p None table end.inside end.read updates tt)
 
-pub joined-values : (slots new : Slab Held) (ps : List Place) (key : ℕ) (c : Connection) (h : Held) → IsTable slots ps
+pub joined-values : (slots new : Slab KeptConnection) (ps : List ConnectionPlace) (key : ℕ) (c : Connection) (h : KeptConnection) → IsTable slots ps
     → get slots key ≡ None → Updates slots new key (Some h) → h.connection ≡ c
     → values (connections_at new (ps ++ record { number = c.number; key = key } ∷ []))
     ≡ values (connections_at slots ps) ++ value_of c ∷ []

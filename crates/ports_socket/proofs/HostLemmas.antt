@@ -14,8 +14,8 @@ use Rattle.ports_socket.specs.Hosts.{Parts, clients_of, is_client_of, one_if}
 use Rattle.ports_socket.specs.Peers.{no_peer}
 use Rattle.std.specs.declared.net.ipv4_addr.Ipv4Addr.{Ipv4Addr}
 use Rattle.ports_socket.specs.declared.admission.Admission.{Admission}
-use Rattle.ports_socket.specs.declared.peer.Kind.{Kind}
-use Rattle.ports_socket.specs.declared.peer.Kind.TheVariants.{Client, Feed}
+use Rattle.ports_socket.specs.declared.peer.PeerKind.{PeerKind}
+use Rattle.ports_socket.specs.declared.peer.PeerKind.TheVariants.{Client, Feed}
 use Rattle.ports_socket.specs.declared.peer.Peer.{Peer}
 
 -- ---- numbers that do not fall
@@ -235,7 +235,7 @@ fewer-place : (most : Option ℕ) (opened : List Peer) (address : Ipv4Addr) (n :
 fewer-place None opened address n r e h = h
 fewer-place (Some most) opened address n r e h = subst (λ m. IsTrue r ↔ (m < most)) e h
 
-pub admitted : (admission : Admission) (opened : List Peer) (kind : Kind) (address : Ipv4Addr) (n : ℕ) (r : Bool)
+pub admitted : (admission : Admission) (opened : List Peer) (kind : PeerKind) (address : Ipv4Addr) (n : ℕ) (r : Bool)
     → kind ≡ Client → n ≡ clients_at opened address → IsTrue r ↔ IsFewer admission.per_address n
     → IsTrue r ↔ IsAdmitted admission opened kind address
 admitted admission opened Client address n r is e h = fewer-place admission.per_address opened address n r e h

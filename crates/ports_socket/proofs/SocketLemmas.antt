@@ -10,8 +10,8 @@ use Rattle.ports.specs.declared.answers.Got.TheVariants.{Closed}
 use Rattle.ports.specs.declared.answers.PortFault.{PortFault}
 use Rattle.ports.specs.declared.answers.Put.{Put}
 use Rattle.ports.specs.declared.answers.Put.TheVariants.{Later}
-use Rattle.ports_socket.specs.declared.peer.Kind.{Kind}
-use Rattle.ports_socket.specs.declared.peer.Kind.TheVariants.{Client, Feed}
+use Rattle.ports_socket.specs.declared.peer.PeerKind.{PeerKind}
+use Rattle.ports_socket.specs.declared.peer.PeerKind.TheVariants.{Client, Feed}
 use Rattle.ports_socket.specs.Connections.{ConnectionValue, KeepsSockets, OnlySends, Opens, ReadsFrom, WritesTo}
 use Rattle.ports_socket.specs.Connections.{ahead_at, held_at, numbers, sockets_of, waiting_at}
 use Rattle.ports_socket.specs.Peers.{happening_of}
@@ -95,7 +95,7 @@ socket-push : (n : ℕ) (a b : List ConnectionValue) (h : Opens n a b)
 socket-push n a b h = ap sockets_of h.is ∙ map_push (λ (v : ConnectionValue). (v.number, v.stream)) a _
 
 -- it has a socket of its own
-pub opens_socket : (kind : Kind) (n : ℕ) (address : Ipv4Addr) (a b : List ConnectionValue) → Opens n a b
+pub opens_socket : (kind : PeerKind) (n : ℕ) (address : Ipv4Addr) (a b : List ConnectionValue) → Opens n a b
     → KeepsSockets (Ok (happening_of kind n address)) (sockets_of a) (sockets_of b)
 opens_socket Client n address a b h = (h.stream, socket-push n a b h)
 opens_socket Feed n address a b h = (h.stream, socket-push n a b h)

@@ -6,8 +6,8 @@ use Rattle.std.specs.Net.Addr.{ipv4_bits}
 use Rattle.std.specs.declared.net.ipv4_addr.Ipv4Addr.{Ipv4Addr}
 use Rattle.protocol.specs.Access.{Token, allows}
 use Rattle.ports_socket.specs.declared.admission.Admission.{Admission}
-use Rattle.ports_socket.specs.declared.peer.Kind.{Kind}
-use Rattle.ports_socket.specs.declared.peer.Kind.TheVariants.{Client, Feed}
+use Rattle.ports_socket.specs.declared.peer.PeerKind.{PeerKind}
+use Rattle.ports_socket.specs.declared.peer.PeerKind.TheVariants.{Client, Feed}
 use Rattle.ports_socket.specs.declared.peer.Peer.{Peer}
 
 -- Feeds are taken from an address: there is no list, or the list allows it.
@@ -16,7 +16,7 @@ IsFeeder None address = Unit {0}
 IsFeeder (Some list) address = allows list (ipv4_bits address) ≡ true
 
 -- a port is a client's of an address
-abbrev pub is_client : Kind → Bool
+abbrev pub is_client : PeerKind → Bool
 is_client Client = true
 is_client Feed = false
 
@@ -38,6 +38,6 @@ IsFewer None clients = Unit {0}
 IsFewer (Some most) clients = clients < most
 
 -- A connection from an address is taken while those ports are open.
-abbrev pub IsAdmitted : Admission → List Peer → Kind → Ipv4Addr → Type 0
+abbrev pub IsAdmitted : Admission → List Peer → PeerKind → Ipv4Addr → Type 0
 IsAdmitted admission opened Client address = HasPlace admission.per_address opened address
 IsAdmitted admission opened Feed address = IsFeeder admission.feed_from address

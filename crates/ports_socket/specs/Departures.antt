@@ -8,15 +8,15 @@ use Rattle.ports_logged.specs.declared.visit.Away.{Away}
 use Rattle.ports.specs.declared.decisions.AwayReason.{AwayReason}
 use Rattle.ports.specs.declared.decisions.AwayReason.TheVariants.{MaxConnections, Feeds, Memory, FeedFrom, PerAddress}
 use Rattle.ports_socket.specs.declared.admission.Admission.{Admission}
-use Rattle.ports_socket.specs.declared.peer.Kind.{Kind}
-use Rattle.ports_socket.specs.declared.peer.Kind.TheVariants.{Client, Feed}
+use Rattle.ports_socket.specs.declared.peer.PeerKind.{PeerKind}
+use Rattle.ports_socket.specs.declared.peer.PeerKind.TheVariants.{Client, Feed}
 use Rattle.ports_socket.specs.declared.peer.Peer.{Peer}
 use Rattle.ports_socket.specs.declared.sockets.joining.Taken.{Taken}
 use Rattle.ports_socket.specs.declared.sockets.joining.Taken.TheVariants as taken
 use Rattle.ports_socket.specs.Admissions.{HasPlace, IsAdmitted, IsFeeder}
 
 -- why a connection of a kind is turned away
-abbrev pub away_of : Kind → Ipv4Addr → Away
+abbrev pub away_of : PeerKind → Ipv4Addr → Away
 away_of Client address = record { address = address; reason = PerAddress }
 away_of Feed address = record { address = address; reason = FeedFrom }
 
@@ -27,7 +27,7 @@ IsReason admission opened address FeedFrom = Not (IsFeeder admission.feed_from a
 IsReason admission opened address PerAddress = Not (HasPlace admission.per_address opened address)
 IsReason admission opened address MaxConnections = ⊥
 IsReason admission opened address Feeds = ⊥
-IsReason admission opened address Memory = (kind : Kind) × IsAdmitted admission opened kind address
+IsReason admission opened address Memory = (kind : PeerKind) × IsAdmitted admission opened kind address
 
 -- Each of these connections was turned away for a reason that holds for its address.
 abbrev pub HaveReasons : Admission → List Peer → List Away → Type 0

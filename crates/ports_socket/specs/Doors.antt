@@ -4,38 +4,38 @@ use Rattle.std.specs.Prelude.{◌≡◌, ℕ, ◌+◌, ◌≤◌, false, Result,
 use Rattle.ports.specs.declared.answers.Happening.{Happening}
 use Rattle.ports.specs.declared.answers.Happening.TheVariants.{Joined, JoinedFeed}
 use Rattle.ports.specs.declared.answers.PortFault.{PortFault}
-use Rattle.ports_socket.specs.declared.peer.Kind.{Kind}
-use Rattle.ports_socket.specs.declared.peer.Kind.TheVariants.{Client, Feed}
+use Rattle.ports_socket.specs.declared.peer.PeerKind.{PeerKind}
+use Rattle.ports_socket.specs.declared.peer.PeerKind.TheVariants.{Client, Feed}
 use Rattle.ports_socket.specs.declared.listeners.Accepted.{Accepted}
 use Rattle.ports_socket.specs.declared.listeners.Accepted.TheVariants.{Connection, Nothing, Refused}
 use Rattle.ports_socket.specs.declared.listeners.Listener.{Listener}
 use Rattle.ports_socket.specs.declared.listeners.Listeners.{Listeners}
 
 -- the other kind
-abbrev pub other_kind : Kind → Kind
+abbrev pub other_kind : PeerKind → PeerKind
 other_kind Client = Feed
 other_kind Feed = Client
 
 -- where connections of a kind wait
-abbrev pub listener_of : Listeners → Kind → Listener
+abbrev pub listener_of : Listeners → PeerKind → Listener
 listener_of listeners Client = listeners.clients
 listener_of listeners Feed = listeners.feeds
 
 -- A listener gave a connection of its kind, or has none that waits.
-abbrev pub GivesOf : Kind → Listener → Accepted → Type 0
+abbrev pub GivesOf : PeerKind → Listener → Accepted → Type 0
 GivesOf kind listener (Connection of_kind stream address) = of_kind ≡ kind
 GivesOf kind listener Nothing = listener.is_ready ≡ false
 GivesOf kind listener Refused = Unit {0}
 
 -- A connection is of the kind whose turn it is, or none of that kind waits.
-abbrev pub PassesOver : Listeners → (first kind : Kind) → Type 0
+abbrev pub PassesOver : Listeners → (first kind : PeerKind) → Type 0
 PassesOver listeners Client Client = Unit {0}
 PassesOver listeners Feed Feed = Unit {0}
 PassesOver listeners Client Feed = listeners.clients.is_ready ≡ false
 PassesOver listeners Feed Client = listeners.feeds.is_ready ≡ false
 
 -- A fact of the kind of a connection, if one was taken.
-abbrev pub IfConnection : Accepted → (Kind → Type 0) → Type 0
+abbrev pub IfConnection : Accepted → (PeerKind → Type 0) → Type 0
 IfConnection (Connection kind stream address) P = P kind
 IfConnection Nothing P = Unit {0}
 IfConnection Refused P = Unit {0}

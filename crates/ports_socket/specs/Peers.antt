@@ -9,8 +9,8 @@ use Rattle.ports.specs.declared.answers.Happening.TheVariants.{Joined, JoinedFee
 use Rattle.ports.specs.declared.answers.PortFault.{PortFault}
 use Rattle.ports_socket.specs.Admissions.{IsAdmitted}
 use Rattle.ports_socket.specs.declared.admission.Admission.{Admission}
-use Rattle.ports_socket.specs.declared.peer.Kind.{Kind}
-use Rattle.ports_socket.specs.declared.peer.Kind.TheVariants.{Client, Feed}
+use Rattle.ports_socket.specs.declared.peer.PeerKind.{PeerKind}
+use Rattle.ports_socket.specs.declared.peer.PeerKind.TheVariants.{Client, Feed}
 use Rattle.ports_socket.specs.declared.peer.Peer.{Peer}
 use Rattle.ports_socket.specs.declared.sockets.joining.Taken.{Taken}
 use Rattle.ports_socket.specs.declared.sockets.joining.Taken.TheVariants as taken
@@ -67,14 +67,14 @@ pub record IsGapFor (ps : List Peer) (number at : ℕ) : Type 0 where
   pub higher_after : (j : ℕ) → at ≤ j → j < length ps → number < number_at ps j
 
 -- a port joins under the next number
-abbrev pub with_port : Kind → Ipv4Addr → PeersValue → PeersValue
+abbrev pub with_port : PeerKind → Ipv4Addr → PeersValue → PeersValue
 with_port kind address v = record v {
   joined = v.joined + 1;
   opened = v.opened ++ record { number = v.joined; kind = kind; address = address } ∷ [];
 }
 
 -- A port of a kind joined under the next number, from an address whose connections are taken, and is open then.
-pub record IsJoined (kind : Kind) (number : ℕ) (address : Ipv4Addr) (before after : PeersValue) : Type 0 where
+pub record IsJoined (kind : PeerKind) (number : ℕ) (address : Ipv4Addr) (before after : PeersValue) : Type 0 where
   pub admitted : IsAdmitted before.admission before.opened kind address
   pub next : number ≡ before.joined
   pub is : after ≡ with_port kind address before
@@ -94,7 +94,7 @@ Admits before after (Ok Quiet) = after ≡ before
 Admits before after (Err fault) = after ≡ before
 
 -- how it is told that a port of a kind joined
-abbrev pub happening_of : Kind → (number : ℕ) → Ipv4Addr → Happening
+abbrev pub happening_of : PeerKind → (number : ℕ) → Ipv4Addr → Happening
 happening_of Client number address = Joined number address
 happening_of Feed number address = JoinedFeed number
 

@@ -4,8 +4,8 @@ use Rattle.std.specs.Prelude.{◌≡◌, ◌≢◌, ◌⊎◌, ℕ, ◌<◌, tru
 use Rattle.std.specs.Prelude.{Option, Some, None}
 use Rattle.slab.specs.Slab.{Slab, get}
 use Rattle.ports_socket.specs.declared.connection.Connection.{Connection}
-use Rattle.ports_socket.specs.declared.connections.Place.{Place}
-use Rattle.ports_socket.specs.declared.connection.Held.{Held}
+use Rattle.ports_socket.specs.declared.connections.ConnectionPlace.{ConnectionPlace}
+use Rattle.ports_socket.specs.declared.connection.KeptConnection.{KeptConnection}
 
 -- All numbers are above one.
 abbrev pub AreAbove : ℕ → List ℕ → Type 0
@@ -31,42 +31,42 @@ pub record IsPlaceOf (number : ℕ) (numbers : List ℕ) (at : ℕ) : Type 0 whe
   pub has_number : slice_index numbers at ≡ number
 
 -- the numbers of the open connections
-abbrev pub numbers_of : List Place → List ℕ
+abbrev pub numbers_of : List ConnectionPlace → List ℕ
 numbers_of places = map (λ p. p.number) places
 
 -- the open connections, by what is kept under their keys
-abbrev pub with_held : Option Held → List Connection → List Connection
+abbrev pub with_held : Option KeptConnection → List Connection → List Connection
 with_held None cs = cs
 with_held (Some held) cs = held.connection ∷ cs
 
-abbrev pub connections_at : Slab Held → List Place → List Connection
+abbrev pub connections_at : Slab KeptConnection → List ConnectionPlace → List Connection
 connections_at slots [] = []
 connections_at slots (p ∷ ps) = with_held (get slots p.key) (connections_at slots ps)
 
 -- what is kept, but not open any more
-abbrev pub closed_from : Option Held → Option Held
+abbrev pub closed_from : Option KeptConnection → Option KeptConnection
 closed_from None = None
 closed_from (Some held) = Some (record held { is_open = false })
 
 -- Under the key of a place an open connection with its number is kept.
-pub record IsThere (slots : Slab Held) (place : Place) : Type 0 where
-  pub held : Held
+pub record IsThere (slots : Slab KeptConnection) (place : ConnectionPlace) : Type 0 where
+  pub held : KeptConnection
   pub kept : get slots place.key ≡ Some held
   pub opened : held.is_open ≡ true
   pub number : held.connection.number ≡ place.number
 
-abbrev pub AreThere : Slab Held → List Place → Type 0
+abbrev pub AreThere : Slab KeptConnection → List ConnectionPlace → Type 0
 AreThere slots [] = Unit {0}
 AreThere slots (p ∷ ps) = IsThere slots p × AreThere slots ps
 
 -- A place is among some.
-abbrev pub IsAmong : Place → List Place → Type 0
+abbrev pub IsAmong : ConnectionPlace → List ConnectionPlace → Type 0
 IsAmong place [] = ⊥
 IsAmong place (p ∷ ps) = (p ≡ place) ⊎ IsAmong place ps
 
 -- By rising number a list has the places of all open connections, and no others.
-pub record IsTable (slots : Slab Held) (places : List Place) : Type 0 where
+pub record IsTable (slots : Slab KeptConnection) (places : List ConnectionPlace) : Type 0 where
   pub rise : Rise (numbers_of places)
   pub there : AreThere slots places
-  pub listed : (key : ℕ) (held : Held) → get slots key ≡ Some held → held.is_open ≡ true
+  pub listed : (key : ℕ) (held : KeptConnection) → get slots key ≡ Some held → held.is_open ≡ true
       → IsAmong (record { number = held.connection.number; key = key }) places

@@ -7,8 +7,8 @@ use Rattle.ports.specs.declared.answers.PortFault.{PortFault}
 use Rattle.ports_socket.specs.declared.connection.Connection.{Connection}
 use Rattle.ports_socket.specs.declared.socket_io.Receipt.{Receipt}
 use Rattle.ports_socket.specs.declared.socket_io.Receipt.TheVariants as receipt
-use Rattle.ports_socket.specs.declared.peer.Kind.{Kind}
-use Rattle.ports_socket.specs.declared.peer.Kind.TheVariants.{Client, Feed}
+use Rattle.ports_socket.specs.declared.peer.PeerKind.{PeerKind}
+use Rattle.ports_socket.specs.declared.peer.PeerKind.TheVariants.{Client, Feed}
 use Rattle.ports_socket.specs.Ends.{IsPast}
 use Rattle.ports_socket.specs.Rations.{given_since}
 
@@ -19,7 +19,7 @@ IsOver connection polls =
 
 -- What a client's connection gives counts towards its ration, and its end is told only where it is over. A feed gives
 -- all that it has.
-abbrev pub ReadsBy : Kind → (polls : ℕ) → (before after : Connection) → Result Got PortFault → Type 0
+abbrev pub ReadsBy : PeerKind → (polls : ℕ) → (before after : Connection) → Result Got PortFault → Type 0
 ReadsBy Client polls before after (Ok (Bytes count)) =
     given_since after.ration polls ≡ given_since before.ration polls + count
 ReadsBy Client polls before after (Ok Closed) = IsOver before polls

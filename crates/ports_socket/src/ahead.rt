@@ -19,14 +19,14 @@ const FEEDS: usize = 16;
 
 /// Bytes that were read and not taken yet. In a contract it is these bytes, in the order in which they came.
 #[derive(Drop)]
-pub struct Ahead {
+pub struct ReadAhead {
     bytes: Vec<u8>,
     /// The first that was not taken, and the one after the last that was read.
     start: usize,
     end: usize,
 }
 
-impl Model for Ahead {
+impl Model for ReadAhead {
     ghost use Rattle.std.specs.Prelude.{ℕ, ◌≡◌, ◌≤◌, List, drop, take, vec_len};
 
     ghost Value = { List ℕ };
@@ -36,11 +36,11 @@ impl Model for Ahead {
     ghost invariant = { λ a. (a.start ≤ a.end) × (a.end ≤ 65536) × (vec_len a.bytes ≡ 65536) };
 }
 
-impl Ahead {
-    fn new(alloc: Global) -> Result<Ahead, AllocError>
+impl ReadAhead {
+    fn new(alloc: Global) -> Result<ReadAhead, AllocError>
         ensures { IfOk result (λ ahead. ahead ≡ []) }
     {
-        Ok(Ahead {
+        Ok(ReadAhead {
             bytes: Vec::from_elem(alloc, 0u8, BLOCK)?,
             start: 0,
             end: 0,
@@ -88,7 +88,7 @@ impl Ahead {
 /// so that one that is turned away unread costs none.
 #[derive(Drop)]
 pub struct AheadPool {
-    free: Vec<Ahead>,
+    free: Vec<ReadAhead>,
     ghost empty: { All (λ ahead. ahead ≡ []) free.items },
 }
 
@@ -96,20 +96,20 @@ impl AheadPool {
     pub fn new(alloc: Global) -> Result<AheadPool, AllocError> {
         let mut free = Vec::with_capacity(alloc, FEEDS)?;
         'feeds: for _ in 0..FEEDS {
-            free.push(Ahead::new(alloc)?)?;
+            free.push(ReadAhead::new(alloc)?)?;
         }
         Ok(AheadPool { free })
     }
 
     /// Room to read ahead, with nothing in it; none while sixteen feeds have some.
-    pub fn lend(&mut self) -> Option<Ahead>
+    pub fn lend(&mut self) -> Option<ReadAhead>
         ensures { IfSome result (λ ahead. ahead ≡ []) }
     {
         self.free.pop()
     }
 
     /// A feed is over, and what was read ahead of it is dropped.
-    pub fn take_back(&mut self, mut ahead: Ahead) {
+    pub fn take_back(&mut self, mut ahead: ReadAhead) {
         ahead.clear();
         // There is room for all that were lent.
         let _ = self.free.push(ahead);

@@ -5,12 +5,12 @@ ghost use Rattle.ports.specs.Calls.{IsGiven, IsTaken};
 ghost use Rattle.ports_socket.specs.Admissions.{is_client};
 ghost use Rattle.ports_socket.specs.Ends.{IsNoted};
 ghost use Rattle.ports_socket.specs.Receipts.{IsReceived};
-ghost use Rattle.ports_socket.specs.declared.peer.Kind.TheVariants.{Client, Feed};
+ghost use Rattle.ports_socket.specs.declared.peer.PeerKind.TheVariants.{Client, Feed};
 
-use crate::ahead::{Ahead, AheadPool, BLOCK};
+use crate::ahead::{AheadPool, BLOCK, ReadAhead};
 use crate::inflow::{PeerEnd, Ration};
-use crate::peer::Kind;
-use crate::pool::{Pool, ROOM, remove_front};
+use crate::peer::PeerKind;
+use crate::pool::{BufferPool, ROOM, remove_front};
 use crate::socket_io::{Receipt, Sent, is_short, receive, send};
 use mio::net::TcpStream;
 use ports::{Got, PortFault, Put};
@@ -26,7 +26,7 @@ pub struct Readiness {
 
 /// What is to be told of a port: which of its calls are worth making again.
 #[derive(Clone, Copy, Drop)]
-pub struct Told {
+pub struct PortNews {
     pub readable: bool,
     pub writable: bool,
 }
@@ -34,12 +34,12 @@ pub struct Told {
 #[derive(Drop)]
 pub struct Connection {
     pub number: u64,
-    pub kind: Kind,
+    pub kind: PeerKind,
     pub stream: TcpStream,
     /// Bytes that were taken and are not sent yet; a buffer is here only while there are some.
     pub unsent: Option<Vec<u8>>,
     /// Bytes of a feed that were read ahead.
-    pub ahead: Option<Ahead>,
+    pub ahead: Option<ReadAhead>,
     /// How much of a client's bytes was given since the last poll.
     pub ration: Ration,
     /// The end of what a client sends.
@@ -64,7 +64,7 @@ impl Connection {
     ghost use Rattle.ports_socket.specs.Waiting.{HaveGone, IsSettled, TakesInOrder, waiting_in};
 
     /// Nothing waits, and nothing was read ahead.
-    pub fn new(number: u64, kind: Kind, stream: TcpStream) -> Connection
+    pub fn new(number: u64, kind: PeerKind, stream: TcpStream) -> Connection
         ensures { value_of result ≡ record { number = number; stream = stream; waiting = []; ahead = [] } }
     {
         Connection {
@@ -85,7 +85,7 @@ impl Connection {
     }
 
     /// An event came, after so many polls. What waits is sent as far as the system takes it.
-    pub fn mark(&mut self, event: Readiness, polls: u64, pool: &mut Pool) -> Told
+    pub fn mark(&mut self, event: Readiness, polls: u64, pool: &mut BufferPool) -> PortNews
         ensures gone { HaveGone (waiting_in self.old.unsent) (waiting_in self.new.unsent) }
         ensures socket { socket_of self.new ≡ socket_of self.old }
         ensures ahead { self.new.ahead ≡ self.old.ahead }
@@ -102,7 +102,7 @@ impl Connection {
         if writable {
             self.owes_writable = false;
         }
-        Told {
+        PortNews {
             readable: comes || self.has_failed || self.end.is_found(),
             writable,
         }
@@ -129,8 +129,8 @@ impl Connection {
             return Err(PortFault);
         }
         match self.kind {
-            Kind::Client => self.read_client(buffer, polls),
-            Kind::Feed => self.read_feed(buffer, aheads),
+            PeerKind::Client => self.read_client(buffer, polls),
+            PeerKind::Feed => self.read_feed(buffer, aheads),
         }
     }
 
@@ -256,7 +256,12 @@ impl Connection {
     }
 
     /// Takes bytes, after so many polls. They are sent later, or at once if there is no buffer for them.
-    pub fn write(&mut self, bytes: &[u8], polls: u64, pool: &mut Pool) -> Result<Put, PortFault>
+    pub fn write(
+        &mut self,
+        bytes: &[u8],
+        polls: u64,
+        pool: &mut BufferPool,
+    ) -> Result<Put, PortFault>
         ensures taken { IsTaken result (length bytes.now) }
         ensures moved { IsNoted result self.new.end polls }
         ensures order { TakesInOrder (waiting_in self.old.unsent) bytes.now result (waiting_in self.new.unsent) }
@@ -272,7 +277,7 @@ impl Connection {
         put
     }
 
-    fn take(&mut self, bytes: &[u8], pool: &mut Pool) -> Result<Put, PortFault>
+    fn take(&mut self, bytes: &[u8], pool: &mut BufferPool) -> Result<Put, PortFault>
         ensures taken { IsTaken result (length bytes.now) }
         ensures order { TakesInOrder (waiting_in self.old.unsent) bytes.now result (waiting_in self.new.unsent) }
         ensures socket { socket_of self.new ≡ socket_of self.old }
@@ -286,7 +291,7 @@ impl Connection {
     }
 
     /// Sends what waits, if so many bytes have no room beside it.
-    fn make_room(&mut self, count: usize, pool: &mut Pool)
+    fn make_room(&mut self, count: usize, pool: &mut BufferPool)
         ensures gone { HaveGone (waiting_in self.old.unsent) (waiting_in self.new.unsent) }
         ensures socket { socket_of self.new ≡ socket_of self.old }
         ensures ahead { self.new.ahead ≡ self.old.ahead }
@@ -297,7 +302,7 @@ impl Connection {
     }
 
     /// Adds as many bytes as there is room for to those that wait.
-    fn gather(&mut self, bytes: &[u8], pool: &mut Pool) -> Result<Put, PortFault>
+    fn gather(&mut self, bytes: &[u8], pool: &mut BufferPool) -> Result<Put, PortFault>
         ensures taken { IsTaken result (length bytes.now) }
         ensures order { TakesInOrder (waiting_in self.old.unsent) bytes.now result (waiting_in self.new.unsent) }
         ensures socket { socket_of self.new ≡ socket_of self.old }
@@ -359,7 +364,7 @@ impl Connection {
     }
 
     /// The system takes bytes again. How many of those that wait it took.
-    pub fn resume(&mut self, pool: &mut Pool) -> usize
+    pub fn resume(&mut self, pool: &mut BufferPool) -> usize
         ensures gone { HaveGone (waiting_in self.old.unsent) (waiting_in self.new.unsent) }
         ensures socket { socket_of self.new ≡ socket_of self.old }
         ensures ahead { self.new.ahead ≡ self.old.ahead }
@@ -370,7 +375,7 @@ impl Connection {
 
     /// Sends what waits, as far as the system takes it, and answers how many bytes went. A failure is told by the next
     /// read or write.
-    pub fn flush(&mut self, pool: &mut Pool) -> usize
+    pub fn flush(&mut self, pool: &mut BufferPool) -> usize
         ensures count { result ≤ length (waiting_in self.old.unsent) }
         ensures others_wait { waiting_in self.new.unsent ≡ drop result (waiting_in self.old.unsent) }
         ensures settled { IsSettled self.new }
@@ -425,7 +430,7 @@ impl Connection {
     }
 
     /// The room to read ahead, if it has some. What was read ahead is dropped.
-    pub fn take_ahead(&mut self) -> Option<Ahead>
+    pub fn take_ahead(&mut self) -> Option<ReadAhead>
         ensures { socket_of self.new ≡ socket_of self.old }
     {
         self.ahead.take()
@@ -442,7 +447,7 @@ impl Connection {
 
 /// A connection where it is kept, from its join until its last bytes have gone.
 #[derive(Drop)]
-pub struct Held {
+pub struct KeptConnection {
     pub connection: Connection,
     /// The loop has not shut it.
     pub is_open: bool,
@@ -450,13 +455,13 @@ pub struct Held {
     pub is_told: bool,
 }
 
-impl Held {
+impl KeptConnection {
     /// A connection that joins.
-    pub fn new(connection: Connection) -> Held
+    pub fn new(connection: Connection) -> KeptConnection
         ensures connection { result.connection ≡ connection }
         ensures open { result.is_open ≡ true }
     {
-        Held {
+        KeptConnection {
             connection,
             is_open: true,
             is_told: false,

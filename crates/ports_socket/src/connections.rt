@@ -15,9 +15,9 @@ ghost use Rattle.ports_socket.specs.Places.{AreBelow, AreOthers, IsPlaceOf, Rise
 ghost use Rattle.ports_socket.specs.Reads.{given_bytes};
 
 use crate::ahead::AheadPool;
-use crate::connection::{Connection, Held, Readiness, Told};
+use crate::connection::{Connection, KeptConnection, PortNews, Readiness};
 use crate::lingering::Lingering;
-use crate::pool::Pool;
+use crate::pool::BufferPool;
 use ports::{Got, PortFault, Put};
 use slab::Slab;
 use std::alloc::{AllocError, Global};
@@ -25,7 +25,7 @@ use std::marker::Model;
 
 /// Where a connection is found: its number, and the key under which it is kept.
 #[derive(Clone, Copy, Drop)]
-pub struct Place {
+pub struct ConnectionPlace {
     pub number: u64,
     pub key: usize,
 }
@@ -34,9 +34,9 @@ pub struct Place {
 /// they are what each open one holds, by rising number.
 #[derive(Drop)]
 pub struct Connections {
-    slots: Slab<Held>,
+    slots: Slab<KeptConnection>,
     /// The open ones, by rising number.
-    opened: Vec<Place>,
+    opened: Vec<ConnectionPlace>,
     lingering: Lingering,
 }
 
@@ -53,7 +53,7 @@ impl Model for Connections {
 }
 
 /// Which of the open connections has a number, by halving.
-fn place_of(places: &[Place], number: u64) -> Option<usize>
+fn place_of(places: &[ConnectionPlace], number: u64) -> Option<usize>
     requires { Rise (numbers_of places.now) }
     ensures found { IfSome result (IsPlaceOf number (numbers_of places.now)) }
     ensures absent { IfNone result (AreOthers number (numbers_of places.now)) }
@@ -65,7 +65,7 @@ fn place_of(places: &[Place], number: u64) -> Option<usize>
 }
 
 /// Whether a number is above those of all open connections.
-fn is_above(number: u64, places: &[Place]) -> bool
+fn is_above(number: u64, places: &[ConnectionPlace]) -> bool
     requires { Rise (numbers_of places.now) }
     ensures { result ≡ true → AreBelow number (numbers_of places.now) }
 {
@@ -76,14 +76,14 @@ fn is_above(number: u64, places: &[Place]) -> bool
 }
 
 /// What is kept under a key goes.
-fn free(slots: &mut Slab<Held>, key: usize)
+fn free(slots: &mut Slab<KeptConnection>, key: usize)
     ensures { Updates slots.old slots.new key None }
 {
     let _gone = slots.try_remove(key);
 }
 
 /// What is kept under a key is not open any more.
-fn close(slots: &mut Slab<Held>, key: usize)
+fn close(slots: &mut Slab<KeptConnection>, key: usize)
     ensures { Updates slots.old slots.new key (closed_from (get slots.old key)) }
 {
     if let Some(held) = slots.get_mut(key) {
@@ -117,7 +117,7 @@ impl Connections {
     }
 
     /// Where the open connection with a number is.
-    pub fn find(&self, number: u64) -> Option<Place>
+    pub fn find(&self, number: u64) -> Option<ConnectionPlace>
         ensures number { IfSome result (λ place. place.number ≡ number) }
         ensures open { IfSome result (λ place. Contains (numbers self.now) number) }
         ensures absent { IfNone result (all_but number self.now ≡ self.now) }
@@ -127,7 +127,7 @@ impl Connections {
     }
 
     /// Whether the connection at a place is open.
-    pub fn contains(&self, place: Place) -> bool
+    pub fn contains(&self, place: ConnectionPlace) -> bool
         ensures { result ≡ true → Contains (numbers self.now) place.number }
     {
         match self.slots.get(place.key) {
@@ -149,8 +149,8 @@ impl Connections {
         if self.opened.reserve(1).is_err() || self.slots.reserve(1).is_err() {
             return false;
         }
-        let key = self.slots.insert_reserved(Held::new(connection));
-        self.opened.push_reserved(Place { number, key });
+        let key = self.slots.insert_reserved(KeptConnection::new(connection));
+        self.opened.push_reserved(ConnectionPlace { number, key });
         true
     }
 
@@ -165,7 +165,7 @@ impl Connections {
     }
 
     /// Ends the connection with a number. It lingers, if it took bytes, until the last of them have gone.
-    pub fn shut(&mut self, number: u64, pool: &mut Pool, aheads: &mut AheadPool)
+    pub fn shut(&mut self, number: u64, pool: &mut BufferPool, aheads: &mut AheadPool)
         ensures { self.new ≡ all_but number self.old }
     {
         if let Some(key) = self.leave(number) {
@@ -185,7 +185,7 @@ impl Connections {
 
     /// A connection that was shut lingers from now on, if it has something to wait for. Its room to read ahead is given
     /// back.
-    fn linger(&mut self, key: usize, pool: &mut Pool, aheads: &mut AheadPool)
+    fn linger(&mut self, key: usize, pool: &mut BufferPool, aheads: &mut AheadPool)
         ensures { self.new ≡ self.old }
     {
         let Some(held) = self.slots.get_mut(key) else {
@@ -228,7 +228,7 @@ impl Connections {
     /// Reads from the connection at a place, after so many polls. One that is not open is over.
     pub fn read(
         &mut self,
-        place: Place,
+        place: ConnectionPlace,
         buffer: &mut [u8],
         polls: u64,
         aheads: &mut AheadPool,
@@ -250,10 +250,10 @@ impl Connections {
     /// Has the connection at a place take bytes, after so many polls. One that is not open takes none.
     pub fn write(
         &mut self,
-        place: Place,
+        place: ConnectionPlace,
         bytes: &[u8],
         polls: u64,
-        pool: &mut Pool,
+        pool: &mut BufferPool,
     ) -> Result<Put, PortFault>
         ensures bound { IsTaken result (length bytes.now) }
         ensures writes { WritesTo place.number bytes.now result self.old self.new }
@@ -270,7 +270,7 @@ impl Connections {
 
     /// Sends what waits at the connection at a place, as far as the system takes it. If that fails, the next read or
     /// write tells it.
-    pub fn flush(&mut self, place: Place, pool: &mut Pool)
+    pub fn flush(&mut self, place: ConnectionPlace, pool: &mut BufferPool)
         ensures sends { OnlySends self.old self.new }
         ensures sockets { sockets_of self.new ≡ sockets_of self.old }
     {
@@ -290,8 +290,8 @@ impl Connections {
         key: usize,
         event: Readiness,
         polls: u64,
-        pool: &mut Pool,
-    ) -> Option<(Place, Told)>
+        pool: &mut BufferPool,
+    ) -> Option<(ConnectionPlace, PortNews)>
         ensures open { IfSome result (λ told. Contains (numbers self.new) told.0.number) }
         ensures sends { OnlySends self.old self.new }
         ensures sockets { sockets_of self.new ≡ sockets_of self.old }
@@ -303,11 +303,11 @@ impl Connections {
         }
         let number = held.connection.number;
         let told = held.connection.mark(event, polls, pool);
-        Some((Place { number, key }, told))
+        Some((ConnectionPlace { number, key }, told))
     }
 
     /// An event came of a connection that was shut. The system may take bytes again.
-    fn go_on(&mut self, key: usize, is_writable: bool, pool: &mut Pool)
+    fn go_on(&mut self, key: usize, is_writable: bool, pool: &mut BufferPool)
         ensures { self.new ≡ self.old }
     {
         let Some(held) = self.slots.get_mut(key) else {
@@ -325,7 +325,7 @@ impl Connections {
 
     /// Whether the connection at a place is to be listed: there may be more to be read after the next poll though no
     /// event comes, and it is not listed yet.
-    pub fn is_due(&self, place: Place, polls: u64) -> bool {
+    pub fn is_due(&self, place: ConnectionPlace, polls: u64) -> bool {
         match self.slots.get(place.key) {
             Some(held) => {
                 held.is_port(place.number)
@@ -337,7 +337,7 @@ impl Connections {
     }
 
     /// Notes whether the connection at a place is listed. Whether it is open.
-    pub fn set_listed(&mut self, place: Place, is_listed: bool) -> bool
+    pub fn set_listed(&mut self, place: ConnectionPlace, is_listed: bool) -> bool
         ensures open { result ≡ true → Contains (numbers self.new) place.number }
         ensures same { self.new ≡ self.old }
     {

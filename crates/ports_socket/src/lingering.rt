@@ -8,8 +8,8 @@ ghost use Rattle.std.specs.Prelude.{◌≡◌, ◌==◌, ◌∷◌, ◌++◌, []
 ghost use Rattle.std.specs.List.{filter};
 
 use crate::ahead::AheadPool;
-use crate::connection::{Connection, Held};
-use crate::pool::Pool;
+use crate::connection::{Connection, KeptConnection};
+use crate::pool::BufferPool;
 use crate::socket_io::{Receipt, receive};
 use std::alloc::{AllocError, Global};
 use std::marker::Model;
@@ -21,10 +21,10 @@ const MOST: usize = 1_024;
 /// How many blocks of a peer that goes on sending are passed over.
 const BLOCKS: u8 = 16;
 
-impl Held {
+impl KeptConnection {
     /// The loop has shut it. Its room to read ahead is given back. Whether it has something to wait for: one that took
     /// no bytes has nothing.
-    pub fn end(&mut self, pool: &mut Pool, aheads: &mut AheadPool) -> bool
+    pub fn end(&mut self, pool: &mut BufferPool, aheads: &mut AheadPool) -> bool
         ensures { self.new.is_open ≡ self.old.is_open }
     {
         if let Some(ahead) = self.connection.take_ahead() {
@@ -35,7 +35,7 @@ impl Held {
 
     /// An event came of it once it was shut: the system may take bytes again. Whether it still has something to wait
     /// for.
-    pub fn go_on(&mut self, is_writable: bool, pool: &mut Pool) -> bool
+    pub fn go_on(&mut self, is_writable: bool, pool: &mut BufferPool) -> bool
         ensures { self.new.is_open ≡ self.old.is_open }
     {
         if is_writable {
@@ -47,7 +47,7 @@ impl Held {
     /// Whether a connection that was shut still has something to wait for. Once all is sent the peer is told the end,
     /// and what it sends is passed over: a connection that is closed with bytes unread would lose those that are on
     /// their way to the peer.
-    fn lingers(&mut self, pool: &mut Pool) -> bool
+    fn lingers(&mut self, pool: &mut BufferPool) -> bool
         ensures { self.new.is_open ≡ self.old.is_open }
     {
         let _ = self.connection.flush(pool);

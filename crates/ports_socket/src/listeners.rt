@@ -4,7 +4,7 @@ ghost use Rattle.ports_socket.specs.Doors.{GivesOf, IfConnection, PassesOver, Ta
 
 use crate::fault::ListenError;
 use crate::options::set_options;
-use crate::peer::Kind;
+use crate::peer::PeerKind;
 use crate::polling::{LAST, token_of};
 use mio::net::{TcpListener, TcpStream};
 use mio::{Interest, Poll};
@@ -18,7 +18,7 @@ const ABORTED: u8 = 64;
 /// What came of taking a connection.
 #[derive(Drop)]
 pub enum Accepted {
-    Connection(Kind, TcpStream, SocketAddr),
+    Connection(PeerKind, TcpStream, SocketAddr),
     /// None waits.
     Nothing,
     /// One waits, and the system has no descriptor or no memory for it now.
@@ -37,14 +37,14 @@ pub struct Listeners {
     pub clients: Listener,
     pub feeds: Listener,
     /// Whose connection is taken next, if one waits.
-    pub first: Kind,
+    pub first: PeerKind,
 }
 
 fn listen_on(
     rt: &impl Net,
     poll: &Poll,
     address: SocketAddrV4,
-    kind: Kind,
+    kind: PeerKind,
 ) -> io::Result<Listener> {
     let mut socket = TcpListener::bind(rt, SocketAddr::V4(address))?;
     set_options(&socket)?;
@@ -61,7 +61,7 @@ fn port_of(listener: &Listener) -> io::Result<u16> {
 }
 
 impl Listener {
-    fn accept(&mut self, kind: Kind) -> Accepted
+    fn accept(&mut self, kind: PeerKind) -> Accepted
         ensures { GivesOf kind self.new result }
     {
         if !self.is_ready {
@@ -92,12 +92,12 @@ impl Listeners {
         clients: SocketAddrV4,
         feeds: SocketAddrV4,
     ) -> Result<Listeners, ListenError> {
-        let clients = listen_on(rt, poll, clients, Kind::Client).map_err(ListenError::Clients)?;
-        let feeds = listen_on(rt, poll, feeds, Kind::Feed).map_err(ListenError::Feeds)?;
+        let clients = listen_on(rt, poll, clients, PeerKind::Client).map_err(ListenError::Clients)?;
+        let feeds = listen_on(rt, poll, feeds, PeerKind::Feed).map_err(ListenError::Feeds)?;
         Ok(Listeners {
             clients,
             feeds,
-            first: Kind::Client,
+            first: PeerKind::Client,
         })
     }
 
@@ -109,10 +109,10 @@ impl Listeners {
     }
 
     /// Connections may wait from now on.
-    pub fn mark(&mut self, kind: Kind) {
+    pub fn mark(&mut self, kind: PeerKind) {
         match kind {
-            Kind::Client => self.clients.is_ready = true,
-            Kind::Feed => self.feeds.is_ready = true,
+            PeerKind::Client => self.clients.is_ready = true,
+            PeerKind::Feed => self.feeds.is_ready = true,
         }
     }
 
@@ -142,14 +142,14 @@ impl Listeners {
         }
     }
 
-    fn accept_of(&mut self, kind: Kind) -> Accepted
+    fn accept_of(&mut self, kind: PeerKind) -> Accepted
         ensures gives { GivesOf kind (listener_of self.new kind) result }
         ensures other { listener_of self.new (other_kind kind) ≡ listener_of self.old (other_kind kind) }
         ensures first { self.new.first ≡ self.old.first }
     {
         match kind {
-            Kind::Client => self.clients.accept(kind),
-            Kind::Feed => self.feeds.accept(kind),
+            PeerKind::Client => self.clients.accept(kind),
+            PeerKind::Feed => self.feeds.accept(kind),
         }
     }
 }

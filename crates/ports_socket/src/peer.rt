@@ -6,19 +6,19 @@ use std::net::Ipv4Addr;
 
 /// Whose connection it is.
 #[derive(Clone, Copy, Drop)]
-pub enum Kind {
+pub enum PeerKind {
     Client,
     Feed,
 }
 
-impl Kind {
+impl PeerKind {
     /// The other one.
-    pub fn other(self) -> Kind
+    pub fn other(self) -> PeerKind
         ensures { result ≡ other_kind self }
     {
         match self {
-            Kind::Client => Kind::Feed,
-            Kind::Feed => Kind::Client,
+            PeerKind::Client => PeerKind::Feed,
+            PeerKind::Feed => PeerKind::Client,
         }
     }
 }
@@ -27,7 +27,7 @@ impl Kind {
 #[derive(Clone, Copy, Drop)]
 pub struct Peer {
     pub number: u64,
-    pub kind: Kind,
+    pub kind: PeerKind,
     /// The address that the system reported for its connection.
     pub address: Ipv4Addr,
 }

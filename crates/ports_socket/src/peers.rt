@@ -15,7 +15,7 @@ ghost use Rattle.ports_socket.specs.Peers.{IsGapFor, IsJoined, IsPeerAt, Rise, a
 
 use crate::admission::Admission;
 use crate::hosts::Hosts;
-use crate::peer::{Kind, Peer};
+use crate::peer::{Peer, PeerKind};
 use std::alloc::{AllocError, Global};
 use std::marker::Model;
 use std::net::Ipv4Addr;
@@ -64,21 +64,21 @@ impl Peers {
     }
 
     /// Whether a connection from an address may join.
-    pub fn admits(&self, kind: Kind, address: Ipv4Addr) -> bool
+    pub fn admits(&self, kind: PeerKind, address: Ipv4Addr) -> bool
         ensures { IsTrue result ↔ IsAdmitted self.now.admission self.now.opened kind address }
     {
         let _ = &self.opened;
         match kind {
-            Kind::Client => {
+            PeerKind::Client => {
                 let clients = self.hosts.count(address.to_bits());
                 self.admission.takes_client_beside(clients)
             }
-            Kind::Feed => self.admission.takes_feeds_from(address),
+            PeerKind::Feed => self.admission.takes_feeds_from(address),
         }
     }
 
     /// A connection joins under the next number, which is answered. Only memory can lack, and then nothing changes.
-    pub fn add(&mut self, kind: Kind, address: Ipv4Addr) -> Result<u64, AllocError>
+    pub fn add(&mut self, kind: PeerKind, address: Ipv4Addr) -> Result<u64, AllocError>
         requires room { self.old.joined < 2 ^ 63 }
         requires admitted { IsAdmitted self.old.admission self.old.opened kind address }
         ensures ok { IfOk result (λ number. IsJoined kind number address self.old self.new) }
@@ -130,8 +130,8 @@ fn count_in(hosts: &mut Hosts, peer: Peer) -> Result<(), AllocError>
     ensures err { OnErr result (hosts.new ≡ hosts.old) }
 {
     match peer.kind {
-        Kind::Client => hosts.add(peer.address.to_bits()),
-        Kind::Feed => Ok(()),
+        PeerKind::Client => hosts.add(peer.address.to_bits()),
+        PeerKind::Feed => Ok(()),
     }
 }
 
@@ -140,7 +140,7 @@ fn count_out(hosts: &mut Hosts, peer: Peer)
     requires { is_client peer.kind ≡ true → 0 < clients_of (ipv4_bits peer.address) hosts.old }
     ensures { CountsOut peer hosts.old hosts.new }
 {
-    if peer.kind == Kind::Client {
+    if peer.kind == PeerKind::Client {
         hosts.remove(peer.address.to_bits());
     }
 }

@@ -6,9 +6,9 @@
 //! rest of them unread. The poll costs one system call for a lone record that all readers have.
 ghost use Rattle.std.specs.Prelude.{◌≡◌, ◌+◌, ◌<◌, ◌^◌, [], IfNone, IfSome, length};
 
-use crate::connections::Place;
+use crate::connections::ConnectionPlace;
 use crate::fault::ListenError;
-use crate::peer::Kind;
+use crate::peer::PeerKind;
 use mio::event::Event;
 use mio::net::TcpStream;
 use mio::{Events, Interest, Poll, Token};
@@ -27,28 +27,28 @@ pub const LAST: usize = (1 << 63) - 1;
 /// What an event came of.
 #[derive(Clone, Copy, Drop)]
 pub enum Origin {
-    Listener(Kind),
+    Listener(PeerKind),
     /// The connection that is kept under a key.
     Port(usize),
 }
 
 /// The token under which the connection at a key is registered. The sockets that are listened on have those of the last
 /// key.
-pub fn token_of(key: usize, kind: Kind) -> Token
+pub fn token_of(key: usize, kind: PeerKind) -> Token
     requires { key < 2 ^ 63 }
 {
     match kind {
-        Kind::Client => Token(key * 2),
-        Kind::Feed => Token(key * 2 + 1),
+        PeerKind::Client => Token(key * 2),
+        PeerKind::Feed => Token(key * 2 + 1),
     }
 }
 
 /// Of whom a token is.
-pub fn kind_of(token: Token) -> Kind {
+pub fn kind_of(token: Token) -> PeerKind {
     if token.0 % 2 == 0 {
-        Kind::Client
+        PeerKind::Client
     } else {
-        Kind::Feed
+        PeerKind::Feed
     }
 }
 
@@ -105,13 +105,13 @@ impl Polling {
             return Err(PortFault);
         }
         // The last are answered first.
-        self.keep_events(Kind::Client);
-        self.keep_events(Kind::Feed);
+        self.keep_events(PeerKind::Client);
+        self.keep_events(PeerKind::Feed);
         Ok(())
     }
 
     /// Keeps the events of clients, or those of feeds.
-    fn keep_events(&mut self, kind: Kind) {
+    fn keep_events(&mut self, kind: PeerKind) {
         for event in self.events.iter() {
             if kind_of(event.token()) == kind {
                 let _ = self.happened.push(*event);
@@ -131,7 +131,7 @@ impl Polling {
 /// Ports that are told after the next poll, in the order in which they were added.
 #[derive(Drop)]
 pub struct Listing {
-    places: VecDeque<Place>,
+    places: VecDeque<ConnectionPlace>,
     /// How many of the first are told before the next poll: they were added before the last one.
     due: usize,
 }
@@ -151,7 +151,7 @@ impl Listing {
     }
 
     /// Adds a port. Whether there was room.
-    pub fn add(&mut self, place: Place) -> bool {
+    pub fn add(&mut self, place: ConnectionPlace) -> bool {
         self.places.push_back(place).is_ok()
     }
 
@@ -166,7 +166,7 @@ impl Listing {
     }
 
     /// The next port that is told before the next poll.
-    pub fn next(&mut self) -> Option<Place> {
+    pub fn next(&mut self) -> Option<ConnectionPlace> {
         if self.due == 0 {
             return None;
         }

@@ -17,16 +17,16 @@ const FREE: usize = 16;
 
 /// Buffers that no port has now.
 #[derive(Drop)]
-pub struct Pool {
+pub struct BufferPool {
     alloc: Global,
     free: Vec<Vec<u8>>,
     ghost few: { length free.items ≤ 16 },
     ghost empty: { All (λ buffer. buffer.items ≡ []) free.items },
 }
 
-impl Pool {
-    pub fn new(alloc: Global) -> Result<Pool, AllocError> {
-        Ok(Pool {
+impl BufferPool {
+    pub fn new(alloc: Global) -> Result<BufferPool, AllocError> {
+        Ok(BufferPool {
             alloc,
             free: Vec::with_capacity(alloc, FREE)?,
         })

@@ -14,15 +14,15 @@ mod joining;
 
 use crate::admission::Admission;
 use crate::ahead::AheadPool;
-use crate::connection::{Readiness, Told};
-use crate::connections::{Connections, Place};
+use crate::connection::{PortNews, Readiness};
+use crate::connections::{ConnectionPlace, Connections};
 use crate::departures::Departures;
 use crate::fault::ListenError;
 use crate::joins::Joins;
 use crate::listeners::Listeners;
 use crate::peers::Peers;
 use crate::polling::{EVENTS, Listing, Origin, Polling, origin_of};
-use crate::pool::Pool;
+use crate::pool::BufferPool;
 use mio::event::Event;
 use ports::{Got, Happening, PortFault, Put};
 use std::alloc::{AllocError, Global};
@@ -50,21 +50,21 @@ pub struct Sockets {
     pub joins: Joins,
     /// The open ports' connections, and those that linger.
     pub connections: Connections,
-    pool: Pool,
+    pool: BufferPool,
     aheads: AheadPool,
     /// The port whose turn it is.
-    turn: Option<Place>,
+    turn: Option<ConnectionPlace>,
     /// It was given bytes that are sent when the next one has its turn.
     is_gathering: bool,
     /// The ports that are told readable though no event comes of them.
     listing: Listing,
     /// A port that is to be told writable next.
-    writable: Option<Place>,
+    writable: Option<ConnectionPlace>,
 }
 
 /// Buffers for bytes that wait to be sent, and for those that are read ahead.
-fn buffers(alloc: Global) -> Result<(Pool, AheadPool), AllocError> {
-    let pool = Pool::new(alloc)?;
+fn buffers(alloc: Global) -> Result<(BufferPool, AheadPool), AllocError> {
+    let pool = BufferPool::new(alloc)?;
     let aheads = AheadPool::new(alloc)?;
     Ok((pool, aheads))
 }
@@ -200,7 +200,7 @@ impl Sockets {
     }
 
     /// Tells what an event says of an open port, whose turn it is from now on.
-    fn tell(&mut self, place: Place, told: Told) -> Happening
+    fn tell(&mut self, place: ConnectionPlace, told: PortNews) -> Happening
         requires { Contains (numbers self.old.connections) place.number }
         ensures open { TellsOpenPorts self.old.peers.joined self.new.peers.joined
             (numbers self.new.connections) (Ok result) }
@@ -222,7 +222,7 @@ impl Sockets {
 
     /// The next port of which an event tells something.
     #[tactic(auto, using(crate::proofs::SocketLemmas::sends))]
-    fn next_told(&mut self) -> Option<(Place, Told)>
+    fn next_told(&mut self) -> Option<(ConnectionPlace, PortNews)>
         ensures open { IfSome result (λ told. Contains (numbers self.new.connections) told.0.number) }
         ensures none { IfNone result (self.new.polling.happened.items ≡ []) }
         ensures peers { self.new.peers ≡ self.old.peers }
@@ -246,7 +246,7 @@ impl Sockets {
 
     /// An event of the connection under a key came. Where that is, if something is to be told of it.
     #[tactic(auto, using(crate::proofs::SocketLemmas::sends))]
-    fn mark(&mut self, key: usize, event: Event) -> Option<(Place, Told)>
+    fn mark(&mut self, key: usize, event: Event) -> Option<(ConnectionPlace, PortNews)>
         ensures open { IfSome result (λ told. Contains (numbers self.new.connections) told.0.number) }
         ensures polling { self.new.polling ≡ self.old.polling }
         ensures peers { self.new.peers ≡ self.old.peers }
@@ -271,7 +271,7 @@ impl Sockets {
     }
 
     /// The next port that is told though no event came of it.
-    fn next_due(&mut self) -> Option<Place>
+    fn next_due(&mut self) -> Option<ConnectionPlace>
         ensures open { IfSome result (λ place. Contains (numbers self.new.connections) place.number) }
         ensures polling { self.new.polling ≡ self.old.polling }
         ensures peers { self.new.peers ≡ self.old.peers }
@@ -291,7 +291,7 @@ impl Sockets {
 
     /// Where a port's connection is. Its turn begins, and what another one gathered is sent.
     #[tactic(auto, using(crate::proofs::SocketLemmas::sends))]
-    fn turn_to(&mut self, port: u64) -> Option<Place>
+    fn turn_to(&mut self, port: u64) -> Option<ConnectionPlace>
         ensures number { IfSome result (λ place. place.number ≡ port) }
         ensures peers { self.new.peers ≡ self.old.peers }
         ensures polls { self.new.polls ≡ self.old.polls }
@@ -329,7 +329,7 @@ impl Sockets {
     }
 
     /// Has a port told after the next poll, if there may be more to be read by then though no event comes.
-    fn list_if_due(&mut self, place: Place)
+    fn list_if_due(&mut self, place: ConnectionPlace)
         ensures peers { self.new.peers ≡ self.old.peers }
         ensures polls { self.new.polls ≡ self.old.polls }
         ensures joins { self.new.joins ≡ self.old.joins }

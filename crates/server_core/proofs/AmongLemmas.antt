@@ -6,7 +6,7 @@ use Rattle.std.proofs.lemmas.Bool.{cases_eq, cases_lt}
 use Rattle.std.proofs.lemmas.List.{get_or_append_left}
 use Rattle.std.proofs.Math.Seq.{get_or-append_seam}
 use Rattle.server_core.specs.declared.clients.Opened.{Opened}
-use Rattle.server_core.specs.declared.marks.Row.{Row}
+use Rattle.server_core.specs.declared.marks.BitRow.{BitRow}
 use Rattle.server_core.specs.Clients.{listed, owner_in, slot_in}
 use Rattle.server_core.specs.Rows.{bit_of}
 use Rattle.server_core.specs.Marks.{IsAmong, IsSetIn}
@@ -31,12 +31,12 @@ among-last k x xs e =
     }
 
 -- The clients of the slots up to one whose bit is set are among some.
-abbrev pub AllAmong : List (Option ℕ) → Row → ℕ → List ℕ → Type 0
+abbrev pub AllAmong : List (Option ℕ) → BitRow → ℕ → List ℕ → Type 0
 AllAmong numbers row end some =
     (slot k : ℕ) → slot < end → bit_of row slot ≡ true → owner_in numbers slot ≡ Some k → IsAmong k some
 
 -- Some are all clients whose slot's bit is set.
-abbrev pub OnlyAmong : List Opened → Row → List ℕ → Type 0
+abbrev pub OnlyAmong : List Opened → BitRow → List ℕ → Type 0
 OnlyAmong os row some = (k : ℕ) → IsAmong k some → IsSetIn os row k
 
 among-listed : (k : ℕ) (xs : List ℕ) (owner : Option ℕ) → owner ≡ Some k → IsAmong k (xs ++ listed owner)
@@ -63,7 +63,7 @@ among-split k x xs is =
     slice_index_or_0 : List ℕ → ℕ → ℕ
     slice_index_or_0 ys i = slice_index_or ys i 0
 
-module _ (numbers : List (Option ℕ)) (row : Row) (some : List ℕ) where
+module _ (numbers : List (Option ℕ)) (row : BitRow) (some : List ℕ) where
   unset : {X : Type 0} (slot : ℕ) → bit_of row slot ≡ true → bit_of row slot ≡ false → X
   unset slot is is-not = absurd (let q : true ≡ false = sym is ∙ is-not in cc)
 
@@ -84,11 +84,11 @@ module _ (numbers : List (Option ℕ)) (row : Row) (some : List ℕ) where
       ]
 
 -- No number is among none.
-pub only-none : (os : List Opened) (row : Row) (some : List ℕ) → some ≡ [] → OnlyAmong os row some
+pub only-none : (os : List Opened) (row : BitRow) (some : List ℕ) → some ≡ [] → OnlyAmong os row some
 only-none os row some none k is =
     let lt : is.place < 0 = subst (λ (xs : List ℕ). is.place < length xs) none is.inside in absurd (omega (arith, lt))
 
-pub only-next : (os : List Opened) (row : Row) (some : List ℕ) (slot : ℕ) (owner : Option ℕ) → OnlyAmong os row some
+pub only-next : (os : List Opened) (row : BitRow) (some : List ℕ) (slot : ℕ) (owner : Option ℕ) → OnlyAmong os row some
     → bit_of row slot ≡ true → ((k : ℕ) → owner ≡ Some k → slot_in os k ≡ Some slot)
     → OnlyAmong os row (some ++ listed owner)
 only-next os row some slot None so_far bit has k is = so_far k (subst (IsAmong k) (append-nil some) is)
@@ -104,7 +104,7 @@ owner-inside (n ∷ ns) zero k e = omega arith
 owner-inside (n ∷ ns) (suc slot) k e = let lt = owner-inside ns slot k e in omega (arith, lt)
 
 -- Each slot that is set is one of those.
-pub all-among : (numbers : List (Option ℕ)) (row : Row) (end : ℕ) (some : List ℕ) → length numbers ≡ end
+pub all-among : (numbers : List (Option ℕ)) (row : BitRow) (end : ℕ) (some : List ℕ) → length numbers ≡ end
     → AllAmong numbers row end some → (slot k : ℕ) → bit_of row slot ≡ true → owner_in numbers slot ≡ Some k
     → IsAmong k some
 all-among numbers row end some counted among slot k bit at =

@@ -6,7 +6,7 @@ use Rattle.std.proofs.Common.{suc, eqb-true}
 use Rattle.std.specs.Prelude.{◌≢◌, IsSome, is_some}
 use Rattle.std.proofs.lemmas.Bool.{eqb-false}
 use Rattle.slab.specs.Slab.{Slab, get, Updates}
-use Rattle.server_core.specs.declared.marks.Row.{Row}
+use Rattle.server_core.specs.declared.marks.BitRow.{BitRow}
 use Rattle.server_core.specs.Rows.{bit_of, HasRoom}
 use Rattle.protocol.specs.Catalog.{Config, listing}
 use Rattle.protocol.specs.History.{Arrival}
@@ -173,8 +173,8 @@ pub still-asks : (config : Config) (rings : RingsValue) (old new : Marks) (slot 
     → bit_by (slice_get new.rows.items place) slot ≡ asked place (chosen_of r.mode)
 still-asks config rings old new slot a r same keeps is sends place within =
     let was = keeps.kept sends in
-    ap (λ (rows : List Row). bit_by (slice_get rows place) slot) same
-    ∙ is.asks was.0 place (subst (λ (rows : List Row). place < length rows) same within)
+    ap (λ (rows : List BitRow). bit_by (slice_get rows place) slot) same
+    ∙ is.asks was.0 place (subst (λ (rows : List BitRow). place < length rows) same within)
     ∙ sym (same-asked place a.mode r.mode was.1)
 
 is-found-idle : (found : Offer) → not (is_idle found) ≡ false → found ≡ Idle
@@ -383,8 +383,8 @@ module _ (config : Config) (before after : RingsValue) (old new : Marks) (place 
   arrived-at slot s is = record {
     room = record {
       marked = let r = is.room.marked in omega (arith, r, room);
-      sending = subst (λ (row : Row). HasRoom row slot) (sym sending) is.room.sending;
-      rows = λ p. subst (λ (rs : List Row). RoomBy (slice_get rs p) slot) (sym rows) (is.room.rows p);
+      sending = subst (λ (row : BitRow). HasRoom row slot) (sym sending) is.room.sending;
+      rows = λ p. subst (λ (rs : List BitRow). RoomBy (slice_get rs p) slot) (sym rows) (is.room.rows p);
     };
     idle = λ unmarked.
         let now = sym (bits slot is.room.marked) ∙ unmarked in
@@ -393,15 +393,15 @@ module _ (config : Config) (before after : RingsValue) (old new : Marks) (place 
         ∙ not-both (bit_by (slice_get old.rows.items place) slot) (bit_of old.sending slot)
         (or-right (bit_of old.marked slot) _ now) (is.sends ∙ sends))
         (is.idle (or-left (bit_of old.marked slot) _ now));
-    sends = ap (λ (row : Row). bit_of row slot) sending ∙ is.sends;
-    asks = λ sends p inside. ap (λ (rs : List Row). bit_by (slice_get rs p) slot) rows
-        ∙ is.asks sends p (subst (λ (rs : List Row). p < length rs) rows inside);
+    sends = ap (λ (row : BitRow). bit_of row slot) sending ∙ is.sends;
+    asks = λ sends p inside. ap (λ (rs : List BitRow). bit_by (slice_get rs p) slot) rows
+        ∙ is.asks sends p (subst (λ (rs : List BitRow). p < length rs) rows inside);
   }
 
   pub marked-arrives : AreMarked config before old slots → AreMarked config after new slots
   marked-arrives are = record {
     held = λ slot s there. arrived-at slot s (are.held slot s there);
-    free = λ slot none. ap (λ (row : Row). bit_of row slot) sending ∙ are.free slot none;
+    free = λ slot none. ap (λ (row : BitRow). bit_of row slot) sending ∙ are.free slot none;
   }
 
 -- ---- what is idle

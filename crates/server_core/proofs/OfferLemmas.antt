@@ -10,7 +10,7 @@ use Rattle.session_state.specs.declared.session.Settled.TheVariants.{Rest}
 use Rattle.session_state.specs.Sessions.{SessionValue, client_in, Comes}
 use Rattle.transfer.proofs.PassedLemmas.{keeps-passed}
 use Rattle.server_core.specs.Refusals.{receipt}
-use Rattle.server_core.specs.declared.client.Refusal.TheVariants.{NoRoom}
+use Rattle.server_core.specs.declared.client.ReceiveRefusal.TheVariants.{NoRoom}
 
 -- ---- offers
 

@@ -6,7 +6,7 @@ use Rattle.std.specs.Prelude.{◌≢◌, is_some}
 use Rattle.std.proofs.lemmas.Bool.{eqb-false}
 use Rattle.std.proofs.lemmas.List.{drop_more}
 use Rattle.protocol.proofs.FoundLemmas.{both}
-use Rattle.server_core.specs.declared.marks.Row.{Row}
+use Rattle.server_core.specs.declared.marks.BitRow.{BitRow}
 use Rattle.server_core.specs.Rows.{bit_of, HasRoom}
 use Rattle.session_state.specs.declared.choices.Entry.{Entry}
 use Rattle.session_state.specs.NamedValues.{Choice, entry_of}
@@ -14,12 +14,12 @@ use Rattle.server_core.specs.Marks.{Elsewhere, KeepsRows, RoomBy, asked, asked_o
 
 -- ---- one row is written
 
-set-here : (rs : List Row) (place : ℕ) (r : Row) → place < length rs → slice_get (slice_set rs place r) place ≡ Some r
+set-here : (rs : List BitRow) (place : ℕ) (r : BitRow) → place < length rs → slice_get (slice_set rs place r) place ≡ Some r
 set-here [] place r lt = absurd (omega (arith, lt))
 set-here (x ∷ rs) zero r lt = refl
 set-here (x ∷ rs) (suc place) r lt = set-here rs place r (omega (arith, lt))
 
-set-there : (rs : List Row) (place other : ℕ) (r : Row) → other ≢ place
+set-there : (rs : List BitRow) (place other : ℕ) (r : BitRow) → other ≢ place
     → slice_get (slice_set rs place r) other ≡ slice_get rs other
 set-there [] place other r apart = refl
 set-there (x ∷ rs) zero zero r apart = absurd (apart refl)
@@ -27,57 +27,57 @@ set-there (x ∷ rs) zero (suc other) r apart = refl
 set-there (x ∷ rs) (suc place) zero r apart = refl
 set-there (x ∷ rs) (suc place) (suc other) r apart = set-there rs place other r (λ e. apart (ap suc e))
 
-set-count : (rs : List Row) (place : ℕ) (r : Row) → length (slice_set rs place r) ≡ length rs
+set-count : (rs : List BitRow) (place : ℕ) (r : BitRow) → length (slice_set rs place r) ≡ length rs
 set-count [] place r = refl
 set-count (x ∷ rs) zero r = refl
 set-count (x ∷ rs) (suc place) r = ap suc (set-count rs place r)
 
-pub item-there : (rs : List Row) (place : ℕ) (d : Row) → place < length rs
+pub item-there : (rs : List BitRow) (place : ℕ) (d : BitRow) → place < length rs
     → slice_get rs place ≡ Some (slice_index_or rs place d)
 item-there [] place d lt = absurd (omega (arith, lt))
 item-there (x ∷ rs) zero d lt = refl
 item-there (x ∷ rs) (suc place) d lt = item-there rs place d (omega (arith, lt))
 
 -- a row that was written: at such slots its bits are the old ones, and it has no less room
-pub record Writes (At : ℕ → Type 0) (old new : Row) : Type 0 where
+pub record Writes (At : ℕ → Type 0) (old new : BitRow) : Type 0 where
   pub bits : (slot : ℕ) → At slot → bit_of new slot ≡ bit_of old slot
   pub longer : length old.words.items ≤ length new.words.items
 
 module _ (At : ℕ → Type 0) where
-  pub keeps-none : (rs : List Row) → KeepsRows At rs rs
+  pub keeps-none : (rs : List BitRow) → KeepsRows At rs rs
   keeps-none rs = record { bits = λ slot at place. refl; rooms = λ slot place room. room; count = refl }
 
-  pub keeps-on : (before now : List Row) (place : ℕ) (old new : Row) → slice_get now place ≡ Some old
+  pub keeps-on : (before now : List BitRow) (place : ℕ) (old new : BitRow) → slice_get now place ≡ Some old
       → place < length now → Writes At old new → KeepsRows At before now → KeepsRows At before (slice_set now place new)
   keeps-on before now place old new there lt writes keeps = record {
     bits = λ slot at other. both (other == place)
         (λ yes. let e : other ≡ place = eqb-true other place yes in
-        ap (λ (o : Option Row). bit_by o slot) (ap (slice_get (slice_set now place new)) e ∙ set-here now place new lt)
+        ap (λ (o : Option BitRow). bit_by o slot) (ap (slice_get (slice_set now place new)) e ∙ set-here now place new lt)
         ∙ writes.bits slot at
-        ∙ ap (λ (o : Option Row). bit_by o slot) (sym (ap (slice_get now) e ∙ there))
+        ∙ ap (λ (o : Option BitRow). bit_by o slot) (sym (ap (slice_get now) e ∙ there))
         ∙ keeps.bits slot at other)
-        (λ no. ap (λ (o : Option Row). bit_by o slot) (set-there now place other new (eqb-false other place no))
+        (λ no. ap (λ (o : Option BitRow). bit_by o slot) (set-there now place other new (eqb-false other place no))
         ∙ keeps.bits slot at other);
     rooms = λ slot other room. both (other == place)
         (λ yes. let e : other ≡ place = eqb-true other place yes in
-        let was : HasRoom old slot = subst (λ (o : Option Row). RoomBy o slot) (ap (slice_get now) e ∙ there)
+        let was : HasRoom old slot = subst (λ (o : Option BitRow). RoomBy o slot) (ap (slice_get now) e ∙ there)
         (keeps.rooms slot other room) in
-        subst (λ (o : Option Row). RoomBy o slot)
+        subst (λ (o : Option BitRow). RoomBy o slot)
         (sym (ap (slice_get (slice_set now place new)) e ∙ set-here now place new lt))
         (omega (arith, was, writes.longer)))
-        (λ no. subst (λ (o : Option Row). RoomBy o slot)
+        (λ no. subst (λ (o : Option BitRow). RoomBy o slot)
         (sym (set-there now place other new (eqb-false other place no))) (keeps.rooms slot other room));
     count = set-count now place new ∙ keeps.count;
   }
 
 -- The bit of a slot in a row that is written, and in the others.
-pub bit-here : (now : List Row) (place slot : ℕ) (new : Row) → place < length now
+pub bit-here : (now : List BitRow) (place slot : ℕ) (new : BitRow) → place < length now
     → bit_by (slice_get (slice_set now place new) place) slot ≡ bit_of new slot
-bit-here now place slot new lt = ap (λ (o : Option Row). bit_by o slot) (set-here now place new lt)
+bit-here now place slot new lt = ap (λ (o : Option BitRow). bit_by o slot) (set-here now place new lt)
 
-pub bit-there : (now : List Row) (place other slot : ℕ) (new : Row) → other ≢ place
+pub bit-there : (now : List BitRow) (place other slot : ℕ) (new : BitRow) → other ≢ place
     → bit_by (slice_get (slice_set now place new) other) slot ≡ bit_by (slice_get now other) slot
-bit-there now place other slot new apart = ap (λ (o : Option Row). bit_by o slot) (set-there now place other new apart)
+bit-there now place other slot new apart = ap (λ (o : Option BitRow). bit_by o slot) (set-there now place other new apart)
 
 -- ---- what is asked_of of stations
 
@@ -114,15 +114,15 @@ kept-asked cs i place c d before lt is none =
 
 -- ---- the requests before one have their bits
 
-pub record Adds (slot : ℕ) (cs : List Entry) (i : ℕ) (before now : List Row) : Type 0 where
+pub record Adds (slot : ℕ) (cs : List Entry) (i : ℕ) (before now : List BitRow) : Type 0 where
   pub kept : KeepsRows (Elsewhere slot) before now
   pub added : (place : ℕ) → place < length now
       → (bit_by (slice_get now place) slot || asked_of place (drop i cs))
       ≡ (bit_by (slice_get before place) slot || asked_of place cs)
 
-module _ (slot : ℕ) (cs : List Entry) (i : ℕ) (before now : List Row) (c d : Entry) (lt : i < length cs)
+module _ (slot : ℕ) (cs : List Entry) (i : ℕ) (before now : List BitRow) (c d : Entry) (lt : i < length cs)
     (is : c ≡ slice_index_or cs i d) (adds : Adds slot cs i before now) where
-  pub adds-set : (old new : Row) → is_some c.action ≡ true → c.station < length now → slice_get now c.station ≡ Some old
+  pub adds-set : (old new : BitRow) → is_some c.action ≡ true → c.station < length now → slice_get now c.station ≡ Some old
       → bit_of new slot ≡ true → Writes (Elsewhere slot) old new
       → Adds slot cs (i + 1) before (slice_set now c.station new)
   adds-set old new acts inside there here writes = record {
@@ -157,7 +157,7 @@ or-false true b e = refl
 or-false false b e = e
 
 -- At the end all are added.
-pub adds-all : (slot : ℕ) (cs : List Entry) (i : ℕ) (before now : List Row) → length cs ≤ i → Adds slot cs i before now
+pub adds-all : (slot : ℕ) (cs : List Entry) (i : ℕ) (before now : List BitRow) → length cs ≤ i → Adds slot cs i before now
     → (place : ℕ) → place < length now
     → bit_by (slice_get now place) slot ≡ (bit_by (slice_get before place) slot || asked_of place cs)
 adds-all slot cs i before now le adds place within =

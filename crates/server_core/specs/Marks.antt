@@ -5,7 +5,7 @@ use Rattle.std.specs.Prelude.{Option}
 use Rattle.std.specs.Prelude.{Some, None, is_some, slice_get, slice_index_or}
 use Rattle.std.specs.List.{list_any, range_with_len}
 use Rattle.slab.specs.Slab.{Slab, get}
-use Rattle.server_core.specs.declared.marks.Row.{Row}
+use Rattle.server_core.specs.declared.marks.BitRow.{BitRow}
 use Rattle.server_core.specs.Rows.{bit_of, HasRoom}
 use Rattle.protocol.specs.Catalog.{Config, listing}
 use Rattle.station_ring.specs.HeldRecords.{RingsValue}
@@ -42,12 +42,12 @@ abbrev pub asks : ℕ → SessionValue → Bool
 asks place s = is_transfer s.state && asked place (chosen_of s.mode)
 
 -- a slot's bit in a row, where there is one
-abbrev pub bit_by : Option Row → ℕ → Bool
+abbrev pub bit_by : Option BitRow → ℕ → Bool
 bit_by None slot = false
 bit_by (Some row) slot = bit_of row slot
 
 -- A row, where there is one, has room for a slot's bit.
-abbrev pub RoomBy : Option Row → ℕ → Type 0
+abbrev pub RoomBy : Option BitRow → ℕ → Type 0
 RoomBy None slot = Unit {0}
 RoomBy (Some row) slot = HasRoom row slot
 
@@ -65,7 +65,7 @@ abbrev pub Elsewhere : ℕ → ℕ → Type 0
 Elsewhere slot other = other ≢ slot
 
 -- Rows keep their bits at such slots, and have no less room.
-pub record KeepsRows (At : ℕ → Type 0) (old new : List Row) : Type 0 where
+pub record KeepsRows (At : ℕ → Type 0) (old new : List BitRow) : Type 0 where
   pub bits : (slot : ℕ) → At slot → (place : ℕ) → bit_by (slice_get new place) slot ≡ bit_by (slice_get old place) slot
   pub rooms : (slot place : ℕ) → RoomBy (slice_get old place) slot → RoomBy (slice_get new place) slot
   pub count : length new ≡ length old
@@ -115,12 +115,12 @@ pub record KeepsRequests (before after : SessionValue) : Type 0 where
       (is_transfer before.state ≡ true) × (all_at_start after.mode ≡ all_at_start before.mode)
 
 -- the mark of the client in a slot, where there is one
-abbrev pub mark_in : Row → Option ℕ → Bool
+abbrev pub mark_in : BitRow → Option ℕ → Bool
 mark_in marked None = false
 mark_in marked (Some slot) = bit_of marked slot
 
 -- the mark of a number
-abbrev pub mark_of : List Opened → Row → ℕ → Bool
+abbrev pub mark_of : List Opened → BitRow → ℕ → Bool
 mark_of os marked k = mark_in marked (slot_in os k)
 
 -- the marks of all clients that ever opened; of one that is gone it says nothing
@@ -156,7 +156,7 @@ pub record IsAmong (k : ℕ) (ks : List ℕ) : Type 0 where
   pub is : slice_index_or ks place 0 ≡ k
 
 -- The number is that of an open client in whose slot the bit is set.
-pub record IsSetIn (os : List Opened) (row : Row) (k : ℕ) : Type 0 where
+pub record IsSetIn (os : List Opened) (row : BitRow) (k : ℕ) : Type 0 where
   pub slot : ℕ
   pub has_slot : slot_in os k ≡ Some slot
   pub is_set : bit_of row slot ≡ true

@@ -4,12 +4,12 @@ use Rattle.std.specs.Prelude.{Result, Ok, Err}
 use Rattle.protocol.specs.declared.reason.Reason.{Reason}
 use Rattle.protocol.specs.declared.reason.Reason.TheVariants as reason
 use Rattle.protocol.specs.Client.{Client, inbox, is_nothing, is_ending}
-use Rattle.server_core.specs.declared.client.Refusal.{Refusal}
-use Rattle.server_core.specs.declared.client.Refusal.TheVariants.{Gone, NoRoom}
+use Rattle.server_core.specs.declared.client.ReceiveRefusal.{ReceiveRefusal}
+use Rattle.server_core.specs.declared.client.ReceiveRefusal.TheVariants.{Gone, NoRoom}
 use Rattle.server_core.specs.declared.client.Offer.{Offer}
 use Rattle.server_core.specs.declared.client.Offer.TheVariants.{Bytes, Ended, Idle}
 
-abbrev pub refusal_reason : Refusal → Reason
+abbrev pub refusal_reason : ReceiveRefusal → Reason
 refusal_reason Gone = reason.Gone
 refusal_reason NoRoom = reason.NoRoom
 
@@ -18,7 +18,7 @@ abbrev pub room_of : Client → ℕ
 room_of c = inbox - length c.unread
 
 -- what bytes of such a length are answered
-abbrev pub receipt : ℕ → Option Client → Result (Unit {0}) Refusal
+abbrev pub receipt : ℕ → Option Client → Result (Unit {0}) ReceiveRefusal
 receipt n None = Err Gone
 receipt n (Some c) = if nat_lt (room_of c) n then Err NoRoom else Ok tt
 
@@ -33,7 +33,7 @@ is_idle Bytes = false
 is_idle Ended = false
 
 -- what bytes are answered, whatever else is told of them
-abbrev pub receipt_in : {A : Type 0} → Result A Refusal → Result (Unit {0}) Refusal
+abbrev pub receipt_in : {A : Type 0} → Result A ReceiveRefusal → Result (Unit {0}) ReceiveRefusal
 receipt_in (Ok x) = Ok tt
 receipt_in (Err refusal) = Err refusal
 

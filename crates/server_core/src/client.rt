@@ -83,21 +83,21 @@ impl Gone {
 
 /// Why bytes of a client are not taken. Then nothing changes.
 #[derive(Clone, Copy, Debug, PartialEq, Eq, Drop)]
-pub enum Refusal {
+pub enum ReceiveRefusal {
     /// No open client of this server has the number.
     Gone,
     /// There are more bytes than there is room for: 1,024 less the unread ones.
     NoRoom,
 }
 
-impl Refusal {
+impl ReceiveRefusal {
     /// The reason by which the program reports it: 30 or 31.
     pub fn reason(self) -> Reason
         ensures { result ≡ refusal_reason self }
     {
         match self {
-            Refusal::Gone => Reason::Gone,
-            Refusal::NoRoom => Reason::NoRoom,
+            ReceiveRefusal::Gone => Reason::Gone,
+            ReceiveRefusal::NoRoom => Reason::NoRoom,
         }
     }
 }

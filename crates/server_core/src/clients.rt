@@ -19,7 +19,7 @@ ghost use Rattle.server_core.specs.Clients.{AreRising, IsNumberAt, listed, owner
 ghost use Rattle.server_core.specs.Marks.{IsAmong};
 
 use crate::client::Client;
-use crate::marks::Row;
+use crate::marks::BitRow;
 use session_state::Session;
 use slab::Slab;
 use std::alloc::{AllocError, Global};
@@ -129,7 +129,7 @@ impl Clients {
 
     /// The open clients in the slots whose bit is set, and no others, stand in a list from now on. It fails only for
     /// want of memory.
-    pub fn list_set(&self, row: &Row, some: &mut Vec<Client>) -> Result<(), AllocError>
+    pub fn list_set(&self, row: &BitRow, some: &mut Vec<Client>) -> Result<(), AllocError>
         requires { IsTable self.now }
         ensures all { OnOk result ((k slot : ℕ) → slot_in self.now.opened.items k ≡ Some slot
             → bit_of row.now slot ≡ true → IsAmong k some.new.items) }

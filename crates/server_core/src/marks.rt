@@ -18,18 +18,18 @@ mod requests;
 
 /// A bit for each slot, from 0 on. A slot that the row has no room for has none, which is read as no.
 #[derive(Drop)]
-pub struct Row {
+pub struct BitRow {
     words: Vec<u64>,
 }
 
-impl Row {
+impl BitRow {
     ghost use Rattle.server_core.specs.Rows.{bit_of, HasRoom};
 
     /// A row with no bit.
-    pub fn new(alloc: Global) -> Row
+    pub fn new(alloc: Global) -> BitRow
         ensures { (slot : ℕ) → bit_of result slot ≡ false }
     {
-        Row {
+        BitRow {
             words: Vec::new(alloc),
         }
     }
@@ -127,7 +127,7 @@ impl Row {
     }
 
     /// Sets each bit that is set in both of two other rows, where there is room for it.
-    pub fn add_common(&mut self, one: &Row, other: &Row)
+    pub fn add_common(&mut self, one: &BitRow, other: &BitRow)
         ensures bits { (slot : ℕ) → HasRoom self.old slot
             → bit_of self.new slot ≡ (bit_of self.old slot || (bit_of one.now slot && bit_of other.now slot)) }
         ensures room { length self.new.words.items ≡ length self.old.words.items }
@@ -144,12 +144,12 @@ impl Row {
 #[derive(Drop)]
 pub struct Marks {
     /// The clients for which an offer may find something. For all others it finds nothing.
-    pub marked: Row,
+    pub marked: BitRow,
     /// Those in a transfer.
-    pub sending: Row,
+    pub sending: BitRow,
     /// For each station, at its place, those with a request there. It is kept for those in a transfer, and says nothing
     /// of others.
-    pub rows: Vec<Row>,
+    pub rows: Vec<BitRow>,
 }
 
 /// Whether a session is in a transfer.
@@ -185,8 +185,8 @@ impl Marks {
     {
         let rows = requests::no_rows(alloc, stations)?;
         Ok(Marks {
-            marked: Row::new(alloc),
-            sending: Row::new(alloc),
+            marked: BitRow::new(alloc),
+            sending: BitRow::new(alloc),
             rows,
         })
     }

@@ -13,7 +13,7 @@ ghost use Rattle.protocol.specs.World.{World, config_by, step, empty_world, clie
 ghost use Rattle.protocol.specs.World.Event.{Open, Bytes, Take, Close, Arrive, Reload};
 
 use crate::arrivals::{ArriveFault, Placing, placed};
-use crate::client::{Client, Gone, Offer, Refusal, ReloadFault};
+use crate::client::{Client, Gone, Offer, ReceiveRefusal, ReloadFault};
 use crate::clients::Clients;
 use crate::marks::Marks;
 use crate::reviewing::review_all;
@@ -112,7 +112,7 @@ impl Server {
 
     /// Bytes come from a client, and its lines are obeyed as far as they may be. Bytes that do not fit are refused as a
     /// whole, and nothing changes. In its end they are taken and dropped.
-    pub fn receive(&mut self, client: &Client, bytes: &[u8]) -> Result<(), Refusal>
+    pub fn receive(&mut self, client: &Client, bytes: &[u8]) -> Result<(), ReceiveRefusal>
         ensures stands { (config : ProtocolConfig) (w : World) → StandsAt self.old config w
             → StandsAt self.new config (step config w (Bytes client.now bytes.now)) }
         ensures answer { (config : ProtocolConfig) (w : World) → StandsAt self.old config w
@@ -128,7 +128,7 @@ impl Server {
                 slot,
                 bytes,
             ),
-            None => Err(Refusal::Gone),
+            None => Err(ReceiveRefusal::Gone),
         }
     }
 

@@ -19,7 +19,7 @@ ghost use Rattle.server_core.specs.declared.client.Offer.TheVariants.{Idle};
 ghost use Rattle.server_core.specs.ServerValues.{AreSettled, HoldsOf, IsSettled, SlotGoesOn, StayOpen, client_of_open};
 ghost use Rattle.server_core.specs.ServerValues.{goes_on, handing, open_client, taking};
 
-use crate::client::{Gone, Offer, Refusal};
+use crate::client::{Gone, Offer, ReceiveRefusal};
 use crate::marks::Marks;
 use catalog::Config;
 use session_state::{Session, Settled, State};
@@ -57,7 +57,7 @@ fn receive(
     rings: &Rings,
     session: &mut Session,
     bytes: &[u8],
-) -> Result<Settled, Refusal>
+) -> Result<Settled, ReceiveRefusal>
     requires { IsSettled config.now rings.now session.old }
     ensures client { (h : List Arrival) → HoldsOf config.now rings.now h → client_in config.now h session.new
         ≡ received (session_view config.now session.old) h bytes.now (client_in config.now h session.old) }
@@ -73,7 +73,7 @@ fn receive(
             proceed(config, rings, session, settled);
             Ok(settled)
         }
-        Err(_) => Err(Refusal::NoRoom),
+        Err(_) => Err(ReceiveRefusal::NoRoom),
     }
 }
 
@@ -181,7 +181,7 @@ pub fn receive_in(
     marks: &mut Marks,
     slot: usize,
     bytes: &[u8],
-) -> Result<(), Refusal>
+) -> Result<(), ReceiveRefusal>
     requires settled { AreSettled config.now rings.now slots.old }
     requires marked { AreMarked config.now rings.now marks.old slots.old }
     ensures changed { (h : List Arrival) → HoldsOf config.now rings.now h
@@ -200,7 +200,7 @@ pub fn receive_in(
             marks.heard(slot, session, settled);
             Ok(())
         }
-        None => Err(Refusal::Gone),
+        None => Err(ReceiveRefusal::Gone),
     }
 }
 

@@ -6,7 +6,7 @@ use Rattle.protocol.specs.Packet.{numbers}
 use Rattle.protocol.specs.Catalog.{Config}
 use Rattle.protocol.specs.History.{Arrival, count_of}
 use Rattle.station_ring.specs.HeldRecords.{RingsValue}
-use Rattle.serving.specs.declared.ahead.Ahead.{Ahead as Numbers}
+use Rattle.serving.specs.declared.ahead.NumbersAhead.{NumbersAhead as Numbers}
 
 -- how far they are ahead at most
 abbrev pub room : ℕ

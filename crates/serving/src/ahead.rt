@@ -23,17 +23,17 @@ const NUMBERS: u32 = 0x100_0000;
 /// station's next number that the records of a turn don't reach it. It depends on the station's first number and on
 /// how many of its own records came, and on nothing else.
 #[derive(Clone, Copy)]
-pub struct Ahead<'a> {
+pub struct NumbersAhead<'a> {
     rings: &'a Rings,
 }
 
-impl<'a> Ahead<'a> {
+impl<'a> NumbersAhead<'a> {
     /// Those of what a server holds.
-    pub fn of(rings: &'a Rings) -> Ahead<'a>
+    pub fn of(rings: &'a Rings) -> NumbersAhead<'a>
         ensures { (config : ProtocolConfig) (h : List Arrival) → rings.entry.now ≡ holdings_of config h →
             ahead_of result ≡ numbers_ahead config h }
     {
-        Ahead { rings }
+        NumbersAhead { rings }
     }
 
     /// How many stations there are.

@@ -6,7 +6,7 @@ ghost use Rattle.serving.specs.Asked.Asked.{Configuration, Keeps, Looks, Refuses
 ghost use Rattle.serving.specs.Ahead.{ahead_of};
 
 use crate::activity::Activity;
-use crate::ahead::Ahead;
+use crate::ahead::NumbersAhead;
 use catalog::Config;
 use event_loop::Loop;
 use ports::Ports;
@@ -56,7 +56,7 @@ pub trait Between {
         ensures call { Tells (asked self.old) (asked self.new) (Reports activity ∷ []) };
 
     /// The numbers of the stations are to be kept, for a server that is begun later.
-    fn keep(&mut self, numbers: &Ahead<'_>) -> Result<(), Self::Fault>
+    fn keep(&mut self, numbers: &NumbersAhead<'_>) -> Result<(), Self::Fault>
         ensures call { Tells (asked self.old) (asked self.new) (Keeps (ahead_of numbers.now) result ∷ []) };
 
     /// Lends the server, after a turn and what was due: whoever wants to tell others how it stands may look at it. This
@@ -96,7 +96,7 @@ impl Between for NothingBetween {
 
     fn report(&mut self, _activity: Activity) {}
 
-    fn keep(&mut self, _numbers: &Ahead<'_>) -> Result<(), NoConfiguration> {
+    fn keep(&mut self, _numbers: &NumbersAhead<'_>) -> Result<(), NoConfiguration> {
         Ok(())
     }
 

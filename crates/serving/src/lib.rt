@@ -13,7 +13,7 @@ mod running;
 mod timetable;
 
 pub use activity::Activity;
-pub use ahead::Ahead;
+pub use ahead::NumbersAhead;
 pub use between::{Between, Due, NoConfiguration, NothingBetween, Refusal};
 pub use faults::ServeFault;
 pub use new_server::{serve, serve_between};

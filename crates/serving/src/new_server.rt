@@ -7,7 +7,7 @@ ghost use Rattle.serving.specs.declared.faults.ServeFault.TheVariants.{Numbers, 
 ghost use Rattle.serving.specs.Served.{Served, ServedBlock, Ended, EndedBlock, GaveUpNew, KeepsFirst, KeptNothing};
 ghost use Rattle.serving.specs.Served.{RanNew};
 
-use crate::ahead::Ahead;
+use crate::ahead::NumbersAhead;
 use crate::between::{Between, NothingBetween, Refusal};
 use crate::faults::ServeFault;
 use crate::running::run;
@@ -32,7 +32,7 @@ fn keep_first<P: Ports, B: Between>(
     if !timetable.keep {
         return Ok(());
     }
-    match between.keep(&Ahead::of(server.rings())) {
+    match between.keep(&NumbersAhead::of(server.rings())) {
         Ok(()) => Ok(()),
         Err(fault) => {
             between.refused(Refusal::Unkept(fault));

@@ -13,7 +13,7 @@ ghost use Rattle.serving.specs.Runs.{FindsDue, SomeStop};
 ghost use Rattle.serving.specs.Timetables.{failures_kept, is_keep_due, turns_of};
 
 use crate::activity::Activity;
-use crate::ahead::Ahead;
+use crate::ahead::NumbersAhead;
 use crate::between::{Between, Due, NothingBetween, Refusal};
 use crate::timetable::Timetable;
 use event_loop::{Loop, LoopFault};
@@ -68,7 +68,7 @@ fn keep_now<P: Ports, B: Between>(server: &Loop<P>, between: &mut B, kept: u64) 
         KeepsNow config w kept (B.asked between.old) result (B.asked between.new) }
 {
     let rings = server.rings();
-    match between.keep(&Ahead::of(rings)) {
+    match between.keep(&NumbersAhead::of(rings)) {
         Ok(()) => rings.raises(),
         Err(fault) => {
             between.refused(Refusal::Unkept(fault));

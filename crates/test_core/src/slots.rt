@@ -2,7 +2,7 @@
 use catalog::Config;
 use oracle_server::draws::Draws;
 use oracle_server::sites::{ISLAND, address};
-use server_core::{Client, Gone, Refusal, Server};
+use server_core::{Client, Gone, ReceiveRefusal, Server};
 use std::alloc::Global;
 use std::test::Fail;
 
@@ -30,7 +30,7 @@ fn hands_nothing(server: &mut Server, client: &Client) -> bool {
 /// Whether each call says that a client is gone.
 fn is_gone(server: &mut Server, client: &Client) -> bool {
     server.room(client) == Err(Gone)
-        && server.receive(client, b"HELLO\r") == Err(Refusal::Gone)
+        && server.receive(client, b"HELLO\r") == Err(ReceiveRefusal::Gone)
         && server.offer(client) == Err(Gone)
         && server.marked(client) == Err(Gone)
         && server.ready(client) == Err(Gone)

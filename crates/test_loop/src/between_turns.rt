@@ -1,6 +1,6 @@
 //! What a server asks and reports between its turns, over ports and answers in memory.
 use catalog::Config;
-use memory_between::{Made, MemoryBetween};
+use memory_between::{MadeBetween, MemoryBetween};
 use memory_ports::{MemoryPorts, Script};
 use serving::{Activity, Due, Refusal, Timetable, serve_between};
 use std::alloc::Global;
@@ -42,17 +42,17 @@ fn readings(alloc: Global) -> Result<Vec<Result<Config, u8>>, Fail> {
 }
 
 /// What a call was, in words. A report of a server at which nobody has come is a report.
-fn words_of(made: &Made) -> &'static str {
+fn words_of(made: &MadeBetween) -> &'static str {
     match made {
-        Made::Looked(_) => "looked",
-        Made::Configuration(Ok(_)) => "configuration",
-        Made::Configuration(Err(_)) => "no configuration",
-        Made::Refused(Refusal::Different) => "different",
-        Made::Refused(Refusal::Unread(7)) => "unread",
-        Made::Refused(Refusal::Unread(_)) => "another fault",
-        Made::Refused(Refusal::Unkept(_)) => "unkept",
-        Made::Keep(_, _) => "keep",
-        Made::Report(
+        MadeBetween::Looked(_) => "looked",
+        MadeBetween::Configuration(Ok(_)) => "configuration",
+        MadeBetween::Configuration(Err(_)) => "no configuration",
+        MadeBetween::Refused(Refusal::Different) => "different",
+        MadeBetween::Refused(Refusal::Unread(7)) => "unread",
+        MadeBetween::Refused(Refusal::Unread(_)) => "another fault",
+        MadeBetween::Refused(Refusal::Unkept(_)) => "unkept",
+        MadeBetween::Keep(_, _) => "keep",
+        MadeBetween::Report(
             Activity {
                 clients: 0,
                 feeds: 0,
@@ -60,7 +60,7 @@ fn words_of(made: &Made) -> &'static str {
                 refused: 0,
             },
         ) => "report",
-        Made::Report(_) => "another report",
+        MadeBetween::Report(_) => "another report",
     }
 }
 

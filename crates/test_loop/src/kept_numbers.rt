@@ -2,7 +2,7 @@
 use super::runs::Row::{Feed, Inside, Quiet};
 use super::runs::{Row, both, feed, happenings, port, record};
 use catalog::{Config, KeptNumber};
-use memory_between::{Made, MemoryBetween};
+use memory_between::{MadeBetween, MemoryBetween};
 use memory_ports::{MemoryPorts, PortScript, Script};
 use number_file::{NumberTable, read_numbers};
 use serving::{Timetable, serve_between};
@@ -101,7 +101,7 @@ fn kept_by(
     let config = Config::read(alloc, text)?;
     let mut table = NumberTable::new(alloc, &config, before)?;
     for made in run.between.made() {
-        if let Made::Keep(numbers, Ok(())) = made {
+        if let MadeBetween::Keep(numbers, Ok(())) = made {
             for (place, number) in numbers.iter().enumerate() {
                 table.set(place, *number);
             }
@@ -165,7 +165,7 @@ fn keeps(run: &Run) -> usize {
     run.between
         .made()
         .iter()
-        .filter(|made| matches!(made, Made::Keep(_, _)))
+        .filter(|made| matches!(made, MadeBetween::Keep(_, _)))
         .count()
 }
 

@@ -2,7 +2,7 @@
 use catalog::ConfigFault;
 use incidents::ReplayFault;
 use mseed_header::FieldFault;
-use server_core::{ArriveFault, Gone, Refusal};
+use server_core::{ArriveFault, Gone, ReceiveRefusal};
 use std::alloc::{AllocError, AllocFailed};
 use std::{fmt, io};
 
@@ -54,8 +54,8 @@ impl From<Gone> for Fault {
     }
 }
 
-impl From<Refusal> for Fault {
-    fn from(_fault: Refusal) -> Fault {
+impl From<ReceiveRefusal> for Fault {
+    fn from(_fault: ReceiveRefusal) -> Fault {
         Fault
     }
 }

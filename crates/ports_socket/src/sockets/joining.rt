@@ -11,7 +11,7 @@ use super::Sockets;
 use crate::connection::Connection;
 use crate::departures::Departures;
 use crate::listeners::Accepted;
-use crate::peer::Kind;
+use crate::peer::PeerKind;
 use crate::polling::{LAST, token_of};
 use mio::net::TcpStream;
 use ports::{AwayReason, Happening};
@@ -36,22 +36,22 @@ enum Taken {
 }
 
 /// How it is told that a port of a kind joined.
-fn joined(kind: Kind, number: u64, address: Ipv4Addr) -> Happening
+fn joined(kind: PeerKind, number: u64, address: Ipv4Addr) -> Happening
     ensures { result ≡ happening_of kind number address }
 {
     match kind {
-        Kind::Client => Happening::Joined(number, address),
-        Kind::Feed => Happening::JoinedFeed(number),
+        PeerKind::Client => Happening::Joined(number, address),
+        PeerKind::Feed => Happening::JoinedFeed(number),
     }
 }
 
 /// Why a connection of a kind may not join.
-fn away_of(kind: Kind, address: Ipv4Addr) -> Away
+fn away_of(kind: PeerKind, address: Ipv4Addr) -> Away
     ensures { result ≡ away_of kind address }
 {
     let reason = match kind {
-        Kind::Client => AwayReason::PerAddress,
-        Kind::Feed => AwayReason::FeedFrom,
+        PeerKind::Client => AwayReason::PerAddress,
+        PeerKind::Feed => AwayReason::FeedFrom,
     };
     Away { address, reason }
 }
@@ -66,7 +66,7 @@ fn address_of(peer: SocketAddr) -> Option<Ipv4Addr> {
 impl Sockets {
     /// The next connection that waits. If the system has no descriptor left, the connection that lingers longest makes
     /// room.
-    fn accept(&mut self) -> Option<(Kind, TcpStream, SocketAddr)>
+    fn accept(&mut self) -> Option<(PeerKind, TcpStream, SocketAddr)>
         ensures peers { self.new.peers ≡ self.old.peers }
         ensures polls { self.new.polls ≡ self.old.polls }
         ensures joins { self.new.joins ≡ self.old.joins }
@@ -160,7 +160,7 @@ impl Sockets {
 
     /// Makes ready for a new connection under a number: the system will report what happens at it by the key that it
     /// will have, and there is room to list it. Whether that is done.
-    fn prepare(&mut self, number: u64, kind: Kind, stream: &mut TcpStream) -> bool
+    fn prepare(&mut self, number: u64, kind: PeerKind, stream: &mut TcpStream) -> bool
         requires told { self.old.polling.happened.items ≡ [] }
         ensures number { result ≡ true → number < 2 ^ 63 }
         ensures peers { self.new.peers ≡ self.old.peers }
@@ -181,7 +181,7 @@ impl Sockets {
     }
 
     /// Holds a new connection under the next number.
-    fn hold(&mut self, kind: Kind, address: Ipv4Addr, mut stream: TcpStream) -> Option<u64>
+    fn hold(&mut self, kind: PeerKind, address: Ipv4Addr, mut stream: TcpStream) -> Option<u64>
         requires room { self.old.joins.count + self.old.joins.away < 16 }
         requires admitted { IsAdmitted self.old.peers.admission self.old.peers.opened kind address }
         requires told { self.old.polling.happened.items ≡ [] }

@@ -3,23 +3,23 @@ ghost use Rattle.std.specs.Prelude.{◌≡◌, ◌<◌, ◌||◌, ℕ, length, s
 ghost use Rattle.session_state.specs.Choices.{chosen_of};
 ghost use Rattle.server_core.specs.Marks.{Anywhere, Elsewhere, KeepsRows, RoomBy, asked, asked_of, bit_by};
 
-use crate::marks::Row;
+use crate::marks::BitRow;
 use session_state::{Entry, Session};
 use std::alloc::{AllocError, Global};
 
 /// So many rows with no bit. It fails only where there is no memory.
-pub fn no_rows(alloc: Global, count: usize) -> Result<Vec<Row>, AllocError>
+pub fn no_rows(alloc: Global, count: usize) -> Result<Vec<BitRow>, AllocError>
     ensures { IfOk result (λ rows. length rows.items ≡ count) }
 {
     let mut rows = Vec::new(alloc);
     for _place in 0..count {
-        rows.push(Row::new(alloc))?;
+        rows.push(BitRow::new(alloc))?;
     }
     Ok(rows)
 }
 
 /// Makes room for a slot's bit in all rows.
-pub fn reserve_all(rows: &mut [Row], slot: usize) -> Result<(), AllocError>
+pub fn reserve_all(rows: &mut [BitRow], slot: usize) -> Result<(), AllocError>
     ensures room { OnOk result ((place : ℕ) → RoomBy (slice_get rows.new place) slot) }
     ensures kept { KeepsRows Anywhere rows.old rows.new }
 {
@@ -30,7 +30,7 @@ pub fn reserve_all(rows: &mut [Row], slot: usize) -> Result<(), AllocError>
 }
 
 /// Clears a slot's bit in all rows.
-fn clear(rows: &mut [Row], slot: usize)
+fn clear(rows: &mut [BitRow], slot: usize)
     ensures cleared { (place : ℕ) → bit_by (slice_get rows.new place) slot ≡ false }
     ensures kept { KeepsRows (Elsewhere slot) rows.old rows.new }
 {
@@ -40,7 +40,7 @@ fn clear(rows: &mut [Row], slot: usize)
 }
 
 /// Sets a slot's bit in the row of each station for which something is asked.
-fn add(rows: &mut [Row], slot: usize, choices: &[Entry])
+fn add(rows: &mut [BitRow], slot: usize, choices: &[Entry])
     requires { (place : ℕ) → RoomBy (slice_get rows.old place) slot }
     ensures added { (place : ℕ) → place < length rows.new → bit_by (slice_get rows.new place) slot
         ≡ (bit_by (slice_get rows.old place) slot || asked_of place choices.now) }
@@ -55,7 +55,7 @@ fn add(rows: &mut [Row], slot: usize, choices: &[Entry])
 
 /// A slot's bit is set in the rows of the stations for which a session asks something, and in no other row.
 #[tactic(auto, using(crate::proofs::RowLemmas::asked_entries))]
-pub fn keep(rows: &mut [Row], slot: usize, session: &Session)
+pub fn keep(rows: &mut [BitRow], slot: usize, session: &Session)
     requires { (place : ℕ) → RoomBy (slice_get rows.old place) slot }
     ensures asked { (place : ℕ) → place < length rows.new →
         bit_by (slice_get rows.new place) slot ≡ asked place (chosen_of session.now.mode) }

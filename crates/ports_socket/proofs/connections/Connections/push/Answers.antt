@@ -1,7 +1,7 @@
 use Rattle.std.proofs.Common.{◌∙◌, ◌++◌, ◌∷◌, List, [], ap}
 use Rattle.ports_socket.specs.Connections.{value_of, values}
 use Rattle.ports_socket.specs.Places.{AreBelow, connections_at, numbers_of}
-use Rattle.ports_socket.specs.declared.connections.Place.{Place}
+use Rattle.ports_socket.specs.declared.connections.ConnectionPlace.{ConnectionPlace}
 use Rattle.ports_socket.specs.declared.connection.Connection.{Connection}
 use Rattle.ports_socket.proofs.HeldLemmas.{joined-values}
 use Rattle.ports_socket.proofs.TableLemmas.{connections-same, joined-table, roomy, table-same}
@@ -39,7 +39,7 @@ returns-clause-added c =
     let table = table-same c.self.inside.slots c.reserve-else-is_err.new.self places same c.self.invariant in
     rw (← c.self.view_is)
     (ap (λ ps. values (connections_at c.insert_reserved-key.new.self ps)) (c.push_reserved.ensures.items
-    ∙ ap (λ (ps : List Place). ps
+    ∙ ap (λ (ps : List ConnectionPlace). ps
     ++ record { number = c.args.connection.number; key = c.insert_reserved-key.result } ∷ []) c.reserve.ensures.items)
     ∙ joined-values c.reserve-else-is_err.new.self c.insert_reserved-key.new.self places c.insert_reserved-key.result
     c.args.connection c.new.result table c.insert_reserved-key.ensures.was_vacant

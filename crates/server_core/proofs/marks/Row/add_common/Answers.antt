@@ -2,7 +2,7 @@ use Rattle.std.proofs.Common.{◌≡◌, ◌<◌, ap₂, arith, length, min}
 use Rattle.std.specs.Prelude.{bit_and, bit_or}
 use Rattle.std.proofs.lemmas.List.{get_or_read}
 use Rattle.server_core.proofs.WordLemmas.{added-all, added-more, added-none}
-use Rattle.server_core.proofs.marks.Row.add_common.Goals as goal
+use Rattle.server_core.proofs.marks.BitRow.add_common.Goals as goal
 
 pub loop-i-init : goal.loop-i-init
 loop-i-init c = added-none c.args.self.now.words.items c.args.one.now.words.items c.args.other.now.words.items

@@ -1,5 +1,5 @@
 use Rattle.server_core.proofs.WordLemmas.{AddedTo}
-use Rattle.server_core.proofs.marks.Row.add_common.Given as goal
+use Rattle.server_core.proofs.marks.BitRow.add_common.Given as goal
 
 -- So many words are added.
 abbrev pub invariant-loop-i : goal.invariant-loop-i

@@ -5,7 +5,7 @@ use Rattle.std.proofs.lemmas.Bool.Decides.{nat_tests}
 use Rattle.std.proofs.lemmas.List.{get_or_read}
 use Rattle.server_core.specs.Rows.{bit_in}
 use Rattle.server_core.proofs.WordLemmas.{clear-here, clear-others}
-use Rattle.server_core.proofs.marks.Row.clear.Goals as goal
+use Rattle.server_core.proofs.marks.BitRow.clear.Goals as goal
 
 inside : (c : goal.After-self-1) → c.args.slot / 64 < length c.args.self.now.words.items
 inside c =

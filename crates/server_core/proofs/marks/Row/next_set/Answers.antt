@@ -2,7 +2,7 @@ use Rattle.std.proofs.Common.{◌≡◌, ◌∙◌, ◌/◌, ◌%◌, ◌^◌, �
 use Rattle.std.proofs.lemmas.Bool.{cases_lt}
 use Rattle.server_core.specs.Rows.{bit_in}
 use Rattle.server_core.proofs.WordLemmas.{lowest, lowest-set, none-below, nothing-left}
-use Rattle.server_core.proofs.marks.Row.next_set.Goals as goal
+use Rattle.server_core.proofs.marks.BitRow.next_set.Goals as goal
 
 pub returns-then-rest-ne0-clause-set : goal.returns-then-rest-ne0-clause-set
 returns-then-rest-ne0-clause-set c = λ inside.

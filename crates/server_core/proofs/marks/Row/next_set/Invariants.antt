@@ -1,6 +1,6 @@
 use Rattle.std.proofs.Common.{◌≡◌, ◌≤◌, ◌<◌, ◌-◌, ℕ, false}
 use Rattle.server_core.specs.Rows.{bit_of}
-use Rattle.server_core.proofs.marks.Row.next_set.Given as goal
+use Rattle.server_core.proofs.marks.BitRow.next_set.Given as goal
 
 abbrev pub invariant-groups : goal.invariant-groups
 invariant-groups l = record {

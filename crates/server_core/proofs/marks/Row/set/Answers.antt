@@ -3,7 +3,7 @@ use Rattle.std.specs.Prelude.{bit_or}
 use Rattle.std.proofs.lemmas.List.{get_or_read}
 use Rattle.server_core.specs.Rows.{bit_in}
 use Rattle.server_core.proofs.WordLemmas.{set-here, set-others}
-use Rattle.server_core.proofs.marks.Row.set.Goals as goal
+use Rattle.server_core.proofs.marks.BitRow.set.Goals as goal
 
 pub returns-clause-here : goal.returns-clause-here
 returns-clause-here c =

@@ -1,5 +1,5 @@
 use Rattle.std.proofs.Common.{◌∙◌, ◌+◌, Option, refl, sym, subst, arith, length, slice_index_or}
-use Rattle.server_core.specs.declared.marks.Row.{Row}
+use Rattle.server_core.specs.declared.marks.BitRow.{BitRow}
 use Rattle.server_core.specs.Marks.{Elsewhere, RoomBy}
 use Rattle.server_core.proofs.RowLemmas.{Adds, adds-all, adds-set, adds-skip, item-there, keeps-none, no-action}
 use Rattle.server_core.proofs.RowLemmas.{not-inside}
@@ -13,7 +13,7 @@ loop-choice-init c = record { kept = keeps-none (Elsewhere c.args.slot) c.args.r
 
 pub set-requires : goal.set-requires
 set-requires c =
-    subst (λ (o : Option Row). RoomBy o c.args.slot)
+    subst (λ (o : Option BitRow). RoomBy o c.args.slot)
     (item-there c.loop-choice.rows c.choice-item.result.station c.index-rows-choice.result c.if-choice-rows.true)
     (c.loop-choice.invariant.kept.rooms c.args.slot c.choice-item.result.station
     (c.requires c.choice-item.result.station))

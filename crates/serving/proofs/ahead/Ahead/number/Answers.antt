@@ -3,7 +3,7 @@ use Rattle.protocol.specs.Packet.{numbers}
 use Rattle.station_ring.specs.Rings.{RingValue}
 use Rattle.serving.specs.Ahead.{number_ahead}
 use Rattle.serving.proofs.AheadLemmas.{ahead-place}
-use Rattle.serving.proofs.ahead.Ahead.number.Goals as goal
+use Rattle.serving.proofs.ahead.NumbersAhead.number.Goals as goal
 
 pub returns-in-Some : goal.returns-in-Some
 returns-in-Some c =
