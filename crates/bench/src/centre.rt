@@ -1,11 +1,11 @@
 //! Records, a server whose rings are full of them, and a client of it.
 use anyhow::anyhow;
 use catalog::Config;
-use mseed_header::{ByteOrder, Fields, make};
 use protocol::reason::Reason;
 use server_core::{Client, Server};
 use std::alloc::Global;
 use std::net::Ipv4Addr;
+use test_centre::{RecordOf, made};
 
 /// A refusal, by its name.
 pub fn told(reason: Reason) -> anyhow::Error {
@@ -15,26 +15,9 @@ pub fn told(reason: Reason) -> anyhow::Error {
 /// A record of the station at a place: GE 00000, GE 00001 and so on.
 pub fn record_of(alloc: Global, place: u32, channel: &[u8]) -> anyhow::Result<[u8; 512]> {
     let station = format!(in alloc; "{place:05}")?;
-    make(&Fields {
-        sequence: 1,
-        quality: b'D',
-        station: station.as_bytes(),
-        location: b"",
+    made(&RecordOf {
         channel,
-        network: b"GE",
-        year: 2024,
-        day: 60,
-        hour: 0,
-        minute: 0,
-        second: 0,
-        fraction: 0,
-        samples: 100,
-        factor: 100,
-        multiplier: 1,
-        encoding: 11,
-        order: ByteOrder::Big,
-        extra: None,
-        contents: b"",
+        ..RecordOf::station(b"GE", station.as_bytes())
     })
     .map_err(|fault| told(fault.reason()))
 }

@@ -8,7 +8,7 @@ use std::net::{Ipv4Addr, Net, OpenStream, SocketAddr, SocketAddrV4, TcpStream};
 use std::test::Fail;
 
 /// Three stations, of which one is closed to everybody. They hold 100, 200 and 4 records.
-pub static CENTRE: &[u8] = br#"title = "Test Centre"
+pub static LOOPBACK_CENTRE: &[u8] = br#"title = "Test Centre"
 max_connections = 300
 
 [[station]]
@@ -51,7 +51,7 @@ where
     F: FnOnce(&R, &mut Centre) -> Result<T, Fail>,
     requires { F.IsAlwaysCallable look }
 {
-    let mut centre = Centre::open(rt, CENTRE)?;
+    let mut centre = Centre::open(rt, LOOPBACK_CENTRE)?;
     look(rt, &mut centre)
 }
 
@@ -63,7 +63,7 @@ where
     requires { F.IsAlwaysCallable look }
 {
     let ports = MioPorts::listen_to(rt, rt.alloc(), any_port(), any_port(), admission)?;
-    let mut centre = Centre::over(rt, CENTRE, ports)?;
+    let mut centre = Centre::over(rt, LOOPBACK_CENTRE, ports)?;
     look(rt, &mut centre)
 }
 

@@ -15,7 +15,7 @@ mod records;
 mod stage;
 mod visitor;
 
-pub use centre::{CENTRE, Centre, any_port, at_centre, at_limited_centre, connect};
+pub use centre::{Centre, LOOPBACK_CENTRE, any_port, at_centre, at_limited_centre, connect};
 pub use polls::close_polls;
 pub use records::{packet, record};
 pub use stage::{Actor, Stage, StageListener, StageStream};

@@ -1,5 +1,10 @@
-//! The configurations that the tests of several crates share, and what HELLO is answered there. Nothing but that.
+//! What the tests of several crates share: configurations, what HELLO is answered there, and the one maker of records.
+//! Nothing but that.
 #![tactic(auto)]
+
+mod records;
+
+pub use records::{RecordOf, made};
 
 /// Three stations: GE APE, which is open to addresses that begin with 10, and GE WLF and XX APE, which are open to
 /// everybody. They hold 4, 2 and 1 records, and count from 000000, FFFFFE and 000000.

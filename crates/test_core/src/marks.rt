@@ -1,12 +1,11 @@
 //! Which clients an offer may find something for: those of a crowd who ask for a record's station; and what is found
 //! once bytes were handed.
 use catalog::Config;
-use mseed_header::{ByteOrder, Fields, make};
 use server_core::{Client, Offer, Server};
 use std::alloc::Global;
 use std::net::Ipv4Addr;
 use std::test::Fail;
-use test_centre::CENTRE;
+use test_centre::{CENTRE, RecordOf, made};
 
 /// A transfer of GE WLF from now on.
 const FOREST: &[u8] = b"STATION WLF GE\rDATA\rEND\r";
@@ -16,26 +15,9 @@ const VAULT: &[u8] = b"STATION APE XX\rSELECT BHZ\rDATA\rEND\r";
 
 /// A record of GE WLF that starts in a second of 2024-02-29.
 fn record_in(second: u8) -> Result<[u8; 512], Fail> {
-    Ok(make(&Fields {
-        sequence: 1,
-        quality: b'D',
-        station: b"WLF",
-        location: b"",
-        channel: b"BHZ",
-        network: b"GE",
-        year: 2024,
-        day: 60,
-        hour: 0,
-        minute: 0,
+    Ok(made(&RecordOf {
         second,
-        fraction: 0,
-        samples: 100,
-        factor: 100,
-        multiplier: 1,
-        encoding: 11,
-        order: ByteOrder::Big,
-        extra: None,
-        contents: b"",
+        ..RecordOf::station(b"GE", b"WLF")
     })?)
 }
 

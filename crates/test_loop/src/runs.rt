@@ -2,12 +2,11 @@
 use catalog::Config;
 use event_loop::{Loop, Turned};
 use memory_ports::{MemoryPorts, PortScript, ReadAnswer, Script, WriteAnswer};
-use mseed_header::{ByteOrder, Fields, make};
 use ports::Happening;
 use std::alloc::Global;
 use std::net::Ipv4Addr;
 use std::test::Fail;
-use test_centre::CENTRE;
+use test_centre::{CENTRE, RecordOf, made};
 
 /// A station for nobody.
 const SHUT: &[u8] = br#"
@@ -153,25 +152,8 @@ pub fn both(alloc: Global, one: PortScript, other: PortScript) -> Result<Vec<Por
 
 /// The record of a station that starts so many seconds after the minute.
 pub fn record(network: &[u8], station: &[u8], second: u8) -> Result<[u8; 512], Fail> {
-    Ok(make(&Fields {
-        sequence: 1,
-        quality: b'D',
-        station,
-        location: b"",
-        channel: b"BHZ",
-        network,
-        year: 2024,
-        day: 60,
-        hour: 0,
-        minute: 0,
+    Ok(made(&RecordOf {
         second: second % 60,
-        fraction: 0,
-        samples: 100,
-        factor: 100,
-        multiplier: 1,
-        encoding: 11,
-        order: ByteOrder::Big,
-        extra: None,
-        contents: b"",
+        ..RecordOf::station(network, station)
     })?)
 }

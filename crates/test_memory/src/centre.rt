@@ -1,7 +1,7 @@
 //! Addresses, records and texts that the calls begin with.
 use crate::trial::Fault;
-use mseed_header::{ByteOrder, Fields, make};
 use std::net::Ipv4Addr;
+use test_centre::{RecordOf, made};
 
 /// A transfer of GE APE and GE WLF from now on, and how each line but the last is answered.
 pub const BOTH: [&[u8]; 5] = [
@@ -24,26 +24,9 @@ pub fn outside() -> Ipv4Addr {
 
 /// A record of network GE that starts so many seconds after the minute.
 pub fn record(station: &[u8], second: u8) -> Result<[u8; 512], Fault> {
-    Ok(make(&Fields {
-        sequence: 1,
-        quality: b'D',
-        station,
-        location: b"",
-        channel: b"BHZ",
-        network: b"GE",
-        year: 2024,
-        day: 60,
-        hour: 0,
-        minute: 0,
+    Ok(made(&RecordOf {
         second: second % 60,
-        fraction: 0,
-        samples: 100,
-        factor: 100,
-        multiplier: 1,
-        encoding: 11,
-        order: ByteOrder::Big,
-        extra: None,
-        contents: b"",
+        ..RecordOf::station(b"GE", station)
     })?)
 }
 

@@ -2,13 +2,13 @@
 ghost use Rattle.std.specs.Prelude.{◌<◌};
 
 use catalog::Config;
-use mseed_header::{ByteOrder, Fields, make};
 use server_core::{Event, run};
 use sl_packet::Seq;
 use slreader::{Action, Plan, ReaderCore, ReaderFault, Want, What};
 use std::alloc::Global;
 use std::net::Ipv4Addr;
 use std::test::Fail;
+use test_centre::{RecordOf, made};
 
 /// Two stations, of which one holds two records.
 const CENTRE: &[u8] = br#"title = "Test Centre"
@@ -29,26 +29,9 @@ first = "FFFFFE"
 
 /// A record of GE WLF that starts at a second.
 pub fn record(second: u8) -> Result<[u8; 512], Fail> {
-    Ok(make(&Fields {
-        sequence: 1,
-        quality: b'D',
-        station: b"WLF",
-        location: b"",
-        channel: b"BHZ",
-        network: b"GE",
-        year: 2024,
-        day: 60,
-        hour: 0,
-        minute: 0,
+    Ok(made(&RecordOf {
         second,
-        fraction: 0,
-        samples: 100,
-        factor: 100,
-        multiplier: 1,
-        encoding: 11,
-        order: ByteOrder::Big,
-        extra: None,
-        contents: b"",
+        ..RecordOf::station(b"GE", b"WLF")
     })?)
 }
 

@@ -1,40 +1,20 @@
 //! Listings of packets.
 ghost use Rattle.std.specs.Prelude.{◌<◌, None};
 
-use mseed_header::{ByteOrder, Fields, make};
 use reader_run::{ListingFault, Nowhere, Times, read_over};
 use sl_io::{DeviceFault, MemorySink, MemorySource, Sink};
 use sl_packet::{Seq, frame};
 use slreader::{Plan, Want, Window};
 use std::alloc::Global;
 use std::test::Fail;
+use test_centre::{RecordOf, made};
 
 /// What a server sends before the packets of one want.
 const NEGOTIATED: &[u8] = b"SeedLink v3\r\n\r\nOK\r\nOK\r\n";
 
 /// A record of GE and a station, with 100 samples.
 pub fn record(station: &[u8]) -> Result<[u8; 512], Fail> {
-    Ok(make(&Fields {
-        sequence: 1,
-        quality: b'D',
-        station,
-        location: b"",
-        channel: b"BHZ",
-        network: b"GE",
-        year: 2024,
-        day: 60,
-        hour: 0,
-        minute: 0,
-        second: 0,
-        fraction: 0,
-        samples: 100,
-        factor: 100,
-        multiplier: 1,
-        encoding: 11,
-        order: ByteOrder::Big,
-        extra: None,
-        contents: b"",
-    })?)
+    Ok(made(&RecordOf::station(b"GE", station))?)
 }
 
 /// Two packets, one of a record and one of no record, and the end.

@@ -1,7 +1,7 @@
 //! What `serve` does over sockets.
 use catalog::Config;
 use incidents::Incident;
-use loopback::{CENTRE, GREETING, any_port, connect};
+use loopback::{GREETING, LOOPBACK_CENTRE, any_port, connect};
 use ports_socket::MioPorts;
 use serving::serve;
 use std::io;
@@ -18,7 +18,7 @@ fn visitor<R: Net>(rt: &R, ports: &MioPorts) -> io::Result<R::Stream> {
 
 /// The ports after so many turns of a server.
 fn served<R: AllocGlobal>(rt: &R, ports: MioPorts, turns: u64) -> Result<MioPorts, Fail> {
-    let config = Config::read(rt.alloc(), CENTRE)?;
+    let config = Config::read(rt.alloc(), LOOPBACK_CENTRE)?;
     Ok(serve(rt.alloc(), config, ports, turns)?)
 }
 

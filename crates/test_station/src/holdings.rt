@@ -7,7 +7,7 @@ use std::alloc::Global;
 use std::test::Fail;
 
 /// Three stations that keep three records, one, and 65,536.
-const CENTRE: &[u8] = br#"title = "Test Centre"
+const SMALL_AND_LARGE: &[u8] = br#"title = "Test Centre"
 
 [[station]]
 network = "GE"
@@ -35,7 +35,7 @@ first = "FFFF00"
 const NOWHERE: usize = 3;
 
 fn empty(alloc: Global) -> Result<Rings, Fail> {
-    let config = Config::read(alloc, CENTRE)?;
+    let config = Config::read(alloc, SMALL_AND_LARGE)?;
     Ok(Rings::new(alloc, &config)?)
 }
 

@@ -12,7 +12,7 @@ use std::net::Ipv4Addr;
 use std::test::Fail;
 use transfer::{Chosen, choose, cursor, finds, start};
 
-const CENTRE: &[u8] = br#"title = "Test Centre"
+const TWO_STATIONS: &[u8] = br#"title = "Test Centre"
 
 [[station]]
 network = "GE"
@@ -145,7 +145,7 @@ fn one_record(alloc: Global, config: &Config) -> Result<Rings, AllocError> {
 
 #[test]
 fn a_choice_tells_what_waits(rt: HostRuntime) -> Result<(), Fail> {
-    let config = Config::read(rt.alloc(), CENTRE)?;
+    let config = Config::read(rt.alloc(), TWO_STATIONS)?;
     let rings = one_record(rt.alloc(), &config)?;
     for (line, choice, count) in [
         (b"HELLO\r".as_slice(), Chosen::Nothing, 0),
@@ -220,7 +220,7 @@ static CURSORS: [CursorRow; 4] = [
 
 #[test]
 fn a_cursor_tells_how_far_a_request_has_come(rt: HostRuntime) -> Result<(), Fail> {
-    let config = Config::read(rt.alloc(), CENTRE)?;
+    let config = Config::read(rt.alloc(), TWO_STATIONS)?;
     for (lines, before, after, [started, chosen, last]) in CURSORS {
         let mut rings = Rings::new(rt.alloc(), &config)?;
         let given = cursors_of(rt.alloc(), &config, &mut rings, (lines, before, after))?;
@@ -273,7 +273,7 @@ static FINDINGS: [FindingRow; 5] = [
 
 #[test]
 fn what_is_found_is_what_is_chosen(rt: HostRuntime) -> Result<(), Fail> {
-    let config = Config::read(rt.alloc(), CENTRE)?;
+    let config = Config::read(rt.alloc(), TWO_STATIONS)?;
     for (lines, arrivals, wanted) in FINDINGS {
         let mut rings = Rings::new(rt.alloc(), &config)?;
         let given = found_then_chosen(rt.alloc(), &config, &mut rings, (lines, arrivals))?;

@@ -1,6 +1,6 @@
 //! A reader that follows servers which end while records come: it keeps how far it is, and has each record once.
 use crate::outcome::{Outcome, holds, job_of};
-use loopback::{Actor, CENTRE, Centre, record};
+use loopback::{Actor, Centre, LOOPBACK_CENTRE, record};
 use std::alloc::Global;
 use std::cell::RefCell;
 use std::fs::File;
@@ -76,7 +76,7 @@ fn feed_last<R: Net>(rt: &R, servers: &mut [Centre], samples: u16) -> io::Result
 
 /// One more server, which was fed two records of GE APE.
 fn add_fed<R: Net + AllocGlobal>(rt: &R, servers: &mut Vec<Centre>) -> Result<(), Fail> {
-    add(rt, servers, CENTRE)?;
+    add(rt, servers, LOOPBACK_CENTRE)?;
     feed_last(rt, servers.as_mut_slice(), 1)?;
     feed_last(rt, servers.as_mut_slice(), 2)?;
     Ok(())
@@ -212,10 +212,10 @@ where
     R: Files<File = File> + Net + AllocGlobal,
     R::File: AsRawFd,
 {
-    let mut well = Centre::open(rt, CENTRE)?;
+    let mut well = Centre::open(rt, LOOPBACK_CENTRE)?;
     feed(rt, &mut well, 1)?;
     feed(rt, &mut well, 2)?;
-    let silent = Centre::open(rt, CENTRE)?;
+    let silent = Centre::open(rt, LOOPBACK_CENTRE)?;
     let first = silent.ports().0;
     let second = well.ports().0;
     let line = format!(in rt.alloc();
