@@ -7,6 +7,7 @@ mod SeenLemmas
 mod HolderLemmas
 mod EntryLemmas
 mod OpenedLemmas
+mod UserLemmas
 mod KeyLemmas
 mod RemarkLemmas
 mod CoverageLemmas

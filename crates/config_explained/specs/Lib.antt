@@ -13,3 +13,4 @@ pub mod Opened
 pub mod Remarks
 pub mod Coverage
 pub mod Parts
+pub mod Users

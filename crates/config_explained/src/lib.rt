@@ -27,6 +27,7 @@ mod opened;
 mod parts;
 mod remark;
 mod seen;
+mod users;
 
 pub use difference::{Difference, Setting, first_difference};
 pub use finding::{Finding, finding_of, text_at};
@@ -41,3 +42,4 @@ pub use remark::{Remark, remarks};
 pub use seen::seen_by;
 pub use setting_texts::{key_of, limit_of, wanted_of};
 pub use unknown::unknown_keys;
+pub use users::users_of;

@@ -1,0 +1,57 @@
+//! Who may use each station, a text each, for those who show stations in a table of their own.
+ghost use Rattle.std.specs.Prelude.{◌≡◌, ◌≤◌, IfOk, IfSome, length, map, option_map};
+ghost use Rattle.std.specs.Str.{IsUtf8};
+ghost use Rattle.toml.specs.Parse.{parse_document};
+ghost use Rattle.toml.specs.View.{table_view};
+ghost use Rattle.protocol.specs.Catalog.{stations_of};
+ghost use Rattle.config_explained.specs.Users.{users_from, users_text, users_texts};
+
+use crate::entries::put_list;
+use crate::holders::list_at;
+use catalog::keys::table_of;
+use catalog::{Config, ConfigFault, Station};
+use std::alloc::{AllocError, Global};
+use toml::Table;
+
+/// Whom a list admits.
+fn users_in(alloc: Global, list: Option<&[u8]>) -> Result<Vec<u8>, AllocError>
+    ensures { IfOk result (λ text. text.items ≡ users_text (option_map (λ l. l.now) list.entry)) }
+{
+    match list {
+        None => Vec::from_slice(alloc, b"everybody"),
+        Some(list) => {
+            let mut words = Vec::new(alloc);
+            put_list(&mut words, Some(list))?;
+            let (_space, text) = words.as_slice().split_at(words.len().min(1));
+            Vec::from_slice(alloc, text)
+        }
+    }
+}
+
+/// The texts of all stations.
+#[tactic(auto, using(crate::proofs::UserLemmas::user_lemmas))]
+fn users_at(alloc: Global, stations: &[Station], table: &Table) -> Result<Vec<Vec<u8>>, AllocError>
+    ensures { IfOk result (λ texts. map (λ t. t.items) texts.items
+        ≡ users_from (table_view table.now) 0 (map (λ e. e.station) stations.now)) }
+{
+    let mut texts = Vec::new(alloc);
+    for (place, _station) in stations.iter().enumerate() {
+        let text = users_in(alloc, list_at(table, place))?;
+        texts.push(text)?;
+    }
+    Ok(texts)
+}
+
+/// Who may use each station of a configuration, in order: the entries of the access list that holds for it, as they stand
+/// in the configuration's text, with a space between two: its own list, else the server's. A list without an entry admits
+/// `nobody`; without a list `everybody` may use the station. Only memory can lack.
+pub fn users_of(alloc: Global, config: &Config, text: &[u8]) -> Result<Vec<Vec<u8>>, AllocError>
+    ensures { IfOk result (λ texts. IsUtf8 text.now → IfSome (parse_document text.now)
+        (λ keys. map (λ t. t.items) texts.items ≡ users_texts keys (stations_of config.now))) }
+{
+    match table_of(alloc, text) {
+        Ok(table) => users_at(alloc, config.stations(), &table),
+        Err(ConfigFault::OutOfMemory) => Err(AllocError),
+        Err(_) => Ok(Vec::new(alloc)),
+    }
+}
