@@ -1,13 +1,16 @@
-//! What the journal counts for the status port: who is here since when, and how often whom it turned away and which
-//! records it refused.
+//! What the journal counts for the status port: who is here since when, how many bytes each was sent, how often whom it
+//! turned away and which records it refused, and how long turns took.
+ghost use Rattle.std.specs.Prelude.{◌≡◌, ◌+◌, ◌-◌, ◌^◌, None, map, min};
+ghost use Rattle.server_watch.specs.Visitors.{with_bytes};
+ghost use Rattle.job_serve.specs.Turning.{begun_at, with_end};
+
 use ports::{AwayReason, RecordRefusal};
-use ports_logged::Visit;
+use ports_logged::{Sent, Visit};
 use protocol::reason::Reason;
-use server_watch::Visitor;
+use server_watch::{Turns, Visitor, Visitors};
 use status_page::NamedCount;
 use std::alloc::{AllocError, Global};
 use std::cell::{Ref, RefCell};
-use std::net::Ipv4Addr;
 
 /// How many reasons of refused records are told apart.
 const REASONS: usize = 64;
@@ -15,12 +18,17 @@ const REASONS: usize = 64;
 /// What was counted.
 #[derive(Drop)]
 pub struct Counts {
-    /// The clients that are here, by rising port.
-    pub visitors: Vec<Visitor>,
+    /// The clients that are here.
+    pub visitors: Visitors,
     /// How many records were refused, by reason.
     pub refusals: Vec<NamedCount<'static>>,
     /// How many connections were turned away, by reason.
     pub away: Vec<NamedCount<'static>>,
+    /// How many bytes clients were sent, those who left too. It stays at 2^64 - 1.
+    pub sent: u64,
+    pub turns: Turns,
+    /// When the turn under way began, in microseconds of the system's clock.
+    begun: Option<u64>,
 }
 
 /// The name of a reason for which a connection is turned away.
@@ -50,49 +58,35 @@ fn count(counts: &mut Vec<NamedCount<'static>>, name: &'static str) {
     }
 }
 
-/// A client comes.
-fn come(visitors: &mut Vec<Visitor>, port: u64, address: Ipv4Addr, since: u64) {
-    let is_later = match visitors.last() {
-        Some(last) => last.port < port,
-        None => true,
-    };
-    if is_later && visitors.len() < visitors.capacity() {
-        let _ = visitors.push(Visitor {
-            port,
-            address,
-            since,
-        });
-    }
-}
-
-/// A client goes.
-fn go(visitors: &mut Vec<Visitor>, port: u64) {
-    if let Ok(at) = visitors.binary_search_by_key(&port, |visitor| visitor.port) {
-        if at < visitors.len() {
-            let _gone = visitors.remove(at);
-        }
-    }
-}
-
 impl Counts {
     /// Nothing was counted; there is room for so many clients. Only memory can lack.
     fn new(alloc: Global, clients: usize) -> Result<Counts, AllocError> {
         Ok(Counts {
-            visitors: Vec::with_capacity(alloc, clients)?,
+            visitors: Visitors::new(alloc, clients)?,
             refusals: Vec::with_capacity(alloc, REASONS)?,
             away: Vec::with_capacity(alloc, REASONS)?,
+            sent: 0,
+            turns: Turns::new(),
+            begun: None,
         })
     }
 
     /// What happened of a visit, at a time in milliseconds since the server began.
     fn note(&mut self, visit: &Visit, now: u64) {
         match visit {
-            Visit::Open { port, address } => come(&mut self.visitors, *port, *address, now),
+            Visit::Open { port, address } => self.visitors.add(Visitor {
+                port: *port,
+                address: *address,
+                since: now,
+                bytes: 0,
+            }),
             Visit::Close {
                 port,
                 address: _,
                 bytes: _,
-            } => go(&mut self.visitors, *port),
+            } => {
+                let _gone = self.visitors.remove(*port);
+            }
             Visit::Away(away) => count(&mut self.away, name_of(away.reason)),
             Visit::Refused {
                 port: _,
@@ -100,6 +94,39 @@ impl Counts {
                 refusal,
             } => count(&mut self.refusals, name_of_refusal(refusal)),
             _ => {}
+        }
+    }
+
+    /// A port was written to.
+    fn took(&mut self, sent: Sent)
+        ensures visitors { self.new.visitors ≡ record self.old.visitors {
+          present = map (with_bytes sent.port sent.bytes) self.old.visitors.present;
+        } }
+        ensures sent { self.new.sent ≡ min (self.old.sent + sent.bytes) (2 ^ 64 - 1) }
+        ensures turns { self.new.turns ≡ self.old.turns }
+        ensures begun { self.new.begun ≡ self.old.begun }
+    {
+        self.visitors.count(sent.port, sent.bytes);
+        self.sent = self.sent.saturating_add(sent.bytes);
+    }
+
+    /// The ports said what happened, at a time in microseconds: if no turn is under way, one begins.
+    fn begin_turn(&mut self, now: u64)
+        ensures begun { self.new.begun ≡ begun_at now self.old.begun }
+        ensures turns { self.new.turns ≡ self.old.turns }
+    {
+        if self.begun.is_none() {
+            self.begun = Some(now);
+        }
+    }
+
+    /// The turn under way ends, if one is.
+    fn end_turn(&mut self, now: u64)
+        ensures turns { self.new.turns ≡ with_end now self.old.begun self.old.turns }
+        ensures begun { self.new.begun ≡ None }
+    {
+        if let Some(begun) = self.begun.take() {
+            self.turns.note(now.saturating_sub(begun));
         }
     }
 }
@@ -130,6 +157,35 @@ impl SharedCounts {
     pub fn note(&self, visit: &Visit, now: u64) {
         if let Ok(mut counts) = self.counts.try_borrow_mut() {
             counts.note(visit, now);
+        }
+    }
+
+    /// A port was written to.
+    pub fn took(&self, sent: Sent) {
+        if let Ok(mut counts) = self.counts.try_borrow_mut() {
+            counts.took(sent);
+        }
+    }
+
+    /// Whether no turn is under way.
+    pub fn is_waiting(&self) -> bool {
+        match self.counts.try_borrow() {
+            Ok(counts) => counts.begun.is_none(),
+            Err(_) => false,
+        }
+    }
+
+    /// The ports said what happened, at a time in microseconds.
+    pub fn begin_turn(&self, now: u64) {
+        if let Ok(mut counts) = self.counts.try_borrow_mut() {
+            counts.begin_turn(now);
+        }
+    }
+
+    /// The turn under way ends.
+    pub fn end_turn(&self, now: u64) {
+        if let Ok(mut counts) = self.counts.try_borrow_mut() {
+            counts.end_turn(now);
         }
     }
 

@@ -14,7 +14,7 @@ use crate::spare::Spare;
 use crate::starting::InForceLine;
 use crate::status::StatusDesk;
 use crate::timetable::{seconds_in, timetable_of};
-use crate::visits::SharedLines;
+use crate::visits::{SharedLines, micros_of};
 use catalog::Config;
 use command_line::ServeOptions;
 use config_explained::{Difference, first_difference};
@@ -131,6 +131,13 @@ impl<'r, 'a, 'l, R, D: Device> Operator<'r, 'a, 'l, R, D> {
         self.errors.tell(InForceLine { cut });
         if let Ok(copy) = config.copy(alloc) {
             self.in_force = copy;
+        }
+    }
+
+    /// The status port tells who may use each station by the text that was read last.
+    fn take_config(&mut self, alloc: Global, config: &Config) {
+        if let Some(status) = &mut self.status {
+            status.take_config(alloc, config, self.text.as_slice());
         }
     }
 
@@ -284,6 +291,9 @@ impl<'r, 'a, 'l, R: Files<File = File> + Clock + AllocGlobal, D: Device> Between
         match first_difference(alloc, &self.in_force, &config) {
             Ok(None) => {
                 self.difference = None;
+                if is_new {
+                    self.take_config(alloc, &config);
+                }
                 if self.is_logged && is_new {
                     self.note_in_force(alloc, &config);
                 }
@@ -323,13 +333,14 @@ impl<'r, 'a, 'l, R: Files<File = File> + Clock + AllocGlobal, D: Device> Between
         Ok(())
     }
 
-    /// What is asked at the status port is answered.
+    /// What is asked at the status port is answered. With that the turn ends.
     fn watch<P: Ports>(&mut self, server: &Loop<P>) {
         if self.status.is_none() {
             return;
         }
         if let (Some(now), Some(status)) = (self.passed(), &mut self.status) {
             status.look(self.rt.alloc(), now, server);
+            status.end_turn(micros_of(self.rt));
         }
     }
 }

@@ -221,7 +221,8 @@ fn run_watched<'a, 'l, R: Files<File = File> + Clock + AllocGlobal, D: Device + 
         return Err(no_memory());
     };
     let silent = request.options.silent;
-    match StatusDesk::new(rt, rt.alloc(), status, &config, silent, &counts) {
+    let text = files.text.as_slice();
+    match StatusDesk::new(rt, rt.alloc(), status, &config, text, silent, &counts) {
         Ok(desk) => run_logged(rt, config, ports, request, files, lines, Some(desk)),
         Err(_) => Err(no_memory()),
     }

@@ -3,6 +3,7 @@ use crate::counts::SharedCounts;
 use access_list::AccessList;
 use catalog::Config;
 use command_line::{ServeOptions, VERSION};
+use config_explained::users_of;
 use event_loop::Loop;
 use incidents::Incident;
 use job_base::{ServerAddress, server_of};
@@ -83,8 +84,18 @@ pub struct StatusDesk<'l> {
     counts: &'l SharedCounts,
     began: Option<Tick>,
     silent_after: u64,
+    /// Who may use each station, a text each.
+    users: Vec<Vec<u8>>,
     /// When it was looked at last.
     looked: Option<u64>,
+}
+
+/// Who may use each station of a configuration that is that of a text, a text each; without memory for them none.
+fn users_in(alloc: Global, config: &Config, text: &[u8]) -> Vec<Vec<u8>> {
+    match users_of(alloc, config, text) {
+        Ok(users) => users,
+        Err(_) => Vec::new(alloc),
+    }
 }
 
 /// The moment that a clock tells, as a length of time since 1970.
@@ -94,13 +105,14 @@ fn tick_of(now: Duration) -> Option<Tick> {
 }
 
 impl<'l> StatusDesk<'l> {
-    /// A desk at a port that is listened on, for a server with that configuration that begins now. Only memory can
-    /// lack.
+    /// A desk at a port that is listened on, for a server with that configuration, which is that of a text, that begins
+    /// now. Only memory can lack.
     pub fn new(
         rt: &impl Clock,
         alloc: Global,
         ports: StatusPorts,
         config: &Config,
+        text: &[u8],
         silent: Option<usize>,
         counts: &'l SharedCounts,
     ) -> Result<StatusDesk<'l>, AllocError> {
@@ -115,6 +127,7 @@ impl<'l> StatusDesk<'l> {
             counts,
             began,
             silent_after: silent.unwrap_or(SILENT) as u64,
+            users: users_in(alloc, config, text),
             looked: None,
         })
     }
@@ -122,6 +135,16 @@ impl<'l> StatusDesk<'l> {
     /// What its journal counts.
     pub fn counts(&self) -> &'l SharedCounts {
         self.counts
+    }
+
+    /// A configuration, which is that of a text, comes into force.
+    pub fn take_config(&mut self, alloc: Global, config: &Config, text: &[u8]) {
+        self.users = users_in(alloc, config, text);
+    }
+
+    /// A turn ends, at a time in microseconds.
+    pub fn end_turn(&self, now: u64) {
+        self.counts.end_turn(now);
     }
 
     /// Looks at the server and at the port, at a time in milliseconds since the server began, and answers one request
@@ -151,10 +174,13 @@ impl<'l> StatusDesk<'l> {
             silent_after: self.silent_after,
             refusals: counts.refusals.as_slice(),
             away: counts.away.as_slice(),
+            client_bytes: counts.sent,
+            turns: counts.turns.times(),
         };
         let is_by_age = matches!(asked.request.target, Target::PageByAge);
-        self.watch.gather(now, server, counts.visitors.as_slice());
-        if let Ok(stations) = self.watch.stations(alloc, now, server, is_by_age) {
+        self.watch.gather(now, server, &counts.visitors);
+        let users = self.users.as_slice();
+        if let Ok(stations) = self.watch.stations(alloc, now, server, users, is_by_age) {
             let status = self.watch.status(now, server, told, stations.as_slice());
             self.ports.answer(asked, &status, now);
         }

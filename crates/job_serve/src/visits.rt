@@ -1,6 +1,6 @@
 //! Lines that several parts of a server write, and among them who comes and goes.
 ghost use Rattle.std.specs.Prelude.{[], ◌∷◌, None};
-ghost use Rattle.ports_logged.specs.Visits.{Notes};
+ghost use Rattle.ports_logged.specs.Visits.{Notes, Passes};
 
 use crate::counts::SharedCounts;
 use crate::cuts::OpenClients;
@@ -8,7 +8,7 @@ use crate::refusals::{RefusalLog, RefusedLine, RefusedText};
 use catalog::Config;
 use error_lines::{Device, ErrorLines, Line};
 use ports::RecordRefusal;
-use ports_logged::{Journal, Visit};
+use ports_logged::{Journal, Sent, Visit};
 use std::alloc::{AllocError, Global};
 use std::cell::RefCell;
 use std::fmt::{self, Display, Formatter, Write};
@@ -115,6 +115,14 @@ impl<'l, R: Clock, D> VisitLines<'l, R, D> {
     }
 }
 
+/// The system's monotonic clock, in microseconds; 0 if it can't tell the time.
+pub fn micros_of(rt: &impl Clock) -> u64 {
+    match rt.monotonic() {
+        Ok(now) => u64::try_from(now.as_micros()).unwrap_or(u64::MAX),
+        Err(_) => 0,
+    }
+}
+
 /// A line of the server's log.
 fn line_of(text: impl Display + Drop) -> Line {
     let mut line = Line::new();
@@ -191,17 +199,36 @@ impl Display for CutVisit {
 }
 
 impl<'l, R: Clock, D: Device> Journal for VisitLines<'l, R, D> {
-    // What the standard error takes, no contract can say.
+    // What the standard error takes and shared counts hold, no contract can say.
     ghost noted = { λ _. None };
 
+    ghost passed = { λ _. None };
+
     fn note(&mut self, visit: Visit)
-        ensures { Notes None None (visit ∷ []) }
+        ensures notes { Notes None None (visit ∷ []) }
     {
         if let Some(counts) = self.counts {
             counts.note(&visit, self.passed());
         }
         if let Some(lines) = self.lines {
             self.write(lines, &visit);
+        }
+    }
+
+    fn took(&mut self, sent: Sent)
+        ensures passed { Passes None None (sent ∷ []) }
+    {
+        if let Some(counts) = self.counts {
+            counts.took(sent);
+        }
+    }
+
+    /// What the ports say first after a wait begins a turn.
+    fn heard(&mut self) {
+        if let Some(counts) = self.counts {
+            if counts.is_waiting() {
+                counts.begin_turn(micros_of(self.rt));
+            }
         }
     }
 }

@@ -10,8 +10,9 @@ ghost use Rattle.std.specs.Prelude.{ℕ, ◌≡◌, ◌∷◌, [], List};
 ghost use Rattle.std.specs.declared.option.Option.{Option};
 ghost use Rattle.std.specs.declared.net.ipv4_addr.Ipv4Addr.{Ipv4Addr};
 ghost use Rattle.ports_logged.specs.declared.visit.Away.{Away};
+ghost use Rattle.ports_logged.specs.declared.visit.Sent.{Sent};
 ghost use Rattle.ports_logged.specs.declared.visit.Visit.{Visit};
-ghost use Rattle.ports_logged.specs.Visits.{Notes};
+ghost use Rattle.ports_logged.specs.Visits.{Notes, Passes};
 
 mod logging;
 mod traffic;
@@ -22,7 +23,7 @@ mod visitors;
 pub use logging::LoggedPorts;
 use ports::Ports;
 use std::net::Ipv4Addr;
-pub use visit::{Away, ShownCodes, Visit};
+pub use visit::{Away, Sent, ShownCodes, Visit};
 
 /// Ports that know from where connections come, and that may turn some away before they join.
 pub trait Doors: Ports {
@@ -41,12 +42,26 @@ pub trait Doors: Ports {
         ensures { result ≡ address self.now port };
 }
 
-/// Whoever is told of visits.
+/// Whoever is told of visits, and of what ports take.
 pub trait Journal {
     // All visits that were noted, if the journal tells them.
     ghost noted: { Self → Option (List Visit) };
 
+    // What ports took, a write after the other, if the journal tells it.
+    ghost passed: { Self → Option (List Sent) };
+
     /// Notes what happened of a visit.
     fn note(&mut self, visit: Visit)
-        ensures { Notes (noted self.old) (noted self.new) (visit ∷ []) };
+        ensures notes { Notes (noted self.old) (noted self.new) (visit ∷ []) }
+        ensures passed { passed self.new ≡ passed self.old };
+
+    /// A port was written to, and took so many bytes.
+    fn took(&mut self, sent: Sent)
+        ensures notes { noted self.new ≡ noted self.old }
+        ensures passed { Passes (passed self.old) (passed self.new) (sent ∷ []) };
+
+    /// The ports have said what happened, for which they may have waited.
+    fn heard(&mut self)
+        ensures notes { noted self.new ≡ noted self.old }
+        ensures passed { passed self.new ≡ passed self.old };
 }

@@ -12,10 +12,10 @@ ghost use Rattle.ports.specs.declared.decisions.Decision.TheVariants.{LetIn};
 ghost use Rattle.ports_logged.specs.Decided.{count_of_read, counted_at, decided_notes, decided_visitors};
 ghost use Rattle.ports_logged.specs.Decided.{over_if};
 ghost use Rattle.ports_logged.specs.Visitors.{giving, is_at, taking, without};
-ghost use Rattle.ports_logged.specs.Visits.{Notes};
+ghost use Rattle.ports_logged.specs.Visits.{Notes, Passes};
 
 use crate::traffic::Traffic;
-use crate::visit::{Away, Visit};
+use crate::visit::{Away, Sent, Visit};
 use crate::visitor::Visitor;
 use crate::visitors::Visitors;
 use crate::{Doors, Journal};
@@ -38,7 +38,8 @@ pub struct LoggedPorts<P, J> {
 
 /// Notes connections that were turned away.
 fn note_all<J: Journal>(journal: &mut J, away: &[Away])
-    ensures { Notes (J.noted journal.old) (J.noted journal.new) (map Visit.Away away.now) }
+    ensures notes { Notes (J.noted journal.old) (J.noted journal.new) (map Visit.Away away.now) }
+    ensures passed { J.passed journal.new ≡ J.passed journal.old }
 {
     for one in away {
         journal.note(Visit::Away(*one));
@@ -56,6 +57,7 @@ fn let_in<J: Journal>(
     ensures visitors { visitors.new ≡ decided_visitors port (LetIn party) address visitors.old }
     ensures notes { Notes (J.noted journal.old) (J.noted journal.new)
         (decided_notes port (LetIn party) address visitors.old) }
+    ensures passed { J.passed journal.new ≡ J.passed journal.old }
 {
     visitors.add(Visitor::new(port, party, address));
     journal.note(match party {
@@ -69,6 +71,7 @@ fn let_go<J: Journal>(visitors: &mut Visitors, journal: &mut J, port: u64)
     ensures visitors { visitors.new ≡ record visitors.old { present = without port visitors.old.present } }
     ensures notes { Notes (J.noted journal.old) (J.noted journal.new)
         (over_if (find (is_at port) visitors.old.present)) }
+    ensures passed { J.passed journal.new ≡ J.passed journal.old }
 {
     match visitors.remove(port) {
         Some(gone) => journal.note(gone.end()),
@@ -87,6 +90,7 @@ fn decide<J: Journal>(
     ensures visitors { visitors.new ≡ decided_visitors port decision address visitors.old }
     ensures notes { Notes (J.noted journal.old) (J.noted journal.new)
         (decided_notes port decision address visitors.old) }
+    ensures passed { J.passed journal.new ≡ J.passed journal.old }
 {
     match decision {
         Decision::LetIn(party) => let_in(visitors, journal, port, party, address),
@@ -157,8 +161,10 @@ impl<P: Doors, J: Journal> Ports for LoggedPorts<P, J> {
         ensures visitors { self.new.visitors ≡ self.old.visitors }
         ensures notes { Notes (J.noted self.old.journal) (J.noted self.new.journal)
             (map Visit.Away (P.turned_away self.new.inner)) }
+        ensures passed { J.passed self.new.journal ≡ J.passed self.old.journal }
     {
         let answer = self.inner.next();
+        self.journal.heard();
         note_all(&mut self.journal, self.inner.turned_away());
         answer
     }
@@ -189,7 +195,9 @@ impl<P: Doors, J: Journal> Ports for LoggedPorts<P, J> {
         ensures failure { CountsFailure (P.failures self.old.inner) (P.failures self.new.inner) result }
         ensures decided { P.decided self.new.inner ≡ P.decided self.old.inner }
         ensures visitors { self.new.visitors ≡ counted_at port (taking (taken result)) self.old.visitors }
-        ensures journal { self.new.journal ≡ self.old.journal }
+        ensures notes { J.noted self.new.journal ≡ J.noted self.old.journal }
+        ensures passed { Passes (J.passed self.old.journal) (J.passed self.new.journal)
+            (record { port = port; bytes = taken result } ∷ []) }
     {
         let answer = self.inner.write(port, bytes);
         let count = match answer {
@@ -197,6 +205,10 @@ impl<P: Doors, J: Journal> Ports for LoggedPorts<P, J> {
             _ => 0,
         };
         self.visitors.count(port, Traffic::bytes_taken(count));
+        self.journal.took(Sent {
+            port,
+            bytes: count as u64,
+        });
         answer
     }
 
@@ -218,6 +230,7 @@ impl<P: Doors, J: Journal> Ports for LoggedPorts<P, J> {
             ≡ decided_visitors port decision (P.address self.old.inner port) self.old.visitors }
         ensures notes { Notes (J.noted self.old.journal) (J.noted self.new.journal)
             (decided_notes port decision (P.address self.old.inner port) self.old.visitors) }
+        ensures passed { J.passed self.new.journal ≡ J.passed self.old.journal }
     {
         let address = self.inner.address(port);
         self.inner.tell(port, decision);

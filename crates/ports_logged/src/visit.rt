@@ -15,6 +15,14 @@ pub struct Away {
     pub reason: AwayReason,
 }
 
+/// What a port took of a write.
+#[derive(Clone, Copy, Drop)]
+pub struct Sent {
+    pub port: u64,
+    /// How many bytes; 0 if it took none.
+    pub bytes: u64,
+}
+
 /// What happened of a visit. A port is named by its number.
 #[derive(Clone, Copy, Drop)]
 pub enum Visit {

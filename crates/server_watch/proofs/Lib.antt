@@ -1,1 +1,2 @@
 mod BehindLemmas
+mod VisitorLemmas

@@ -1,11 +1,15 @@
 -- What is told of a running server: when the last record of a station came, and how far behind a client is.
 -- This project's own.
-use Rattle.std.specs.Prelude.{ℕ, ◌+◌, ◌-◌, ◌/◌, ◌^◌, min, nat_lt, if◌then◌else◌, List, [], ◌∷◌, Option, Some, None}
-use Rattle.std.specs.Prelude.{slice_get}
+use Rattle.std.specs.Prelude.{◌≡◌, ℕ, ◌+◌, ◌-◌, ◌/◌, ◌^◌, min, nat_lt, if◌then◌else◌, List, [], ◌∷◌}
+use Rattle.std.specs.Prelude.{Option, Some, None, option_map, slice_get}
+use Rattle.protocol.specs.Catalog.{Entry as ConfigEntry}
 use Rattle.session_state.specs.declared.choices.Entry.{Entry}
 use Rattle.station_ring.specs.HeldRecords.{RingsValue}
 use Rattle.station_ring.specs.Rings.{RingValue}
+use Rattle.status_page.specs.declared.value.ClientStatus.{ClientStatus}
+use Rattle.status_page.specs.declared.value.StationStatus.{StationStatus}
 use Rattle.server_watch.specs.declared.arrivals.Arrivals.{Arrivals}
+use Rattle.server_watch.specs.declared.visitors.Visitor.{Visitor}
 
 -- what is known of a station's records once so many have come, at a time in milliseconds
 abbrev pub noted : (pushes now : ℕ) → Arrivals → Arrivals
@@ -28,3 +32,31 @@ lag rings e = pushes_of (slice_get rings.rings e.station) - e.cursor.ring_place
 abbrev pub behind_from : (sum : ℕ) → RingsValue → List Entry → ℕ
 behind_from sum rings [] = sum
 behind_from sum rings (e ∷ es) = behind_from (min (sum + lag rings e) (2 ^ 64 - 1)) rings es
+
+-- ---- what is told of a station and of a client
+
+-- What is told of the station at a place is its own: its settings, how many records came and when the last one did, and
+-- who is listed as one who may use it.
+pub record TellsOf (now place : ℕ) (entry : ConfigEntry) (rings : RingsValue) (arrivals : List Arrivals)
+    (listed : List ℕ) (s : StationStatus) : Type 0 where
+  pub network : s.network.now ≡ entry.station.network
+  pub code : s.code.now ≡ entry.station.code
+  pub description : s.description.now ≡ entry.station.description
+  pub capacity : s.capacity ≡ entry.station.capacity
+  pub records : Some s.records ≡ option_map (λ r. r.pushes) (slice_get rings.rings place)
+  pub age : Some s.age ≡ option_map (age_of now) (slice_get arrivals place)
+  pub users : s.users.now ≡ listed
+
+-- what is told of a client, by its port and by who is there: nothing counts for one that is not in the table
+abbrev pub with_visitor_of : (now port named behind : ℕ) → Option Visitor → ClientStatus
+with_visitor_of now port named behind (Some v) =
+    record {
+      number = port;
+      address = v.address.octets;
+      seconds = (now - v.since) / 1000;
+      named = named;
+      bytes = v.bytes;
+      behind = behind;
+    }
+with_visitor_of now port named behind None =
+    record { number = port; address = 0 ∷ 0 ∷ 0 ∷ 0 ∷ []; seconds = 0; named = named; bytes = 0; behind = behind }

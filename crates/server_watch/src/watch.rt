@@ -1,13 +1,16 @@
 //! A server that is watched.
-ghost use Rattle.std.specs.Prelude.{◌≡◌, length};
+ghost use Rattle.std.specs.Prelude.{◌≡◌, [], IfSome, length, option_map, slice_get};
+ghost use Rattle.std.specs.Option.{unwrap_or};
 ghost use Rattle.protocol.specs.Catalog.{Config as ProtocolConfig};
 ghost use Rattle.protocol.specs.World.{World};
 ghost use Rattle.server_core.specs.ServerValues.{StandsAt};
 ghost use Rattle.event_loop.specs.Hearing.{clients_in, feeds_in};
+ghost use Rattle.server_watch.specs.Watching.{TellsOf, with_visitor_of};
 
 use crate::arrivals::Arrivals;
 use crate::behind::behind_of;
 use crate::minutes::Minutes;
+use crate::visitors::{Visitor, Visitors};
 use catalog::{Config, Station};
 use event_loop::{Loop, Role, Seat};
 use ports::Ports;
@@ -15,20 +18,11 @@ use server_core::Server;
 use session_state::{Session, State};
 use sl_time::Tick;
 use station_ring::{Ring, Rings};
-use status_page::{ClientStatus, LastRecord, NamedCount, StationStatus, StatusValue};
+use status_page::{ClientStatus, LastRecord, NamedCount, StationStatus, StatusValue, TurnTimes};
 use std::alloc::{AllocError, Global};
-use std::net::Ipv4Addr;
 
 /// How many clients are told of at most.
 const CLIENTS: usize = 1_000;
-
-/// A client that is here: its port, from where it came, and when, in milliseconds since the server began.
-#[derive(Clone, Copy, Drop)]
-pub struct Visitor {
-    pub port: u64,
-    pub address: Ipv4Addr,
-    pub since: u64,
-}
 
 /// What else is told of a server: what the server itself doesn't know.
 #[derive(Clone, Copy)]
@@ -43,6 +37,9 @@ pub struct Told<'a> {
     pub refusals: &'a [NamedCount<'a>],
     /// How many connections were turned away, by reason.
     pub away: &'a [NamedCount<'a>],
+    /// How many bytes clients were sent, and how long turns took.
+    pub client_bytes: u64,
+    pub turns: TurnTimes<'a>,
 }
 
 /// What was seen of a server.
@@ -112,7 +109,7 @@ impl Watch {
     }
 
     /// Tells of a client, if not as many are told of already as are at most.
-    fn tell(&mut self, server: &Server, seat: &Seat, now: u64, visitors: &[Visitor]) {
+    fn tell(&mut self, server: &Server, seat: &Seat, now: u64, visitors: &Visitors) {
         let Role::Client(client) = &seat.role else {
             return;
         };
@@ -121,13 +118,14 @@ impl Watch {
         };
         self.follow(session);
         if self.clients.len() < CLIENTS {
-            let status = client_status(server.rings(), session, seat.port, now, visitors);
+            let visitor = visitors.find(seat.port);
+            let status = client_status(server.rings(), session, seat.port, now, visitor);
             let _ = self.clients.push(status);
         }
     }
 
     /// Looks at the clients, once a second at most.
-    pub fn gather<P: Ports>(&mut self, now: u64, server: &Loop<P>, visitors: &[Visitor]) {
+    pub fn gather<P: Ports>(&mut self, now: u64, server: &Loop<P>, visitors: &Visitors) {
         let second = now / 1_000;
         if self.gathered == Some(second) {
             return;
@@ -147,7 +145,11 @@ impl Watch {
         place: usize,
         station: &'x Station,
         rings: &Rings,
-    ) -> Option<StationStatus<'x>> {
+        users: &'x [Vec<u8>],
+    ) -> Option<StationStatus<'x>>
+        ensures { IfSome result (TellsOf now place station.now rings.now self.now.arrivals.items
+            (unwrap_or (option_map (λ u. u.items) (slice_get users.now place)) [])) }
+    {
         let ring = rings.ring(place)?;
         let arrivals = self.arrivals.get(place)?;
         let followers = self.followers.get(place)?;
@@ -155,6 +157,7 @@ impl Watch {
             network: station.network(),
             code: station.code(),
             description: station.description(),
+            users: users_at(users, place),
             held: held_of(ring),
             capacity: station.capacity() as u64,
             next_number: ring.next_number().digits(),
@@ -166,20 +169,21 @@ impl Watch {
         })
     }
 
-    /// What is told of all stations, in the order of the configuration or by age. The list is made anew; only memory
-    /// for it can lack.
+    /// What is told of all stations, in the order of the configuration or by age, with a text for each of who may use
+    /// it. The list is made anew; only memory for it can lack.
     pub fn stations<'x, P: Ports>(
         &'x self,
         alloc: Global,
         now: u64,
         server: &'x Loop<P>,
+        users: &'x [Vec<u8>],
         is_by_age: bool,
     ) -> Result<Vec<StationStatus<'x>>, AllocError> {
         let config = server.server().config();
         let rings = server.rings();
         let mut stations = Vec::with_capacity(alloc, config.stations().len())?;
         for (place, station) in config.stations().iter().enumerate() {
-            if let Some(status) = self.station_at(now, place, station, rings) {
+            if let Some(status) = self.station_at(now, place, station, rings, users) {
                 // There is room for it.
                 let _ = stations.push(status);
             }
@@ -206,6 +210,8 @@ impl Watch {
         ensures refused { result.refused ≡ server.now.refused }
         ensures title { result.title.now ≡ server.now.server.config.title }
         ensures silent_after { result.silent_after ≡ told.entry.silent_after }
+        ensures client_bytes { result.client_bytes ≡ told.entry.client_bytes }
+        ensures turns { result.turns ≡ told.entry.turns }
     {
         StatusValue {
             title: server.server().config().title(),
@@ -219,6 +225,8 @@ impl Watch {
             refused: server.refused(),
             refusals: told.refusals,
             away: told.away,
+            client_bytes: told.client_bytes,
+            turns: told.turns,
             stations,
             clients: self.clients.as_slice(),
         }
@@ -243,30 +251,62 @@ fn last_of(ring: &Ring) -> Option<LastRecord> {
     })
 }
 
+/// Who may use the station at a place, by texts for all.
+fn users_at<'x>(users: &'x [Vec<u8>], place: usize) -> &'x [u8]
+    ensures { result.now ≡ unwrap_or (option_map (λ u. u.items) (slice_get users.now place)) [] }
+{
+    match users.get(place) {
+        Some(users) => users.as_slice(),
+        None => b"",
+    }
+}
+
+/// How many records of the stations that it named a client's transfer has not looked at.
+fn behind_in(rings: &Rings, session: &Session) -> u64 {
+    match session.state() {
+        State::Transfer(_) => behind_of(rings, session.choices()),
+        _ => 0,
+    }
+}
+
+/// What is told of a client, if it is known who it is.
+fn with_visitor(
+    now: u64,
+    port: u64,
+    named: u64,
+    behind: u64,
+    visitor: Option<Visitor>,
+) -> ClientStatus
+    ensures { result ≡ with_visitor_of now port named behind visitor }
+{
+    match visitor {
+        Some(visitor) => ClientStatus {
+            number: port,
+            address: visitor.address.octets(),
+            seconds: now.saturating_sub(visitor.since) / 1_000,
+            named,
+            bytes: visitor.bytes,
+            behind,
+        },
+        None => ClientStatus {
+            number: port,
+            address: [0; 4],
+            seconds: 0,
+            named,
+            bytes: 0,
+            behind,
+        },
+    }
+}
+
 /// What is told of a client.
 fn client_status(
     rings: &Rings,
     session: &Session,
     port: u64,
     now: u64,
-    visitors: &[Visitor],
+    visitor: Option<Visitor>,
 ) -> ClientStatus {
-    let at = match visitors.binary_search_by_key(&port, |visitor| visitor.port) {
-        Ok(at) => at,
-        Err(at) => at,
-    };
-    let (address, since) = match visitors.get(at) {
-        Some(visitor) if visitor.port == port => (visitor.address.octets(), visitor.since),
-        _ => ([0; 4], now),
-    };
-    ClientStatus {
-        number: port,
-        address,
-        seconds: now.saturating_sub(since) / 1_000,
-        named: session.choices().len() as u64,
-        behind: match session.state() {
-            State::Transfer(_) => behind_of(rings, session.choices()),
-            _ => 0,
-        },
-    }
+    let named = session.choices().len() as u64;
+    with_visitor(now, port, named, behind_in(rings, session), visitor)
 }

@@ -4,7 +4,9 @@ use Rattle.status_page.specs.declared.value.StatusValue.{StatusValue}
 use Rattle.status_page.specs.declared.value.StationStatus.{StationStatus}
 use Rattle.status_page.specs.declared.value.LastRecord.{LastRecord}
 use Rattle.status_page.specs.declared.value.NamedCount.{NamedCount}
-use Rattle.status_page.specs.Parts.{joined, label, unix_seconds}
+use Rattle.status_page.specs.declared.value.TurnBucket.{TurnBucket}
+use Rattle.status_page.specs.declared.value.TurnTimes.{TurnTimes}
+use Rattle.status_page.specs.Parts.{joined, label, micros_text, unix_seconds}
 
 -- what is counted of the whole server
 unfoldable pub server_lines : StatusValue → List ℕ
@@ -134,7 +136,40 @@ away_lines ns = away_head ++ reason_lines (codes "seedlinkd_turned_away_total") 
 unfoldable pub station_lines : List StationStatus → List ℕ
 station_lines ss = record_lines ss ++ age_lines ss ++ end_lines ss ++ follower_lines ss
 
+-- how many bytes clients were sent
+unfoldable pub client_lines : ℕ → List ℕ
+client_lines bytes =
+    joined (codes "# HELP seedlinkd_client_bytes_total Bytes of answers and packets that clients were sent.\n"
+    ∷ codes "# TYPE seedlinkd_client_bytes_total counter\nseedlinkd_client_bytes_total " ∷ decimal bytes
+    ∷ codes "\n" ∷ [])
+
+-- how many turns took no longer than a bound
+unfoldable pub bucket_line : TurnBucket → List ℕ
+bucket_line b =
+    joined (codes "seedlinkd_turn_seconds_bucket{le=\"" ∷ label b.bound.now ∷ codes "\"} " ∷ decimal b.count
+    ∷ codes "\n" ∷ [])
+
+-- the same for all bounds
+abbrev pub bucket_rows : List TurnBucket → List ℕ
+bucket_rows bs = flat_map bucket_line bs
+
+-- what stands before the values of that family
+unfoldable pub turn_head : List ℕ
+turn_head =
+    joined (codes "# HELP seedlinkd_turn_seconds How long the server worked between two waits.\n"
+    ∷ codes "# TYPE seedlinkd_turn_seconds histogram\n" ∷ [])
+
+-- how long all turns took together, and how many there were
+unfoldable pub turn_end : TurnTimes → List ℕ
+turn_end t =
+    joined (codes "seedlinkd_turn_seconds_sum " ∷ micros_text t.micros ∷ codes "\nseedlinkd_turn_seconds_count "
+    ∷ decimal t.count ∷ codes "\n" ∷ [])
+
+-- how long turns took
+unfoldable pub turn_lines : TurnTimes → List ℕ
+turn_lines t = turn_head ++ bucket_rows t.buckets.now ++ turn_end t
+
 -- all metrics
 unfoldable pub metrics_text : StatusValue → List ℕ
 metrics_text v =
-    server_lines v ++ refusal_lines v.refusals.now ++ away_lines v.away.now ++ station_lines v.stations.now
+    server_lines v ++ client_lines v.client_bytes ++ turn_lines v.turns ++ refusal_lines v.refusals.now ++ away_lines v.away.now ++ station_lines v.stations.now

@@ -40,7 +40,8 @@ unfoldable pub counts_list : StatusValue → List ℕ
 counts_list v =
     joined (codes "</p>\n<ul><li><b>" ∷ decimal v.open_clients ∷ codes "</b> clients</li><li><b>"
     ∷ decimal v.open_feeds ∷ codes "</b> feeds</li><li><b>" ∷ decimal v.records
-    ∷ codes "</b> records taken</li><li><b>" ∷ decimal v.refused ∷ codes "</b> refused</li>" ∷ [])
+    ∷ codes "</b> records taken</li><li><b>" ∷ decimal v.refused ∷ codes "</b> refused</li><li><b>"
+    ∷ decimal v.client_bytes ∷ codes "</b> bytes sent</li>" ∷ [])
 
 -- how many connections were turned away for a reason
 unfoldable pub named_item : NamedCount → List ℕ
@@ -56,11 +57,11 @@ away_items ns = flat_map named_item ns
 unfoldable pub stations_title : ℕ → List ℕ
 stations_title silent_after =
     joined (codes "</ul>\n<h2>Stations</h2><p>Red: nothing came for " ∷ decimal silent_after
-    ∷ codes " s. In the order of the <a href='/'>configuration</a>"
-    ∷ codes ", or the <a href='/?sort=age'>longest silent</a> first.</p>\n<div class='wide'>"
-    ∷ codes "<table><tr><th>Station</th><th class='n'>Last came</th><th>Last hour</th><th>"
+    ∷ codes " s. In the order of the <a href='./'>configuration</a>"
+    ∷ codes ", or the <a href='?sort=age'>longest silent</a> first.</p>\n<div class='wide'>"
+    ∷ codes "<table><tr><th>Station</th><th class='n'>Last came</th><th>Last hour</th><th class='minor'>"
     ∷ codes "Last record</th><th class='n minor'>Held</th><th class='n minor'>"
-    ∷ codes "Next number</th><th class='n'>Followers</th></tr>\n" ∷ [])
+    ∷ codes "Next number</th><th class='minor'>Open to</th><th class='n'>Followers</th></tr>\n" ∷ [])
 
 -- the begin of a station's row, which stands out if the station is silent
 unfoldable pub row_begin : Bool → List ℕ
@@ -89,7 +90,7 @@ drawing_begin =
 -- what stands after them
 unfoldable pub drawing_end : List ℕ
 drawing_end =
-    joined (codes "V20z'/></svg></td><td>" ∷ [])
+    joined (codes "V20z'/></svg></td><td class='minor'>" ∷ [])
 
 -- the drawing of the records that came in each minute
 unfoldable pub drawing_text : List ℕ → List ℕ
@@ -105,8 +106,8 @@ last_cell (Some r) =
 unfoldable pub station_cells : StationStatus → List ℕ
 station_cells s =
     joined (codes "</td><td class='n minor'>" ∷ decimal s.held ∷ codes " of " ∷ decimal s.capacity
-    ∷ codes "</td><td class='n minor'>" ∷ s.next_number ∷ codes "</td><td class='n'>" ∷ decimal s.followers
-    ∷ codes "</td></tr>\n" ∷ [])
+    ∷ codes "</td><td class='n minor'>" ∷ s.next_number ∷ codes "</td><td class='who minor'>"
+    ∷ html s.users.now ∷ codes "</td><td class='n'>" ∷ decimal s.followers ∷ codes "</td></tr>\n" ∷ [])
 
 -- the row of a station
 unfoldable pub station_row : (silent_after : ℕ) → StationStatus → List ℕ
@@ -123,8 +124,9 @@ station_rows silent_after ss = flat_map (station_row silent_after) ss
 unfoldable pub clients_table : List ℕ
 clients_table =
     joined (codes "</table></div>\n<h2>Clients</h2><div class='wide'><table><tr><th class='n'>"
-    ∷ codes "Number</th><th>Address</th><th class='n'>Here for</th><th class='n'>"
-    ∷ codes "Stations named</th><th class='n'>Records ahead</th></tr>\n" ∷ [])
+    ∷ codes "Number</th><th>Address</th><th class='n minor'>Here for</th>"
+    ∷ codes "<th class='n minor'>Stations named</th><th class='n'>Bytes sent</th><th class='n'>"
+    ∷ codes "Records ahead</th></tr>\n" ∷ [])
 
 -- the begin of the row of a client
 unfoldable pub client_begin : ClientStatus → List ℕ
@@ -134,7 +136,8 @@ client_begin c =
 -- what follows its address
 unfoldable pub client_end : ClientStatus → List ℕ
 client_end c =
-    joined (codes "</td><td class='n'>" ∷ decimal c.seconds ∷ codes " s</td><td class='n'>" ∷ decimal c.named
+    joined (codes "</td><td class='n minor'>" ∷ decimal c.seconds ∷ codes " s</td><td class='n minor'>" ∷ decimal c.named
+    ∷ codes "</td><td class='n'>" ∷ decimal c.bytes
     ∷ codes "</td><td class='n'>" ∷ decimal c.behind ∷ codes "</td></tr>\n" ∷ [])
 
 -- the row of a client

@@ -1,9 +1,9 @@
 -- Parts of an answer, and their texts. HTML: character references. Prometheus, text format 0.0.4: values of labels.
-use Rattle.std.specs.Prelude.{ℕ, ℤ, pos, negsuc, ◌==◌, ◌||◌, ◌/◌, nat_lt, if◌then◌else◌, List, [], ◌∷◌, ◌++◌, codes}
+use Rattle.std.specs.Prelude.{ℕ, ℤ, pos, negsuc, ◌==◌, ◌||◌, ◌+◌, ◌/◌, ◌%◌, nat_lt, if◌then◌else◌, List, [], ◌∷◌, ◌++◌, codes}
 use Rattle.std.specs.Prelude.{decimal, flat_map, slice_index}
 use Rattle.sl_time.specs.Written.{moment_text}
 use Rattle.status_page.specs.declared.parts.Part.{Part}
-use Rattle.status_page.specs.declared.parts.Part.TheVariants.{Text, Number, Html, Label, Shown, Moment, Seconds}
+use Rattle.status_page.specs.declared.parts.Part.TheVariants.{Text, Number, Html, Label, Shown, Moment, Seconds, Micros}
 
 -- a byte of a text as HTML has it: `&` is 38, `<` is 60, `>` is 62, `"` is 34, `'` is 39
 abbrev pub html_byte : ℕ → List ℕ
@@ -34,6 +34,19 @@ abbrev pub unix_seconds : ℤ → List ℕ
 unix_seconds (pos n) = decimal (n / 10000)
 unix_seconds (negsuc n) = decimal 0
 
+-- the decimal digit of a number for a power of ten, as a byte: `0` is 48
+abbrev pub digit_at : (number power : ℕ) → ℕ
+digit_at number power = 48 + number / power % 10
+
+-- the last six decimal digits of a number
+abbrev pub six_digits : ℕ → List ℕ
+six_digits n =
+    digit_at n 100000 ∷ digit_at n 10000 ∷ digit_at n 1000 ∷ digit_at n 100 ∷ digit_at n 10 ∷ digit_at n 1 ∷ []
+
+-- microseconds as seconds with six decimals
+abbrev pub micros_text : ℕ → List ℕ
+micros_text n = decimal (n / 1000000) ++ codes "." ++ six_digits n
+
 abbrev pub part_text : Part → List ℕ
 part_text (Text bytes) = bytes.now
 part_text (Number n) = decimal n
@@ -42,6 +55,7 @@ part_text (Label bytes) = label bytes.now
 part_text (Shown bytes) = shown bytes.now
 part_text (Moment moment) = moment_text moment
 part_text (Seconds moment) = unix_seconds moment
+part_text (Micros n) = micros_text n
 
 abbrev pub parts_text : List Part → List ℕ
 parts_text ps = flat_map part_text ps

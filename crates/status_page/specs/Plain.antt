@@ -26,33 +26,42 @@ totals_line v =
     joined (shown v.title.now ∷ codes "\n" ∷ v.version.now ∷ codes "\nseconds " ∷ decimal v.passed
     ∷ codes ", clients " ∷ decimal v.open_clients ∷ codes ", feeds " ∷ decimal v.open_feeds
     ∷ codes ", records " ∷ decimal v.records ∷ codes ", refused " ∷ decimal v.refused
-    ∷ codes "\n\nNET\tSTATION\tAGE s\tHELD\tOF\tNEXT\tFOLLOW\tLAST RECORD\n" ∷ [])
+    ∷ codes ", bytes sent " ∷ decimal v.client_bytes
+    ∷ codes "\n\nNET\tSTATION\tSTATE\tAGE s\tHELD\tOF\tNEXT\tFOLLOW\tLAST RECORD\tOPEN TO\n" ∷ [])
 
 -- from when to when the last record goes
 unfoldable pub last_text : Option LastRecord → List ℕ
-last_text None = joined (codes "-\n" ∷ [])
+last_text None = joined (codes "-" ∷ [])
 last_text (Some r) =
-    joined (moment_text r.start ∷ codes " - " ∷ moment_text r.stop ∷ codes "\n" ∷ [])
+    joined (moment_text r.start ∷ codes " - " ∷ moment_text r.stop ∷ [])
 
--- the codes and the numbers of a station
-unfoldable pub station_numbers : StationStatus → List ℕ
-station_numbers s =
-    joined (shown s.network.now ∷ codes "\t" ∷ shown s.code.now ∷ codes "\t" ∷ decimal s.age ∷ codes "\t"
+-- whether a station is silent, in its column
+abbrev pub state_text : (silent_after : ℕ) → StationStatus → List ℕ
+state_text silent_after s = if is_silent silent_after s then codes "\tsilent\t" else codes "\tok\t"
+
+-- the codes, the state and the numbers of a station
+unfoldable pub station_numbers : (silent_after : ℕ) → StationStatus → List ℕ
+station_numbers silent_after s =
+    joined (shown s.network.now ∷ codes "\t" ∷ shown s.code.now ∷ state_text silent_after s ∷ decimal s.age ∷ codes "\t"
     ∷ decimal s.held ∷ codes "\t" ∷ decimal s.capacity ∷ codes "\t" ∷ s.next_number ∷ codes "\t"
     ∷ decimal s.followers ∷ codes "\t" ∷ [])
 
--- the line of a station
-unfoldable pub station_line : StationStatus → List ℕ
-station_line s = station_numbers s ++ last_text s.last
+-- who may use a station, and the end of its line
+unfoldable pub users_text : StationStatus → List ℕ
+users_text s = joined (codes "\t" ∷ shown s.users.now ∷ codes "\n" ∷ [])
 
-abbrev pub station_lines : List StationStatus → List ℕ
-station_lines ss = flat_map station_line ss
+-- the line of a station
+unfoldable pub station_line : (silent_after : ℕ) → StationStatus → List ℕ
+station_line silent_after s = station_numbers silent_after s ++ last_text s.last ++ users_text s
+
+abbrev pub station_lines : (silent_after : ℕ) → List StationStatus → List ℕ
+station_lines silent_after ss = flat_map (station_line silent_after) ss
 
 -- the numbers of a client
 unfoldable pub client_numbers : ClientStatus → List ℕ
 client_numbers c =
     joined (decimal c.number ∷ codes "\t" ∷ decimal c.seconds ∷ codes "\t" ∷ decimal c.named ∷ codes "\t"
-    ∷ decimal c.behind ∷ codes "\t" ∷ [])
+    ∷ decimal c.behind ∷ codes "\t" ∷ decimal c.bytes ∷ codes "\t" ∷ [])
 
 -- the line of a client
 unfoldable pub client_line : ClientStatus → List ℕ
@@ -64,10 +73,10 @@ client_lines cs = flat_map client_line cs
 -- the head of the table of clients
 unfoldable pub clients_head : List ℕ
 clients_head =
-    joined (codes "\nNUMBER\tHERE s\tNAMED\tAHEAD\tADDRESS\n" ∷ [])
+    joined (codes "\nNUMBER\tHERE s\tNAMED\tAHEAD\tBYTES\tADDRESS\n" ∷ [])
 
 -- the two tables, of stations and of clients
 unfoldable pub plain_text : StatusValue → List ℕ
 plain_text v =
-    totals_line v ++ station_lines v.stations.now ++ clients_head
+    totals_line v ++ station_lines v.silent_after v.stations.now ++ clients_head
     ++ client_lines v.clients.now

@@ -13,4 +13,6 @@ mod value;
 
 pub use answers::write_answer;
 pub use request::{Request, Target, request_in};
-pub use value::{ClientStatus, LastRecord, NamedCount, StationStatus, StatusValue};
+pub use value::{
+    ClientStatus, LastRecord, NamedCount, StationStatus, StatusValue, TurnBucket, TurnTimes,
+};

@@ -4,10 +4,11 @@ ghost use Rattle.status_page.specs.Metrics.{age_head, age_line, age_lines, age_r
 ghost use Rattle.status_page.specs.Metrics.{end_line, end_lines, end_rows, follower_head, follower_line};
 ghost use Rattle.status_page.specs.Metrics.{follower_lines, follower_rows, metrics_text, reason_line, reason_lines};
 ghost use Rattle.status_page.specs.Metrics.{record_head, record_line, record_lines, record_rows, refusal_head};
-ghost use Rattle.status_page.specs.Metrics.{refusal_lines, server_lines, station_lines};
+ghost use Rattle.status_page.specs.Metrics.{bucket_line, bucket_rows, client_lines, refusal_lines, server_lines};
+ghost use Rattle.status_page.specs.Metrics.{station_lines, turn_end, turn_head, turn_lines};
 
 use crate::parts::{Part, put_parts};
-use crate::value::{NamedCount, StationStatus, StatusValue};
+use crate::value::{NamedCount, StationStatus, StatusValue, TurnBucket, TurnTimes};
 use std::alloc::AllocError;
 
 /// What is counted of the whole server.
@@ -307,6 +308,8 @@ pub fn put_metrics(text: &mut Vec<u8>, status: &StatusValue<'_>) -> Result<(), A
     ensures { OnOk result (text.new.items ≡ text.old.items ++ metrics_text status.now) }
 {
     put_server(text, status)?;
+    put_client_bytes(text, status.client_bytes)?;
+    put_turns(text, status.turns)?;
     put_refusals(text, status.refusals)?;
     put_away(text, status.away)?;
     put_stations(text, status.stations)
@@ -356,4 +359,94 @@ fn put_away(text: &mut Vec<u8>, counts: &[NamedCount<'_>]) -> Result<(), AllocEr
 {
     put_away_head(text)?;
     put_reasons(text, b"seedlinkd_turned_away_total", counts)
+}
+
+/// How many bytes clients were sent.
+#[tactic(auto, unfolding(crate::specs::Metrics::client_lines))]
+fn put_client_bytes(text: &mut Vec<u8>, bytes: u64) -> Result<(), AllocError>
+    ensures { OnOk result (text.new.items ≡ text.old.items ++ client_lines bytes) }
+{
+    put_parts(
+        text,
+        &[
+            Part::Text(
+                b"# HELP seedlinkd_client_bytes_total Bytes of answers and packets that clients were sent.\n",
+            ),
+            Part::Text(
+                b"# TYPE seedlinkd_client_bytes_total counter\nseedlinkd_client_bytes_total ",
+            ),
+            Part::Number(bytes),
+            Part::Text(b"\n"),
+        ],
+    )
+}
+
+/// How many turns took no longer than a bound.
+#[tactic(auto, unfolding(crate::specs::Metrics::bucket_line))]
+fn put_bucket(text: &mut Vec<u8>, bucket: &TurnBucket<'_>) -> Result<(), AllocError>
+    ensures { OnOk result (text.new.items ≡ text.old.items ++ bucket_line bucket.now) }
+{
+    put_parts(
+        text,
+        &[
+            Part::Text(b"seedlinkd_turn_seconds_bucket{le=\""),
+            Part::Label(bucket.bound),
+            Part::Text(b"\"} "),
+            Part::Number(bucket.count),
+            Part::Text(b"\n"),
+        ],
+    )
+}
+
+/// The same for all bounds.
+fn put_buckets(text: &mut Vec<u8>, buckets: &[TurnBucket<'_>]) -> Result<(), AllocError>
+    ensures { OnOk result (text.new.items ≡ text.old.items ++ bucket_rows buckets.now) }
+{
+    for bucket in buckets {
+        put_bucket(text, bucket)?;
+    }
+    Ok(())
+}
+
+/// What stands before the values of that family.
+#[tactic(auto, unfolding(crate::specs::Metrics::turn_head))]
+fn put_turn_head(text: &mut Vec<u8>) -> Result<(), AllocError>
+    ensures { OnOk result (text.new.items ≡ text.old.items ++ turn_head) }
+{
+    put_parts(
+        text,
+        &[
+            Part::Text(
+                b"# HELP seedlinkd_turn_seconds How long the server worked between two waits.\n",
+            ),
+            Part::Text(b"# TYPE seedlinkd_turn_seconds histogram\n"),
+        ],
+    )
+}
+
+/// How long all turns took together, and how many there were.
+#[tactic(auto, unfolding(crate::specs::Metrics::turn_end))]
+fn put_turn_end(text: &mut Vec<u8>, turns: TurnTimes<'_>) -> Result<(), AllocError>
+    ensures { OnOk result (text.new.items ≡ text.old.items ++ turn_end turns.entry) }
+{
+    put_parts(
+        text,
+        &[
+            Part::Text(b"seedlinkd_turn_seconds_sum "),
+            Part::Micros(turns.micros),
+            Part::Text(b"\nseedlinkd_turn_seconds_count "),
+            Part::Number(turns.count),
+            Part::Text(b"\n"),
+        ],
+    )
+}
+
+/// How long turns took.
+#[tactic(auto, unfolding(crate::specs::Metrics::turn_lines))]
+fn put_turns(text: &mut Vec<u8>, turns: TurnTimes<'_>) -> Result<(), AllocError>
+    ensures { OnOk result (text.new.items ≡ text.old.items ++ turn_lines turns.entry) }
+{
+    put_turn_head(text)?;
+    put_buckets(text, turns.buckets)?;
+    put_turn_end(text, turns)
 }

@@ -29,6 +29,7 @@ pub static STYLE: &[u8] =
     vertical-align:middle}\
     th{font-weight:600;color:var(--dim)}.n{text-align:right;font-variant-numeric:tabular-nums}\
     .silent td{background:var(--alarm)}.silent .age::before{content:'silent, ';font-weight:600}\
+    .who{white-space:normal;min-width:7rem;max-width:18rem;overflow-wrap:anywhere}\
     svg{display:block;width:120px;height:24px;fill:var(--bar)}small{display:block;color:var(--dim)}\
     @media(max-width:640px){body{padding:.6rem;font-size:14px}.minor{display:none}svg{width:72px}\
     th,td{padding:.3rem .4rem}small{white-space:normal}}";
@@ -99,7 +100,9 @@ fn put_counts(text: &mut Vec<u8>, status: &StatusValue<'_>) -> Result<(), AllocE
             Part::Number(status.records),
             Part::Text(b"</b> records taken</li><li><b>"),
             Part::Number(status.refused),
-            Part::Text(b"</b> refused</li>"),
+            Part::Text(b"</b> refused</li><li><b>"),
+            Part::Number(status.client_bytes),
+            Part::Text(b"</b> bytes sent</li>"),
         ],
     )
 }
@@ -141,15 +144,17 @@ fn put_stations_title(text: &mut Vec<u8>, silent_after: u64) -> Result<(), Alloc
         &[
             Part::Text(b"</ul>\n<h2>Stations</h2><p>Red: nothing came for "),
             Part::Number(silent_after),
-            Part::Text(b" s. In the order of the <a href='/'>configuration</a>"),
+            Part::Text(b" s. In the order of the <a href='./'>configuration</a>"),
             Part::Text(
-                b", or the <a href='/?sort=age'>longest silent</a> first.</p>\n<div class='wide'>",
+                b", or the <a href='?sort=age'>longest silent</a> first.</p>\n<div class='wide'>",
             ),
             Part::Text(
-                b"<table><tr><th>Station</th><th class='n'>Last came</th><th>Last hour</th><th>",
+                b"<table><tr><th>Station</th><th class='n'>Last came</th><th>Last hour</th><th class='minor'>",
             ),
             Part::Text(b"Last record</th><th class='n minor'>Held</th><th class='n minor'>"),
-            Part::Text(b"Next number</th><th class='n'>Followers</th></tr>\n"),
+            Part::Text(
+                b"Next number</th><th class='minor'>Open to</th><th class='n'>Followers</th></tr>\n",
+            ),
         ],
     )
 }
@@ -250,7 +255,7 @@ fn put_drawing_begin(text: &mut Vec<u8>) -> Result<(), AllocError>
 fn put_drawing_end(text: &mut Vec<u8>) -> Result<(), AllocError>
     ensures { OnOk result (text.new.items ≡ text.old.items ++ drawing_end) }
 {
-    put_parts(text, &[Part::Text(b"V20z'/></svg></td><td>")])
+    put_parts(text, &[Part::Text(b"V20z'/></svg></td><td class='minor'>")])
 }
 
 /// The drawing of the records that came in each minute.
@@ -296,6 +301,8 @@ fn put_cells(text: &mut Vec<u8>, station: &StationStatus<'_>) -> Result<(), Allo
             Part::Number(station.capacity),
             Part::Text(b"</td><td class='n minor'>"),
             Part::Text(&station.next_number),
+            Part::Text(b"</td><td class='who minor'>"),
+            Part::Html(station.users),
             Part::Text(b"</td><td class='n'>"),
             Part::Number(station.followers),
             Part::Text(b"</td></tr>\n"),
@@ -345,8 +352,11 @@ fn put_clients_title(text: &mut Vec<u8>) -> Result<(), AllocError>
             Part::Text(
                 b"</table></div>\n<h2>Clients</h2><div class='wide'><table><tr><th class='n'>",
             ),
-            Part::Text(b"Number</th><th>Address</th><th class='n'>Here for</th><th class='n'>"),
-            Part::Text(b"Stations named</th><th class='n'>Records ahead</th></tr>\n"),
+            Part::Text(b"Number</th><th>Address</th><th class='n minor'>Here for</th>"),
+            Part::Text(
+                b"<th class='n minor'>Stations named</th><th class='n'>Bytes sent</th><th class='n'>",
+            ),
+            Part::Text(b"Records ahead</th></tr>\n"),
         ],
     )
 }
@@ -374,10 +384,12 @@ fn put_client_end(text: &mut Vec<u8>, client: &ClientStatus) -> Result<(), Alloc
     put_parts(
         text,
         &[
-            Part::Text(b"</td><td class='n'>"),
+            Part::Text(b"</td><td class='n minor'>"),
             Part::Number(client.seconds),
-            Part::Text(b" s</td><td class='n'>"),
+            Part::Text(b" s</td><td class='n minor'>"),
             Part::Number(client.named),
+            Part::Text(b"</td><td class='n'>"),
+            Part::Number(client.bytes),
             Part::Text(b"</td><td class='n'>"),
             Part::Number(client.behind),
             Part::Text(b"</td></tr>\n"),

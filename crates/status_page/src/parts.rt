@@ -1,8 +1,8 @@
 //! Parts of an answer. What others wrote stands in it escaped, or shown.
-ghost use Rattle.std.specs.Prelude.{◌≡◌, ◌++◌, OnOk, decimal};
+ghost use Rattle.std.specs.Prelude.{◌≡◌, ◌+◌, ◌/◌, ◌%◌, ◌<◌, ◌++◌, OnOk, decimal};
 ghost use Rattle.sl_time.specs.Written.{moment_text};
 ghost use Rattle.status_page.specs.Parts.{address_text, html, html_byte, label, label_byte, part_text, parts_text};
-ghost use Rattle.status_page.specs.Parts.{shown, shown_byte, unix_seconds};
+ghost use Rattle.status_page.specs.Parts.{digit_at, micros_text, shown, shown_byte, six_digits, unix_seconds};
 
 use itoa::Buffer;
 use sl_time::{Tick, put_moment};
@@ -25,6 +25,8 @@ pub enum Part<'a> {
     Moment(Tick),
     /// A moment in whole seconds since 1970; 0 before that.
     Seconds(Tick),
+    /// A length of time in microseconds, as seconds with six decimals.
+    Micros(u64),
 }
 
 /// A byte in HTML.
@@ -102,6 +104,37 @@ fn put_number(text: &mut Vec<u8>, number: u64) -> Result<(), AllocError>
     text.extend_from_slice(buffer.format(number).as_bytes())
 }
 
+/// The decimal digit of a number for a power of ten, as a byte.
+fn digit_at(number: u64, power: u64) -> u8
+    requires { 0 < power }
+    ensures { result ≡ digit_at number power }
+{
+    b'0' + (number / power % 10) as u8
+}
+
+/// The last six decimal digits of a number.
+fn six_digits(number: u64) -> [u8; 6]
+    ensures { result ≡ six_digits number }
+{
+    [
+        digit_at(number, 100_000),
+        digit_at(number, 10_000),
+        digit_at(number, 1_000),
+        digit_at(number, 100),
+        digit_at(number, 10),
+        digit_at(number, 1),
+    ]
+}
+
+/// A length of time in microseconds, as seconds with six decimals.
+fn put_micros(text: &mut Vec<u8>, micros: u64) -> Result<(), AllocError>
+    ensures { OnOk result (text.new.items ≡ text.old.items ++ micros_text micros) }
+{
+    put_number(text, micros / 1_000_000)?;
+    text.extend_from_slice(b".")?;
+    text.extend_from_slice(&six_digits(micros))
+}
+
 /// A moment in whole seconds since 1970.
 fn put_unix_seconds(text: &mut Vec<u8>, moment: Tick) -> Result<(), AllocError>
     ensures { OnOk result (text.new.items ≡ text.old.items ++ unix_seconds moment) }
@@ -142,6 +175,7 @@ fn put_part(text: &mut Vec<u8>, part: &Part<'_>) -> Result<(), AllocError>
         Part::Shown(bytes) => put_shown(text, bytes),
         Part::Moment(moment) => put_moment(text, *moment),
         Part::Seconds(moment) => put_unix_seconds(text, *moment),
+        Part::Micros(micros) => put_micros(text, *micros),
     }
 }
 

@@ -2,7 +2,7 @@
 ghost use Rattle.std.specs.Prelude.{◌≡◌, ◌++◌, OnOk, true};
 ghost use Rattle.status_page.specs.Plain.{client_line, client_lines, client_numbers, clients_head, health_text};
 ghost use Rattle.status_page.specs.Plain.{last_text, plain_text, silent_line, station_line, station_lines};
-ghost use Rattle.status_page.specs.Plain.{station_numbers, totals_line};
+ghost use Rattle.status_page.specs.Plain.{state_text, station_numbers, totals_line, users_text};
 
 use crate::parts::{Part, put_address, put_parts};
 use crate::value::{ClientStatus, LastRecord, StationStatus, StatusValue};
@@ -69,7 +69,11 @@ fn put_totals(text: &mut Vec<u8>, status: &StatusValue<'_>) -> Result<(), AllocE
             Part::Number(status.records),
             Part::Text(b", refused "),
             Part::Number(status.refused),
-            Part::Text(b"\n\nNET\tSTATION\tAGE s\tHELD\tOF\tNEXT\tFOLLOW\tLAST RECORD\n"),
+            Part::Text(b", bytes sent "),
+            Part::Number(status.client_bytes),
+            Part::Text(
+                b"\n\nNET\tSTATION\tSTATE\tAGE s\tHELD\tOF\tNEXT\tFOLLOW\tLAST RECORD\tOPEN TO\n",
+            ),
         ],
     )
 }
@@ -86,17 +90,31 @@ fn put_last(text: &mut Vec<u8>, last: Option<LastRecord>) -> Result<(), AllocErr
                 Part::Moment(last.start),
                 Part::Text(b" - "),
                 Part::Moment(last.stop),
-                Part::Text(b"\n"),
             ],
         ),
-        None => put_parts(text, &[Part::Text(b"-\n")]),
+        None => put_parts(text, &[Part::Text(b"-")]),
     }
 }
 
-/// The codes and the numbers of a station.
+/// Whether a station is silent, in its column.
+fn state_of(station: &StationStatus<'_>, silent_after: u64) -> &'static [u8]
+    ensures { result.now ≡ state_text silent_after station.now }
+{
+    if station.is_silent(silent_after) {
+        b"\tsilent\t"
+    } else {
+        b"\tok\t"
+    }
+}
+
+/// The codes, the state and the numbers of a station.
 #[tactic(auto, unfolding(crate::specs::Plain::station_numbers))]
-fn put_station_numbers(text: &mut Vec<u8>, station: &StationStatus<'_>) -> Result<(), AllocError>
-    ensures { OnOk result (text.new.items ≡ text.old.items ++ station_numbers station.now) }
+fn put_station_numbers(
+    text: &mut Vec<u8>,
+    station: &StationStatus<'_>,
+    silent_after: u64,
+) -> Result<(), AllocError>
+    ensures { OnOk result (text.new.items ≡ text.old.items ++ station_numbers silent_after station.now) }
 {
     put_parts(
         text,
@@ -104,7 +122,7 @@ fn put_station_numbers(text: &mut Vec<u8>, station: &StationStatus<'_>) -> Resul
             Part::Shown(station.network),
             Part::Text(b"\t"),
             Part::Shown(station.code),
-            Part::Text(b"\t"),
+            Part::Text(state_of(station, silent_after)),
             Part::Number(station.age),
             Part::Text(b"\t"),
             Part::Number(station.held),
@@ -119,21 +137,45 @@ fn put_station_numbers(text: &mut Vec<u8>, station: &StationStatus<'_>) -> Resul
     )
 }
 
+/// Who may use a station, and the end of its line.
+#[tactic(auto, unfolding(crate::specs::Plain::users_text))]
+fn put_users(text: &mut Vec<u8>, station: &StationStatus<'_>) -> Result<(), AllocError>
+    ensures { OnOk result (text.new.items ≡ text.old.items ++ users_text station.now) }
+{
+    put_parts(
+        text,
+        &[
+            Part::Text(b"\t"),
+            Part::Shown(station.users),
+            Part::Text(b"\n"),
+        ],
+    )
+}
+
 /// The line of a station.
 #[tactic(auto, unfolding(crate::specs::Plain::station_line))]
-fn put_station(text: &mut Vec<u8>, station: &StationStatus<'_>) -> Result<(), AllocError>
-    ensures { OnOk result (text.new.items ≡ text.old.items ++ station_line station.now) }
+fn put_station(
+    text: &mut Vec<u8>,
+    station: &StationStatus<'_>,
+    silent_after: u64,
+) -> Result<(), AllocError>
+    ensures { OnOk result (text.new.items ≡ text.old.items ++ station_line silent_after station.now) }
 {
-    put_station_numbers(text, station)?;
-    put_last(text, station.last)
+    put_station_numbers(text, station, silent_after)?;
+    put_last(text, station.last)?;
+    put_users(text, station)
 }
 
 /// The lines of all stations.
-fn put_stations(text: &mut Vec<u8>, stations: &[StationStatus<'_>]) -> Result<(), AllocError>
-    ensures { OnOk result (text.new.items ≡ text.old.items ++ station_lines stations.now) }
+fn put_stations(
+    text: &mut Vec<u8>,
+    stations: &[StationStatus<'_>],
+    silent_after: u64,
+) -> Result<(), AllocError>
+    ensures { OnOk result (text.new.items ≡ text.old.items ++ station_lines silent_after stations.now) }
 {
     for station in stations {
-        put_station(text, station)?;
+        put_station(text, station, silent_after)?;
     }
     Ok(())
 }
@@ -153,6 +195,8 @@ fn put_client_numbers(text: &mut Vec<u8>, client: &ClientStatus) -> Result<(), A
             Part::Number(client.named),
             Part::Text(b"\t"),
             Part::Number(client.behind),
+            Part::Text(b"\t"),
+            Part::Number(client.bytes),
             Part::Text(b"\t"),
         ],
     )
@@ -185,7 +229,7 @@ fn put_clients_head(text: &mut Vec<u8>) -> Result<(), AllocError>
 {
     put_parts(
         text,
-        &[Part::Text(b"\nNUMBER\tHERE s\tNAMED\tAHEAD\tADDRESS\n")],
+        &[Part::Text(b"\nNUMBER\tHERE s\tNAMED\tAHEAD\tBYTES\tADDRESS\n")],
     )
 }
 
@@ -195,7 +239,7 @@ pub fn put_plain(text: &mut Vec<u8>, status: &StatusValue<'_>) -> Result<(), All
     ensures { OnOk result (text.new.items ≡ text.old.items ++ plain_text status.now) }
 {
     put_totals(text, status)?;
-    put_stations(text, status.stations)?;
+    put_stations(text, status.stations, status.silent_after)?;
     put_clients_head(text)?;
     put_clients(text, status.clients)
 }

@@ -26,6 +26,8 @@ pub struct StationStatus<'a> {
     pub network: &'a [u8],
     pub code: &'a [u8],
     pub description: &'a [u8],
+    /// Who may use it: the entries of the access list that holds for it, or `nobody` or `everybody`.
+    pub users: &'a [u8],
     /// How many of its records are held, and how many are at most.
     pub held: u64,
     pub capacity: u64,
@@ -63,8 +65,31 @@ pub struct ClientStatus {
     pub seconds: u64,
     /// How many stations it named.
     pub named: u64,
+    /// How many bytes of answers and packets it was sent. It stays at 2^64 - 1.
+    pub bytes: u64,
     /// How many records of these came that its transfer has not looked at, wanted or not.
     pub behind: u64,
+}
+
+/// How many turns took no longer than a bound.
+#[derive(Clone, Copy)]
+pub struct TurnBucket<'a> {
+    /// The bound in seconds, or `+Inf`.
+    pub bound: &'a [u8],
+    /// The same in microseconds; 2^64 - 1 for all turns.
+    pub micros: u64,
+    pub count: u64,
+}
+
+/// How long turns took: a turn is what a server does between two waits.
+#[derive(Clone, Copy)]
+pub struct TurnTimes<'a> {
+    /// For each bound, in rising order.
+    pub buckets: &'a [TurnBucket<'a>],
+    /// How many turns there were.
+    pub count: u64,
+    /// How long they took together, in microseconds.
+    pub micros: u64,
 }
 
 /// What is told of a server.
@@ -89,6 +114,9 @@ pub struct StatusValue<'a> {
     pub refusals: &'a [NamedCount<'a>],
     /// How many connections were turned away, by reason.
     pub away: &'a [NamedCount<'a>],
+    /// How many bytes of answers and packets clients were sent, those who left too.
+    pub client_bytes: u64,
+    pub turns: TurnTimes<'a>,
     pub stations: &'a [StationStatus<'a>],
     pub clients: &'a [ClientStatus],
 }

@@ -4,7 +4,7 @@ use super::runs::{Row, happenings, pieces, record};
 use catalog::Config;
 use memory_ports::{MemoryJournal, MemoryPorts, PortScript, ReadAnswer, Script, ScriptedDoors};
 use ports::AwayReason;
-use ports_logged::{Away, LoggedPorts, Visit};
+use ports_logged::{Away, LoggedPorts, Sent, Visit};
 use serving::serve;
 use std::alloc::Global;
 use std::fmt::Write;
@@ -29,8 +29,25 @@ fn lines_of(alloc: Global, visits: &[Visit]) -> Result<String, Fail> {
     Ok(lines)
 }
 
-/// The lines of what is noted in some turns of a server of at most eight clients. The scripts say what its ports give,
-/// and who is turned away by each call of `next`, the last first.
+/// The journal of some turns of a server of at most eight clients. The scripts say what its ports give, and who is
+/// turned away by each call of `next`, the last first.
+fn journal_of(
+    alloc: Global,
+    rows: &[Row],
+    scripts: Vec<PortScript>,
+    away: Vec<Vec<Away>>,
+    turns: u64,
+) -> Result<MemoryJournal, Fail> {
+    let config = Config::read(alloc, CENTRE)?;
+    let ports = MemoryPorts::new(alloc, Script::new(happenings(alloc, rows)?, scripts));
+    let doors = ScriptedDoors::new(alloc, ports, feeder(), away);
+    let journal = MemoryJournal::new(alloc);
+    let logged = LoggedPorts::new(alloc, doors, ROOM, journal)?;
+    let (_, journal) = serve(alloc, config, logged, turns)?.into_parts();
+    Ok(journal)
+}
+
+/// The lines of what is noted in it.
 fn noted(
     alloc: Global,
     rows: &[Row],
@@ -38,13 +55,19 @@ fn noted(
     away: Vec<Vec<Away>>,
     turns: u64,
 ) -> Result<String, Fail> {
-    let config = Config::read(alloc, CENTRE)?;
-    let ports = MemoryPorts::new(alloc, Script::new(happenings(alloc, rows)?, scripts));
-    let doors = ScriptedDoors::new(alloc, ports, feeder(), away);
-    let journal = MemoryJournal::new(alloc);
-    let logged = LoggedPorts::new(alloc, doors, ROOM, journal)?;
-    let (_, journal) = serve(alloc, config, logged, turns)?.into_parts();
+    let journal = journal_of(alloc, rows, scripts, away, turns)?;
     lines_of(alloc, journal.visits())
+}
+
+/// How many bytes a port took, write by write.
+fn taken(sent: &[Sent], port: u64) -> u64 {
+    let mut bytes = 0u64;
+    for one in sent {
+        if one.port == port {
+            bytes = bytes.saturating_add(one.bytes);
+        }
+    }
+    bytes
 }
 
 /// Two clients and a feed join. Later the first client ends.
@@ -81,6 +104,18 @@ fn those_who_come_and_go_are_noted(rt: HostRuntime) -> Result<(), Fail> {
         feed 2 refused 1 Sequence, first at record 2\nfeed 2 over 10.0.0.2 records 2 refused 2\n\
         close 0 10.0.0.7 bytes 45\n"
     );
+    Ok(())
+}
+
+#[test]
+fn what_a_client_takes_is_told_with_each_write(rt: HostRuntime) -> Result<(), Fail> {
+    let mut scripts = Vec::new(rt.alloc());
+    scripts.push(visit(rt.alloc(), 0, b"HELLO\r")?)?;
+    scripts.push(visit(rt.alloc(), 1, b"HELLO\rBYE\r")?)?;
+    let journal = journal_of(rt.alloc(), &VISITS, scripts, Vec::new(rt.alloc()), 2)?;
+    assert_eq!(rt; taken(journal.sent(), 0), 45);
+    assert_eq!(rt; taken(journal.sent(), 1), 45);
+    assert_eq!(rt; taken(journal.sent(), 2), 0);
     Ok(())
 }
 
