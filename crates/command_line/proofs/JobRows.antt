@@ -8,7 +8,7 @@ use Rattle.command_line.specs.declared.job.Every.TheVariants.{Seconds, Turns}
 use Rattle.command_line.specs.Commands.{program_app}
 use Rattle.command_line.specs.Jobs.{every_of, job_of, verbose_of}
 use Rattle.command_line.specs.Jobs.{CheckAsked, FeedAsked, ReadAsked, ServeAsked, ViewAsked}
-use Rattle.command_line.specs.Jobs.Asked.{Check, Replay, View, Serve, Feed, Read}
+use Rattle.command_line.specs.Jobs.Asked.{Check, Replay, View, Serve, Feed, Read, Status}
 
 abbrev replay_words : List Text
 replay_words = codes "seedlinkd" ∷ codes "replay" ∷ codes "island.toml" ∷ codes "hello.script" ∷ []
@@ -424,3 +424,21 @@ pub state_asked : job_of state_words ≡ Some (Read (codes "a") (codes "GE_WLF" 
     (record plain_read { state = Some (codes "s") }))
 unfolding clap_on_literals
 state_asked = refl
+
+abbrev status_words : List Text
+status_words = codes "seedlinkd" ∷ codes "status" ∷ codes "127.0.0.1:18002" ∷ []
+
+pub status_asked : job_of status_words ≡ Some (Status (codes "127.0.0.1:18002"))
+unfolding clap_on_literals
+status_asked = refl
+
+pub status_taken : fault_of program_app status_words ≡ []
+unfolding clap_on_literals
+status_taken = refl
+
+abbrev two_servers : List Text
+two_servers = codes "seedlinkd" ∷ codes "status" ∷ codes "a" ∷ codes "b" ∷ []
+
+pub two_servers_refused : fault_of program_app two_servers ≡ UnknownArgument ∷ []
+unfolding clap_on_literals
+two_servers_refused = refl

@@ -135,6 +135,10 @@ read_app = app_by (codes "read") (
     ∷ option false (codes "output")
     ∷ [])
 
+-- `status A:P`
+abbrev pub status_app : App
+status_app = app_by (codes "status") (wanted (codes "SERVER") ∷ [])
+
 -- the program before it has arguments and subcommands, of which it wants one
 abbrev pub bare_app : App
 bare_app =
@@ -148,5 +152,5 @@ named_app = with_verbose bare_app
 -- the program and its subcommands
 abbrev pub program_app : App
 program_app =
-    with_subcommand (with_subcommand (with_subcommand (with_subcommand (with_subcommand (with_subcommand named_app
-    check_app.top) replay_app.top) view_app.top) serve_app.top) feed_app.top) read_app.top
+    with_subcommand (with_subcommand (with_subcommand (with_subcommand (with_subcommand (with_subcommand (with_subcommand
+    named_app check_app.top) replay_app.top) view_app.top) serve_app.top) feed_app.top) read_app.top) status_app.top

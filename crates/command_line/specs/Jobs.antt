@@ -153,6 +153,7 @@ pub data Asked : Type 0 where
   Serve : (options : ServeAsked) → Asked
   Feed : (server : List ℕ) → (files : List (List ℕ)) → (options : FeedAsked) → Asked
   Read : (server : List ℕ) → (wants : List (List ℕ)) → (options : ReadAsked) → Asked
+  Status : (server : List ℕ) → Asked
 
 -- the job that the code has
 abbrev pub asked : Job → Asked
@@ -164,6 +165,7 @@ asked (job.Feed server files options) =
     Feed server.now (map (λ file. file.now) files.items) (feed_options_asked options)
 asked (job.Read server wants options) =
     Read server.now (map (λ want. want.now) wants.items) (options_asked options)
+asked (job.Status server) = Status server.now
 
 -- a flag was given
 abbrev pub flag_in : Text → List Row → Bool
@@ -377,6 +379,10 @@ read_asked rows =
     with_wants (options_in rows) (first_of (codes "SERVER") rows)
     (wants_beside (options_in rows) (all_of (codes "WANT") rows))
 
+-- the job of `status`, if its server is there
+abbrev pub status_asked : List Row → Option Asked
+status_asked rows = option_map Status (first_of (codes "SERVER") rows)
+
 -- the job of a subcommand with its arguments
 abbrev pub asked_by : Option (Text × List Row) → Option Asked
 asked_by None = None
@@ -386,7 +392,8 @@ asked_by (Some p) =
     else if bytes_eq p.0 (codes "view") then view_asked p.1
     else if bytes_eq p.0 (codes "serve") then serve_asked p.1
     else if bytes_eq p.0 (codes "feed") then feed_asked p.1
-    else if bytes_eq p.0 (codes "read") then read_asked p.1 else None
+    else if bytes_eq p.0 (codes "read") then read_asked p.1
+    else if bytes_eq p.0 (codes "status") then status_asked p.1 else None
 
 -- the job that words ask
 abbrev pub job_of : List Text → Option Asked

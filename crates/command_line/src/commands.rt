@@ -3,10 +3,10 @@ ghost use Rattle.std.specs.Prelude.{◌≡◌, IfOk, false, map};
 ghost use Rattle.clap.specs.Words.{App, app_of, new_app, rule_of, with_rule, with_subcommand};
 ghost use Rattle.command_line.specs.Building.{Builds, IsLocal};
 ghost use Rattle.command_line.specs.Commands.{app_by, bare_app, check_app, feed_app, program_app, read_app, replay_app};
-ghost use Rattle.command_line.specs.Commands.{rule_by, serve_app, view_app, with_rules, with_verbose};
+ghost use Rattle.command_line.specs.Commands.{rule_by, serve_app, status_app, view_app, with_rules, with_verbose};
 
 use crate::argument::{Argument, verbose};
-use crate::tables::{CHECK, FEED, READ, REPLAY, SERVE, VIEW};
+use crate::tables::{CHECK, FEED, READ, REPLAY, SERVE, STATUS, VIEW};
 use clap::{Arg, Command};
 use std::alloc::{AllocError, Global};
 
@@ -120,6 +120,14 @@ fn read_command<'a>(alloc: Global) -> Built<'a>
     )
 }
 
+fn status_command<'a>(alloc: Global) -> Built<'a>
+    ensures { Builds result status_app }
+{
+    let about =
+        "Prints how a server stands, by its status port; ends with 1 if a station is silent";
+    command_by(alloc, "status", about, &STATUS)
+}
+
 /// A command by its name.
 fn command_of<'a>(alloc: Global, name: &str) -> Built<'a> {
     match name {
@@ -129,6 +137,7 @@ fn command_of<'a>(alloc: Global, name: &str) -> Built<'a> {
         "serve" => serve_command(alloc),
         "feed" => feed_command(alloc),
         "read" => read_command(alloc),
+        "status" => status_command(alloc),
         _ => bare(alloc),
     }
 }
@@ -173,7 +182,8 @@ fn built<'a>(alloc: Global) -> Built<'a>
     let with_view = with_subcommand(with_replay, view_command(alloc));
     let with_serve = with_subcommand(with_view, serve_command(alloc));
     let with_feed = with_subcommand(with_serve, feed_command(alloc));
-    with_subcommand(with_feed, read_command(alloc))
+    let with_read = with_subcommand(with_feed, read_command(alloc));
+    with_subcommand(with_read, status_command(alloc))
 }
 
 /// The program and its subcommands.

@@ -40,6 +40,10 @@ pub enum Job<'a> {
         wants: Vec<&'a str>,
         options: ReadOptions<'a>,
     },
+    /// `status A:P`: how a server stands, by its status port.
+    Status {
+        server: &'a str,
+    },
 }
 
 /// The options of `check`.

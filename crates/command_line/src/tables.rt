@@ -178,3 +178,8 @@ pub static REPLAY: [Argument<'static>; 3] = [
     Wanted("SCRIPT", "The script, an event a line"),
     Flag("text", "Prints the dialogue as text, a line for each event"),
 ];
+
+pub static STATUS: [Argument<'static>; 1] = [Wanted(
+    "SERVER",
+    "Address and port of --status of a server, as 127.0.0.1:18002",
+)];

@@ -9,7 +9,7 @@ ghost use Rattle.command_line.specs.Jobs.{is_askable, is_spelled, job_of, number
 ghost use Rattle.command_line.specs.Jobs.{number_of};
 ghost use Rattle.command_line.specs.Jobs.{options_asked, options_in, read_asked, replay_asked};
 ghost use Rattle.command_line.specs.Jobs.{is_without_page, seconds_if, serve_asked, serve_options_asked};
-ghost use Rattle.command_line.specs.Jobs.{verbose_by, verbose_in, verbose_of, view_asked, wants_by};
+ghost use Rattle.command_line.specs.Jobs.{status_asked, verbose_by, verbose_in, verbose_of, view_asked, wants_by};
 ghost use Rattle.command_line.specs.declared.job.WordsFault.TheVariants.{OutOfMemory};
 
 use crate::commands::program;
@@ -323,6 +323,13 @@ fn read_job<'a>(alloc: Global, arguments: &ArgMatches<'a>) -> Result<Option<Job<
     }))
 }
 
+fn status_job<'a>(arguments: &ArgMatches<'a>) -> Option<Job<'a>>
+    ensures { option_map asked result ≡ status_asked (rows_of (found_of arguments.now)) }
+{
+    let server = text_at(arguments, "SERVER")?;
+    Some(Job::Status { server })
+}
+
 fn job_in<'a>(alloc: Global, matches: &ArgMatches<'a>) -> Result<Option<Job<'a>>, AllocError>
     ensures { IfOk result (λ job. option_map asked job ≡ asked_by (subcommand_rows_of matches.now)) }
 {
@@ -341,6 +348,8 @@ fn job_in<'a>(alloc: Global, matches: &ArgMatches<'a>) -> Result<Option<Job<'a>>
         feed_job(alloc, arguments)
     } else if name == "read" {
         read_job(alloc, arguments)
+    } else if name == "status" {
+        Ok(status_job(arguments))
     } else {
         Ok(None)
     }

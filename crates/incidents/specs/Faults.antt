@@ -15,11 +15,18 @@ use Rattle.incidents.specs.declared.failure.Failure.{Failure}
 use Rattle.incidents.specs.declared.failure.Failure.TheVariants as failure
 use Rattle.incidents.specs.declared.faults.ReplayFault.{ReplayFault}
 use Rattle.incidents.specs.declared.faults.ReplayFault.TheVariants as replay
+use Rattle.incidents.specs.declared.faults.StatusFault.{StatusFault}
+use Rattle.incidents.specs.declared.faults.StatusFault.TheVariants as status
 
 -- what the program tells of a replay that failed
 abbrev pub replay_reason : ReplayFault → Reason
 replay_reason (replay.Stream fault) = stream_reason fault
 replay_reason (replay.Script line) = reason.Script
+
+-- what the program tells of an answer that was not taken
+abbrev pub status_reason : StatusFault → Reason
+status_reason status.Ended = reason.Read
+status_reason status.Other = reason.BadReply
 
 -- what the program tells of a failure of the program
 abbrev pub failure_reason : Failure → Reason
@@ -50,3 +57,4 @@ failure_reason (failure.Wants fault) = reason.Limit
 failure_reason (failure.Packets fault) = listing_reason fault
 failure_reason (failure.Numbers fault) = reason.Numbers
 failure_reason (failure.State fault) = reason.State
+failure_reason (failure.Status fault) = status_reason fault

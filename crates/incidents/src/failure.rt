@@ -2,7 +2,7 @@
 ghost use Rattle.std.specs.Prelude.{◌≡◌};
 ghost use Rattle.incidents.specs.Faults.{failure_reason};
 
-use crate::faults::{NumbersFault, ReplayFault, StateFault, WantsFault};
+use crate::faults::{NumbersFault, ReplayFault, StateFault, StatusFault, WantsFault};
 use catalog::ConfigFault;
 use feeder::SendFault;
 use ports_socket::ListenFault;
@@ -73,6 +73,8 @@ pub enum Failure {
     Numbers(NumbersFault),
     /// The state of an earlier reader was not read.
     State(StateFault),
+    /// What a status port answered was not taken.
+    Status(StatusFault),
 }
 
 impl Failure {
@@ -109,6 +111,7 @@ impl Failure {
             Failure::Packets(fault) => fault.reason(),
             Failure::Numbers(fault) => fault.reason(),
             Failure::State(fault) => fault.reason(),
+            Failure::Status(fault) => fault.reason(),
         }
     }
 }
@@ -159,6 +162,11 @@ fn own_cause(failure: Failure) -> Option<&'static str> {
         Failure::State(StateFault::Invalid) => {
             "the file with the state is not in lines of a network, a station, a number and an end"
         }
+        Failure::Status(StatusFault::Ended) => {
+            "the connection ended before the whole answer came; perhaps the status port tells nothing to this address"
+        }
+        Failure::Status(StatusFault::Other) =>
+            "the answer is not that of a status port; perhaps this is another port of the server",
         _ => return None,
     };
     Some(cause)

@@ -1,7 +1,7 @@
 //! Why a script was not replayed, why numbers or a state were not read, and why wants are not asked for together.
 ghost use Rattle.std.specs.Prelude.{◌≡◌};
 ghost use Rattle.std.specs.Prelude.{codes};
-ghost use Rattle.incidents.specs.Faults.{replay_reason};
+ghost use Rattle.incidents.specs.Faults.{replay_reason, status_reason};
 
 use protocol::reason::Reason;
 use sl_io::StreamFault;
@@ -65,6 +65,27 @@ impl StateFault {
         ensures { result ≡ Reason.State }
     {
         Reason::State
+    }
+}
+
+/// Why a status port's answer was not taken.
+#[derive(Clone, Copy, Drop)]
+pub enum StatusFault {
+    /// The connection ended, or nothing came, before all of it was there.
+    Ended,
+    /// It is not the answer of a status port.
+    Other,
+}
+
+impl StatusFault {
+    /// The reason by which the program reports it: 42 or 52.
+    pub fn reason(self) -> Reason
+        ensures { result ≡ status_reason self }
+    {
+        match self {
+            StatusFault::Ended => Reason::Read,
+            StatusFault::Other => Reason::BadReply,
+        }
     }
 }
 

@@ -11,4 +11,4 @@ pub use job_check::{ReplayStyle, list_holders, list_seen, replay};
 pub use job_feed::{await_end, begin_feed, feed_records, send_feed, send_files};
 pub use serving::serve;
 pub use statuses::{failed, obey, told};
-pub use work::run_job;
+pub use work::{Outcome, run_job};

@@ -1,10 +1,11 @@
-//! What the user is told, and the exit status: 0 where the job was done or help was asked for, 1 at a fault of input or
-//! of a device, and 2 where the words are none that the program takes.
-ghost use Rattle.std.specs.Prelude.{◌≡◌, ◌≢◌, ◌⊎◌, false, true, map, string_bytes, OnErr, OnOk};
+//! What the user is told, and the exit status: 0 if the job was done or help was asked for, 1 at a fault of input or of a
+//! device, and if a server that was asked for its status has a silent station, and 2 if the command line is invalid.
+ghost use Rattle.std.specs.Prelude.{◌≡◌, ◌≢◌, ◌⊎◌, false, true, map, string_bytes, IfOk, OnErr};
 ghost use Rattle.std.specs.Process.{exit_status};
 ghost use Rattle.command_line.specs.Jobs.{IsJob, IsMistake};
+ghost use Rattle.jobs.specs.Outcomes.{status_by};
 
-use crate::work::run_job;
+use crate::work::{Outcome, run_job};
 use command_line::{Request, WordsFault, read_words};
 use incidents::{Failure, Incident};
 use job_base::{is_terminal, tell_incident};
@@ -33,13 +34,19 @@ fn failed_at<R: Eprint>(rt: &R, incident: Incident<'_>, is_verbose: bool) -> Exi
     ExitCode::FAILURE
 }
 
-/// The status of a job: 0 if it was done, and 1 at a fault, which is reported, and on request explained.
-fn status_of<R: Eprint>(rt: &R, outcome: Result<(), Incident<'_>>, is_verbose: bool) -> ExitCode
-    ensures done { OnOk outcome.entry (exit_status result ≡ 0) }
+/// The status of a job: 0 if it was done, 1 if it found a silent station, and 1 at a fault, which is reported, and on
+/// request explained.
+fn status_of<R: Eprint>(
+    rt: &R,
+    outcome: Result<Outcome, Incident<'_>>,
+    is_verbose: bool,
+) -> ExitCode
+    ensures done { IfOk outcome.entry (λ o. exit_status result ≡ status_by o) }
     ensures fault { OnErr outcome.entry (exit_status result ≡ 1) }
 {
     match outcome {
-        Ok(()) => ExitCode::SUCCESS,
+        Ok(Outcome::Done) => ExitCode::SUCCESS,
+        Ok(Outcome::Silent) => ExitCode::FAILURE,
         Err(incident) => failed_at(rt, incident, is_verbose),
     }
 }

@@ -1,6 +1,8 @@
 //! What is done for each job.
-ghost use Rattle.std.specs.Prelude.{◌≡◌};
+ghost use Rattle.std.specs.Prelude.{◌≡◌, IfOk, IsErr, Ok, OnErr, OnOk};
+ghost use Rattle.jobs.specs.Outcomes.{outcome_of};
 ghost use Rattle.jobs.specs.Words.{style_by};
+ghost use Rattle.jobs.specs.declared.work.Outcome.TheVariants.{Done};
 
 use command_line::Job;
 use incidents::Incident;
@@ -9,6 +11,7 @@ use job_check::{ReplayStyle, check_files, replay_files, view_file};
 use job_feed::feed_files;
 use job_read::read_servers;
 use job_serve::{ServeRequest, serve_sockets};
+use job_status::tell_status;
 use std::fs::File;
 use std::net::Net;
 use std::os::fd::AsRawFd;
@@ -25,39 +28,75 @@ fn style_of(is_text: bool) -> ReplayStyle
     }
 }
 
+/// What a job that was done came to.
+#[derive(Clone, Copy, Drop)]
+pub enum Outcome {
+    /// Nothing more is to be said.
+    Done,
+    /// A station of the server that was asked is silent.
+    Silent,
+}
+
+/// What a job comes to that only ends.
+fn done<'a>(ended: Result<(), Incident<'a>>) -> Result<Outcome, Incident<'a>>
+    ensures done { OnOk ended.entry (result ≡ Ok Done) }
+    ensures fault { OnErr ended.entry (IsErr result) }
+{
+    match ended {
+        Ok(()) => Ok(Outcome::Done),
+        Err(incident) => Err(incident),
+    }
+}
+
+/// What a look at a server comes to, by whether a station is silent.
+fn looked<'a>(is_silent: Result<bool, Incident<'a>>) -> Result<Outcome, Incident<'a>>
+    ensures done { IfOk is_silent.entry (λ silent. result ≡ Ok (outcome_of silent)) }
+    ensures fault { OnErr is_silent.entry (IsErr result) }
+{
+    match is_silent {
+        Ok(true) => Ok(Outcome::Silent),
+        Ok(false) => Ok(Outcome::Done),
+        Err(incident) => Err(incident),
+    }
+}
+
 /// Does what a job asks. With `is_verbose`, or at a terminal, faults that don't end a server are explained.
 pub fn run_job<'a, R: Files<File = File> + Print + Eprint + Clock + Net + AllocGlobal>(
     rt: &R,
     job: Job<'a>,
     is_verbose: bool,
-) -> Result<(), Incident<'a>>
+) -> Result<Outcome, Incident<'a>>
 where
     R::File: AsRawFd,
 {
     match job {
-        Job::Check { files, options } => check_files(rt, files.as_slice(), options),
+        Job::Check { files, options } => done(check_files(rt, files.as_slice(), options)),
         Job::Replay {
             config,
             script,
             is_text,
-        } => replay_files(rt, style_of(is_text), config, script),
-        Job::View(options) => view_file(rt, options),
-        Job::Serve(options) => serve_sockets(
-            rt,
-            ServeRequest {
-                options,
-                is_verbose: is_verbose || is_terminal(),
-            },
-        ),
+        } => done(replay_files(rt, style_of(is_text), config, script)),
+        Job::View(options) => done(view_file(rt, options)),
+        Job::Serve(options) => {
+            let is_verbose = is_verbose || is_terminal();
+            done(serve_sockets(
+                rt,
+                ServeRequest {
+                    options,
+                    is_verbose,
+                },
+            ))
+        }
         Job::Feed {
             server,
             files,
             options,
-        } => feed_files(rt, server, files.as_slice(), options, is_verbose),
+        } => done(feed_files(rt, server, files.as_slice(), options, is_verbose)),
         Job::Read {
             server,
             wants,
             options,
-        } => read_servers(rt, server, wants.as_slice(), options, is_verbose),
+        } => done(read_servers(rt, server, wants.as_slice(), options, is_verbose)),
+        Job::Status { server } => looked(tell_status(rt, server)),
     }
 }

@@ -33,7 +33,7 @@ struct Row {
 /// In each row but those with one fault, a later fault is due as well: the first one is reported. There are
 /// configurations `centre.toml`, `wrong.toml`, which has misspelled keys, and `broken.toml`; files of records
 /// `two.mseed` and `rest.mseed`, of which the second ends inside a record; and no file that begins with `no`.
-static ROWS: [Row; 29] = [
+static ROWS: [Row; 31] = [
     // A server: the address for clients, that for feeds, the configuration, and then the ports.
     Row {
         words: "seedlinkd -v serve no.toml --listen nowhere --feed elsewhere",
@@ -190,6 +190,17 @@ static ROWS: [Row; 29] = [
         words: "seedlinkd replay centre.toml broken.toml",
         line: "seedlinkd: 45 Script\n",
         names: "",
+    },
+    // A look at a server: the address, and then the connection.
+    Row {
+        words: "seedlinkd -v status nowhere",
+        line: "seedlinkd: 11 Address\n",
+        names: "word: nowhere\n",
+    },
+    Row {
+        words: "seedlinkd -v status 127.0.0.1:FREE",
+        line: "seedlinkd: 47 Connect\n",
+        names: "address: 127.0.0.1:FREE\n",
     },
 ];
 

@@ -1,6 +1,6 @@
 //! Tests of jobs over sockets on loopback, with both ends in one process: a server, a feeder and a reader as the words
-//! of a command line start them, jobs that fail, and a reader that follows servers which end. Whoever waits lets the
-//! other end act. Nothing but tests.
+//! of a command line start them, jobs that fail, a reader that follows servers which end, and what a status port
+//! answered. Whoever waits lets the other end act. Nothing but tests.
 #![tactic(auto)]
 
 #[cfg(test)]
@@ -15,6 +15,8 @@ mod followers;
 mod outcome;
 #[cfg(test)]
 mod pairs;
+#[cfg(test)]
+mod standing;
 #[cfg(test)]
 mod told;
 #[cfg(test)]

@@ -284,7 +284,7 @@ fn a_record_of_a_file(rt: HostRuntime) -> Result<(), Fail> {
 /// The lines that explain why a job failed.
 fn unfinished(rt: &HostRuntime, job: Job<'_>) -> Result<String, Fail> {
     match run_job(rt, job, false) {
-        Ok(()) => Ok(String::new(rt.alloc())),
+        Ok(_) => Ok(String::new(rt.alloc())),
         Err(incident) => Ok(format!(in rt.alloc(); "{incident}")?),
     }
 }

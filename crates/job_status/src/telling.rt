@@ -1,0 +1,59 @@
+//! How a server stands, on the standard output.
+use crate::answer::answer_in;
+use crate::asking::ask;
+use crate::columns::laid_out;
+use incidents::{Failure, Incident};
+use job_base::{ServerAddress, connection, server_of};
+use sl_io::{Outer, StreamFault, write_all};
+use std::io;
+use std::net::Net;
+
+/// Writes a text on the standard output.
+fn write_text<R: Print>(rt: &R, text: &[u8]) -> Result<(), Failure> {
+    let mut out = Outer::new(io::writer(rt));
+    match write_all(&mut out, text) {
+        Ok(()) => Ok(()),
+        Err(_) => Err(Failure::Check(StreamFault::Write)),
+    }
+}
+
+/// Writes what an answer tells. Whether a station is silent.
+fn tell_answer<R: Print + AllocGlobal>(rt: &R, bytes: &[u8]) -> Result<bool, Failure> {
+    let answer = match answer_in(bytes) {
+        Ok(answer) => answer,
+        Err(fault) => return Err(Failure::Status(fault)),
+    };
+    let Ok(text) = laid_out(rt.alloc(), answer.body) else {
+        return Err(Failure::OutOfMemory);
+    };
+    write_text(rt, text.as_slice())?;
+    Ok(answer.is_silent)
+}
+
+/// Asks a server over a connection, and writes what it answers.
+fn tell_over<'a, R: Print + Net + AllocGlobal>(
+    rt: &R,
+    server: ServerAddress<'a>,
+) -> Result<bool, Incident<'a>> {
+    let stream = connection(rt, server)?;
+    let told = match ask(rt.alloc(), stream) {
+        Ok(bytes) => tell_answer(rt, bytes.as_slice()),
+        Err(failure) => Err(failure),
+    };
+    match told {
+        Ok(is_silent) => Ok(is_silent),
+        Err(failure) => Err(failure.at_server(server.word)),
+    }
+}
+
+/// Writes how a server stands, by its status port that a word names. Whether a station is silent.
+///
+/// It fails with Address if the word is no address with a port, with Connect if no connection could be made, with Status
+/// if the answer ends too early or is not that of a status port, if not all could be written, and for want of memory.
+pub fn tell_status<'a, R: Print + Net + AllocGlobal>(
+    rt: &R,
+    word: &'a str,
+) -> Result<bool, Incident<'a>> {
+    let server = server_of(word)?;
+    tell_over(rt, server)
+}
