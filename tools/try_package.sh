@@ -128,6 +128,7 @@ sleep 1
 seedlinkd -v feed 127.0.0.1:18001 /usr/share/doc/seedlinkd/examples/records/records.mseed
 sleep 2
 states "after a feed"
+seedlinkd status 127.0.0.1:18002 | awk '$2 == "APE" { print "its status port:", $1, $2, $3, $5, "records" }'
 for it in $(pids); do grep -q '^Seccomp:.2' "/proc/$it/status" && grep -q '^CapEff:.0*$' "/proc/$it/status" && echo "system calls are filtered, no capability"; done
 find "$sds" -type f -name '*.D.*' | xargs cat | seedlinkd check /dev/stdin --quiet --summary
 journalctl -u seedlinkd -u "$reader" -o cat | sort
@@ -185,6 +186,7 @@ EOF
 unshare --mount --propagation private sh "$bare/root/enter" "$bare" || fail "systemd was not started"
 cat "$bare/root/said"
 for it in "after a feed: seedlinkd active, restarts 0" "after a feed: seedlinkd-archive@127.0.0.1:18000 active, restarts 0" "seedlinkd: refused CH DAVOX" \
+    "its status port: GE APE ok 15 records" \
     "GE APE -- BHZ D 15 " "after an upgrade: seedlinkd active" "after an upgrade: seedlinkd-archive@127.0.0.1:18000 active" "after a removal: no program"; do
     grep -q "^$it" "$bare/root/said" || fail "under systemd: no line '$it'"
 done
