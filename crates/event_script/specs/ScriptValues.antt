@@ -3,7 +3,7 @@ use Rattle.std.specs.Prelude.{◌≡◌, List, ◌++◌, Option, Some, None, Res
 use Rattle.protocol.specs.World.{Event as ProtocolEvent}
 use Rattle.server_core.specs.Runs.{event_value}
 use Rattle.server_core.specs.declared.events.Event.{Event}
-use Rattle.event_script.specs.Script.{ScriptCut as ScriptCut, Addressed as ScriptAddressed, Six as ScriptSix}
+use Rattle.event_script.specs.Script.{ScriptCut as CutValue, Addressed as ScriptAddressed, Six as ScriptSix}
 use Rattle.event_script.specs.Script.{Start as ScriptStart}
 use Rattle.event_script.specs.declared.cuts.ScriptCut.{ScriptCut}
 use Rattle.event_script.specs.declared.cuts.Addressed.{Addressed}
@@ -13,7 +13,7 @@ use Rattle.event_script.specs.declared.fault.ScriptFault.{ScriptFault}
 use Rattle.event_script.specs.declared.fault.ScriptFault.TheVariants.{Script}
 
 -- a cut text
-abbrev pub cut_value : ScriptCut → ScriptCut
+abbrev pub cut_value : ScriptCut → CutValue
 cut_value cut = record { front = cut.front.now; rest = cut.rest.now }
 
 -- a text that begins with a client's number
