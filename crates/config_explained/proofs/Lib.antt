@@ -12,3 +12,5 @@ mod KeyLemmas
 mod RemarkLemmas
 mod CoverageLemmas
 mod PartLemmas
+mod ChangeLemmas
+mod GainLemmas

@@ -13,4 +13,7 @@ pub mod Opened
 pub mod Remarks
 pub mod Coverage
 pub mod Parts
+pub mod Gains
+pub mod NetworkTexts
+pub mod Changes
 pub mod Users

@@ -41,7 +41,7 @@ impl Network {
     }
 
     /// Its addresses without a bit.
-    fn without(self, bit: u32) -> Network
+    pub(crate) fn without(self, bit: u32) -> Network
         ensures { result ≡ without bit self }
     {
         Network {
@@ -51,7 +51,7 @@ impl Network {
     }
 
     /// Its addresses with a bit.
-    fn with(self, bit: u32) -> Network
+    pub(crate) fn with(self, bit: u32) -> Network
         ensures { result ≡ with bit self }
     {
         Network {

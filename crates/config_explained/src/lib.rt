@@ -18,17 +18,21 @@ mod nearest;
 mod owner;
 mod unknown;
 // view
+mod changes;
 mod coverage;
 mod entries;
+mod gains;
 mod holders;
 mod lines;
 mod network;
+mod network_text;
 mod opened;
 mod parts;
 mod remark;
 mod seen;
 mod users;
 
+pub use changes::changes_of;
 pub use difference::{Difference, Setting, first_difference};
 pub use finding::{Finding, finding_of, text_at};
 pub use holders::{holder_of, holders_of};
