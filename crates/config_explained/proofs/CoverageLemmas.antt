@@ -66,7 +66,7 @@ not_both ns cube low none all =
 -- ---- bits
 
 -- of one agrees with the other, bit by bit
-agrees_in : (a : ℕ) (t : Token) → is_in a t ≡ true → Agrees a t
+pub agrees_in : (a : ℕ) (t : Token) → is_in a t ≡ true → Agrees a t
 agrees_in a t e i within one =
     let same : bit_and a t.mask ≡ bit_and t.address t.mask = eqb-true _ _ e in
     let bits : min (bit_at a i) (bit_at t.mask i)
@@ -90,23 +90,23 @@ in_agrees a t masked agrees =
     (cases_lt i 32)
     ∙ sym (bit_at_and t.address t.mask i)))
 
-below_32 : (k : ℕ) → k < 32 → 2 ^ k < 2 ^ 32
+pub below_32 : (k : ℕ) → k < 32 → 2 ^ k < 2 ^ 32
 below_32 k within = pow_below k 32 within
 
-or_same : (m k : ℕ) → bit_at (bit_or m (2 ^ k)) k ≡ 1
+pub or_same : (m k : ℕ) → bit_at (bit_or m (2 ^ k)) k ≡ 1
 or_same m k =
     let or = bit_at_or m (2 ^ k) k in
     let pow = bit_at-pow_same k in
     let low = bit_at-lt m k in
     omega (arith, or, pow, low)
 
-or_other : (m k i : ℕ) → i ≢ k → bit_at (bit_or m (2 ^ k)) i ≡ bit_at m i
+pub or_other : (m k i : ℕ) → i ≢ k → bit_at (bit_or m (2 ^ k)) i ≡ bit_at m i
 or_other m k i other =
     let or = bit_at_or m (2 ^ k) i in
     let pow = bit_at-pow_other k i other in
     omega (arith, or, pow)
 
-clear_same : (m k : ℕ) → k < 32 → bit_at (bit_and m (bit_not w32 (2 ^ k))) k ≡ 0
+pub clear_same : (m k : ℕ) → k < 32 → bit_at (bit_and m (bit_not w32 (2 ^ k))) k ≡ 0
 clear_same m k within =
     let and = bit_at_and m (bit_not w32 (2 ^ k)) k in
     let not = bit_at_not w32 (2 ^ k) k (below_32 k within) within in
@@ -124,7 +124,7 @@ clear_other m k i within within' other =
 -- ---- a network in two halves
 
 -- an address without the bit is in the one
-in_without : (a k : ℕ) (n : Token) → k < 32 → HasMask n → bit_at a k ≡ 0 → is_in a n ≡ true
+pub in_without : (a k : ℕ) (n : Token) → k < 32 → HasMask n → bit_at a k ≡ 0 → is_in a n ≡ true
     → is_in a (without (2 ^ k) n) ≡ true
 in_without a k n within masked clear e =
     in_agrees a (without (2 ^ k) n) (or_lt 32 n.mask (2 ^ k) masked (below_32 k within)) (λ i low one.
@@ -135,7 +135,7 @@ in_without a k n within masked clear e =
     (cases_eq i k))
 
 -- one with it is in the other
-in_with : (a k : ℕ) (n : Token) → k < 32 → HasMask n → bit_at a k ≡ 1 → is_in a n ≡ true
+pub in_with : (a k : ℕ) (n : Token) → k < 32 → HasMask n → bit_at a k ≡ 1 → is_in a n ≡ true
     → is_in a (with (2 ^ k) n) ≡ true
 in_with a k n within masked set e =
     in_agrees a (with (2 ^ k) n) (or_lt 32 n.mask (2 ^ k) masked (below_32 k within)) (λ i low one.
@@ -148,7 +148,7 @@ in_with a k n within masked set e =
 not_it : (n : Token) (k i : ℕ) → bit_at n.mask k ≡ 0 → bit_at n.mask i ≡ 1 → i ≢ k
 not_it n k i free one same = let one' : bit_at n.mask k ≡ 1 = rw same at one in omega (arith, one', free)
 
-of_without : (a k : ℕ) (n : Token) → k < 32 → HasMask n → bit_at n.mask k ≡ 0 → is_in a (without (2 ^ k) n) ≡ true
+pub of_without : (a k : ℕ) (n : Token) → k < 32 → HasMask n → bit_at n.mask k ≡ 0 → is_in a (without (2 ^ k) n) ≡ true
     → is_in a n ≡ true
 of_without a k n within masked free e =
     in_agrees a n masked (λ i low one.
@@ -156,14 +156,14 @@ of_without a k n within masked free e =
     agrees_in a (without (2 ^ k) n) e i low (or_other n.mask k i other ∙ one)
     ∙ clear_other n.address k i within low other)
 
-of_with : (a k : ℕ) (n : Token) → k < 32 → HasMask n → bit_at n.mask k ≡ 0 → is_in a (with (2 ^ k) n) ≡ true
+pub of_with : (a k : ℕ) (n : Token) → k < 32 → HasMask n → bit_at n.mask k ≡ 0 → is_in a (with (2 ^ k) n) ≡ true
     → is_in a n ≡ true
 of_with a k n within masked free e =
     in_agrees a n masked (λ i low one.
     let other = not_it n k i free one in
     agrees_in a (with (2 ^ k) n) e i low (or_other n.mask k i other ∙ one) ∙ or_other n.address k i other)
 
-bit_is : (a k : ℕ) → (bit_at a k ≡ 0) ⊎ (bit_at a k ≡ 1)
+pub bit_is : (a k : ℕ) → (bit_at a k ≡ 0) ⊎ (bit_at a k ≡ 1)
 bit_is a k = let low = bit_at-lt a k in ⊎_elim (λ z. inl z) (λ nz. inr (omega (arith, low, nz))) (cases_eq (bit_at a k) 0)
 
 -- a bit that a mask has not

@@ -14,3 +14,4 @@ mod CoverageLemmas
 mod PartLemmas
 mod ChangeLemmas
 mod GainLemmas
+mod GainLaw

@@ -1,5 +1,6 @@
 //! Which addresses a new list admits that an old one doesn't, as networks.
-ghost use Rattle.std.specs.Prelude.{◌≡◌, ◌≤◌, ◌++◌, [], IfOk, OnOk};
+ghost use Rattle.std.specs.Prelude.{◌≡◌, ℕ, ◌<◌, ◌≤◌, ◌^◌, ◌++◌, ◌&&◌, [], IfOk, OnOk, not};
+ghost use Rattle.protocol.specs.Access.{allows};
 ghost use Rattle.config_explained.specs.Coverage.{coverage};
 ghost use Rattle.config_explained.specs.Gains.{by_gain, gain_of, gains, gains_in, masks_from};
 
@@ -103,7 +104,9 @@ pub(crate) fn gains(
     old: &[Network],
     new: &[Network],
 ) -> Result<Vec<Network>, AllocError>
-    ensures { IfOk result (λ networks. networks.items ≡ gains old.now new.now) }
+    ensures value { IfOk result (λ networks. networks.items ≡ gains old.now new.now) }
+    ensures words { IfOk result (λ networks. (a : ℕ) → a < 2 ^ 32
+        → allows networks.items a ≡ (allows new.now a && not (allows old.now a))) }
 {
     let masks = masks_from(masks_from(0, old), new);
     let lists = Lists { old, new, masks };

@@ -1,0 +1,296 @@
+-- The networks that gain admit the addresses that the new list admits and the old one doesn't.
+use Rattle.std.proofs.Common.{◌≡◌, ◌≢◌, ◌∙◌, ℕ, zero, suc, ◌+◌, ◌*◌, ◌<◌, ◌≤◌, ◌^◌, ◌==◌, ◌&&◌, ◌||◌, Bool, true, false, true≢false}
+use Rattle.std.proofs.Common.{List, [], ◌∷◌, ◌++◌, refl, sym, ap, arith, eqb-true, eq-eqb, ◌⊎◌, ⊎_elim, inl, inr, min, max, not}
+use Rattle.std.proofs.Common.{if◌then◌else◌, subst}
+use Rattle.std.specs.Prelude.{bit_and, bit_or}
+use Rattle.std.specs.Int.{bit_at, bit_not, w32}
+use Rattle.std.specs.List.{list_any}
+use Rattle.std.proofs.lemmas.Bool.{cases_eq, cases_lt}
+use Rattle.std.proofs.lemmas.List.Folds.{list_any-append}
+use Rattle.std.proofs.lemmas.Nat.{and_assoc, and_comm, and_le_l, or_lt, pow_pos}
+use Rattle.std.proofs.lemmas.Nat.Bits.{and_pow, bit_at-lt, bit_at-zero, bit_at_above, bit_at_and, bit_at_or, same_from_bits}
+use Rattle.protocol.proofs.FoundLemmas.{both}
+use Rattle.protocol.specs.Access.{HasMask, Token, allows, is_in}
+use Rattle.config_explained.specs.Coverage.{AdmitsAll, AdmitsNone, admits_all, admits_none, coverage, with, without}
+use Rattle.config_explained.specs.Gains.{by_gain, everything, gain_of, gains, gains_in, masks_from}
+use Rattle.config_explained.specs.declared.coverage.Coverage.{Coverage}
+use Rattle.config_explained.specs.declared.coverage.Coverage.TheVariants.{Whole, Part, Nothing}
+use Rattle.config_explained.proofs.CoverageLemmas.{agrees_in, all_found, all_tested, below_32, bit_is, clear_same, in_with}
+use Rattle.config_explained.proofs.CoverageLemmas.{in_without, none_found, none_tested, not_all_tested, not_both, of_with}
+use Rattle.config_explained.proofs.CoverageLemmas.{of_without, or_other, or_same}
+
+-- ---- the bits of masks
+
+mask_kept : (ns : List Token) (m i : ℕ) → bit_at m i ≡ 1 → bit_at (masks_from m ns) i ≡ 1
+mask_kept [] m i one = one
+mask_kept (n ∷ ns) m i one =
+    mask_kept ns (bit_or m n.mask) i
+    (let or = bit_at_or m n.mask i in let low = bit_at-lt n.mask i in omega (arith, or, one, low))
+
+-- each bit of a mask
+abbrev HasBits : ℕ → Token → Type 0
+HasBits masks n = (i : ℕ) → bit_at masks i ≡ 1 → bit_at n.mask i ≡ 1
+
+-- of two addresses in a network that has all bits of a mask, that mask admits both or none
+same_in : (t n : Token) (a : ℕ) → ((i : ℕ) → bit_at t.mask i ≡ 1 → bit_at n.mask i ≡ 1) → is_in a n ≡ true
+    → is_in a t ≡ is_in n.address t
+same_in t n a within e =
+    let narrow : bit_and n.mask t.mask ≡ t.mask =
+    same_from_bits (bit_and n.mask t.mask) t.mask (λ i.
+    let and = bit_at_and n.mask t.mask i in
+    ⊎_elim
+    (λ zero_bit. omega (arith, and, zero_bit))
+    (λ one. let one' = within i one in omega (arith, and, one, one'))
+    (bit_is t.mask i)) in
+    let at : bit_and a n.mask ≡ bit_and n.address n.mask = eqb-true _ _ e in
+    let same : bit_and a t.mask ≡ bit_and n.address t.mask =
+    ap (bit_and a) (sym narrow) ∙ sym (and_assoc t.mask a n.mask) ∙ ap (λ x. bit_and x t.mask) at
+    ∙ and_assoc t.mask n.address n.mask ∙ ap (bit_and n.address) narrow in
+    ap (λ x. x == bit_and t.address t.mask) same
+
+alike : (ns : List Token) (m : ℕ) (n : Token) (a : ℕ) → HasBits (masks_from m ns) n → is_in a n ≡ true
+    → allows ns a ≡ allows ns n.address
+alike [] m n a bits e = refl
+alike (t ∷ ts) m n a bits e =
+    let head : is_in a t ≡ is_in n.address t =
+    same_in t n a (λ i one. bits i (mask_kept ts (bit_or m t.mask) i
+    (let or = bit_at_or m t.mask i in let low = bit_at-lt m i in omega (arith, or, one, low)))) e in
+    let tail : allows ts a ≡ allows ts n.address = alike ts (bit_or m t.mask) n a bits e in
+    rw (head, tail)
+
+-- ---- how much is admitted
+
+whole_is : (list : List Token) (n : Token) → coverage list n ≡ Whole → AdmitsAll list n
+whole_is list n h =
+    both (admits_all list n)
+    (λ y. all_found list n y)
+    (λ f. both (admits_none list n)
+    (λ y. let no : Nothing ≡ Whole = rw (f, y) at h in cc)
+    (λ g. let no : Part ≡ Whole = rw (f, g) at h in cc))
+
+nothing_is : (list : List Token) (n : Token) → coverage list n ≡ Nothing → AdmitsNone list n
+nothing_is list n h =
+    both (admits_all list n)
+    (λ y. let no : Whole ≡ Nothing = rw y at h in cc)
+    (λ f. both (admits_none list n)
+    (λ y. none_found list n y)
+    (λ g. let no : Part ≡ Nothing = rw (f, g) at h in cc))
+
+is_whole : (list : List Token) (n : Token) → AdmitsAll list n → coverage list n ≡ Whole
+is_whole list n all = let yes = all_tested list n all in rw yes
+
+is_nothing : (list : List Token) (n : Token) → n.address < 2 ^ 32 → AdmitsNone list n → coverage list n ≡ Nothing
+is_nothing list n low none =
+    let no = not_all_tested list n (λ all. not_both list n low none all) in
+    let yes = none_tested list n none in
+    rw (no, yes)
+
+-- ---- one network
+
+-- an address that the new list admits and the old one doesn't
+abbrev pub gained : (old new : List Token) → ℕ → Bool
+gained old new a = allows new a && not (allows old a)
+
+-- networks admit exactly those that a network has
+pub record Admit (old new : List Token) (n : Token) (a : ℕ) (networks : List Token) : Type 0 where
+  pub inside : is_in a n ≡ true → allows networks a ≡ gained old new a
+  pub outside : is_in a n ≡ false → allows networks a ≡ false
+
+no_gain : (b c : Bool) → c ≡ true → (b && not c) ≡ false
+no_gain true true e = refl
+no_gain true false e = absurd (true≢false (sym e))
+no_gain false c e = refl
+
+a_gain : (b c : Bool) → b ≡ true → c ≡ false → (b && not c) ≡ true
+a_gain true false e f = refl
+a_gain true true e f = absurd (true≢false f)
+a_gain false c e f = absurd (true≢false (sym e))
+
+by_parts : (old new : List Token) (n : Token) (a : ℕ) (halves : List Token) → a < 2 ^ 32 → (x y : Coverage)
+    → coverage old n ≡ x → coverage new n ≡ y → (gain_of x y ≡ Part → Admit old new n a halves)
+    → Admit old new n a (by_gain (gain_of x y) n halves)
+by_parts old new n a halves low Whole y is is' cut = record {
+  inside = λ e. sym (no_gain (allows new a) (allows old a) (whole_is old n is a low e));
+  outside = λ e. refl;
+}
+by_parts old new n a halves low Part Nothing is is' cut = record {
+  inside = λ e. let none = nothing_is new n is' a low e in rw none;
+  outside = λ e. refl;
+}
+by_parts old new n a halves low Part Whole is is' cut = cut refl
+by_parts old new n a halves low Part Part is is' cut = cut refl
+by_parts old new n a halves low Nothing Nothing is is' cut = record {
+  inside = λ e. let none = nothing_is new n is' a low e in rw none;
+  outside = λ e. refl;
+}
+by_parts old new n a halves low Nothing Whole is is' cut = record {
+  inside = λ e.
+      let gain = a_gain (allows new a) (allows old a) (whole_is new n is' a low e) (nothing_is old n is a low e) in
+      rw (e, gain);
+  outside = λ e. rw e;
+}
+by_parts old new n a halves low Nothing Part is is' cut = cut refl
+
+-- ---- its halves
+
+or_false : (b : Bool) → (b || false) ≡ b
+or_false true = refl
+or_false false = refl
+
+not_in : (b : Bool) → (b ≡ true → ⊥) → b ≡ false
+not_in true h = absurd (h refl)
+not_in false h = refl
+
+not_with : (a k : ℕ) (n : Token) → k < 32 → bit_at a k ≡ 0 → is_in a (with (2 ^ k) n) ≡ false
+not_with a k n within clear =
+    not_in (is_in a (with (2 ^ k) n)) (λ e.
+    let at = agrees_in a (with (2 ^ k) n) e k within (or_same n.mask k) in
+    let one = or_same n.address k in
+    omega (arith, at, one, clear))
+
+not_without : (a k : ℕ) (n : Token) → k < 32 → bit_at a k ≡ 1 → is_in a (without (2 ^ k) n) ≡ false
+not_without a k n within set =
+    not_in (is_in a (without (2 ^ k) n)) (λ e.
+    let at = agrees_in a (without (2 ^ k) n) e k within (or_same n.mask k) in
+    let none = clear_same n.address k within in
+    omega (arith, at, none, set))
+
+halves_admit : (old new : List Token) (n : Token) (a k : ℕ) (first second : List Token) → k < 32 → HasMask n
+    → bit_at n.mask k ≡ 0 → Admit old new (without (2 ^ k) n) a first → Admit old new (with (2 ^ k) n) a second
+    → Admit old new n a (first ++ second)
+halves_admit old new n a k first second within masked free one two = record {
+  inside = λ e.
+      list_any-append (is_in a) first second
+      ∙ ⊎_elim
+      (λ clear.
+      let left = one.inside (in_without a k n within masked clear e) in
+      let right = two.outside (not_with a k n within clear) in
+      rw (left, right) (or_false (gained old new a)))
+      (λ set.
+      let left = one.outside (not_without a k n within set) in
+      let right = two.inside (in_with a k n within masked set e) in
+      rw (left, right))
+      (bit_is a k);
+  outside = λ e.
+      let left = one.outside (not_in (is_in a (without (2 ^ k) n)) (λ y.
+      true≢false (sym (of_without a k n within masked free y) ∙ e))) in
+      let right = two.outside (not_in (is_in a (with (2 ^ k) n)) (λ y.
+      true≢false (sym (of_with a k n within masked free y) ∙ e))) in
+      list_any-append (is_in a) first second ∙ rw (left, right);
+}
+
+-- ---- all cuts
+
+-- a network that was cut at the bits of masks from one on
+record IsCut (masks k : ℕ) (n : Token) : Type 0 where
+  done : (i : ℕ) → k ≤ i → bit_at masks i ≡ 1 → bit_at n.mask i ≡ 1
+  free : (i : ℕ) → i < k → bit_at n.mask i ≡ 0
+  masked : HasMask n
+  low : n.address < 2 ^ 32
+
+done_below : (masks k : ℕ) (n : Token) → ((i : ℕ) → suc k ≤ i → bit_at masks i ≡ 1 → bit_at n.mask i ≡ 1)
+    → (bit_at masks k ≡ 1 → bit_at n.mask k ≡ 1) → (i : ℕ) → k ≤ i → bit_at masks i ≡ 1 → bit_at n.mask i ≡ 1
+done_below masks k n done here i above one =
+    ⊎_elim
+    (λ same. let at : i ≡ k = same in rw at (here (rw at at one)))
+    (λ other. done i (omega (arith, above, other)) one)
+    (cases_eq i k)
+
+passed : (masks k : ℕ) (n : Token) → bit_at masks k ≡ 0 → IsCut masks (suc k) n → IsCut masks k n
+passed masks k n none c = record {
+  done = done_below masks k n c.done (λ one. absurd (omega (arith, none, one)));
+  free = λ i below. c.free i (omega (arith, below));
+  masked = c.masked;
+  low = c.low;
+}
+
+bits_of_halves : (masks k : ℕ) (n half : Token) → k < 32 → half.mask ≡ bit_or n.mask (2 ^ k) → half.address < 2 ^ 32
+    → IsCut masks (suc k) n → IsCut masks k half
+bits_of_halves masks k n half within is low c = record {
+  done = done_below masks k half
+      (λ i above one. ap (λ m. bit_at m i) is ∙ or_other n.mask k i (λ same. omega (arith, above, same))
+      ∙ c.done i above one)
+      (λ one. ap (λ m. bit_at m k) is ∙ or_same n.mask k);
+  free = λ i below.
+      ap (λ m. bit_at m i) is ∙ or_other n.mask k i (λ same. omega (arith, below, same))
+      ∙ c.free i (omega (arith, below));
+  masked = subst (λ m. m < 0x100000000) (sym is) (or_lt 32 n.mask (2 ^ k) c.masked (below_32 k within));
+  low = low;
+}
+
+-- At the end a list admits all of a network or nothing.
+settled : (list : List Token) (n : Token) → n.address < 2 ^ 32
+    → ((b : ℕ) → is_in b n ≡ true → allows list b ≡ allows list n.address)
+    → (coverage list n ≡ Whole) ⊎ (coverage list n ≡ Nothing)
+settled list n low same =
+    both (allows list n.address)
+    (λ y. inl (is_whole list n (λ b below e. same b e ∙ y)))
+    (λ f. inr (is_nothing list n low (λ b below e. same b e ∙ f)))
+
+no_part : (x y : Coverage) → (x ≡ Whole) ⊎ (x ≡ Nothing) → (y ≡ Whole) ⊎ (y ≡ Nothing) → gain_of x y ≡ Part → ⊥
+no_part Whole y p q e = cc
+no_part Nothing Whole p q e = cc
+no_part Nothing Nothing p q e = cc
+no_part Nothing Part p q e = ⊎_elim (λ h. cc) (λ h. cc) q
+no_part Part y p q e = ⊎_elim (λ h. cc) (λ h. cc) p
+
+no_bit : (masks k : ℕ) → bit_and masks (2 ^ k) ≡ 0 → bit_at masks k ≡ 0
+no_bit masks k none =
+    ⊎_elim
+    (λ clear. clear)
+    (λ one.
+    let value : bit_and masks (2 ^ k) ≡ 1 * 2 ^ k = and_pow masks k ∙ ap (λ b. b * 2 ^ k) one in
+    let some = pow_pos k in
+    absurd (omega (arith, value, none, some)))
+    (bit_is masks k)
+
+gains_admit : (old new : List Token) (masks : ℕ) → masks ≡ masks_from (masks_from 0 old) new → (k : ℕ) → k ≤ 32
+    → (n : Token) → IsCut masks k n → (a : ℕ) → a < 2 ^ 32 → Admit old new n a (gains_in old new masks k n)
+unfolding gains_in
+gains_admit old new masks is zero few n c a low =
+    let bits : HasBits (masks_from (masks_from 0 old) new) n = λ i one. c.done i (omega arith) (rw is one) in
+    let bits' : HasBits (masks_from 0 old) n = λ i one. bits i (mask_kept new (masks_from 0 old) i one) in
+    by_parts old new n a [] low (coverage old n) (coverage new n) refl refl (λ part.
+    absurd (no_part (coverage old n) (coverage new n)
+    (settled old n c.low (λ b e. alike old 0 n b bits' e))
+    (settled new n c.low (λ b e. alike new (masks_from 0 old) n b bits e)) part))
+gains_admit old new masks is (suc k) few n c a low =
+    let within : k < 32 = omega (arith, few) in
+    both (bit_and masks (2 ^ k) == 0)
+    (λ y.
+    let next = passed masks k n (no_bit masks k (eqb-true _ _ y)) c in
+    rw y (gains_admit old new masks is k (omega (arith, few)) n next a low))
+    (λ f.
+    let less = and_le_l n.address (bit_not w32 (2 ^ k)) in
+    let first = bits_of_halves masks k n (without (2 ^ k) n) within refl (omega (arith, less, c.low)) c in
+    let second = bits_of_halves masks k n (with (2 ^ k) n) within refl
+    (or_lt 32 n.address (2 ^ k) c.low (below_32 k within)) c in
+    let few' : k ≤ 32 = omega (arith, few) in
+    rw f (by_parts old new n a
+    (gains_in old new masks k (without (2 ^ k) n) ++ gains_in old new masks k (with (2 ^ k) n)) low (coverage old n)
+    (coverage new n) refl refl (λ part.
+    halves_admit old new n a k (gains_in old new masks k (without (2 ^ k) n))
+    (gains_in old new masks k (with (2 ^ k) n)) within c.masked (c.free k (omega arith))
+    (gains_admit old new masks is k few' (without (2 ^ k) n) first a low)
+    (gains_admit old new masks is k few' (with (2 ^ k) n) second a low))))
+
+in_everything : (a : ℕ) → is_in a everything ≡ true
+in_everything a =
+    eq-eqb _ _ (same_from_bits (bit_and a 0) (bit_and 0 0) (λ i.
+    let one = bit_at_and a 0 i in
+    let two = bit_at_and 0 0 i in
+    let none = bit_at-zero i in
+    omega (arith, one, two, none)))
+
+-- the networks that gain admit an address exactly if the new list does and the old one doesn't
+pub gains_allow : (old new : List Token) → masks_from (masks_from 0 old) new < 2 ^ 32 → (a : ℕ) → a < 2 ^ 32
+    → allows (gains old new) a ≡ (allows new a && not (allows old a))
+gains_allow old new low a below =
+    let masks = masks_from (masks_from 0 old) new in
+    let start : IsCut masks 32 everything = record {
+      done = λ i above one. let none = bit_at_above masks 32 i low above in absurd (omega (arith, none, one));
+      free = λ i within. bit_at-zero i;
+      masked = omega arith;
+      low = omega arith;
+    } in
+    (gains_admit old new masks refl 32 (omega arith) everything start a below).inside (in_everything a)
