@@ -1,7 +1,8 @@
 -- Stations of two configurations, one after the other, and that what differs nowhere is the same.
 use Rattle.std.proofs.Common.{◌≡◌, ℕ, ◌+◌, ◌<◌, ◌≤◌, ◌&&◌, ◌==◌, zero, suc, Bool, true, false, true≢false, List, []}
 use Rattle.std.proofs.Common.{◌∷◌, length, map, drop, get_or, refl, sym, ap, ap₂, ◌∙◌, arith, add-one, drop-cons}
-use Rattle.std.proofs.Common.{Option, Some, None}
+use Rattle.std.proofs.Common.{Option, Some, None, find, not}
+use Rattle.std.specs.List.{list_all}
 use Rattle.std.specs.Str.{bytes_eq}
 use Rattle.std.proofs.lemmas.Bool.{and_parts}
 use Rattle.protocol.specs.Catalog.{Config, Entry, Station, stations_of, is_same_station, are_same_stations}
@@ -9,8 +10,9 @@ use Rattle.protocol.specs.Catalog.{is_same_but_for_access}
 use Rattle.catalog.specs.declared.error.Step.{Step}
 use Rattle.catalog.specs.declared.error.Step.TheVariants as step
 use Rattle.catalog.specs.declared.error.StationStep.{StationStep}
-use Rattle.config_explained.specs.Differences.{first_of_five, differing_key, differing_among, differing_step, step_or}
-use Rattle.config_explained.specs.Differences.{step_by}
+use Rattle.protocol.proofs.FoundLemmas.{both}
+use Rattle.config_explained.specs.Differences.{differing_among, differing_key, differing_step, differs, step_by, step_or}
+use Rattle.config_explained.specs.KeyTable.{station_steps}
 
 -- ---- one station after the other
 
@@ -82,21 +84,37 @@ among_end es fs place past past' =
 pub ruleset among_lemmas = (among_same, among_differs, among_fewer, among_more, among_end)
 
 -- ---- what differs nowhere is the same
-five : (a b c d e : Bool) → first_of_five a b c d e ≡ None → (a && b && c && d && e) ≡ true
-five false b c d e none = absurd cc
-five true false c d e none = absurd cc
-five true true false d e none = absurd cc
-five true true true false e none = absurd cc
-five true true true true false none = absurd cc
-five true true true true true none = refl
+none_differs : (p : StationStep → Bool) (ks : List StationStep) → find p ks ≡ None
+    → list_all (λ k. not (p k)) ks ≡ true
+none_differs p [] none = refl
+none_differs p (k ∷ ks) none =
+    both (p k)
+    (λ y. absurd (let no : Some k ≡ None = rw y at none in cc))
+    (λ f. rw (f, none_differs p ks (rw f at none)))
 
-none_of_five : (a b c d e : Bool) → (a && b && c && d && e) ≡ true → first_of_five a b c d e ≡ None
-none_of_five false b c d e all = absurd (true≢false (sym all))
-none_of_five true false c d e all = absurd (true≢false (sym all))
-none_of_five true true false d e all = absurd (true≢false (sym all))
-none_of_five true true true false e all = absurd (true≢false (sym all))
-none_of_five true true true true false all = absurd (true≢false (sym all))
-none_of_five true true true true true all = refl
+all_are_same : (p : StationStep → Bool) (ks : List StationStep) → list_all (λ k. not (p k)) ks ≡ true
+    → find p ks ≡ None
+all_are_same p [] all = refl
+all_are_same p (k ∷ ks) all =
+    both (p k)
+    (λ y. absurd (true≢false (sym (rw y at all))))
+    (λ f. rw (f, all_are_same p ks (rw f at all)))
+
+and_regroup : (a b c : Bool) → ((a && b) && c) ≡ (a && (b && c))
+and_regroup true b c = refl
+and_regroup false b c = refl
+
+and_true : (a : Bool) → (a && true) ≡ a
+and_true true = refl
+and_true false = refl
+
+not_not : (a : Bool) → not (not a) ≡ a
+not_not true = refl
+not_not false = refl
+
+-- no key of the table differs, and the settings are the same
+same_settings : (s t : Station) → list_all (λ k. not (differs s t k)) station_steps ≡ is_same_station s t
+same_settings s t = simp (not_not, and_true, and_regroup)
 
 neither : (place : ℕ) (key : Option StationStep) (further : Option Step) → step_or place key further ≡ None
     → (key ≡ None) × (further ≡ None)
@@ -111,8 +129,7 @@ same_stations place (s ∷ ss) [] none = absurd cc
 same_stations place (s ∷ ss) (t ∷ ts) none =
     let parts = neither place (differing_key s t) (differing_among (place + 1) ss ts) none in
     ap₂ (λ x y. x && y)
-    (five (bytes_eq s.network t.network) (bytes_eq s.code t.code) (bytes_eq s.description t.description)
-    (s.capacity == t.capacity) (s.first == t.first) parts.0)
+    (sym (same_settings s t) ∙ none_differs (differs s t) station_steps parts.0)
     (same_stations (place + 1) ss ts parts.1)
 
 none_among : (place : ℕ) (ss ts : List Station) → are_same_stations ss ts ≡ true → differing_among place ss ts ≡ None
@@ -122,8 +139,7 @@ none_among place (s ∷ ss) [] same = absurd (true≢false (sym same))
 none_among place (s ∷ ss) (t ∷ ts) same =
     let parts = and_parts (is_same_station s t) (are_same_stations ss ts) same in
     ap₂ (step_or place)
-    (none_of_five (bytes_eq s.network t.network) (bytes_eq s.code t.code) (bytes_eq s.description t.description)
-    (s.capacity == t.capacity) (s.first == t.first) parts.0)
+    (all_are_same (differs s t) station_steps (same_settings s t ∙ parts.0))
     (none_among (place + 1) ss ts parts.1)
 
 by_keys : (a b : Bool) (o : Option Step) (same : Bool) → (o ≡ None → same ≡ true) → step_by a b o ≡ None

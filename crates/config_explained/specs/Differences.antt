@@ -1,39 +1,17 @@
 -- Where two configurations differ first, in the order in which their keys are read, but for access lists.
-use Rattle.std.specs.Prelude.{◌≡◌, ℕ, ◌+◌, ◌==◌, Bool, true, false, List, [], ◌∷◌, length, slice_get, Option, Some}
-use Rattle.std.specs.Prelude.{None, option_map}
+use Rattle.std.specs.Prelude.{◌≡◌, ℕ, ◌+◌, ◌==◌, Bool, true, false, not, List, [], ◌∷◌, find, length, slice_get, Option}
+use Rattle.std.specs.Prelude.{Some, None, option_map}
 use Rattle.std.specs.Str.{bytes_eq}
 use Rattle.protocol.specs.Catalog.{Config, Station, stations_of}
 use Rattle.catalog.specs.declared.error.Step.{Step}
 use Rattle.catalog.specs.declared.error.Step.TheVariants as step
 use Rattle.catalog.specs.declared.error.StationStep.{StationStep}
-use Rattle.catalog.specs.declared.error.StationStep.TheVariants as station
+use Rattle.config_explained.specs.KeyTable.{setting_of, station_steps}
+use Rattle.config_explained.specs.SettingValues.{SettingValue, is_same_value, setting_value}
+use Rattle.config_explained.specs.SettingValues.SettingValue.{nothing, text, number}
 use Rattle.config_explained.specs.declared.difference.Difference.{Difference}
-use Rattle.config_explained.specs.declared.difference.Setting.{Setting}
-use Rattle.config_explained.specs.declared.difference.Setting.TheVariants as setting
 
 -- ---- values of keys
-
-pub data SettingValue : Type 0 where
-  nothing : SettingValue
-  text : List ℕ → SettingValue
-  number : ℕ → SettingValue
-  sequence : ℕ → SettingValue
-
--- a setting of the code
-abbrev pub setting_value : Setting → SettingValue
-setting_value setting.Nothing = nothing
-setting_value (setting.Text bytes) = text bytes.items
-setting_value (setting.Number n) = number n
-setting_value (setting.Sequence n) = sequence n
-
--- the value of a key of a station
-abbrev pub setting_of : Station → StationStep → SettingValue
-setting_of s station.Network = text s.network
-setting_of s station.Code = text s.code
-setting_of s station.Description = text s.description
-setting_of s station.Capacity = number s.capacity
-setting_of s station.First = sequence s.first
-setting_of s _ = nothing
 
 -- of a station that may not be there
 abbrev pub setting_if : Option Station → StationStep → SettingValue
@@ -66,20 +44,13 @@ code_in config s = option_map (λ station. station.code) (station_in config s)
 
 -- ---- which key differs first
 
--- of five keys that are the same or not
-abbrev pub first_of_five : Bool → Bool → Bool → Bool → Bool → Option StationStep
-first_of_five false code description capacity first = Some station.Network
-first_of_five true false description capacity first = Some station.Code
-first_of_five true true false capacity first = Some station.Description
-first_of_five true true true false first = Some station.Capacity
-first_of_five true true true true false = Some station.First
-first_of_five true true true true true = None
+-- a key has another value
+abbrev pub differs : Station → Station → StationStep → Bool
+differs s t key = not (is_same_value (setting_of s key) (setting_of t key))
 
 -- of two stations
 abbrev pub differing_key : Station → Station → Option StationStep
-differing_key s t =
-    first_of_five (bytes_eq s.network t.network) (bytes_eq s.code t.code) (bytes_eq s.description t.description)
-    (s.capacity == t.capacity) (s.first == t.first)
+differing_key s t = find (differs s t) station_steps
 
 -- at a place, or else further on
 abbrev pub step_or : ℕ → Option StationStep → Option Step → Option Step

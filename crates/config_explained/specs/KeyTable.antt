@@ -3,6 +3,7 @@ use Rattle.std.specs.Prelude.{◌≡◌, ℕ, List, [], ◌∷◌, Option, Some,
 use Rattle.std.specs.List.{list_any}
 use Rattle.std.specs.Str.{bytes_eq}
 use Rattle.toml.specs.Data.{Members, get_member}
+use Rattle.protocol.specs.Catalog.{Station}
 use Rattle.catalog.specs.Reading.{entry_of, config_of}
 use Rattle.catalog.specs.declared.error.Step.{Step}
 use Rattle.catalog.specs.declared.error.Step.TheVariants as step
@@ -10,6 +11,8 @@ use Rattle.catalog.specs.declared.error.StationStep.{StationStep}
 use Rattle.catalog.specs.declared.error.StationStep.TheVariants as station
 use Rattle.config_explained.specs.declared.key.Key.{Key}
 use Rattle.config_explained.specs.declared.key.Key.TheVariants as key
+use Rattle.config_explained.specs.SettingValues.{SettingValue}
+use Rattle.config_explained.specs.SettingValues.SettingValue.{nothing, text, number, sequence}
 use Rattle.config_explained.specs.declared.kind.Kind.{Kind}
 use Rattle.config_explained.specs.declared.kind.Kind.TheVariants as kind
 
@@ -85,7 +88,7 @@ station_keys = key.Network ∷ key.Code ∷ key.Description ∷ key.Capacity ∷
 
 -- a text is the name of one of some keys
 abbrev pub is_name_of : List Key → List ℕ → Bool
-is_name_of keys text = list_any (λ k. bytes_eq text (name_of k)) keys
+is_name_of keys word = list_any (λ k. bytes_eq word (name_of k)) keys
 
 -- ---- the steps of the reading
 
@@ -109,11 +112,27 @@ key_at step.MaxConnections = Some key.MaxConnections
 key_at step.Stations = Some key.Station
 key_at (step.Station place s) = station_key_at s
 
+-- the steps that take the keys of a station
+abbrev pub station_steps : List StationStep
+station_steps =
+    station.Network ∷ station.Code ∷ station.Description ∷ station.Capacity ∷ station.First ∷ station.Access ∷ []
+
+-- ---- the values that a station has of them
+
+-- the value of a key of a station; nothing of its list, which may change while a server runs
+abbrev pub setting_of : Station → StationStep → SettingValue
+setting_of s station.Network = text s.network
+setting_of s station.Code = text s.code
+setting_of s station.Description = text s.description
+setting_of s station.Capacity = number s.capacity
+setting_of s station.First = sequence s.first
+setting_of s _ = nothing
+
 -- ---- the table is that of the reading
 
 -- two tables have the same values at the keys of a list
 abbrev pub AreAlike : List Key → Members → Members → Type 0
-AreAlike keys m m' = (text : List ℕ) → is_name_of keys text ≡ true → get_member text m ≡ get_member text m'
+AreAlike keys m m' = (word : List ℕ) → is_name_of keys word ≡ true → get_member word m ≡ get_member word m'
 
 -- The reading takes no other key: tables that have the same at the keys of the list are read the same, whatever else
 -- they have.

@@ -1,4 +1,5 @@
 pub mod Places
+pub mod SettingValues
 pub mod KeyTable
 pub mod Kinds
 pub mod Values

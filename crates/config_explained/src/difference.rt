@@ -1,26 +1,14 @@
 //! Where two configurations differ first, whoever may use their stations.
-ghost use Rattle.std.specs.Prelude.{◌≡◌, ◌↔◌, true, IfOk, IsNone, map, option_map};
+ghost use Rattle.std.specs.Prelude.{◌≡◌, ◌↔◌, true, IfOk, IsNone, find, map, option_map};
 ghost use Rattle.protocol.specs.Catalog.{is_same_but_for_access};
 ghost use Rattle.config_explained.specs.Differences.{IsFirstDifference, code_in, differing_among, differing_key};
-ghost use Rattle.config_explained.specs.Differences.{differing_step, network_in, setting_in, setting_of, setting_value};
-ghost use Rattle.config_explained.specs.Differences.{station_in};
+ghost use Rattle.config_explained.specs.Differences.{differing_step, differs, network_in, setting_in, station_in};
+ghost use Rattle.config_explained.specs.SettingValues.{setting_value};
 
+use crate::key::{STATION_STEPS, is_same_setting, setting_of};
+use crate::setting::Setting;
 use catalog::{Config, Station, StationStep, Step};
-use sl_packet::Seq;
 use std::alloc::{AllocError, Global};
-use std::fmt::{self, Display, Formatter, Write};
-
-/// The value of a key of a configuration.
-#[derive(Drop)]
-pub enum Setting {
-    /// There is no such key.
-    Nothing,
-    Text(Vec<u8>),
-    /// A whole number; of `station`, how many they are.
-    Number(usize),
-    /// A sequence number.
-    Sequence(Seq),
-}
 
 /// The first key in which two configurations differ, with its values.
 #[derive(Drop)]
@@ -91,37 +79,23 @@ fn differing_among(stations: &[Station], others: &[Station]) -> Option<Step>
     }
 }
 
+/// The first of some keys in which two stations differ, by the steps that take them.
+fn first_differing(station: &Station, other: &Station, steps: &[StationStep]) -> Option<StationStep>
+    ensures { result ≡ find (differs station.now.station other.now.station) steps.now }
+{
+    for step in steps {
+        if !is_same_setting(station, other, *step) {
+            return Some(*step);
+        }
+    }
+    None
+}
+
 /// The first key in which two stations differ.
 fn differing_key(station: &Station, other: &Station) -> Option<StationStep>
     ensures { result ≡ differing_key station.now.station other.now.station }
 {
-    if station.network() != other.network() {
-        Some(StationStep::Network)
-    } else if station.code() != other.code() {
-        Some(StationStep::Code)
-    } else if station.description() != other.description() {
-        Some(StationStep::Description)
-    } else if station.capacity() != other.capacity() {
-        Some(StationStep::Capacity)
-    } else if station.first().value() != other.first().value() {
-        Some(StationStep::First)
-    } else {
-        None
-    }
-}
-
-/// The value of a key of a station.
-fn setting_of(alloc: Global, station: &Station, key: StationStep) -> Result<Setting, AllocError>
-    ensures { IfOk result (λ setting. setting_value setting ≡ setting_of station.now.station key) }
-{
-    match key {
-        StationStep::Network => Ok(Setting::Text(station.network().to_vec(alloc)?)),
-        StationStep::Code => Ok(Setting::Text(station.code().to_vec(alloc)?)),
-        StationStep::Description => Ok(Setting::Text(station.description().to_vec(alloc)?)),
-        StationStep::Capacity => Ok(Setting::Number(station.capacity())),
-        StationStep::First => Ok(Setting::Sequence(station.first())),
-        _ => Ok(Setting::Nothing),
-    }
+    first_differing(station, other, &STATION_STEPS)
 }
 
 /// The value of the key that a step reads.
@@ -167,22 +141,5 @@ fn code_in(alloc: Global, config: &Config, step: Step) -> Result<Option<Vec<u8>>
     match station_in(config, step) {
         Some(station) => Ok(Some(station.code().to_vec(alloc)?)),
         None => Ok(None),
-    }
-}
-
-impl Display for Setting {
-    fn fmt<W: Write>(&self, f: &mut Formatter<W>) -> fmt::Result {
-        match self {
-            Setting::Nothing => f.write_str("nothing"),
-            Setting::Text(text) => match str::from_utf8(text.as_slice()) {
-                Ok(text) => f.write_str(text),
-                Err(_) => Ok(()),
-            },
-            Setting::Number(number) => write!(f, "{number}"),
-            Setting::Sequence(number) => {
-                let number = number.value();
-                write!(f, "{number:06X}")
-            }
-        }
     }
 }

@@ -1,9 +1,13 @@
-//! The keys of a configuration: the one table of their names, kinds and limits, and of what holds without them.
-ghost use Rattle.std.specs.Prelude.{◌≡◌, None, Some, option_map};
-ghost use Rattle.config_explained.specs.KeyTable.{ReadsTheTable, key_at, name_of, row_of, station_key_at};
+//! The keys of a configuration: the one table of their names, kinds and limits, of what holds without them, and of the
+//! values that a station has of them.
+ghost use Rattle.std.specs.Prelude.{◌≡◌, IfOk, None, Some, option_map};
+ghost use Rattle.config_explained.specs.KeyTable.{ReadsTheTable, key_at, name_of, row_of, setting_of, station_key_at};
+ghost use Rattle.config_explained.specs.SettingValues.{is_same_value, setting_value};
 
 use crate::kind::Kind;
-use catalog::{StationStep, Step};
+use crate::setting::Setting;
+use catalog::{Station, StationStep, Step};
+use std::alloc::{AllocError, Global};
 
 /// A key of the whole server, or of a station.
 #[derive(Clone, Copy, Drop)]
@@ -36,6 +40,16 @@ pub(crate) static STATION_KEYS: [Key; 6] = [
     Key::Capacity,
     Key::First,
     Key::Access,
+];
+
+/// The steps that take the keys of a station.
+pub(crate) static STATION_STEPS: [StationStep; 6] = [
+    StationStep::Network,
+    StationStep::Code,
+    StationStep::Description,
+    StationStep::Capacity,
+    StationStep::First,
+    StationStep::Access,
 ];
 
 /// What an access list may be.
@@ -164,6 +178,38 @@ pub(crate) fn station_key_at(step: StationStep) -> Option<Key>
         StationStep::Capacity => Some(Key::Capacity),
         StationStep::First => Some(Key::First),
         StationStep::Access => Some(Key::Access),
+    }
+}
+
+/// The value of a key of a station. Nothing of its list, which may change while a server runs.
+pub(crate) fn setting_of(
+    alloc: Global,
+    station: &Station,
+    key: StationStep,
+) -> Result<Setting, AllocError>
+    ensures { IfOk result (λ setting. setting_value setting ≡ setting_of station.now.station key) }
+{
+    match key {
+        StationStep::Network => Ok(Setting::Text(station.network().to_vec(alloc)?)),
+        StationStep::Code => Ok(Setting::Text(station.code().to_vec(alloc)?)),
+        StationStep::Description => Ok(Setting::Text(station.description().to_vec(alloc)?)),
+        StationStep::Capacity => Ok(Setting::Number(station.capacity())),
+        StationStep::First => Ok(Setting::Sequence(station.first())),
+        _ => Ok(Setting::Nothing),
+    }
+}
+
+/// Whether a key of two stations has the same value.
+pub(crate) fn is_same_setting(station: &Station, other: &Station, key: StationStep) -> bool
+    ensures { result ≡ is_same_value (setting_of station.now.station key) (setting_of other.now.station key) }
+{
+    match key {
+        StationStep::Network => station.network() == other.network(),
+        StationStep::Code => station.code() == other.code(),
+        StationStep::Description => station.description() == other.description(),
+        StationStep::Capacity => station.capacity() == other.capacity(),
+        StationStep::First => station.first().value() == other.first().value(),
+        _ => true,
     }
 }
 

@@ -8,6 +8,7 @@ mod difference;
 mod finding;
 mod kind;
 mod place;
+mod setting;
 mod setting_texts;
 mod values;
 // keys
@@ -33,7 +34,7 @@ mod seen;
 mod users;
 
 pub use changes::changes_of;
-pub use difference::{Difference, Setting, first_difference};
+pub use difference::{Difference, first_difference};
 pub use finding::{Finding, finding_of, text_at};
 pub use holders::{holder_of, holders_of};
 pub use key::{Key, Row, reads_the_table};
@@ -44,6 +45,7 @@ pub use parts::parts_of;
 pub use place::{Place, line_from, place_of};
 pub use remark::{Remark, remarks};
 pub use seen::seen_by;
+pub use setting::Setting;
 pub use setting_texts::{key_of, limit_of, wanted_of};
 pub use unknown::unknown_keys;
 pub use users::users_of;
