@@ -83,7 +83,8 @@ fn replay_command<'a>(alloc: Global) -> Built<'a>
 fn view_command<'a>(alloc: Global) -> Built<'a>
     ensures { Builds result view_app }
 {
-    let about = "Lists the stations that an address sees, or all with the lists that hold for them";
+    let about =
+        "Lists the stations that an address sees, what another CONFIG changes, or all with their lists";
     command_by(alloc, "view", about, &VIEW)
 }
 

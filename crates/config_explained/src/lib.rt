@@ -1,6 +1,7 @@
 //! What a configuration's text says to whoever wrote it. Findings: what stands where it is refused, beside what is wanted
 //! there, and where two configurations differ first. Keys: those that are not known, since they may be misspelled. View:
-//! the stations that an address sees, and who may use each station. The reading itself is that of `catalog`.
+//! the stations that an address sees, who may use each station, and what a new configuration changes for whom. The reading
+//! itself is that of `catalog`.
 #![tactic(auto)]
 
 // findings

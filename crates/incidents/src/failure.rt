@@ -23,8 +23,6 @@ pub enum Failure {
     OutOfMemory,
     /// The text of help could not be written.
     Write,
-    /// A file could not be opened, or the configuration could not be read.
-    File,
     /// The text of the configuration is none.
     Config(ConfigFault),
     /// The configuration has keys that are not known, and those are refused.
@@ -37,8 +35,8 @@ pub enum Failure {
     Records(FileFault),
     /// A word is no address with a port.
     Address,
-    /// A word is no address.
-    Client,
+    /// A word is no address and no network, and no file of that name can be opened.
+    Who,
     /// A configuration has no station that a word names.
     Station,
     /// An address could not be listened on.
@@ -73,27 +71,27 @@ pub enum Failure {
     Numbers(NumbersFault),
     /// The state of an earlier reader was not read.
     State(StateFault),
+    /// What the sentence of its reason says, and no more, as that a file could not be opened.
+    Of(Reason),
     /// What a status port answered was not taken.
     Status(StatusFault),
 }
 
 impl Failure {
-    /// The reason by which the program reports it: 1 to 6, 10, 11, 20 to 25, 32, 34, 40 to 47, 49, 51,
-    /// 52, 53, 60 or 61.
+    /// The reason by which the program reports it.
     pub fn reason(self) -> Reason
         ensures { result ≡ failure_reason self }
     {
         match self {
             Failure::OutOfMemory => Reason::OutOfMemory,
             Failure::Write => Reason::Write,
-            Failure::File => Reason::File,
             Failure::Config(fault) => fault.reason(),
             Failure::UnknownKeys => Reason::Missing,
             Failure::Replay(fault) => fault.reason(),
             Failure::Check(fault) => fault.reason(),
             Failure::Records(fault) => fault.reason(),
             Failure::Address => Reason::Address,
-            Failure::Client => Reason::Address,
+            Failure::Who => Reason::File,
             Failure::Station => Reason::UnknownStation,
             Failure::Listen(fault) => fault.reason(),
             Failure::Connect => Reason::Connect,
@@ -111,6 +109,7 @@ impl Failure {
             Failure::Packets(fault) => fault.reason(),
             Failure::Numbers(fault) => fault.reason(),
             Failure::State(fault) => fault.reason(),
+            Failure::Of(reason) => reason,
             Failure::Status(fault) => fault.reason(),
         }
     }
@@ -122,7 +121,7 @@ fn own_cause(failure: Failure) -> Option<&'static str> {
         Failure::Write => "help could not be written",
         Failure::UnknownKeys => "the configuration has keys that are not known",
         Failure::Address => "a word is no address with a port",
-        Failure::Client => "a word is no address",
+        Failure::Who => "a word is no address and no network, and there is no such file",
         Failure::Station => "the configuration has no such station",
         Failure::Records(FileFault::Station) =>
             "no station has the record's network and station codes",

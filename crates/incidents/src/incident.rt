@@ -302,7 +302,9 @@ fn put_allowed<W: Write>(f: &mut Formatter<W>, failure: &Failure) -> fmt::Result
         Failure::Moment(_) => f.write_str(
             "  allowed: a time in UTC, as 2024-02-29, 2024-02-29T00:00:00 or 2024,2,29,0,0,0\n",
         ),
-        Failure::Client => f.write_str("  allowed: four numbers joined by dots, as 10.0.0.7\n"),
+        Failure::Who => f.write_str(
+            "  allowed: an address as 10.0.0.7, a network as 10.0.0.0/8, or the file of another configuration\n",
+        ),
         Failure::Wants(fault) => writeln!(f, "  allowed: {}", allowed_together(*fault)),
         Failure::Backwards => f.write_str("  allowed: the time of --begin, or a later one\n"),
         _ => Ok(()),

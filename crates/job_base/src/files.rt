@@ -3,6 +3,7 @@ use crate::reasons::ReasonKeeper;
 use catalog::{Config, ConfigError};
 use config_explained::{Finding, finding_of};
 use incidents::{Failure, Incident, Site};
+use protocol::reason::Reason;
 use sl_io::{Outer, ReadFault, read_all};
 use std::alloc::Global;
 use std::fs::OpenFile;
@@ -29,7 +30,7 @@ pub fn text_at<'a, R: Files + AllocGlobal>(rt: &R, path: &'a str) -> Result<Vec<
         Ok(text) => Ok(text),
         Err(ReadFault::OutOfMemory) => Err(Failure::OutOfMemory.in_file(path)),
         Err(ReadFault::Read) => {
-            let incident = Failure::File.in_file(path);
+            let incident = Failure::Of(Reason::File).in_file(path);
             Err(incident.at_input(path, file.into_inner().into_reason()))
         }
     }
@@ -66,7 +67,7 @@ pub fn unopened<'a>(path: &'a str, reason: io::Error) -> Incident<'a> {
         return Incident::from(Failure::OutOfMemory);
     }
     Incident {
-        failure: Failure::File,
+        failure: Failure::Of(Reason::File),
         site: Site::Unopened(path, reason),
     }
 }

@@ -3,11 +3,13 @@
 #![tactic(auto)]
 
 mod checking;
+mod comparing;
 mod folders;
 mod names;
 mod replaying;
 mod viewing;
 
 pub use checking::check_files;
+pub use comparing::list_changes;
 pub use replaying::{ReplayStyle, replay, replay_files};
 pub use viewing::{list_holders, list_seen, list_station, view_file};

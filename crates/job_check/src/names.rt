@@ -2,6 +2,7 @@
 use crate::folders::{FolderFault, files_below};
 use incidents::{Failure, FileKind, FoundFault, FoundFile, Incident, Site};
 use job_base::unopened;
+use protocol::reason::Reason;
 use record_check::Finding;
 use shown_lines::ShownLine;
 use sl_io::StreamFault;
@@ -81,7 +82,7 @@ fn found_unopened<'a>(path: String, reason: io::Error) -> Incident<'a> {
         return Incident::from(Failure::OutOfMemory);
     }
     Incident {
-        failure: Failure::File,
+        failure: Failure::Of(Reason::File),
         site: found(path, FoundFault::Device(reason)),
     }
 }

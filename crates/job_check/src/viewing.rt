@@ -10,6 +10,7 @@ ghost use Rattle.job_check.specs.Viewing.{or_nothing};
 ghost use Rattle.config_explained.specs.Parts.{parts_text};
 ghost use Rattle.config_explained.specs.Seen.{seen_text};
 
+use crate::comparing::write_changes;
 use access_list::address;
 use catalog::Config;
 use command_line::ViewOptions;
@@ -24,7 +25,7 @@ use std::net::Ipv4Addr;
 use std::rt::Files;
 
 /// Writes a text.
-fn write_text<W: Sink>(text: &[u8], out: &mut W) -> Result<(), StreamFault>
+pub(crate) fn write_text<W: Sink>(text: &[u8], out: &mut W) -> Result<(), StreamFault>
     ensures { OnOk result (Appends (W.written out.old) (W.written out.new) text.now) }
 {
     match write_all(out, text) {
@@ -124,25 +125,27 @@ enum Asked<'a> {
     Network(Network),
     /// Who may use the station that a word names.
     Station(&'a str),
+    /// What the configuration in another file changes.
+    Other(&'a str),
 }
 
-/// The address, or the network, that a word is.
-fn who_in<'a>(word: &'a str) -> Result<Asked<'a>, Incident<'a>> {
+/// The address or the network that a word is; any other word is a file.
+fn who_in<'a>(word: &'a str) -> Asked<'a> {
     match address(word.as_bytes()) {
-        Some(address) => Ok(Asked::Address(address)),
+        Some(address) => Asked::Address(address),
         None => match Network::parse(word.as_bytes()) {
-            Some(network) => Ok(Asked::Network(network)),
-            None => Err(Failure::Client.in_word(word)),
+            Some(network) => Asked::Network(network),
+            None => Asked::Other(word),
         },
     }
 }
 
 /// What the words ask for.
-fn asked_in<'a>(options: &ViewOptions<'a>) -> Result<Asked<'a>, Incident<'a>> {
+fn asked_in<'a>(options: &ViewOptions<'a>) -> Asked<'a> {
     match (options.station, options.who) {
-        (Some(word), _) => Ok(Asked::Station(word)),
+        (Some(word), _) => Asked::Station(word),
         (None, Some(word)) => who_in(word),
-        (None, None) => Ok(Asked::Everything),
+        (None, None) => Asked::Everything,
     }
 }
 
@@ -227,78 +230,65 @@ fn write_station<R: Print + AllocGlobal>(
 }
 
 /// Writes what is asked of a configuration.
-fn write_view<'a, R: Print + Eprint + AllocGlobal>(
+fn write_view<'a, R: Files + Print + Eprint + AllocGlobal>(
     rt: &R,
-    path: &'a str,
+    options: &ViewOptions<'a>,
     config: &Config,
     text: &[u8],
-    asked: &Asked<'a>,
 ) -> Result<(), Incident<'a>> {
-    let (written, word) = match *asked {
+    let (written, word) = match asked_in(options) {
         Asked::Everything => (write_all_stations(rt, config, text), None),
         Asked::Address(address) => (write_seen(rt, config, address), None),
         Asked::Network(network) => (write_parts(rt, config, text, network), None),
         Asked::Station(word) => (write_station(rt, config, text, word), Some(word)),
+        Asked::Other(path) => return write_changes(rt, config, text, path, options.is_strict),
     };
     match (written, word) {
         (Ok(()), _) => Ok(()),
         (Err(Failure::Station), Some(word)) => Err(Failure::Station.in_word(word)),
-        (Err(failure), _) => Err(failure.in_file(path)),
+        (Err(failure), _) => Err(failure.in_file(options.config)),
     }
 }
 
-/// Names the keys of a configuration that are not known, for which it is refused with `is_strict`, and writes the view.
-fn view_config<'a, R: Print + Eprint + AllocGlobal>(
+/// Names the keys of a configuration that are not known, for which it is refused if the options are strict, and writes
+/// the view. If it is compared with another one, the keys of that are named instead.
+fn view_config<'a, R: Files + Print + Eprint + AllocGlobal>(
     rt: &R,
-    path: &'a str,
+    options: &ViewOptions<'a>,
     config: &Config,
     text: &[u8],
-    asked: &Asked<'a>,
-    is_strict: bool,
 ) -> Result<(), Incident<'a>> {
-    match tell_unknown_keys(rt, path, config, text, is_strict) {
-        Ok(()) => write_view(rt, path, config, text, asked),
+    if matches!(asked_in(options), Asked::Other(_)) {
+        return write_view(rt, options, config, text);
+    }
+    match tell_unknown_keys(rt, options.config, config, text, options.is_strict) {
+        Ok(()) => write_view(rt, options, config, text),
         Err(incident) => Err(incident),
     }
 }
 
 /// The same of the configuration that the text of a file spells.
-fn view_text<'a, R: Print + Eprint + AllocGlobal>(
+fn view_text<'a, R: Files + Print + Eprint + AllocGlobal>(
     rt: &R,
-    path: &'a str,
+    options: &ViewOptions<'a>,
     text: &[u8],
-    asked: &Asked<'a>,
-    is_strict: bool,
 ) -> Result<(), Incident<'a>> {
-    match config_in(rt.alloc(), path, text) {
-        Ok(config) => view_config(rt, path, &config, text, asked, is_strict),
-        Err(incident) => Err(incident),
-    }
-}
-
-/// The same of the configuration in a file.
-fn view_at<'a, R: Files + Print + Eprint + AllocGlobal>(
-    rt: &R,
-    path: &'a str,
-    asked: &Asked<'a>,
-    is_strict: bool,
-) -> Result<(), Incident<'a>> {
-    match text_at(rt, path) {
-        Ok(text) => view_text(rt, path, text.as_slice(), asked, is_strict),
+    match config_in(rt.alloc(), options.config, text) {
+        Ok(config) => view_config(rt, options, &config, text),
         Err(incident) => Err(incident),
     }
 }
 
 /// Writes what an address sees of the configuration in a file, or how much of a network sees each station, or who may
-/// use a station of it, or all stations with whom they are open to. In the last case entries of lists that admit
-/// something else than they look like are named on the standard error. So are keys that are not known, and if the
-/// options are strict the configuration is refused for them. The word is judged before the file is opened.
+/// use a station of it, or what another configuration changes, or all stations with whom they are open to. In the last
+/// case entries of lists that admit something else than they look like are named on the standard error. So are keys that
+/// are not known, and if the options are strict the configuration is refused for them.
 pub fn view_file<'a, R: Files + Print + Eprint + AllocGlobal>(
     rt: &R,
     options: ViewOptions<'a>,
 ) -> Result<(), Incident<'a>> {
-    match asked_in(&options) {
-        Ok(asked) => view_at(rt, options.config, &asked, options.is_strict),
+    match text_at(rt, options.config) {
+        Ok(text) => view_text(rt, &options, text.as_slice()),
         Err(incident) => Err(incident),
     }
 }

@@ -18,6 +18,7 @@ use job_base::{
     ReasonKeeper, ServerAddress, StandardError as Eprinted, server_of, tell_incident, times_of,
     unopened,
 };
+use protocol::reason::Reason;
 use reader_run::{Break, Nowhere};
 use record_archive::FileLength;
 use record_check::Times;
@@ -97,7 +98,7 @@ fn opened_to_add<'a, R: Files>(rt: &R, path: &'a str) -> Result<R::File, Inciden
     match options.open(rt, path) {
         Ok(file) => Ok(file),
         Err(reason) => Err(Incident {
-            failure: Failure::File,
+            failure: Failure::Of(Reason::File),
             site: Site::Unopened(path, reason),
         }),
     }

@@ -1,4 +1,5 @@
 //! Tests of what the program does: the words of its command line, the lines of scripts, and replays.
+mod changes;
 mod endpoints;
 mod explained;
 mod read_words;

@@ -51,15 +51,20 @@ fn holders(alloc: Global, text: &[u8]) -> Result<MemorySink, Fail> {
     Ok(sink)
 }
 
+/// A configuration of one station, with these lines for the lists of the server and of the station.
+pub fn with_lists(alloc: Global, server: &str, station: &str) -> Result<String, AllocError> {
+    format!(in alloc;
+        "title = \"T\"\n{server}[[station]]\nnetwork = \"GE\"\ncode = \"APE\"\n\
+            description = \"\"\ncapacity = 3\n{station}"
+    )
+}
+
 #[test]
 fn a_station_has_its_list(rt: HostRuntime) -> Result<(), Fail> {
     let lines = holders(rt.alloc(), CENTRE)?;
     assert!(rt; lines.bytes() == b"GE APE 10.0.0.0/8\nGE WLF -\nXX APE -\n".as_slice());
     for (server, station, line) in &LISTS {
-        let text = format!(in rt.alloc();
-            "title = \"T\"\n{server}[[station]]\nnetwork = \"GE\"\ncode = \"APE\"\n\
-                description = \"\"\ncapacity = 3\n{station}"
-        )?;
+        let text = with_lists(rt.alloc(), server, station)?;
         let lines = holders(rt.alloc(), text.as_bytes())?;
         assert!(rt; lines.bytes() == line.as_bytes(), "at {server}{station}");
     }

@@ -1,0 +1,124 @@
+//! What a new configuration changes, and for whom.
+ghost use Rattle.std.specs.Prelude.{◌≡◌, IfSome, OnOk};
+ghost use Rattle.std.specs.Str.{IsUtf8};
+ghost use Rattle.std.specs.Io.KnownBytes.{Appends};
+ghost use Rattle.toml.specs.Parse.{parse_document};
+ghost use Rattle.config_explained.specs.Changes.{changes_text};
+
+use crate::viewing::write_text;
+use catalog::Config;
+use config_explained::{Difference, changes_of, first_difference};
+use incidents::{Failure, Incident, Site};
+use job_base::{config_in, tell_unknown_keys, text_at};
+use protocol::reason::Reason;
+use sl_io::{Outer, Sink, StreamFault};
+use std::alloc::Global;
+use std::io;
+use std::rt::Files;
+
+/// Writes what changes, and for whom, if a server that runs one configuration is given another, a line each. Each is
+/// that of its text.
+pub fn list_changes<W: Sink>(
+    alloc: Global,
+    old: &Config,
+    old_text: &[u8],
+    new: &Config,
+    new_text: &[u8],
+    out: &mut W,
+) -> Result<(), StreamFault>
+    ensures { OnOk result (IsUtf8 old_text.now → IsUtf8 new_text.now
+        → IfSome (parse_document old_text.now) (λ keys. IfSome (parse_document new_text.now) (λ keys'.
+        Appends (W.written out.old) (W.written out.new) (changes_text keys keys' old.now new.now)))) }
+{
+    match changes_of(alloc, old, old_text, new, new_text) {
+        Ok(lines) => write_text(lines.as_slice(), out),
+        Err(_) => Err(StreamFault::OutOfMemory),
+    }
+}
+
+/// Writes the lines that explain the first difference but for access lists: the file, the station, the key and its
+/// values.
+fn write_difference<'a, W: Sink>(
+    alloc: Global,
+    path: &'a str,
+    difference: Difference,
+    out: &mut W,
+) -> Result<(), StreamFault> {
+    let site = Site::Differing(path, difference);
+    match format!(in alloc; "{site}") {
+        Ok(lines) => write_text(lines.as_bytes(), out),
+        Err(_) => Err(StreamFault::OutOfMemory),
+    }
+}
+
+/// Writes what changes, and explains the first difference for which a running server refuses the new configuration.
+fn write_all<'a, R: Print + AllocGlobal>(
+    rt: &R,
+    old: &Config,
+    old_text: &[u8],
+    path: &'a str,
+    new: &Config,
+    new_text: &[u8],
+) -> Result<(), StreamFault> {
+    let mut out = Outer::new(io::writer(rt));
+    match list_changes(rt.alloc(), old, old_text, new, new_text, &mut out) {
+        Ok(()) => match first_difference(rt.alloc(), old, new) {
+            Ok(Some(difference)) => write_difference(rt.alloc(), path, difference, &mut out),
+            Ok(None) => Ok(()),
+            Err(_) => Err(StreamFault::OutOfMemory),
+        },
+        Err(fault) => Err(fault),
+    }
+}
+
+/// Names the keys of the new configuration that are not known, for which it is refused with `is_strict`, and writes what
+/// it changes.
+fn compare<'a, R: Print + Eprint + AllocGlobal>(
+    rt: &R,
+    old: &Config,
+    old_text: &[u8],
+    path: &'a str,
+    new_text: &[u8],
+    is_strict: bool,
+) -> Result<(), Incident<'a>> {
+    let new = match config_in(rt.alloc(), path, new_text) {
+        Ok(new) => new,
+        Err(incident) => return Err(incident),
+    };
+    match tell_unknown_keys(rt, path, &new, new_text, is_strict) {
+        Ok(()) => match write_all(rt, old, old_text, path, &new, new_text) {
+            Ok(()) => Ok(()),
+            Err(fault) => Err(Failure::Check(fault).in_file(path)),
+        },
+        Err(incident) => Err(incident),
+    }
+}
+
+/// A file that could not be opened, by a word that may have been meant for an address.
+fn unopened_who<'a>(incident: Incident<'a>) -> Incident<'a> {
+    match incident {
+        Incident {
+            failure: Failure::Of(Reason::File),
+            site: Site::Unopened(path, reason),
+        } => Incident {
+            failure: Failure::Who,
+            site: Site::Unopened(path, reason),
+        },
+        other => other,
+    }
+}
+
+/// Writes what changes, and for whom, if a server that runs a configuration is given that in a file. Keys of that one
+/// that are not known are named on the standard error, and with `is_strict` it is refused for them.
+pub fn write_changes<'a, R: Files + Print + Eprint + AllocGlobal>(
+    rt: &R,
+    old: &Config,
+    old_text: &[u8],
+    path: &'a str,
+    is_strict: bool,
+) -> Result<(), Incident<'a>> {
+    match text_at(rt, path) {
+        Ok(new_text) => compare(rt, old, old_text, path, new_text.as_slice(), is_strict),
+        Err(incident) => Err(unopened_who(incident)),
+    }
+}
