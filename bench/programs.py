@@ -10,7 +10,7 @@ import tempfile
 import time
 
 TOP = os.path.dirname(os.path.dirname(os.path.realpath(__file__)))
-PROGRAM = f"{TOP}/crates/seedlinkd/out/seedlinkd"
+PROGRAM = os.environ.get("PROGRAM", f"{TOP}/crates/seedlinkd/out/seedlinkd")
 HERE = "127.0.0.1"
 LISTENING = "0A"
 

@@ -11,7 +11,8 @@
 - Each example of the section "Faults that are explained" is run, with files and servers as the text beside it has them, and prints
   what stands there. Ports are others, which are free; `..` stands for any lines.
 
-Servers listen on loopback alone, and end with the script. It takes some seconds, and needs the built program (./seedlinkd --build).
+Servers listen on loopback alone, and end with the script. It takes some seconds, and needs the built program (./seedlinkd --build),
+or another one in PROGRAM.
 """
 
 import os
@@ -24,7 +25,7 @@ import tempfile
 import time
 
 TOP = os.path.dirname(os.path.dirname(os.path.realpath(__file__)))
-PROGRAM = f"{TOP}/crates/seedlinkd/out/seedlinkd"
+PROGRAM = os.environ.get("PROGRAM", f"{TOP}/crates/seedlinkd/out/seedlinkd")
 RECORD = 512
 HEADING = "### Faults that are explained"
 STATION = '[[station]]\nnetwork = "{}"\ncode = "{}"\ndescription = ""\ncapacity = {}\n'

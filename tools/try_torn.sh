@@ -2,7 +2,8 @@
 # Tries what `feed` and `check` make of files that are not records one after the other: with a byte too many, of another record
 # length, compressed, and of stations that a server does not have. Over loopback, at ports that are free.
 #
-#     tools/try_torn.sh
+#     tools/try_torn.sh                      # builds the program first
+#     PROGRAM=/path/seedlinkd tools/try_torn.sh
 set -u
 top=$(cd "$(dirname "$(readlink -f "$0")")/.." && pwd)
 room=$(mktemp -d)
@@ -17,14 +18,15 @@ fail() {
     echo "try_torn: $1" >&2
     exit 1
 }
-"$top/seedlinkd" --build || exit 3
-program=$top/crates/seedlinkd/out/seedlinkd
+program=${PROGRAM:-$top/crates/seedlinkd/out/seedlinkd}
+[ -n "${PROGRAM-}" ] || "$top/seedlinkd" --build || exit 3
 "$program" --version || exit 3
 records=$top/examples/records/records.mseed
 cd "$room" || exit 3
 total=$(($(stat -c %s "$records") / 512))
 
 { head -c 5120 "$records"; printf x; tail -c +5121 "$records"; } >torn.mseed
+{ cat torn.mseed; head -c 511 /dev/zero; } >more.mseed # whole records again
 head -c 20000 /dev/zero >zeros
 gzip -c "$records" >records.gz
 # A record that gives 4,096 bytes as its length: the byte of its first blockette.
@@ -66,9 +68,12 @@ try() {
 }
 says() { grep -q -- "$1" told || fail "$what: no line has '$1': $(cat told)"; }
 
-try "a byte too many" 0 feed "$feed" torn.mseed
+try "a byte too many" 1 feed "$feed" torn.mseed
 says "16 records in a row are not valid, from record 11 of torn.mseed on, at byte 5120: "
-says "record 11 of torn.mseed, at byte 5120: "
+says "^seedlinkd: 41 Partial"
+try "a record too many" 0 feed "$feed" more.mseed
+says "16 records in a row are not valid, from record 11 of more.mseed on, at byte 5120: "
+says "record 11 of more.mseed, at byte 5120: "
 try "a byte too many, strict" 1 -v feed "$feed" torn.mseed --strict
 says "sent 26 records"
 says "  record: 11"
@@ -81,7 +86,7 @@ says "passed over 20000 bytes of zeros"
 says "^sent 0 records\$"
 { head -c 5120 torn.mseed; sleep 0.3; tail -c +5121 torn.mseed; } | "$program" -v feed "$feed" - --skip 2>told || fail "a pipe"
 what="a pipe" says "^sent $total records"
-try "a file that is compressed" 0 feed "$feed" records.gz
+try "a file that is compressed" 1 feed "$feed" records.gz
 says "a file compressed by gzip"
 try "a long record" 0 feed "$feed" long.mseed
 says "record 1 of long.mseed, at byte 0: 6 Length, 4096 bytes where 512 are taken"
