@@ -42,6 +42,7 @@ offers "$files" check --iso records.mseed ""
 offers "--text" replay island.toml --t
 offers "island.toml" replay island.toml i
 offers "" replay island.toml island.toml ""
+offers "$files" view island.toml ""
 offers "" read 127.0.0.1 : 18000 GE_APE ""
 offers "island.toml" read --state i
 # Each option of each command is offered.
