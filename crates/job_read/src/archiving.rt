@@ -1,7 +1,5 @@
 //! Records that are read into an archive.
 ghost use Rattle.std.specs.Prelude.{◌≡◌, None};
-ghost use Rattle.std.specs.Io.{WritesAtMost};
-ghost use Rattle.sl_io.specs.Counts.{CountsEmptyWrite};
 
 use crate::clock::milliseconds;
 use crate::notices::{ErrorTeller, Notice, Teller};
@@ -9,13 +7,14 @@ use crate::torn::tell_torn;
 use crate::unplaced::UnplacedCount;
 use incidents::{Failure, FoundFault, FoundFile, Incident, Site};
 use job_base::{descriptor_limit, unopened};
-use reader_run::Nowhere;
+use reader_run::{Gathered, Nowhere, RecordSink, TakeFault};
 use record_archive::{
     Archive, ArchiveFault, ContinuedFiles, ContinuedOutput, DiskFiles, FileFailure, FileLength,
-    FilePlace, ONE_FILE, RecordFiles, StationCodes, StationLocks, TopFault, Unnamed, lock_stations,
+    FilePlace, FolderFault, ONE_FILE, RecordFiles, StationCodes, StationLocks, TopFault, Unnamed,
+    lock_stations,
 };
-use sl_io::{DeviceFault, Outer, Sink};
-use slreader::Want;
+use sl_io::WriteFault;
+use slreader::{GivenPacket, Want};
 use std::alloc::{AllocError, Global};
 use std::cell::RefCell;
 use std::fs::File;
@@ -41,7 +40,6 @@ pub struct ToldArchive<'r, R: Files<File = File> + Clock> {
     teller: ErrorTeller<'r, R>,
     count: UnplacedCount,
     failures: u64,
-    calls: u64,
 }
 
 /// The stations of wants.
@@ -104,7 +102,6 @@ pub fn archive_at<'r, 'a: 'r, R: Files<File = File> + Clock + AllocGlobal>(
         teller: ErrorTeller::new(rt),
         count: UnplacedCount::new(),
         failures: 0,
-        calls: 0,
     })
 }
 
@@ -129,20 +126,6 @@ fn added_to_by_another() -> io::Error {
     )
 }
 
-/// Why records could not be added to an archive, if that is what ended the reading.
-pub fn at_archive<'r, 'a, R: Files<File = File> + Clock>(
-    incident: Incident<'a>,
-    archive: DiskArchive<'r, R>,
-    top: &'a str,
-) -> Incident<'a> {
-    let mut archive = archive;
-    match archive.fault() {
-        Some(ArchiveFault::OutOfMemory) => Incident::from(Failure::OutOfMemory),
-        Some(ArchiveFault::Folder) => at_failure(incident, archive.take_failure(), top),
-        None => incident,
-    }
-}
-
 /// A file below an archive that took no more; the folder of that if the file is not known.
 pub fn site_of<'a>(failure: FileFailure, top: &'a str) -> Site<'a> {
     let FileFailure { path, reason } = failure;
@@ -155,15 +138,17 @@ pub fn site_of<'a>(failure: FileFailure, top: &'a str) -> Site<'a> {
     }
 }
 
-/// The same, at the file of the archive that took no more, as far as that is known.
-fn at_failure<'a>(
+/// Why records could not be added to an archive, if that is what ended the reading: at the file that took no more, as
+/// far as that is known.
+pub fn at_archive<'r, 'a, R: Files<File = File> + Clock>(
     incident: Incident<'a>,
-    failure: Option<FileFailure>,
+    archive: DiskArchive<'r, R>,
     top: &'a str,
 ) -> Incident<'a>
     ensures { result.failure ≡ incident.entry.failure }
 {
-    match failure {
+    let mut archive = archive;
+    match archive.take_failure() {
         Some(failure) => Incident {
             failure: incident.failure,
             site: site_of(failure, top),
@@ -182,7 +167,6 @@ impl<'r, R: Files<File = File> + Eprint + Clock> ToldArchive<'r, R> {
             mut teller,
             count,
             failures: _,
-            calls: _,
         } = self;
         let archive = archive.into_inner();
         let unplaced = archive.unplaced();
@@ -194,8 +178,7 @@ impl<'r, R: Files<File = File> + Eprint + Clock> ToldArchive<'r, R> {
 
     /// Tells of a torn file, and how many records have no place, if that is due.
     fn tell(&mut self, unplaced: u64, torn: Option<String>)
-        ensures failures { self.new.failures ≡ self.old.failures }
-        ensures calls { self.new.calls ≡ self.old.calls }
+        ensures { self.new.failures ≡ self.old.failures }
     {
         if let Some(path) = torn {
             tell_torn(self.rt, path.as_str());
@@ -207,36 +190,45 @@ impl<'r, R: Files<File = File> + Eprint + Clock> ToldArchive<'r, R> {
     }
 }
 
-/// Writes to an archive, and answers as well how many of its records have no place, and which file was torn.
-fn write_to<'r, R: Files<File = File> + Clock>(
+/// Puts a record into an archive, and answers as well how many of its records have no place, and which file was torn.
+#[tactic(auto, unfolding(slreader::specs::Tallies::packet_facts))]
+fn put_to<'r, R: Files<File = File> + Clock>(
     archive: &mut DiskArchive<'r, R>,
-    bytes: &[u8],
-) -> (Result<usize, DeviceFault>, u64, Option<String>)
-    ensures bound { WritesAtMost result.0 bytes.now }
-    ensures empty { CountsEmptyWrite 0 0 result.0 bytes.now }
-{
-    let written = archive.write(bytes);
+    packet: &GivenPacket<'_>,
+) -> (Result<(), ArchiveFault>, u64, Option<String>) {
+    let put = archive.put(packet.record(), packet.header());
     let torn = archive.take_torn();
-    (written, archive.unplaced(), torn)
+    (put, archive.unplaced(), torn)
 }
 
-impl<'r, R: Files<File = File> + Eprint + Clock> Sink for ToldArchive<'r, R> {
+impl<'r, R: Files<File = File> + Eprint + Clock> RecordSink for ToldArchive<'r, R> {
     ghost written = { λ _. None };
+
+    ghost Waits = { λ _ _. Unit {0} };
 
     ghost failures = { λ a. a.failures };
 
-    ghost calls = { λ a. a.calls };
-
     ghost empty_writes = { λ _. 0 };
 
-    fn write(&mut self, bytes: &[u8]) -> Result<usize, DeviceFault> {
-        self.calls = self.calls.wrapping_add(1);
-        let (written, unplaced, torn) = write_to(self.archive.get_mut(), bytes);
+    fn begin(&mut self) {
+        self.archive.get_mut().begin();
+    }
+
+    fn take(&mut self, packet: &GivenPacket<'_>) -> Result<(), TakeFault> {
+        let (put, unplaced, torn) = put_to(self.archive.get_mut(), packet);
         self.tell(unplaced, torn);
-        if written.is_err() {
-            self.failures = self.failures.wrapping_add(1);
+        match put {
+            Ok(()) => Ok(()),
+            Err(ArchiveFault::OutOfMemory) => Err(TakeFault::OutOfMemory),
+            Err(ArchiveFault::Folder) => {
+                self.failures = self.failures.wrapping_add(1);
+                Err(TakeFault::Write)
+            }
         }
-        written
+    }
+
+    fn hand_on(&mut self) -> Result<(), WriteFault> {
+        Ok(())
     }
 }
 
@@ -246,7 +238,6 @@ pub struct ToldOutput<'r, R: Files<File = File> + Clock> {
     rt: &'r R,
     output: RefCell<ContinuedOutput<DiskFiles<'r, R>>>,
     failures: u64,
-    calls: u64,
 }
 
 /// The file at a path, in which a reader goes on after what a state says of it. If that says nothing, what stands there
@@ -261,7 +252,6 @@ pub fn output_at<'r, 'a: 'r, R: Files<File = File> + Clock + AllocGlobal>(
         rt,
         output: RefCell::new(ContinuedOutput::new(files)),
         failures: 0,
-        calls: 0,
     })
 }
 
@@ -330,38 +320,45 @@ impl Write for WholeFile {
     }
 }
 
-/// Writes to a file, and answers as well whether it was torn.
-fn write_one<'r, R: Files<File = File> + Clock>(
+/// Puts a record into a file, and answers as well whether that was torn.
+fn put_one<'r, R: Files<File = File> + Clock>(
     output: &mut ContinuedOutput<DiskFiles<'r, R>>,
-    bytes: &[u8],
-) -> (Result<usize, DeviceFault>, Option<String>)
-    ensures bound { WritesAtMost result.0 bytes.now }
-    ensures empty { CountsEmptyWrite 0 0 result.0 bytes.now }
-{
-    let written = output.write(bytes);
+    packet: &GivenPacket<'_>,
+) -> (Result<(), FolderFault>, Option<String>) {
+    let put = output.put(packet.record());
     let torn = output.take_torn();
-    (written, torn)
+    (put, torn)
 }
 
-impl<'r, R: Files<File = File> + Eprint + Clock> Sink for ToldOutput<'r, R> {
+impl<'r, R: Files<File = File> + Eprint + Clock> RecordSink for ToldOutput<'r, R> {
     ghost written = { λ _. None };
+
+    ghost Waits = { λ _ _. Unit {0} };
 
     ghost failures = { λ o. o.failures };
 
-    ghost calls = { λ o. o.calls };
-
     ghost empty_writes = { λ _. 0 };
 
-    fn write(&mut self, bytes: &[u8]) -> Result<usize, DeviceFault> {
-        self.calls = self.calls.wrapping_add(1);
-        let (written, torn) = write_one(self.output.get_mut(), bytes);
+    fn begin(&mut self) {
+        self.output.get_mut().begin();
+    }
+
+    fn take(&mut self, packet: &GivenPacket<'_>) -> Result<(), TakeFault> {
+        let (put, torn) = put_one(self.output.get_mut(), packet);
         if let Some(path) = torn {
             tell_torn(self.rt, path.as_str());
         }
-        if written.is_err() {
-            self.failures = self.failures.wrapping_add(1);
+        match put {
+            Ok(()) => Ok(()),
+            Err(FolderFault) => {
+                self.failures = self.failures.wrapping_add(1);
+                Err(TakeFault::Write)
+            }
         }
-        written
+    }
+
+    fn hand_on(&mut self) -> Result<(), WriteFault> {
+        Ok(())
     }
 }
 
@@ -379,7 +376,7 @@ impl Lasting for Nowhere {
 }
 
 /// What was written has been handed on.
-impl<T> Lasting for Outer<T> {
+impl<S> Lasting for Gathered<S> {
     fn make_last(&self) -> Result<Option<Vec<FileLength>>, FileFailure> {
         Ok(None)
     }

@@ -8,7 +8,7 @@ ghost use Rattle.reader_run.specs.Visits.{EndsVisits, asking, progress};
 use crate::hearing::{HeardLines, Listener};
 use crate::notices::{ErrorTeller, RefusalTeller};
 use crate::reading::Reading;
-use reader_run::{Break, Keeper, ListingFault, Servers, follow};
+use reader_run::{Break, Keeper, ListingFault, RecordSink, Servers, follow};
 use sl_io::Sink;
 use slreader::{ReaderFault, Tally};
 use std::alloc::Global;
@@ -19,7 +19,7 @@ pub fn follow_any<
     R: Eprint + Clock + AllocGlobal,
     S: Servers,
     O: Sink + Drop,
-    P: Sink,
+    P: RecordSink,
     K: Keeper<P>,
 >(
     rt: &R,
@@ -47,7 +47,7 @@ pub fn follow_any<
 }
 
 /// Asks servers for what a reading wants.
-fn follow_with<S: Servers, O: Sink, P: Sink, K: Keeper<P>>(
+fn follow_with<S: Servers, O: Sink, P: RecordSink, K: Keeper<P>>(
     alloc: Global,
     reading: &Reading<'_, '_>,
     tally: &mut Tally,
@@ -89,7 +89,7 @@ fn follow_told<
     R: Eprint + Clock + AllocGlobal,
     S: Servers,
     O: Sink + Drop,
-    P: Sink,
+    P: RecordSink,
     K: Keeper<P>,
 >(
     rt: &'r R,

@@ -19,7 +19,7 @@ use job_base::{
     unopened,
 };
 use protocol::reason::Reason;
-use reader_run::{Break, Nowhere};
+use reader_run::{Break, Gathered, Nowhere, RecordSink};
 use record_archive::FileLength;
 use record_check::Times;
 use sl_io::{Outer, Sink};
@@ -119,7 +119,7 @@ fn opened_twice<'a, R: Files<File = File>>(
 /// Asks one server after the other, and the first one again after a pause if there is one, each of them for what comes
 /// after the packets that were written. With a state it begins after what that tells of, and keeps there how far it is.
 /// A failure after which it goes on is told.
-fn list_on<'a, R, O: Sink + Drop, P: Sink + Lasting>(
+fn list_on<'a, R, O: Sink + Drop, P: RecordSink + Lasting>(
     rt: &R,
     reading: &Reading<'a, '_>,
     state: Option<StateFile<'a>>,
@@ -137,7 +137,7 @@ where
 }
 
 /// The same, after the packets that were counted.
-fn list_after<'a, R, O: Sink + Drop, P: Sink + Lasting>(
+fn list_after<'a, R, O: Sink + Drop, P: RecordSink + Lasting>(
     rt: &R,
     reading: &Reading<'a, '_>,
     tally: &mut Tally,
@@ -207,7 +207,7 @@ fn list_records<'a, R: Files + Print + Eprint + Clock + Net + AllocGlobal>(
     state: Option<StateFile<'a>>,
 ) -> Result<(), Incident<'a>> {
     let lines = Outer::new(Eprinted::new(rt));
-    let mut records = Outer::new(io::writer(rt));
+    let mut records = Gathered::new(rt.alloc(), Outer::new(io::writer(rt)));
     list_on(rt, reading, state, None, lines, &mut records)
 }
 
@@ -239,10 +239,14 @@ fn list_and_append<'a, R: Files<File = File> + Print + Eprint + Clock + Net + Al
 ) -> Result<(), Incident<'a>> {
     let (file, same) = opened_twice(rt, path)?;
     let lines = Outer::new(io::writer(rt));
-    let mut records = Outer::new(ReasonKeeper::new(WholeFile::new(file)));
+    let file = Outer::new(ReasonKeeper::new(WholeFile::new(file)));
+    let mut records = Gathered::new(rt.alloc(), file);
     match list_on(rt, reading, state, Some(same), lines, &mut records) {
         Ok(()) => Ok(()),
-        Err(incident) => Err(incident.at_output(path, records.into_inner().into_reason())),
+        Err(incident) => Err(incident.at_output(
+            path,
+            records.into_sink().into_inner().into_reason(),
+        )),
     }
 }
 

@@ -7,10 +7,10 @@ use crate::clock::milliseconds;
 use crate::silence::is_silent;
 use incidents::{Failure, Incident, Site, StateFault};
 use job_base::{place_of, replace};
-use reader_run::{KeepFault, Keeper, ListingFault};
+use reader_run::{KeepFault, Keeper, ListingFault, RecordSink};
 use reader_state::{State, read_state, write_state};
 use record_archive::{FileFailure, FileLength, ONE_FILE};
-use sl_io::{Outer, ReadFault, Sink, read_all};
+use sl_io::{Outer, ReadFault, read_all};
 use slreader::{LastPacket, Tally, Want};
 use std::alloc::{AllocError, Global};
 use std::cell::RefCell;
@@ -385,7 +385,7 @@ impl<'r, 'a, 'w, R: Files + Clock + Net + AllocGlobal> StateKeeper<'r, 'a, 'w, R
 impl<'r, 'a, 'w, R, P> Keeper<P> for StateKeeper<'r, 'a, 'w, R>
 where
     R: Files + Clock + Net + AllocGlobal,
-    P: Sink + Lasting,
+    P: RecordSink + Lasting,
 {
     ghost done = { λ _. None };
 

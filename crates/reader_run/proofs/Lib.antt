@@ -6,3 +6,4 @@ pub mod FurtherLaws
 pub mod KeepLaws
 pub mod RoundLaws
 pub mod FollowLaws
+pub mod WaitLaws

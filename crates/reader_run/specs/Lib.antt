@@ -11,3 +11,4 @@ pub mod Following
 pub mod Visits
 pub mod Breaks
 pub mod MemoryCalls
+pub mod Takes

@@ -65,6 +65,26 @@ abbrev pub told : OutputValue → Option Given → OutputValue
 told o None = o
 told o (Some g) = with_given o g
 
+-- the same of the lines alone
+abbrev pub with_lines : OutputValue → Option Given → OutputValue
+with_lines o None = o
+with_lines o (Some Hello) = o
+with_lines o (Some (Refused want)) = record o { lines = o.lines ++ refusal_at o.style.refusals want }
+with_lines o (Some (Packet packet)) = record o { lines = o.lines ++ packet_line o.style.times packet }
+with_lines o (Some End) = o
+
+-- and of the records
+abbrev pub with_records : List ℕ → Option Given → List ℕ
+with_records records None = records
+with_records records (Some Hello) = records
+with_records records (Some (Refused want)) = records
+with_records records (Some (Packet packet)) = records ++ record_of packet
+with_records records (Some End) = records
+
+-- lines that are told, beside records that wait
+abbrev pub beside : OutputValue → (records : List ℕ) → OutputValue
+beside o records = record o { records = records }
+
 -- the lines of a plan's wants, if they are refused
 abbrev pub refusals_of : PlanValue → List (List ℕ)
 refusals_of plan = map refusal_line (wants_of plan)

@@ -8,6 +8,7 @@ ghost use Rattle.reader_run.specs.Visits.{EndsVisits, asking, progress};
 use crate::fault::ListingFault;
 use crate::keeping::Keeper;
 use crate::reading::{is_told_at, read_further};
+use crate::record_sink::RecordSink;
 use crate::servers::Servers;
 use record_check::Times;
 use sl_io::Sink;
@@ -30,7 +31,7 @@ pub enum Break<F> {
 ///
 /// So of all that the servers hand out each record is written as it comes, and no server is asked for one that was
 /// written. What the keeper keeps counts exactly what was written and made to last before, over all connections.
-pub fn follow<S: Servers, O: Sink, P: Sink, K: Keeper<P>>(
+pub fn follow<S: Servers, O: Sink, P: RecordSink, K: Keeper<P>>(
     alloc: Global,
     times: Times,
     wants: &[Want<'_>],

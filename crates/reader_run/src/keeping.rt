@@ -10,7 +10,7 @@ ghost use Rattle.sl_io.specs.Counts.{CountsFailure};
 ghost use Rattle.reader_run.specs.Keeping.{Deed, Tells, Steps};
 ghost use Rattle.reader_run.specs.Keeping.Deed.{Flushed, Kept};
 
-use sl_io::Sink;
+use crate::record_sink::RecordSink;
 use slreader::{ReaderCore, Tally};
 
 /// Records could not be made to last, or what was counted could not be kept.
@@ -19,7 +19,7 @@ pub struct KeepFault;
 
 /// Where it is kept how far a reader is, for one that is begun later. It may tell what was done, in order. The count of
 /// failures is a number below 2^64 that goes on at 0 after 2^64 - 1.
-pub trait Keeper<P: Sink> {
+pub trait Keeper<P: RecordSink> {
     // All that was done, in order, if it is told.
     ghost done: { Self → Option (List Deed) };
 
@@ -49,7 +49,7 @@ pub trait Keeper<P: Sink> {
 #[derive(Clone, Copy, Drop)]
 pub struct NothingKept;
 
-impl<P: Sink> Keeper<P> for NothingKept {
+impl<P: RecordSink> Keeper<P> for NothingKept {
     ghost done = { λ _. None };
 
     ghost failures = { λ _. 0 };
@@ -68,7 +68,7 @@ impl<P: Sink> Keeper<P> for NothingKept {
 }
 
 /// Makes the records last that were written so far, and only then keeps what was counted of them.
-pub(crate) fn keep_behind<P: Sink, K: Keeper<P>>(
+pub(crate) fn keep_behind<P: RecordSink, K: Keeper<P>>(
     core: &ReaderCore,
     records: &P,
     keeper: &mut K,
@@ -86,7 +86,7 @@ pub(crate) fn keep_behind<P: Sink, K: Keeper<P>>(
 }
 
 /// Keeps what was counted if more was counted than was kept, and it is due. `kept` is how many packets were kept.
-pub(crate) fn keep_if_due<P: Sink, K: Keeper<P>>(
+pub(crate) fn keep_if_due<P: RecordSink, K: Keeper<P>>(
     core: &ReaderCore,
     records: &P,
     keeper: &mut K,

@@ -3,6 +3,7 @@
 
 mod fault;
 mod following;
+mod gathered;
 mod keeping;
 mod memory_keeper;
 mod memory_servers;
@@ -10,15 +11,18 @@ mod nowhere;
 mod output;
 mod pieces;
 mod reading;
+mod record_sink;
 mod servers;
 mod texts;
 
 pub use fault::ListingFault;
 pub use following::{Break, follow};
+pub use gathered::Gathered;
 pub use keeping::{KeepFault, Keeper, NothingKept};
 pub use memory_keeper::{Done, MemoryKeeper};
 pub use memory_servers::{Called, MemoryServers, NoServer};
 pub use nowhere::Nowhere;
 pub use reading::{read_further, read_over};
 pub use record_check::Times;
+pub use record_sink::{RecordSink, TakeFault};
 pub use servers::Servers;

@@ -5,6 +5,7 @@ ghost use Rattle.reader_run.specs.Keeping.{Tells};
 ghost use Rattle.reader_run.specs.Keeping.Deed.{Flushed as IsFlushed, Kept as IsKept};
 ghost use Rattle.reader_run.specs.Keepers.{deed_value, told};
 
+use crate::gathered::Gathered;
 use crate::keeping::{KeepFault, Keeper};
 use sl_io::MemorySink;
 use slreader::Tally;
@@ -79,7 +80,7 @@ impl MemoryKeeper {
     }
 }
 
-impl Keeper<MemorySink> for MemoryKeeper {
+impl Keeper<Gathered<MemorySink>> for MemoryKeeper {
     ghost done = { λ k. told k };
 
     ghost failures = { λ k. k.failures };
@@ -94,14 +95,14 @@ impl Keeper<MemorySink> for MemoryKeeper {
         }
     }
 
-    fn flush(&mut self, records: &MemorySink) -> Result<(), KeepFault>
+    fn flush(&mut self, records: &Gathered<MemorySink>) -> Result<(), KeepFault>
         ensures done { OnOk result (Tells (told self.old) (told self.new)
-            (IsFlushed (Some records.now.bytes.items) ∷ [])) }
+            (IsFlushed (Some records.now.sink.bytes.items) ∷ [])) }
         ensures undone { OnErr result (told self.new ≡ told self.old) }
         ensures failure { CountsFailure self.old.failures self.new.failures result }
     {
         self.call()?;
-        match records.bytes().to_vec(self.alloc) {
+        match records.sink().bytes().to_vec(self.alloc) {
             Ok(written) => self.remember(Done::Flushed(written)),
             Err(_) => self.lost = true,
         }

@@ -1,7 +1,9 @@
 //! A writer of nothing.
 ghost use Rattle.std.specs.Prelude.{None};
 
-use sl_io::{DeviceFault, Sink};
+use crate::record_sink::{RecordSink, TakeFault};
+use sl_io::{DeviceFault, Sink, WriteFault};
+use slreader::GivenPacket;
 
 /// A writer that takes all bytes and keeps none, for records that nobody wants.
 #[derive(Drop)]
@@ -28,5 +30,26 @@ impl Sink for Nowhere {
     fn write(&mut self, bytes: &[u8]) -> Result<usize, DeviceFault> {
         self.calls = self.calls.wrapping_add(1);
         Ok(bytes.len())
+    }
+}
+
+/// Records that nobody wants are passed over.
+impl RecordSink for Nowhere {
+    ghost written = { λ _. None };
+
+    ghost Waits = { λ _ _. Unit {0} };
+
+    ghost failures = { λ _. 0 };
+
+    ghost empty_writes = { λ _. 0 };
+
+    fn begin(&mut self) {}
+
+    fn take(&mut self, _packet: &GivenPacket<'_>) -> Result<(), TakeFault> {
+        Ok(())
+    }
+
+    fn hand_on(&mut self) -> Result<(), WriteFault> {
+        Ok(())
     }
 }

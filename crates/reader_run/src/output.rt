@@ -6,9 +6,9 @@
 ghost use Rattle.std.specs.Prelude.{◌≡◌, ◌++◌, ◌∷◌, [], map, OnOk};
 ghost use Rattle.reader_run.specs.Lines.{refusal_at, refusal_line};
 
-use crate::texts::{put_packet, record_of, refusal_line};
+use crate::texts::{put_packet, refusal_line};
 use record_check::Times;
-use slreader::{GivenPacket, Plan, Want, What};
+use slreader::{GivenPacket, Plan, Want};
 use std::alloc::{AllocError, Global};
 use std::marker::Model;
 
@@ -65,18 +65,18 @@ fn refusal_at(refusals: &[RefusalLine], want: usize) -> &[u8]
     }
 }
 
-/// The lines and the records that were not written yet.
+/// The lines that were not written yet.
 #[derive(Drop)]
 pub(crate) struct Output {
     refusals: Vec<RefusalLine>,
     times: Times,
     lines: Vec<u8>,
-    records: Vec<u8>,
     /// The line that is being made.
     line: Vec<u8>,
 }
 
 impl Model for Output {
+    ghost use Rattle.std.specs.Prelude.{[]};
     ghost use Rattle.reader_run.specs.Lines.{OutputValue};
 
     ghost Value = { OutputValue };
@@ -84,15 +84,14 @@ impl Model for Output {
     ghost view = { λ o. record {
       style = record { refusals = o.refusals.items; times = o.times };
       lines = o.lines.items;
-      records = o.records.items;
+      records = [];
     } };
 }
 
 impl Output {
-    ghost use Rattle.std.specs.Prelude.{◌≡◌, ◌++◌, [], IfOk, OnErr, OnOk};
+    ghost use Rattle.std.specs.Prelude.{◌≡◌, ◌++◌, [], length, take, IfOk, OnErr, OnOk};
     ghost use Rattle.slreader.specs.Views.{plan_value};
-    ghost use Rattle.slreader.specs.Whats.{what_value};
-    ghost use Rattle.reader_run.specs.Lines.{nothing_told, packet_line, refusal_at, record_of, told};
+    ghost use Rattle.reader_run.specs.Lines.{nothing_told, packet_line, refusal_at};
 
     /// Nothing is told.
     pub(crate) fn new(alloc: Global, times: Times, plan: &Plan<'_>) -> Result<Output, AllocError>
@@ -107,54 +106,29 @@ impl Output {
             refusals,
             times,
             lines: Vec::new(alloc),
-            records: Vec::new(alloc),
             line: Vec::new(alloc),
         })
     }
 
-    /// The record of a packet, and its line; or neither.
-    fn put_packet(&mut self, packet: &GivenPacket<'_>) -> Result<(), AllocError>
-        ensures told { OnOk result (self.new ≡ record self.old {
-          lines = self.old.lines ++ packet_line self.old.style.times packet.now;
-          records = self.old.records ++ record_of packet.now;
-        }) }
+    /// The line of a packet; or nothing.
+    pub(crate) fn put_packet(&mut self, packet: &GivenPacket<'_>) -> Result<(), AllocError>
+        ensures told { OnOk result (self.new
+            ≡ record self.old { lines = self.old.lines ++ packet_line self.old.style.times packet.now }) }
         ensures kept { OnErr result (self.new ≡ self.old) }
     {
         self.line.clear();
         put_packet(&mut self.line, self.times, packet)?;
-        let before = self.records.len();
-        self.records.extend_from_slice(record_of(packet.bytes()))?;
-        match self.lines.extend_from_slice(&self.line) {
-            Ok(()) => Ok(()),
-            Err(error) => {
-                self.records.truncate(before);
-                Err(error)
-            }
-        }
+        self.lines.extend_from_slice(&self.line)
     }
 
     /// The line of a want that is refused; or nothing.
-    fn put_refused(&mut self, want: usize) -> Result<(), AllocError>
+    pub(crate) fn put_refused(&mut self, want: usize) -> Result<(), AllocError>
         ensures told { OnOk result
             (self.new ≡ record self.old { lines = self.old.lines ++ refusal_at self.old.style.refusals want }) }
         ensures kept { OnErr result (self.new ≡ self.old) }
     {
         self.lines
             .extend_from_slice(refusal_at(&self.refusals, want))
-    }
-
-    /// Tells what was given; or nothing.
-    pub(crate) fn put(&mut self, what: What<'_>) -> Result<(), AllocError>
-        ensures told { OnOk result (self.new ≡ told self.old (what_value what.entry)) }
-        ensures kept { OnErr result (self.new ≡ self.old) }
-    {
-        match what {
-            What::Nothing => Ok(()),
-            What::Hello => Ok(()),
-            What::Refused(want) => self.put_refused(want),
-            What::Packet(packet) => self.put_packet(&packet),
-            What::End => Ok(()),
-        }
     }
 
     /// The lines.
@@ -164,11 +138,11 @@ impl Output {
         self.lines.as_slice()
     }
 
-    /// The records.
-    pub(crate) fn records(&self) -> &[u8]
-        ensures { result.now ≡ self.now.records }
+    /// Only the first bytes of the lines are told.
+    pub(crate) fn cut(&mut self, count: usize)
+        ensures { self.new ≡ record self.old { lines = take count self.old.lines } }
     {
-        self.records.as_slice()
+        self.lines.truncate(count);
     }
 
     /// All of it is written.
@@ -176,6 +150,5 @@ impl Output {
         ensures { self.new ≡ record self.old { lines = []; records = [] } }
     {
         self.lines.clear();
-        self.records.clear();
     }
 }

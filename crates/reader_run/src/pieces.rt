@@ -1,19 +1,23 @@
 //! A round of a reading: what is asked is sent, a piece is read, and what it gives is written.
-ghost use Rattle.std.specs.Prelude.{◌≡◌, ◌≢◌, ◌+◌, ◌<◌, ◌≤◌, [], drop, length, take, IfErr, IfNone, IfOk};
+ghost use Rattle.std.specs.Prelude.{◌≡◌, ◌≢◌, ◌+◌, ◌<◌, ◌≤◌, ◌++◌, List, ℕ, [], drop, length, take, IfErr, IfNone, IfOk};
 ghost use Rattle.std.specs.Prelude.{IfSome, MatchOption, OnErr, OnOk};
 ghost use Rattle.std.specs.Io.KnownBytes.{Appends, Consumes, Keeps};
 ghost use Rattle.sl_io.specs.Counts.{IsMore, StopsWriting};
-ghost use Rattle.slreader.specs.declared.fault.ReaderFault.TheVariants.{Limit, OutOfMemory};
+ghost use Rattle.slreader.specs.declared.fault.ReaderFault.TheVariants.{Limit};
 ghost use Rattle.slreader.specs.Dialogue.Stage.{Failed};
 ghost use Rattle.reader_run.specs.declared.fault.ListingFault.TheVariants.{Reader, State};
-ghost use Rattle.reader_run.specs.Pieces.{FailsIn, Takes, TellsFirst, WritesRecordsFirst};
+ghost use Rattle.reader_run.specs.Lines.{beside, packet_line, record_of, with_lines, with_records};
+ghost use Rattle.reader_run.specs.Pieces.{FailsPiece, StopsPiece, TakesPiece, WritesRecordsFirst};
+ghost use Rattle.reader_run.specs.Takes.{StopsGiven, StopsTake};
+ghost use Rattle.slreader.specs.Whats.{what_value};
 ghost use Rattle.reader_run.specs.Rounds.{Rounds, Sends, StaysInOrder, StopsExchange, StopsTaking, TakesBlock, moment};
 ghost use Rattle.reader_run.specs.Stops.{AreBothQuiet, EndsReading, IsQuiet, OneStops, StopsOver, writes};
 
 use crate::fault::ListingFault;
 use crate::output::Output;
+use crate::record_sink::{RecordSink, TakeFault};
 use sl_io::{Sink, Source, WriteFault, write_all};
-use slreader::{ReaderCore, ReaderFault, What};
+use slreader::{GivenPacket, ReaderCore, ReaderFault, What};
 
 /// The length of a packet, in bytes.
 const PACKET: usize = 520;
@@ -41,13 +45,14 @@ fn send<W: Sink>(core: &mut ReaderCore, writer: &mut W) -> Result<(), WriteFault
 }
 
 /// Writes what is told: the records, and their lines only once the writer has taken all of the records.
-fn write_output<O: Sink, P: Sink>(
+fn write_output<O: Sink, P: RecordSink>(
     output: &mut Output,
     out: &mut O,
     records: &mut P,
 ) -> Result<(), WriteFault>
     ensures lines { OnOk result (Appends (O.written out.old) (O.written out.new) output.old.lines) }
-    ensures records { OnOk result (Appends (P.written records.old) (P.written records.new) output.old.records) }
+    ensures records { OnOk result ((waiting : List ℕ) → P.Waits records.old waiting
+        → Appends (P.written records.old) (P.written records.new) waiting) }
     ensures cleared { OnOk result (output.new ≡ record output.old { lines = []; records = [] }) }
     ensures quiet { OnOk result (AreBothQuiet
         (writes (O.failures out.old) (O.empty_writes out.old)) (writes (O.failures out.new) (O.empty_writes out.new))
@@ -57,10 +62,11 @@ fn write_output<O: Sink, P: Sink>(
         (writes (O.failures out.old) (O.empty_writes out.old)) (writes (O.failures out.new) (O.empty_writes out.new))
         (writes (P.failures records.old) (P.empty_writes records.old))
         (writes (P.failures records.new) (P.empty_writes records.new))) }
-    ensures order { OnErr result (WritesRecordsFirst output.old
+    ensures order { OnErr result ((waiting : List ℕ) → P.Waits records.old waiting
+        → WritesRecordsFirst (beside output.old waiting)
         (O.written out.old) (O.written out.new) (P.written records.old) (P.written records.new)) }
 {
-    match write_all(records, output.records()) {
+    match records.hand_on() {
         Ok(()) => {}
         Err(fault) => return Err(fault),
     }
@@ -72,28 +78,105 @@ fn write_output<O: Sink, P: Sink>(
     Ok(())
 }
 
-/// Reads a piece, and tells what it gives. Answers whether the transfer is over.
-fn take_piece(core: &mut ReaderCore, output: &mut Output, piece: &[u8]) -> Result<bool, ReaderFault>
+/// Tells of a packet, and hands its record on; or neither.
+fn put_packet<P: RecordSink>(
+    output: &mut Output,
+    packet: &GivenPacket<'_>,
+    records: &mut P,
+) -> Result<(), TakeFault>
+    ensures lines { OnOk result (output.new ≡ record output.old {
+      lines = output.old.lines ++ packet_line output.old.style.times packet.now;
+    }) }
+    ensures waits { OnOk result ((waiting : List ℕ) → P.Waits records.old waiting
+        → P.Waits records.new (waiting ++ record_of packet.now)) }
+    ensures written { OnOk result (P.written records.new ≡ P.written records.old) }
+    ensures quiet { OnOk result (IsQuiet (P.failures records.old) (P.failures records.new)
+        (P.empty_writes records.old) (P.empty_writes records.new)) }
+    ensures kept { OnErr result (output.new ≡ output.old) }
+    ensures stopped { IfErr result (λ fault. StopsTake fault (P.Waits records.old) (P.Waits records.new)
+        (record_of packet.now) (P.written records.old) (P.written records.new)
+        (P.failures records.old) (P.failures records.new)
+        (P.empty_writes records.old) (P.empty_writes records.new)) }
+{
+    let before = output.lines().len();
+    match output.put_packet(packet) {
+        Ok(()) => {}
+        Err(_) => return Err(TakeFault::OutOfMemory),
+    }
+    match records.take(packet) {
+        Ok(()) => Ok(()),
+        Err(fault) => {
+            output.cut(before);
+            Err(fault)
+        }
+    }
+}
+
+/// Tells what was given, and hands the record of a packet on; or neither.
+fn put<P: RecordSink>(output: &mut Output, what: What<'_>, records: &mut P) -> Result<(), TakeFault>
+    ensures lines { OnOk result (output.new ≡ with_lines output.old (what_value what.entry)) }
+    ensures waits { OnOk result ((waiting : List ℕ) → P.Waits records.old waiting
+        → P.Waits records.new (with_records waiting (what_value what.entry))) }
+    ensures written { OnOk result (P.written records.new ≡ P.written records.old) }
+    ensures quiet { OnOk result (IsQuiet (P.failures records.old) (P.failures records.new)
+        (P.empty_writes records.old) (P.empty_writes records.new)) }
+    ensures kept { OnErr result (output.new ≡ output.old) }
+    ensures stopped { IfErr result (λ fault. StopsGiven fault (P.Waits records.old) (P.Waits records.new)
+        (what_value what.entry) (P.written records.old) (P.written records.new)
+        (P.failures records.old) (P.failures records.new)
+        (P.empty_writes records.old) (P.empty_writes records.new)) }
+{
+    match what {
+        What::Nothing => Ok(()),
+        What::Hello => Ok(()),
+        What::Refused(want) => match output.put_refused(want) {
+            Ok(()) => Ok(()),
+            Err(_) => Err(TakeFault::OutOfMemory),
+        },
+        What::Packet(packet) => match put_packet(output, &packet, records) {
+            Ok(()) => Ok(()),
+            Err(fault) => Err(fault),
+        },
+        What::End => Ok(()),
+    }
+}
+
+/// Reads a piece, and tells what it gives. Answers whether the transfer is over, or why nothing more is read. It fails
+/// if not all records could be written.
+fn take_piece<P: RecordSink>(
+    core: &mut ReaderCore,
+    output: &mut Output,
+    piece: &[u8],
+    records: &mut P,
+) -> Result<Result<bool, ReaderFault>, WriteFault>
     requires plan { core.old.stage ≢ Failed Limit }
-    ensures taken { IfOk result (λ is_over. Takes core.old core.new output.old output.new piece.now is_over) }
-    ensures failed { IfErr result (λ fault. fault ≢ OutOfMemory
-        → FailsIn core.old core.new output.old output.new piece.now fault) }
-    ensures plan { IfErr result (λ fault. fault ≢ Limit) }
-    ensures first { TellsFirst core.old output.old output.new piece.now }
+    requires output { output.old.records ≡ [] }
+    requires waits { P.Waits records.old [] }
+    ensures taken { IfOk result (λ taken. IfOk taken (λ is_over.
+        TakesPiece core.old core.new output.old output.new piece.now is_over (P.Waits records.new))) }
+    ensures failed { IfOk result (λ taken. IfErr taken (λ fault.
+        FailsPiece core.old core.new output.old output.new piece.now fault (P.Waits records.new))) }
+    ensures written { OnOk result (P.written records.new ≡ P.written records.old) }
+    ensures quiet { OnOk result (IsQuiet (P.failures records.old) (P.failures records.new)
+        (P.empty_writes records.old) (P.empty_writes records.new)) }
+    ensures stopped { OnErr result (StopsPiece core.old output.old piece.now
+        (P.written records.old) (P.written records.new) (P.failures records.old) (P.failures records.new)
+        (P.empty_writes records.old) (P.empty_writes records.new)) }
 {
     let mut left = piece;
     let mut packet = [0u8; PACKET];
     'given: loop {
         let came = match core.incoming(left, &mut packet) {
             Ok(came) => came,
-            Err(fault) => return Err(fault),
+            Err(fault) => return Ok(Err(fault)),
         };
         match came.what {
-            What::Nothing => return Ok(false),
-            What::End => return Ok(true),
-            what => match output.put(what) {
+            What::Nothing => return Ok(Ok(false)),
+            What::End => return Ok(Ok(true)),
+            what => match put(output, what, records) {
                 Ok(()) => {}
-                Err(_) => return Err(ReaderFault::OutOfMemory),
+                Err(TakeFault::OutOfMemory) => return Ok(Err(ReaderFault::OutOfMemory)),
+                Err(TakeFault::Write) => return Err(WriteFault),
             },
         }
         left = &left[came.used..];
@@ -153,7 +236,7 @@ fn exchange<R: Source, W: Sink>(
 }
 
 /// Takes a piece, and writes what it gives. Answers whether the transfer is over.
-fn take_block<O: Sink, P: Sink>(
+fn take_block<O: Sink, P: RecordSink>(
     core: &mut ReaderCore,
     output: &mut Output,
     piece: &[u8],
@@ -161,6 +244,7 @@ fn take_block<O: Sink, P: Sink>(
     records: &mut P,
 ) -> Result<bool, ListingFault>
     requires plan { core.old.stage ≢ Failed Limit }
+    requires output { output.old.records ≡ [] }
     ensures taken { IfOk result (λ is_over. TakesBlock core.old core.new output.old output.new piece.now is_over
         (O.written out.old) (O.written out.new) (P.written records.old) (P.written records.new)) }
     ensures quiet { OnOk result (AreBothQuiet
@@ -178,7 +262,11 @@ fn take_block<O: Sink, P: Sink>(
         (writes (P.failures records.old) (P.empty_writes records.old))
         (writes (P.failures records.new) (P.empty_writes records.new)))) }
 {
-    let taken = take_piece(core, output, piece);
+    records.begin();
+    let taken = match take_piece(core, output, piece, records) {
+        Ok(taken) => taken,
+        Err(_) => return Err(ListingFault::Write),
+    };
     match write_output(output, out, records) {
         Ok(()) => {}
         Err(_) => return Err(ListingFault::Write),
@@ -191,7 +279,7 @@ fn take_block<O: Sink, P: Sink>(
 
 /// Sends what is asked, reads once, and writes what that gives, whatever was listed before. Answers whether the transfer
 /// is over: then what was asked last is sent too, since an answer may come before its command was sent.
-pub(crate) fn read_once<R: Source, W: Sink, O: Sink, P: Sink>(
+pub(crate) fn read_once<R: Source, W: Sink, O: Sink, P: RecordSink>(
     core: &mut ReaderCore,
     output: &mut Output,
     block: &mut [u8],
@@ -202,6 +290,7 @@ pub(crate) fn read_once<R: Source, W: Sink, O: Sink, P: Sink>(
 ) -> Result<bool, ListingFault>
     requires block { 0 < length block.old }
     requires plan { core.old.stage ≢ Failed Limit }
+    requires output { output.old.records ≡ [] }
     ensures round { Rounds result
         (moment core.old output.old (R.left reader.old) (W.written writer.old)
         (O.written out.old) (P.written records.old))

@@ -23,6 +23,7 @@ use crate::fault::ListingFault;
 use crate::keeping::{Keeper, NothingKept, keep_behind, keep_if_due};
 use crate::output::Output;
 use crate::pieces::read_once;
+use crate::record_sink::RecordSink;
 use record_check::Times;
 use sl_io::{Sink, Source};
 use slreader::{Plan, ReaderCore, ReaderFault, Tally, Want};
@@ -32,7 +33,7 @@ use std::alloc::Global;
 const BLOCK: usize = 65_536;
 
 /// Sends, writes and reads until the transfer is over. Meanwhile what was counted is kept whenever that is due.
-fn read_blocks<R: Source, W: Sink, O: Sink, P: Sink, K: Keeper<P>>(
+fn read_blocks<R: Source, W: Sink, O: Sink, P: RecordSink, K: Keeper<P>>(
     core: &mut ReaderCore,
     output: &mut Output,
     block: &mut [u8],
@@ -149,7 +150,7 @@ fn begin(alloc: Global, times: Times, plan: Plan<'_>) -> Result<Begun, ListingFa
 ///
 /// It fails with the reader's faults; with Read where a read failed, where the input ends before the end of the
 /// transfer, or where 2^64 - 1 reads were made; and with Write where something could not be written.
-pub fn read_over<R: Source, W: Sink, O: Sink, P: Sink>(
+pub fn read_over<R: Source, W: Sink, O: Sink, P: RecordSink>(
     alloc: Global,
     times: Times,
     plan: Plan<'_>,
@@ -257,7 +258,7 @@ fn begin_further(
 }
 
 /// Keeps what was counted at an outcome at which all of what was given is told. If that fails, it is the outcome.
-fn keep_at<P: Sink, K: Keeper<P>>(
+fn keep_at<P: RecordSink, K: Keeper<P>>(
     outcome: Result<(), ListingFault>,
     core: &ReaderCore,
     records: &P,
@@ -308,7 +309,7 @@ fn count(tally: &mut Tally, begun: Begun, is_told: bool)
 /// counts. Each time the records are made to last first: so whatever comes next, a reader that begins with what was
 /// kept last misses no record, and is sent those again that were written after that. It fails with State where the
 /// keeper fails.
-pub fn read_further<R: Source, W: Sink, O: Sink, P: Sink, K: Keeper<P>>(
+pub fn read_further<R: Source, W: Sink, O: Sink, P: RecordSink, K: Keeper<P>>(
     alloc: Global,
     times: Times,
     wants: &[Want<'_>],

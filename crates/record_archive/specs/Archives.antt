@@ -1,7 +1,6 @@
 -- What an archive of some stations holds of records: each record that has a place is put into its file, in order.
-use Rattle.std.specs.Prelude.{◌≡◌, ◌⊎◌, ℕ, ◌+◌, ◌-◌, ◌^◌, ◌<ℤ◌, ◌≤ℤ◌, nat_lt, min, if◌then◌else◌}
-use Rattle.std.specs.Prelude.{length, List, [], ◌∷◌, ◌++◌}
-use Rattle.std.specs.Prelude.{Ok, Err, Result, true, false, Option, Some, None}
+use Rattle.std.specs.Prelude.{◌≡◌, ◌⊎◌, ℕ, ◌+◌, ◌-◌, ◌^◌, ◌<ℤ◌, ◌≤ℤ◌, min, List, [], ◌∷◌, ◌++◌}
+use Rattle.std.specs.Prelude.{Ok, Err, Result, true, false, Option, Some}
 use Rattle.protocol.specs.Record.{Facts, header_of}
 use Rattle.protocol.specs.declared.record.RecordFault.{RecordFault}
 use Rattle.sl_time.specs.Days.{IsWithinDay, day_start}
@@ -66,30 +65,10 @@ Fails before after (Ok a) = after ≡ before
 Fails before after (Err Folder) = IsMore before after 1
 Fails before after (Err OutOfMemory) = after ≡ before
 
--- That is why a put failed.
-abbrev pub IsWhy : Option ArchiveFault → (before after : ℕ) → Type 0
-IsWhy (Some Folder) before after = IsMore before after 1
-IsWhy (Some OutOfMemory) before after = after ≡ before
-IsWhy None before after = ⊥
-
 -- A record counts exactly if it stands in no file, up to 2^64 - 1.
 abbrev pub CountsUnplaced : List CodesValue → (before after : ℕ) → List ℕ → Type 0
 CountsUnplaced stations before after r = (IsPlaced stations r × (after ≡ before))
     ⊎ (IsUnplaced stations r × (after ≡ min (before + 1) (2 ^ 64 - 1)))
-
--- Of some records each counts exactly if it stands in no file.
-abbrev pub CountsAll : List CodesValue → (before after : ℕ) → List (List ℕ) → Type 0
-CountsAll stations before after [] = after ≡ before
-CountsAll stations before after (r ∷ rs) =
-    (middle : ℕ) × CountsUnplaced stations before middle r × CountsAll stations middle after rs
-
--- what is held of a record that is not whole, with a piece more
-abbrev pub held_with : List ℕ → List ℕ → List ℕ
-held_with held piece = if nat_lt (length held + length piece) 512 then held ++ piece else []
-
--- the record that the piece makes whole, if it does
-abbrev pub whole_with : List ℕ → List ℕ → List (List ℕ)
-whole_with held piece = if nat_lt (length held + length piece) 512 then [] else (held ++ piece) ∷ []
 
 -- Nothing was put.
 abbrev pub PutsNothing : Option (List Put) → Option (List Put) → Type 0

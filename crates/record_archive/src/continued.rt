@@ -13,6 +13,7 @@ use crate::walk::Walk;
 use std::alloc::{AllocError, Global};
 use std::collections::HashMap;
 use std::fs::File;
+use std::mem;
 use std::rt::{Clock, Files};
 
 /// For how many syncs a file is remembered to which nothing was handed.
@@ -46,6 +47,8 @@ pub struct ContinuedFiles<F: RecordFiles> {
     named: Vec<FileLength>,
     unnamed: Unnamed,
     all: HashMap<String, Progress>,
+    /// The name of the file to which a record was handed last.
+    name: Vec<u8>,
     syncs: u64,
     failures: u64,
 }
@@ -68,14 +71,12 @@ fn text_of(bytes: &[u8]) -> Result<&str, FolderFault> {
     }
 }
 
-/// The name of a file in a folder.
-fn name_of(alloc: Global, folder: &[u8], file: &[u8]) -> Result<String, FolderFault> {
-    let folder = text_of(folder)?;
-    let file = text_of(file)?;
-    match format!(in alloc; "{folder}/{file}") {
-        Ok(name) => Ok(name),
-        Err(_) => Err(FolderFault),
-    }
+/// The name of a file in a folder takes the place of another name.
+fn set_name(name: &mut Vec<u8>, folder: &[u8], file: &[u8]) -> Result<(), AllocError> {
+    name.clear();
+    name.extend_from_slice(folder)?;
+    name.push(b'/')?;
+    name.extend_from_slice(file)
 }
 
 impl<F: RecordFiles> ContinuedFiles<F> {
@@ -94,6 +95,7 @@ impl<F: RecordFiles> ContinuedFiles<F> {
             named,
             unnamed,
             all: HashMap::new(alloc),
+            name: Vec::new(alloc),
             syncs: 0,
             failures: 0,
         }
@@ -175,6 +177,22 @@ impl<F: RecordFiles> ContinuedFiles<F> {
         self.remember(name, progress)
     }
 
+    /// The same to a file in a folder, whose name takes the place of another one.
+    fn hand_in(
+        &mut self,
+        name: &mut Vec<u8>,
+        folder: &[u8],
+        file: &[u8],
+        bytes: &[u8; 512],
+    ) -> Result<(), FolderFault>
+        ensures { self.new.failures ≡ self.old.failures }
+    {
+        match set_name(name, folder, file) {
+            Ok(()) => self.hand(text_of(name)?, bytes),
+            Err(_) => Err(FolderFault),
+        }
+    }
+
     /// Files to which nothing was handed for long are forgotten.
     fn forget(&mut self)
         ensures same { self.new.files ≡ self.old.files }
@@ -240,6 +258,11 @@ impl<F: RecordFiles> ContinuedFiles<F> {
 }
 
 impl<'a, R: Files<File = File> + Clock> ContinuedFiles<DiskFiles<'a, R>> {
+    /// Records of another piece come next. Of each file it is looked then whether its path still names it.
+    pub fn begin(&mut self) {
+        self.files.begin();
+    }
+
     /// The path of a file whose torn end was put aside, once.
     pub fn take_torn(&mut self) -> Option<String> {
         self.files.take_torn()
@@ -262,10 +285,9 @@ impl<F: RecordFiles> Folders for ContinuedFiles<F> {
         ensures refused { OnErr result (PutsNothing None None) }
         ensures failure { CountsFailure self.old.failures self.new.failures result }
     {
-        let put = match name_of(self.alloc, folder, file) {
-            Ok(name) => self.hand(name.as_str(), bytes),
-            Err(fault) => Err(fault),
-        };
+        let mut name = mem::replace(&mut self.name, Vec::new(self.alloc));
+        let put = self.hand_in(&mut name, folder, file, bytes);
+        self.name = name;
         if put.is_err() {
             self.failures = self.failures.wrapping_add(1);
         }

@@ -39,6 +39,9 @@ pub struct DiskFiles<'a, R: Files<File = File>> {
     alloc: Global,
     place: FilePlace<'a>,
     open: LruCache<String, OpenFile>,
+    /// How many pieces of records were begun, and when the last one was, in milliseconds.
+    piece: u64,
+    now: u64,
     /// Whether what is added is to last.
     lasts: bool,
     /// Something that was added could not be put on the disk.
@@ -132,6 +135,8 @@ impl<'a, R: Files<File = File> + Clock> DiskFiles<'a, R> {
                 alloc,
                 place,
                 open,
+                piece: 0,
+                now: milliseconds(rt),
                 lasts,
                 is_lost: false,
                 lost: None,
@@ -140,6 +145,12 @@ impl<'a, R: Files<File = File> + Clock> DiskFiles<'a, R> {
             }),
             Err(_) => Err(no_memory()),
         }
+    }
+
+    /// Records of another piece come next. Of each file it is looked then whether its path still names it.
+    pub fn begin(&mut self) {
+        self.piece = self.piece.wrapping_add(1);
+        self.now = milliseconds(self.rt);
     }
 
     /// What the system says of the last call that failed, once.
@@ -235,7 +246,7 @@ impl<'a, R: Files<File = File> + Clock> DiskFiles<'a, R> {
         if is_new && self.lasts {
             sync_folder(self.rt, path.as_str());
         }
-        let opened = OpenFile::new(file, milliseconds(self.rt))?;
+        let opened = OpenFile::new(file, self.now, self.piece)?;
         self.keep_open(name, opened)
     }
 
@@ -271,8 +282,32 @@ impl<'a, R: Files<File = File> + Clock> DiskFiles<'a, R> {
         Ok(())
     }
 
-    /// How many whole records stand in a file, whose torn end is put aside.
+    /// How many records stand in a file that is open, if its path was seen to name it since the piece began.
+    fn count_open(&self, name: &str) -> Option<u64> {
+        match self.open.peek(name) {
+            Some(open) => open.count_in(self.piece),
+            None => None,
+        }
+    }
+
+    /// A file that is open has that length, and its path names it.
+    fn see(&mut self, name: &str, length: u64) {
+        let piece = self.piece;
+        if let Some(open) = self.open.peek_mut(name) {
+            open.see(piece, length);
+        }
+    }
+
+    /// How many whole records stand in a file. The first time in a piece its path is looked at.
     fn count_at(&mut self, name: &str) -> io::Result<u64> {
+        match self.count_open(name) {
+            Some(count) => Ok(count),
+            None => self.count_by_path(name),
+        }
+    }
+
+    /// How many whole records stand in the file that a path names, whose torn end is put aside.
+    fn count_by_path(&mut self, name: &str) -> io::Result<u64> {
         let path = self.path_of(name)?;
         let found = plain_at(self.rt, path.as_str())?;
         self.close_other(name, &found);
@@ -284,6 +319,7 @@ impl<'a, R: Files<File = File> + Clock> DiskFiles<'a, R> {
             self.close(name);
             self.put_aside(path, length)?;
         }
+        self.see(name, length);
         Ok(length / RECORD)
     }
 
@@ -298,8 +334,11 @@ impl<'a, R: Files<File = File> + Clock> DiskFiles<'a, R> {
 
     /// Adds a record at the end of a file.
     fn add_at(&mut self, name: &str, bytes: &[u8; 512]) -> io::Result<()> {
+        let now = self.now;
+        if let Some(file) = self.open.get_mut(name) {
+            return file.add(bytes, now);
+        }
         self.have_open(name)?;
-        let now = milliseconds(self.rt);
         match self.open.get_mut(name) {
             Some(file) => file.add(bytes, now),
             None => Err(io::Error::from(ErrorKind::Other)),

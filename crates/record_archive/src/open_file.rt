@@ -26,6 +26,8 @@ pub(crate) struct OpenFile {
     is_unsynced: Cell<bool>,
     /// When something was added last, in milliseconds.
     written: u64,
+    /// In which piece it was looked whether its path still names it.
+    seen: u64,
 }
 
 /// Has the system put on the disk what was added to a file. One that lies on no disk has no need of it.
@@ -50,8 +52,8 @@ pub(crate) fn move_end(file: &mut File, other: &mut File, from: u64, to: u64) ->
 }
 
 impl OpenFile {
-    /// A file that was opened at a moment.
-    pub(crate) fn new(file: File, now: u64) -> io::Result<OpenFile> {
+    /// A file that was opened at a moment, in a piece.
+    pub(crate) fn new(file: File, now: u64, piece: u64) -> io::Result<OpenFile> {
         let metadata = file.metadata()?;
         Ok(OpenFile {
             file,
@@ -59,12 +61,28 @@ impl OpenFile {
             length: metadata.len(),
             is_unsynced: Cell::new(false),
             written: now,
+            seen: piece,
         })
     }
 
     /// Whether it is that file.
     pub(crate) fn is_at(&self, identity: Identity) -> bool {
         self.identity.0 == identity.0 && self.identity.1 == identity.1
+    }
+
+    /// How many records stand in it, if its path was seen to name it in this piece.
+    pub(crate) fn count_in(&self, piece: u64) -> Option<u64> {
+        if self.seen == piece {
+            Some(self.length / RECORD)
+        } else {
+            None
+        }
+    }
+
+    /// Its path names it in this piece, and it has that length.
+    pub(crate) fn see(&mut self, piece: u64, length: u64) {
+        self.seen = piece;
+        self.length = length;
     }
 
     /// Whether nothing was added for so many milliseconds.

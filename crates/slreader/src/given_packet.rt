@@ -39,7 +39,9 @@ fn packet_header(packet: &[u8; 520]) -> Option<Header<'_>>
 }
 
 impl<'a> GivenPacket<'a> {
-    ghost use Rattle.std.specs.Prelude.{◌≡◌};
+    ghost use Rattle.std.specs.Prelude.{◌≡◌, slice_range};
+    ghost use Rattle.std.specs.Result.{result_ok};
+    ghost use Rattle.protocol.specs.Record.{header_of};
     ghost use Rattle.slreader.specs.Tallies.{packet_facts};
 
     /// The packet of these bytes, whose record is read.
@@ -57,6 +59,15 @@ impl<'a> GivenPacket<'a> {
         ensures { result.now ≡ self.now }
     {
         self.bytes
+    }
+
+    /// Its record.
+    #[tactic(auto, unfolding(crate::specs::Tallies::packet_facts))]
+    pub fn record(&self) -> &'a [u8; 512]
+        ensures bytes { result.now ≡ slice_range self.now 8 520 }
+        ensures header { packet_facts self.now ≡ result_ok (header_of result.now) }
+    {
+        packet_record(self.bytes)
     }
 
     /// What its record says, if it can be read.

@@ -1,10 +1,10 @@
 //! Readers that go on one after the other in an archive in memory, each of them stopped somewhere: each record
 //! stands in its file once.
 use crate::worked::{HEAD, record_of};
+use mseed_header::read;
 use record_archive::{
     Archive, ContinuedFiles, FileLength, MemoryFiles, NamedRecord, StationCodes, Unnamed,
 };
-use sl_io::write_all;
 use std::alloc::{AllocError, Global};
 use std::test::Fail;
 
@@ -78,7 +78,8 @@ fn read_from(archive: &mut MemoryArchive, first: usize, renames: u64) -> Option<
     let mut kept = None;
     let mut left = renames;
     for number in first..COUNT {
-        if write_all(archive, &record(number)).is_err() {
+        let record = record(number);
+        if archive.put(&record, &read(&record).ok()).is_err() {
             return kept;
         }
         if number % EVERY == EVERY - 1 {

@@ -1,7 +1,7 @@
 //! A reader of whose connection or outputs one call fails, each call in turn: what was sent and written before is a
 //! beginning of what is sent and written otherwise, and nothing comes after.
 use crate::beside_a_server::{plan, record};
-use reader_run::{ListingFault, Times, read_over};
+use reader_run::{Gathered, ListingFault, Times, read_over};
 use sl_io::{Failing, MemorySink, MemorySource};
 use sl_packet::{Seq, frame};
 use std::alloc::Global;
@@ -64,7 +64,7 @@ fn reading(alloc: Global, answers: &[u8], failing: Device, due: u64) -> Result<O
     let mut reader = Failing::new(source, due_of(Device::Answers, failing, due));
     let mut asked = writer(alloc, due_of(Device::Commands, failing, due));
     let mut lines = writer(alloc, due_of(Device::Lines, failing, due));
-    let mut records = writer(alloc, due_of(Device::Records, failing, due));
+    let mut records = Gathered::new(alloc, writer(alloc, due_of(Device::Records, failing, due)));
     let plan = plan(alloc)?;
     let answer = read_over(
         alloc,
@@ -79,13 +79,13 @@ fn reading(alloc: Global, answers: &[u8], failing: Device, due: u64) -> Result<O
         reader.counts().failures,
         asked.counts().failures,
         lines.counts().failures,
-        records.counts().failures,
+        records.sink().counts().failures,
     ];
     Ok(Outcome {
         answer,
         asked: asked.into_inner().into_bytes(),
         lines: lines.into_inner().into_bytes(),
-        records: records.into_inner().into_bytes(),
+        records: records.into_sink().into_inner().into_bytes(),
         has_failed: failures.iter().any(|count| *count > 0),
     })
 }

@@ -1,8 +1,8 @@
 //! Several servers, one after the other, and what a reader keeps meanwhile.
 use crate::packets::record;
 use reader_run::{
-    Break, Called, Done, KeepFault, Keeper, ListingFault, MemoryKeeper, MemoryServers, NoServer,
-    NothingKept, Nowhere, Times, follow,
+    Break, Called, Done, Gathered, KeepFault, Keeper, ListingFault, MemoryKeeper, MemoryServers,
+    NoServer, NothingKept, Nowhere, Times, follow,
 };
 use sl_io::MemorySink;
 use sl_packet::{Seq, frame};
@@ -67,7 +67,7 @@ struct Followed {
 }
 
 /// Reads servers one after the other, with a keeper.
-fn read_on<K: Keeper<MemorySink>>(
+fn read_on<K: Keeper<Gathered<MemorySink>>>(
     alloc: Global,
     tally: &mut Tally,
     wants: &[Want<'_>],
@@ -75,7 +75,7 @@ fn read_on<K: Keeper<MemorySink>>(
     keeper: &mut K,
 ) -> Followed {
     let mut servers = MemoryServers::new(alloc, sent);
-    let mut records = MemorySink::new(alloc);
+    let mut records = Gathered::new(alloc, MemorySink::new(alloc));
     let end = follow(
         alloc,
         Times::Ticks,
@@ -88,7 +88,7 @@ fn read_on<K: Keeper<MemorySink>>(
     );
     Followed {
         end,
-        records: records.into_bytes(),
+        records: records.into_sink().into_bytes(),
         asked: asked_of(alloc, servers.called()),
     }
 }
@@ -251,7 +251,7 @@ fn a_state_stands_for_what_was_read_before(rt: HostRuntime) -> Result<(), Fail> 
 #[test]
 fn nothing_kept_is_never_due(rt: HostRuntime) {
     let mut keeper = NothingKept;
-    assert!(rt; !Keeper::<MemorySink>::is_due(&mut keeper));
-    let records = MemorySink::new(rt.alloc());
+    assert!(rt; !Keeper::<Gathered<MemorySink>>::is_due(&mut keeper));
+    let records = Gathered::new(rt.alloc(), MemorySink::new(rt.alloc()));
     assert!(rt; keeper.flush(&records) == Ok::<(), KeepFault>(()));
 }

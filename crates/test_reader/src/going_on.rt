@@ -1,6 +1,6 @@
 //! A reader that goes on over one connection after the other.
 use crate::packets::record;
-use reader_run::{ListingFault, NothingKept, Nowhere, Times, read_further};
+use reader_run::{Gathered, ListingFault, NothingKept, Nowhere, Times, read_further};
 use sl_io::{MemorySink, MemorySource};
 use sl_packet::{Seq, frame};
 use slreader::{ReaderFault, Tally, Want, Window};
@@ -140,7 +140,7 @@ fn is_right(
 ) -> Result<bool, Fail> {
     let sent = sent(alloc, visit)?;
     let mut writer = MemorySink::new(alloc);
-    let mut records = MemorySink::new(alloc);
+    let mut records = Gathered::new(alloc, MemorySink::new(alloc));
     let before = tally.records();
     let end = read_further(
         alloc,
@@ -157,7 +157,7 @@ fn is_right(
     Ok(
         end == visit.end
             && writer.bytes() == asked(alloc, visit)?.as_slice()
-            && records.bytes().len() / 512 == count
+            && records.sink().bytes().len() / 512 == count
             && tally.records().wrapping_sub(before) == count as u64,
     )
 }

@@ -3,7 +3,7 @@
 ghost use Rattle.std.specs.Prelude.{◌≡◌, ◌<◌, ◌+◌, ◌%◌, ◌^◌, None};
 
 use crate::beside_a_server::{plan, record};
-use reader_run::{ListingFault, Times, read_over};
+use reader_run::{Gathered, ListingFault, Times, read_over};
 use sl_io::{DeviceFault, MemorySink, MemorySource, Sink};
 use sl_packet::{Seq, frame};
 use std::alloc::Global;
@@ -100,7 +100,7 @@ fn reading(
     let mut reader = MemorySource::in_pieces(answers, piece);
     let mut asked = MemorySink::new(alloc);
     let mut lines = Disk::new(alloc, for_lines);
-    let mut records = Disk::new(alloc, for_records);
+    let mut records = Gathered::new(alloc, Disk::new(alloc, for_records));
     let plan = plan(alloc)?;
     let answer = read_over(
         alloc,
@@ -114,7 +114,7 @@ fn reading(
     Ok(Outcome {
         answer,
         lines: lines.bytes,
-        records: records.bytes,
+        records: records.into_sink().bytes,
     })
 }
 

@@ -1,7 +1,7 @@
 //! Listings of packets.
 ghost use Rattle.std.specs.Prelude.{◌<◌, None};
 
-use reader_run::{ListingFault, Nowhere, Times, read_over};
+use reader_run::{Gathered, ListingFault, Nowhere, Times, read_over};
 use sl_io::{DeviceFault, MemorySink, MemorySource, Sink};
 use sl_packet::{Seq, frame};
 use slreader::{Plan, Want, Window};
@@ -44,7 +44,7 @@ fn is_listed(alloc: Global, most: usize) -> Result<bool, Fail>
     let sent = sent(alloc)?;
     let mut reader = MemorySource::in_pieces(&sent, most);
     let mut out = MemorySink::new(alloc);
-    let mut records = MemorySink::new(alloc);
+    let mut records = Gathered::new(alloc, MemorySink::new(alloc));
     let plan = one_want(alloc)?;
     read_over(
         alloc,
@@ -56,7 +56,7 @@ fn is_listed(alloc: Global, most: usize) -> Result<bool, Fail>
         &mut records,
     )?;
     let first = record(b"WLF")?;
-    let (front, rest) = match records.bytes().split_at_checked(512) {
+    let (front, rest) = match records.sink().bytes().split_at_checked(512) {
         Some(parts) => parts,
         None => return Ok(false),
     };
@@ -155,7 +155,13 @@ fn fault_of(alloc: Global, which: usize) -> Result<Option<ListingFault>, Fail> {
             &mut reader,
             &mut one,
             &mut other,
-            &mut broken,
+            &mut Gathered::new(
+                alloc,
+                Broken {
+                    failures: 0,
+                    calls: 0,
+                },
+            ),
         ),
     };
     Ok(read.err())

@@ -2,7 +2,7 @@
 use crate::records::send;
 use incidents::Failure;
 use loopback::{Centre, at_centre, record};
-use reader_run::{ListingFault, Times, read_over};
+use reader_run::{Gathered, ListingFault, Times, read_over};
 use sl_io::{MemorySink, Outer};
 use slreader::{Plan, Want, Window};
 use std::alloc::Global;
@@ -62,7 +62,7 @@ fn list_over<S: Read + Drop, T: Write + Drop>(
     let mut reader = Outer::new(client);
     let mut writer = Outer::new(asking);
     let mut lines = MemorySink::new(alloc);
-    let mut records = MemorySink::new(alloc);
+    let mut records = Gathered::new(alloc, MemorySink::new(alloc));
     let ended = read_over(
         alloc,
         Times::Ticks,
@@ -74,7 +74,7 @@ fn list_over<S: Read + Drop, T: Write + Drop>(
     );
     Listed {
         lines,
-        records,
+        records: records.into_sink(),
         fault: ended.err(),
     }
 }

@@ -6,10 +6,9 @@ use Rattle.reader_run.proofs.RoundLaws.{exchange-stopped, taken-on, taken-order,
 use Rattle.reader_run.proofs.RoundLaws.{taking-round}
 use Rattle.reader_run.proofs.pieces.read_once.Goals as goal
 
-pub take_block-requires : goal.take_block-requires
-take_block-requires g c = record {
-  plan = λ e. c.requires.plan (sym (ap (λ (x : ReaderValue). x.stage) c.in-Ok.ensures.sent.reader) ∙ e);
-}
+pub take_block-requires-clause-plan : goal.take_block-requires-clause-plan
+take_block-requires-clause-plan g c =
+    λ e. c.requires.plan (sym (ap (λ (x : ReaderValue). x.stage) c.in-Ok.ensures.sent.reader) ∙ e)
 
 pub returns-in-Err-clause-round : goal.returns-in-Err-clause-round
 returns-in-Err-clause-round g c =

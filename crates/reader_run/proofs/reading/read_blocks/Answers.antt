@@ -1,7 +1,8 @@
 -- A round more: what it leaves follows from what was listed before it.
-use Rattle.std.proofs.Common.{◌∙◌, ap₂, refl, inl}
+use Rattle.std.proofs.Common.{◌∙◌, ap, ap₂, refl, inl}
 use Rattle.std.proofs.KnownBytes.{Keeps-refl}
 use Rattle.sl_io.proofs.TotalLemmas.{Made-more}
+use Rattle.reader_run.specs.Lines.{OutputValue}
 use Rattle.reader_run.specs.Rounds.{moment}
 use Rattle.reader_run.specs.Stops.{writes}
 use Rattle.reader_run.proofs.ReadLaws.{led-no-limit, listed-none, stops}
@@ -29,28 +30,31 @@ pub read_once-requires-clause-plan : goal.read_once-requires-clause-plan
 read_once-requires-clause-plan g c =
     led-no-limit _ _ _ _ _ _ _ _ _ _ _ _ c.reads.invariant.listed c.requires.plan
 
+pub read_once-requires-clause-output : goal.read_once-requires-clause-output
+read_once-requires-clause-output g c = ap (λ (x : OutputValue). x.records) c.reads.invariant.listed.output
+
 pub returns-in-Ok-true-clause-ends : goal.returns-in-Ok-true-clause-ends
 returns-in-Ok-true-clause-ends g c =
     let m = moment c.args.core.now c.args.output.now (g.R.Source.left c.args.reader.now)
-    (g.W.Sink.written c.args.writer.now) (g.O.Sink.written c.args.out.now) (g.P.Sink.written c.args.records.now) in
+    (g.W.Sink.written c.args.writer.now) (g.O.Sink.written c.args.out.now) (g.P.RecordSink.written c.args.records.now) in
     (round-over _ _ _ c.in-Ok-true.field-0-test c.in-Ok-true.ensures.round) m c.reads.invariant.listed
 
 pub returns-in-Ok-true-clause-order : goal.returns-in-Ok-true-clause-order
 returns-in-Ok-true-clause-order g c =
     let m = moment c.args.core.now c.args.output.now (g.R.Source.left c.args.reader.now)
-    (g.W.Sink.written c.args.writer.now) (g.O.Sink.written c.args.out.now) (g.P.Sink.written c.args.records.now) in
+    (g.W.Sink.written c.args.writer.now) (g.O.Sink.written c.args.out.now) (g.P.RecordSink.written c.args.records.now) in
     c.read_once.ensures.order m c.reads.invariant.listed
 
 pub returns-in-Err-clause-told : goal.returns-in-Err-clause-told
 returns-in-Err-clause-told g c = λ told.
     let m = moment c.args.core.now c.args.output.now (g.R.Source.left c.args.reader.now)
-    (g.W.Sink.written c.args.writer.now) (g.O.Sink.written c.args.out.now) (g.P.Sink.written c.args.records.now) in
+    (g.W.Sink.written c.args.writer.now) (g.O.Sink.written c.args.out.now) (g.P.RecordSink.written c.args.records.now) in
     c.in-Err.ensures.round told m c.reads.invariant.listed
 
 pub returns-in-Err-clause-order : goal.returns-in-Err-clause-order
 returns-in-Err-clause-order g c =
     let m = moment c.args.core.now c.args.output.now (g.R.Source.left c.args.reader.now)
-    (g.W.Sink.written c.args.writer.now) (g.O.Sink.written c.args.out.now) (g.P.Sink.written c.args.records.now) in
+    (g.W.Sink.written c.args.writer.now) (g.O.Sink.written c.args.out.now) (g.P.RecordSink.written c.args.records.now) in
     c.read_once.ensures.order m c.reads.invariant.listed
 
 pub returns-in-Err-clause-keeper : goal.returns-in-Err-clause-keeper
@@ -66,7 +70,7 @@ returns-in-Err-clause-stopped g c =
 pub reads-preserved : goal.reads-preserved
 reads-preserved g c =
     let m = moment c.args.core.now c.args.output.now (g.R.Source.left c.args.reader.now)
-    (g.W.Sink.written c.args.writer.now) (g.O.Sink.written c.args.out.now) (g.P.Sink.written c.args.records.now) in
+    (g.W.Sink.written c.args.writer.now) (g.O.Sink.written c.args.out.now) (g.P.RecordSink.written c.args.records.now) in
     let i = c.reads.invariant in
     let on = round-on _ _ _ c.in-Ok-false.field-0-test c.in-Ok-false.ensures.round m i.listed in
     record {
@@ -86,13 +90,13 @@ reads-preserved g c =
 pub returns-in-Err-keep_if_due-clause-order : goal.returns-in-Err-keep_if_due-clause-order
 returns-in-Err-keep_if_due-clause-order g c =
     let m = moment c.args.core.now c.args.output.now (g.R.Source.left c.args.reader.now)
-    (g.W.Sink.written c.args.writer.now) (g.O.Sink.written c.args.out.now) (g.P.Sink.written c.args.records.now) in
+    (g.W.Sink.written c.args.writer.now) (g.O.Sink.written c.args.out.now) (g.P.RecordSink.written c.args.records.now) in
     c.read_once.ensures.order m c.reads.invariant.listed
 
 pub returns-in-Err-keep_if_due-clause-behind : goal.returns-in-Err-keep_if_due-clause-behind
 returns-in-Err-keep_if_due-clause-behind g c =
     let m = moment c.args.core.now c.args.output.now (g.R.Source.left c.args.reader.now)
-    (g.W.Sink.written c.args.writer.now) (g.O.Sink.written c.args.out.now) (g.P.Sink.written c.args.records.now) in
+    (g.W.Sink.written c.args.writer.now) (g.O.Sink.written c.args.out.now) (g.P.RecordSink.written c.args.records.now) in
     let on = round-on _ _ _ c.in-Ok-false.field-0-test c.in-Ok-false.ensures.round m c.reads.invariant.listed in
     keeps-listed _ _ _ _ _ _ _ _ _ _ _ _ _ _ _ on c.reads.invariant.behind c.in-Err-keep_if_due.ensures.steps
 

@@ -1,81 +1,16 @@
-use Rattle.std.proofs.Common.{◌∙◌, sym, subst, refl, ℤ}
-use Rattle.std.specs.Prelude.{◌⊎◌, ◌<ℤ◌, ◌≤ℤ◌}
-use Rattle.sl_time.specs.Days.{IsWithinDay, day_start}
-use Rattle.record_archive.specs.Archives.{IsPut, IsUnplaced, Put}
-use Rattle.record_archive.specs.Archives.IsUnplaced.{Invalid, Undated, Unnamed, Unwanted}
-use Rattle.record_archive.proofs.PutLemmas.{held-put, held-same}
-use Rattle.record_archive.proofs.placing.put_record.Given as given
+-- A record that is not valid has no place.
+use Rattle.std.proofs.Common.{◌∙◌, sym}
+use Rattle.record_archive.proofs.PutLemmas.{held-same, invalid-record, valid-record}
 use Rattle.record_archive.proofs.placing.put_record.Goals as goal
 
-invalid : (g : given.Over) (c : goal.In-Err g) → IsUnplaced c.args.stations.now c.args.bytes.now
-invalid g c = Invalid c.in-Err.field-0 (sym c.read.ensures ∙ c.in-Err.is)
+pub put_read-requires : goal.put_read-requires
+put_read-requires g c = valid-record c.args.bytes.now _ (sym c.requires ∙ c.in-Some.is)
 
-pub returns-in-Err-clause-put : goal.returns-in-Err-clause-put
-returns-in-Err-clause-put g c =
-    held-same c.args.stations.now (g.F.Folders.puts c.args.folders.now) c.args.bytes.now (invalid g c)
+pub returns-in-None-clause-put : goal.returns-in-None-clause-put
+returns-in-None-clause-put g c =
+    held-same c.args.stations.now (g.F.Folders.puts c.args.folders.now) c.args.bytes.now
+    (invalid-record c.args.stations.now c.args.bytes.now (sym c.requires ∙ c.in-None.is))
 
-pub returns-in-Err-clause-unplaced : goal.returns-in-Err-clause-unplaced
-returns-in-Err-clause-unplaced g c = λ e. invalid g c
-
-unnamed : (g : given.Over) (c : goal.Then-not-has_place g) → IsUnplaced c.args.stations.now c.args.bytes.now
-unnamed g c =
-    Unnamed c.in-Ok.header (sym c.read.ensures ∙ c.in-Ok.is) (sym c.has_place.ensures ∙ c.if-not-has_place.true)
-
-pub returns-then-not-has_place-clause-put : goal.returns-then-not-has_place-clause-put
-returns-then-not-has_place-clause-put g c =
-    held-same c.args.stations.now (g.F.Folders.puts c.args.folders.now) c.args.bytes.now (unnamed g c)
-
-pub returns-then-not-has_place-clause-unplaced : goal.returns-then-not-has_place-clause-unplaced
-returns-then-not-has_place-clause-unplaced g c = λ e. unnamed g c
-
-unwanted : (g : given.Over) (c : goal.Then-not-is_wanted g) → IsUnplaced c.args.stations.now c.args.bytes.now
-unwanted g c =
-    Unwanted c.in-Ok.header (sym c.read.ensures ∙ c.in-Ok.is) (sym c.is_wanted.ensures ∙ c.if-not-is_wanted.true)
-
-pub returns-then-not-is_wanted-clause-put : goal.returns-then-not-is_wanted-clause-put
-returns-then-not-is_wanted-clause-put g c =
-    held-same c.args.stations.now (g.F.Folders.puts c.args.folders.now) c.args.bytes.now (unwanted g c)
-
-pub returns-then-not-is_wanted-clause-unplaced : goal.returns-then-not-is_wanted-clause-unplaced
-returns-then-not-is_wanted-clause-unplaced g c = λ e. unwanted g c
-
-undated : (g : given.Over) (c : goal.In_default g) → IsUnplaced c.args.stations.now c.args.bytes.now
-undated g c =
-    Undated c.in-Ok.header (sym c.read.ensures ∙ c.in-Ok.is)
-    (subst (λ (z : ℤ). (z <ℤ day_start 1 1) ⊎ (day_start 10000 1 ≤ℤ z)) c.start.ensures
-    (c.day_of.ensures.outside c.in_default.is))
-
-pub returns-in_default-clause-put : goal.returns-in_default-clause-put
-returns-in_default-clause-put g c =
-    held-same c.args.stations.now (g.F.Folders.puts c.args.folders.now) c.args.bytes.now (undated g c)
-
-pub returns-in_default-clause-unplaced : goal.returns-in_default-clause-unplaced
-returns-in_default-clause-unplaced g c = λ e. undated g c
-
--- what is put of the record
-abbrev put_of : (g : given.Over) (c : goal.In-Ok-put g) → Put
-put_of g c = record { folder = c.deref.result.now; file = c.deref-2.result.now; bytes = c.args.bytes.now }
-
-is_put : (g : given.Over) (c : goal.In-Ok-put g) → IsPut c.args.stations.now c.args.bytes.now (put_of g c)
-is_put g c =
-    let day = c.in-Some.day in
-    record {
-      facts = c.in-Ok.header;
-      year = day.year;
-      day = day.day;
-      read = sym c.read.ensures ∙ c.in-Ok.is;
-      placed = sym c.has_place.ensures ∙ c.if-not-has_place.false;
-      wanted = sym c.is_wanted.ensures ∙ c.if-not-is_wanted.false;
-      inside = subst (IsWithinDay day.year day.day) c.start.ensures c.in-Some.ensures.day;
-      folder = c.deref.ensures.value ∙ c.in-Ok-set.ensures.folder;
-      file = c.deref-2.ensures.value ∙ c.in-Ok-set.ensures.file;
-      bytes = refl;
-    }
-
-pub returns-in-Ok-put-clause-put : goal.returns-in-Ok-put-clause-put
-returns-in-Ok-put-clause-put g c =
-    held-put c.args.stations.now (g.F.Folders.puts c.args.folders.now) (g.F.Folders.puts c.put.new.self)
-    c.args.bytes.now (put_of g c) (is_put g c) c.in-Ok-put.ensures.put
-
-pub returns-in-Ok-put-clause-placed : goal.returns-in-Ok-put-clause-placed
-returns-in-Ok-put-clause-placed g c = λ e. (put_of g c, is_put g c)
+pub returns-in-None-clause-unplaced : goal.returns-in-None-clause-unplaced
+returns-in-None-clause-unplaced g c = λ e.
+    invalid-record c.args.stations.now c.args.bytes.now (sym c.requires ∙ c.in-None.is)
