@@ -15,20 +15,27 @@ pub(crate) fn record_of(packet: &[u8; 520]) -> &[u8; 512]
     packet[8..520].as_array().unwrap()
 }
 
-/// The six digits of a packet's number, in upper case.
+/// The six digits of a packet's number, in upper case, and a space.
 fn put_number(text: &mut Vec<u8>, packet: &[u8; 520]) -> Result<(), AllocError>
-    ensures { OnOk result (text.new.items ≡ text.old.items ++ number_text packet.now) }
+    ensures { OnOk result (text.new.items ≡ text.old.items ++ (number_text packet.now ++ 32 ∷ [])) }
 {
-    put_upper(text, &packet[2..8])
+    put_upper(text, packet[2..8].as_array().unwrap())
 }
 
-fn put_upper(text: &mut Vec<u8>, digits: &[u8]) -> Result<(), AllocError>
-    ensures { OnOk result (text.new.items ≡ text.old.items ++ map to_ascii_uppercase digits.now) }
+/// Six digits in upper case, and a space.
+fn put_upper(text: &mut Vec<u8>, digits: &[u8; 6]) -> Result<(), AllocError>
+    ensures { OnOk result (text.new.items ≡ text.old.items ++ (map to_ascii_uppercase digits.now ++ 32 ∷ [])) }
 {
-    for digit in digits {
-        text.push(digit.to_ascii_uppercase())?;
-    }
-    Ok(())
+    let [a, b, c, d, e, f] = *digits;
+    text.extend_from_slice(&[
+        a.to_ascii_uppercase(),
+        b.to_ascii_uppercase(),
+        c.to_ascii_uppercase(),
+        d.to_ascii_uppercase(),
+        e.to_ascii_uppercase(),
+        f.to_ascii_uppercase(),
+        b' ',
+    ])
 }
 
 /// What a packet's record says, if it can be read.
@@ -54,7 +61,6 @@ pub(crate) fn put_packet(
     ensures { OnOk result (text.new.items ≡ text.old.items ++ packet_line times packet.now) }
 {
     put_number(text, packet.bytes())?;
-    text.push(b' ')?;
     put_facts(text, times, packet.header())?;
     text.push(b'\n')?;
     Ok(())

@@ -69,15 +69,25 @@ fn put_code(text: &mut Vec<u8>, code: &[u8]) -> Result<(), AllocError>
     Ok(())
 }
 
-/// A location or channel, and a space.
-fn put_place(text: &mut Vec<u8>, code: &[u8]) -> Result<(), AllocError>
+/// A location, and a space.
+fn put_location(text: &mut Vec<u8>, code: &[u8; 2]) -> Result<(), AllocError>
     ensures { OnOk result (text.new.items ≡ text.old.items ++ word_text (map shown_place code.now)) }
 {
-    for byte in code {
-        text.push(shown_place(*byte))?;
-    }
-    text.push(b' ')?;
-    Ok(())
+    let [first, second] = *code;
+    text.extend_from_slice(&[shown_place(first), shown_place(second), b' '])
+}
+
+/// A channel, and a space.
+fn put_channel(text: &mut Vec<u8>, code: &[u8; 3]) -> Result<(), AllocError>
+    ensures { OnOk result (text.new.items ≡ text.old.items ++ word_text (map shown_place code.now)) }
+{
+    let [first, second, third] = *code;
+    text.extend_from_slice(&[
+        shown_place(first),
+        shown_place(second),
+        shown_place(third),
+        b' ',
+    ])
 }
 
 /// The decimal digits of a number, behind a minus sign where it is below 0.
@@ -133,8 +143,8 @@ fn put_codes(
 {
     put_code(text, network)?;
     put_code(text, station)?;
-    put_place(text, location)?;
-    put_place(text, channel)?;
+    put_location(text, location)?;
+    put_channel(text, channel)?;
     Ok(())
 }
 
@@ -142,9 +152,7 @@ fn put_codes(
 fn put_kind(text: &mut Vec<u8>, kind: Kind) -> Result<(), AllocError>
     ensures { OnOk result (text.new.items ≡ text.old.items ++ word_text (kind_letter kind ∷ [])) }
 {
-    text.push(kind_letter(kind))?;
-    text.push(b' ')?;
-    Ok(())
+    text.extend_from_slice(&[kind_letter(kind), b' '])
 }
 
 fn put_extent(text: &mut Vec<u8>, times: Times, header: &Header<'_>) -> Result<(), AllocError>
