@@ -127,6 +127,18 @@ def rounds(work, *numbers, last=ROUNDS):
     return lambda: per(bench(work, *numbers, ROUNDS + last), bench(work, *numbers, ROUNDS), last)
 
 
+def listed():
+    """A packet that is read and listed, less what its bytes take that stand in memory for those of a socket."""
+    return small("listing")() - rounds("drained", 1)()
+
+
+def archived(stations):
+    """The same, put into an archive, of so many stations by turns."""
+    folders = iter(range(1_000))
+    work = lambda count: bench("archive", stations, count, f"{FOLDER.name}/archive{stations}.{next(folders)}")
+    return lambda: per(work(4 * ROUNDS), work(2 * ROUNDS), 2 * ROUNDS) - rounds("drained", stations)()
+
+
 def passed(more):
     """An offer of so many that the client asks for after 1,000 records that its selector does not let pass."""
     return lambda: per(bench("passed", more, 10), bench("passed", more - 1, 10), 10)

@@ -4,7 +4,9 @@
 //! Works without a server: `command ROUNDS LINE` reads a line as a command, and `lines ROUNDS LINE` cuts it out of
 //! bytes first. `number ROUNDS` reads a sequence number and writes the one that follows. `header ROUNDS` reads the
 //! header of a record. `selectors ROUNDS` asks sixteen selectors whether a record passes, and `pool ROUNDS` asks the
-//! same sixteen in a pool that holds 1,024. `listing ROUNDS` reads packets and lists them.
+//! same sixteen in a pool that holds 1,024. `listing ROUNDS` reads packets and lists them, `archive STATIONS ROUNDS
+//! FOLDER` reads packets of so many stations by turns into an archive, and `drained STATIONS ROUNDS` reads the same bytes
+//! and does nothing with them.
 //!
 //! Works with a server: `arrive CAPACITY ROUNDS`: a record arrives at one of 1,024 stations, whose ring holds so many
 //! and is full. `packets REQUESTS CAPACITY ROUNDS`: a client that asks by FETCH for so many stations, whose rings are
@@ -23,6 +25,7 @@
 //! arrive by turns. `sleepers CLIENTS ROUNDS`: a turn of a loop hands one client a packet while so many others wait.
 #![tactic(auto)]
 
+mod archiving;
 mod centre;
 mod headers;
 mod lines;
@@ -76,6 +79,7 @@ fn sum_of_reading(
         ("selectors", [rounds]) => pools::ask_alone(alloc, *rounds),
         ("pool", [rounds]) => pools::ask_full(alloc, *rounds),
         ("listing", [rounds]) => reading::list_packets(alloc, *rounds),
+        ("drained", [stations, rounds]) => reading::drain_packets(alloc, *stations, *rounds),
         _ => return None,
     };
     Some(sum)
@@ -123,9 +127,15 @@ fn main(rt: HostRuntime) -> anyhow::Result<()> {
     let words = words_of(&rt)?;
     let (work, numbers) = (words.work.as_str(), words.numbers.as_slice());
     let line = words.line.as_bytes();
-    let sum = match sum_of_reading(rt.alloc(), work, numbers, line) {
-        None => sum_of_serving(rt.alloc(), work, numbers, line),
-        sum => sum,
+    let sum = match (work, numbers) {
+        ("archive", [stations, rounds]) => {
+            let top = words.line.as_str();
+            Some(archiving::archive_packets(&rt, rt.alloc(), top, *stations, *rounds))
+        }
+        _ => match sum_of_reading(rt.alloc(), work, numbers, line) {
+            None => sum_of_serving(rt.alloc(), work, numbers, line),
+            sum => sum,
+        },
     };
     match sum {
         Some(sum) => {

@@ -1,48 +1,75 @@
 //! A reader over memory: packets are read, cut out and listed.
 use crate::centre::{record_of, told};
+use anyhow::anyhow;
 use reader_run::{Nowhere, Times, read_over};
-use sl_io::{MemorySink, MemorySource};
+use sl_io::{MemorySource, Source};
 use sl_packet::{Seq, frame};
 use slreader::{Plan, Want, Window};
 use std::alloc::Global;
 
-/// What a server sends before the packets of one want.
-const NEGOTIATED: &[u8] = b"SeedLink v3\r\n\r\nOK\r\nOK\r\n";
+/// What a server sends before the answers to commands.
+const GREETING: &[u8] = b"SeedLink v3\r\n\r\n";
+
+/// What it answers to the two commands of a want.
+const ANSWERS: &[u8] = b"OK\r\nOK\r\n";
 
 /// How many bytes are read at most by one call.
-const PIECE: usize = 65_536;
+pub const PIECE: usize = 65_536;
 
-/// So many packets with one record, and what comes before and after them.
-fn sent(alloc: Global, record: &[u8; 512], packets: u32) -> anyhow::Result<Vec<u8>> {
-    let mut sent = NEGOTIATED.to_vec(alloc)?;
-    if let Some(number) = Seq::of(0xABCD) {
-        let packet = frame(number, record);
-        for _ in 0..packets {
-            sent.extend_from_slice(&packet)?;
-        }
+/// So many packets with records of so many stations by turns, and what comes before and after them.
+pub fn sent(alloc: Global, stations: u32, packets: u32) -> anyhow::Result<Vec<u8>> {
+    let mut records = Vec::new(alloc);
+    let mut sent = GREETING.to_vec(alloc)?;
+    for place in 0..stations {
+        records.push(record_of(alloc, place, b"BHZ")?)?;
+        sent.extend_from_slice(ANSWERS)?;
     }
+    put_packets(&mut sent, &records, packets)?;
     sent.extend_from_slice(b"END")?;
     Ok(sent)
 }
 
-/// Lists so many packets, and answers how many bytes the lines have.
-pub fn list_packets(alloc: Global, packets: u32) -> anyhow::Result<u64> {
-    let record = record_of(alloc, 0, b"BHZ")?;
-    let sent = sent(alloc, &record, packets)?;
-    let mut wants = Vec::new(alloc);
-    let want = Want::parse(alloc, b"GE_WLF", Window::Held { begin: None });
-    wants.push(want.map_err(|fault| told(fault.reason()))?)?;
+/// So many packets with these records by turns.
+fn put_packets(sent: &mut Vec<u8>, records: &[[u8; 512]], packets: u32) -> anyhow::Result<()> {
+    let mut number = Seq::of(0xABCD).ok_or_else(|| anyhow!("a number"))?;
+    for record in records.iter().cycle().take(packets as usize) {
+        sent.extend_from_slice(&frame(number, record))?;
+        number = number.next();
+    }
+    Ok(())
+}
+
+/// Reads what would be listed, and does nothing with it. Answers how many bytes that is.
+pub fn drain_packets(alloc: Global, stations: u32, packets: u32) -> anyhow::Result<u64> {
+    let sent = sent(alloc, stations, packets)?;
+    let mut block = vec![in alloc; 0; PIECE]?;
     let mut reader = MemorySource::in_pieces(&sent, PIECE);
-    let mut lines = MemorySink::new(alloc);
+    let mut count: u64 = 0;
+    for _ in 0..u64::MAX {
+        match reader.read(&mut block) {
+            Ok(0) => return Ok(count),
+            Ok(more) => count = count.saturating_add(more as u64),
+            Err(fault) => return Err(told(fault.reason())),
+        }
+    }
+    Ok(count)
+}
+
+/// Lists so many packets, with their records nowhere.
+pub fn list_packets(alloc: Global, packets: u32) -> anyhow::Result<u64> {
+    let sent = sent(alloc, 1, packets)?;
+    let mut wants = Vec::new(alloc);
+    let want = Want::parse(alloc, b"GE_00000", Window::Held { begin: None });
+    wants.push(want.map_err(|fault| told(fault.reason()))?)?;
     read_over(
         alloc,
         Times::Ticks,
         Plan::Multi(wants),
-        &mut reader,
+        &mut MemorySource::in_pieces(&sent, PIECE),
         &mut Nowhere::new(),
-        &mut lines,
+        &mut Nowhere::new(),
         &mut Nowhere::new(),
     )
     .map_err(|fault| told(fault.reason()))?;
-    Ok(lines.bytes().len() as u64)
+    Ok(packets as u64)
 }
