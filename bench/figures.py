@@ -129,13 +129,15 @@ def rounds(work, *numbers, last=ROUNDS):
 
 def listed():
     """A packet that is read and listed, less what its bytes take that stand in memory for those of a socket."""
-    return small("listing")() - rounds("drained", 1)()
+    return rounds("listing")() - rounds("drained", 1)()
 
 
 def archived(stations):
     """The same, put into an archive, of so many stations by turns."""
-    folders = iter(range(1_000))
-    work = lambda count: bench("archive", stations, count, f"{FOLDER.name}/archive{stations}.{next(folders)}")
+
+    def work(packets):
+        return bench("archive", stations, packets, f"{FOLDER.name}/archive{stations}-{packets}")
+
     return lambda: per(work(4 * ROUNDS), work(2 * ROUNDS), 2 * ROUNDS) - rounds("drained", stations)()
 
 
@@ -269,7 +271,9 @@ ROWS = (
     Row(200, "a sequence number read, counted on and written", small("number")),
     Row(1_500, "sixteen selectors over a record", small("selectors")),
     Row(percent(small("selectors"), 120), "the same in a pool that holds 1,024", small("pool"), "at most 1.2 times the figure above"),
-    Row(2_300, "a packet read, cut out and listed by the reader", small("listing")),
+    Row(1_650, "a packet read, cut out and listed by the reader", listed),
+    Row(3_900, "a packet of one station that is read into an archive", archived(1)),
+    Row(4_200, "the same of three stations by turns", archived(3)),
     # calls of a server whose rings are full
     Row(900, "arrive at one of 1,024 stations, a full ring of 4,096", small_ring),
     Row(percent(small_ring, 105), "the same, a full ring of 65,536", rounds("arrive", 65_536), "at most 1.05 times that"),
