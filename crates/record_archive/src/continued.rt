@@ -37,6 +37,28 @@ struct Progress {
     syncs: u64,
 }
 
+impl Progress {
+    /// Hands a record to the file, which has so many: it is added at the end, or passed over if it stands in what an
+    /// earlier reader left there.
+    fn hand<F: RecordFiles>(
+        &mut self,
+        files: &mut F,
+        name: &str,
+        bytes: &[u8; 512],
+        count: u64,
+        syncs: u64,
+    ) -> Result<(), FolderFault>
+        ensures stands { OnOk result (StandsAfter name.now bytes.now (F.records files.old) (F.records files.new)) }
+        ensures others { TellsOthers name.now (F.records files.old) (F.records files.new) }
+        ensures safe { TellsSame (F.safe files.old) (F.safe files.new) }
+    {
+        let is_added = self.walk.offer(files, name, bytes)?;
+        self.count = count.saturating_add(u64::from(is_added));
+        self.syncs = syncs;
+        Ok(())
+    }
+}
+
 /// Files of records to which each record is added once, though it is handed again to a reader that goes on after one
 /// that was stopped.
 #[derive(Drop)]
@@ -170,10 +192,14 @@ impl<F: RecordFiles> ContinuedFiles<F> {
         ensures failures { self.new.failures ≡ self.old.failures }
     {
         let count = self.files.count(name)?;
+        let syncs = self.syncs;
+        if let Some(known) = self.all.get_mut(name) {
+            if known.count <= count {
+                return known.hand(&mut self.files, name, bytes, count, syncs);
+            }
+        }
         let mut progress = self.progress_of(name, count);
-        let is_added = progress.walk.offer(&mut self.files, name, bytes)?;
-        progress.count = count.saturating_add(u64::from(is_added));
-        progress.syncs = self.syncs;
+        progress.hand(&mut self.files, name, bytes, count, syncs)?;
         self.remember(name, progress)
     }
 
