@@ -7,6 +7,7 @@ mod counts;
 mod cuts;
 mod descriptors;
 mod numbers;
+mod opening;
 mod operator;
 mod refusals;
 mod sockets;

@@ -3,13 +3,14 @@ ghost use Rattle.std.specs.Prelude.{◌≡◌, ◌∷◌, [], None, IfErr, IfOk}
 ghost use Rattle.serving.specs.Asked.{Tells};
 ghost use Rattle.serving.specs.Asked.Asked.{Looks, Refuses};
 ghost use Rattle.serving.specs.Paces.{IsPaced};
-ghost use Rattle.serving.specs.declared.faults.ServeFault.TheVariants.{OutOfMemory, Poll};
+ghost use Rattle.serving.specs.declared.faults.ServeFault.TheVariants.{Poll};
 ghost use Rattle.incidents.specs.declared.failure.Failure.TheVariants.{Serve};
 ghost use Rattle.job_serve.specs.Serving.{ServedByFile, EndedByFile};
 ghost use Rattle.job_serve.specs.Timetables.{timetable_of};
 ghost use Rattle.incidents.specs.declared.incident.Incident.{Incident};
 
 use crate::numbers::NumberFile;
+use crate::opening::ServedFiles;
 use crate::spare::Spare;
 use crate::starting::InForceLine;
 use crate::status::StatusDesk;
@@ -38,14 +39,6 @@ pub struct ServeRequest<'a> {
     pub options: ServeOptions<'a>,
     /// Whether a configuration that is not taken is explained.
     pub is_verbose: bool,
-}
-
-/// What the files of a server said when it began.
-#[derive(Drop)]
-pub struct ServedFiles<'a> {
-    /// The text of its configuration.
-    pub text: Vec<u8>,
-    pub numbers: Option<NumberFile<'a>>,
 }
 
 /// How the last keep of numbers went.
@@ -155,32 +148,36 @@ impl<'r, 'a, 'l, R, D: Device> Operator<'r, 'a, 'l, R, D> {
     }
 }
 
+/// The want of memory for a server.
+pub fn no_memory<'a>() -> Incident<'a> {
+    Incident {
+        failure: Failure::Serve(ServeFault::OutOfMemory),
+        site: Site::Unnamed,
+    }
+}
+
 impl<'r, 'a, 'l, R: Files<File = File> + Clock + AllocGlobal, D> Operator<'r, 'a, 'l, R, D> {
-    /// An operator that begins with a configuration now. It fails only for want of memory.
+    /// An operator that begins with a configuration now.
     fn new(
         rt: &'r R,
-        config: &Config,
         request: ServeRequest<'a>,
         files: ServedFiles<'a>,
         errors: &'l SharedLines<D>,
         status: Option<StatusDesk<'l>>,
-    ) -> Result<Operator<'r, 'a, 'l, R, D>, Incident<'a>>
-        ensures { IfErr result (λ incident. incident.failure ≡ Serve OutOfMemory) }
-    {
-        let Ok(in_force) = config.copy(rt.alloc()) else {
-            return Err(Incident {
-                failure: Failure::Serve(ServeFault::OutOfMemory),
-                site: Site::Unnamed,
-            });
-        };
+    ) -> Operator<'r, 'a, 'l, R, D> {
         let options = request.options;
-        Ok(Operator {
+        let ServedFiles {
+            in_force,
+            text,
+            numbers,
+        } = files;
+        Operator {
             rt,
             path: options.config,
             began: rt.monotonic().unwrap_or(Duration::ZERO),
             reread: Pace::new(seconds_in(options.reread)),
             report: Pace::new(seconds_in(options.report)),
-            numbers: files.numbers,
+            numbers,
             spare: Spare::new(rt),
             last_keep: LastKeep::Missing,
             unkept: Site::Unnamed,
@@ -190,10 +187,10 @@ impl<'r, 'a, 'l, R: Files<File = File> + Clock + AllocGlobal, D> Operator<'r, 'a
             errors,
             status,
             is_logged: options.is_logged,
-            text: files.text,
+            text,
             in_force,
             difference: None,
-        })
+        }
     }
 }
 
@@ -355,10 +352,10 @@ pub fn serve_by<
     D: Device + Drop,
 >(
     rt: &R,
-    config: Config,
-    ports: P,
     request: ServeRequest<'a>,
+    config: Config,
     files: ServedFiles<'a>,
+    ports: P,
     errors: &'l SharedLines<D>,
     status: Option<StatusDesk<'l>>,
 ) -> Result<P, Incident<'a>>
@@ -368,10 +365,7 @@ pub fn serve_by<
         EndedByFile (timetable_of request.entry.options) config (P.calls ports)) }
 {
     let timetable = timetable_of(&request.options);
-    let mut operator = match Operator::new(rt, &config, request, files, errors, status) {
-        Ok(operator) => operator,
-        Err(incident) => return Err(incident),
-    };
+    let mut operator = Operator::new(rt, request, files, errors, status);
     match serve_between(rt.alloc(), config, ports, &mut operator, timetable) {
         Ok(ports) => Ok(ports),
         Err(fault) => Err(operator.incident_of(fault)),

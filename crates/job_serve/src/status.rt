@@ -1,5 +1,6 @@
 //! The status port of a server: between its turns it is looked at, and what is asked is answered.
 use crate::counts::SharedCounts;
+use crate::opening::Served;
 use access_list::AccessList;
 use catalog::Config;
 use command_line::{ServeOptions, VERSION};
@@ -105,18 +106,16 @@ fn tick_of(now: Duration) -> Option<Tick> {
 }
 
 impl<'l> StatusDesk<'l> {
-    /// A desk at a port that is listened on, for a server with that configuration, which is that of a text, that begins
-    /// now. Only memory can lack.
+    /// A desk at a port that is listened on, for a server of that configuration that begins now. Only memory can lack.
     pub fn new(
         rt: &impl Clock,
         alloc: Global,
         ports: StatusPorts,
-        config: &Config,
-        text: &[u8],
+        served: &Served<'_>,
         silent: Option<usize>,
         counts: &'l SharedCounts,
     ) -> Result<StatusDesk<'l>, AllocError> {
-        let watch = Watch::new(alloc, config)?;
+        let watch = Watch::new(alloc, &served.config)?;
         let began = match rt.since_1970() {
             Ok(now) => tick_of(now),
             Err(_) => None,
@@ -127,7 +126,7 @@ impl<'l> StatusDesk<'l> {
             counts,
             began,
             silent_after: silent.unwrap_or(SILENT) as u64,
-            users: users_in(alloc, config, text),
+            users: users_in(alloc, &served.config, served.files.text.as_slice()),
             looked: None,
         })
     }

@@ -1,0 +1,118 @@
+//! What a server has before it listens: where it is to, whom it takes, and what its files say.
+ghost use Rattle.std.specs.Prelude.{◌≡◌, IfOk};
+ghost use Rattle.job_serve.specs.Admitting.{FeedsFrom};
+
+use crate::admitting::admission_of;
+use crate::descriptors::tell_missing;
+use crate::numbers::NumberFile;
+use crate::status::{StatusDoor, status_door};
+use catalog::Config;
+use command_line::ServeOptions;
+use config_explained::open_to_everybody;
+use incidents::{Failure, Incident};
+use job_base::{ServerAddress, config_in, plain_at, server_of, tell_unknown_keys, text_at};
+use ports_socket::Admission;
+use std::alloc::Global;
+use std::fs::File;
+use std::rt::Files;
+
+/// Where a server is to be, and whom it takes.
+#[derive(Drop)]
+pub struct Doors<'a> {
+    pub clients: ServerAddress<'a>,
+    pub feeds: ServerAddress<'a>,
+    pub admission: Admission,
+    pub status: Option<StatusDoor<'a>>,
+}
+
+/// What the words say of that.
+pub fn doors_of<'a>(alloc: Global, options: &ServeOptions<'a>) -> Result<Doors<'a>, Incident<'a>>
+    ensures feeds { IfOk result (λ doors. FeedsFrom options.now.feed_from doors.admission.feed_from) }
+    ensures clients { IfOk result (λ doors. doors.admission.per_address ≡ options.now.per_address) }
+{
+    let clients = server_of(options.listen)?;
+    let feeds = server_of(options.feed)?;
+    let admission = admission_of(alloc, options)?;
+    let status = status_door(alloc, options)?;
+    Ok(Doors {
+        clients,
+        feeds,
+        admission,
+        status,
+    })
+}
+
+/// What a server serves, and how many of its stations everybody may use, if that is told.
+#[derive(Drop)]
+pub struct Served<'a> {
+    pub config: Config,
+    pub open: usize,
+    pub files: ServedFiles<'a>,
+}
+
+/// What the files of a server said when it began.
+#[derive(Drop)]
+pub struct ServedFiles<'a> {
+    /// Its configuration once more, for whoever compares a new one with it, and the text of that.
+    pub in_force: Config,
+    pub text: Vec<u8>,
+    pub numbers: Option<NumberFile<'a>>,
+}
+
+/// Reads the files that the words name. The keys of the configuration that are not known are named. A configuration
+/// that is to be read again has to be a plain file.
+pub fn served_by<'a, R: Files<File = File> + Eprint + AllocGlobal>(
+    rt: &R,
+    options: &ServeOptions<'a>,
+) -> Result<Served<'a>, Incident<'a>> {
+    if options.reread.is_some() {
+        plain_at(rt, options.config)?;
+    }
+    let (mut config, text) = configured(rt, options)?;
+    let open = open_for(rt.alloc(), options, &config, text.as_slice())?;
+    tell_missing(rt, config.max_connections());
+    let numbers = match options.numbers {
+        Some(path) => Some(NumberFile::open(rt, path, &mut config)?),
+        None => None,
+    };
+    match config.copy(rt.alloc()) {
+        Ok(in_force) => Ok(Served {
+            config,
+            open,
+            files: ServedFiles {
+                in_force,
+                text,
+                numbers,
+            },
+        }),
+        Err(_) => Err(Failure::OutOfMemory.in_file(options.config)),
+    }
+}
+
+/// The configuration and its text. Keys of it that are not known are named.
+fn configured<'a, R: Files<File = File> + Eprint + AllocGlobal>(
+    rt: &R,
+    options: &ServeOptions<'a>,
+) -> Result<(Config, Vec<u8>), Incident<'a>> {
+    let path = options.config;
+    let text = text_at(rt, path)?;
+    let config = config_in(rt.alloc(), path, text.as_slice())?;
+    tell_unknown_keys(rt, path, &config, text.as_slice(), options.is_strict)?;
+    Ok((config, text))
+}
+
+/// How many stations everybody may use, if that is told.
+fn open_for<'a>(
+    alloc: Global,
+    options: &ServeOptions<'a>,
+    config: &Config,
+    text: &[u8],
+) -> Result<usize, Incident<'a>> {
+    if !options.is_logged {
+        return Ok(0);
+    }
+    match open_to_everybody(alloc, config, text) {
+        Ok(open) => Ok(open),
+        Err(_) => Err(Failure::OutOfMemory.in_file(options.config)),
+    }
+}
