@@ -53,8 +53,9 @@ pub trait RecordSink {
             (record_of packet.now) (written self.old) (written self.new) (failures self.old) (failures self.new)
             (empty_writes self.old) (empty_writes self.new)) };
 
-    /// Writes all records that wait.
+    /// Writes all records that wait. None waits any more then.
     fn hand_on(&mut self) -> Result<(), WriteFault>
+        ensures waits { OnOk result (Waits self.new []) }
         ensures written { OnOk result ((records : List ℕ) → Waits self.old records
             → Appends (written self.old) (written self.new) records) }
         ensures quiet { OnOk result (IsQuiet (failures self.old) (failures self.new)

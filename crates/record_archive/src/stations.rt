@@ -58,7 +58,7 @@ impl StationCodes {
     fn are_of(&self, header: &Header<'_>) -> bool
         ensures { result ≡ is_of header.now self.now }
     {
-        self.network.as_slice() == header.network() && self.station.as_slice() == header.station()
+        self.station.as_slice() == header.station() && self.network.as_slice() == header.network()
     }
 }
 

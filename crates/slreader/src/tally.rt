@@ -57,7 +57,7 @@ fn has_codes(network: &[u8], station: &[u8], header: &Option<Header<'_>>) -> boo
     ensures { result ≡ spec_has_codes network.now station.now header.now }
 {
     match header {
-        Some(header) => header.network() == network && header.station() == station,
+        Some(header) => header.station() == station && header.network() == network,
         None => false,
     }
 }
