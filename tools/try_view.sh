@@ -90,7 +90,7 @@ done
 [ "$(wc -l <remarks)" -eq 4 ] || { echo "$(wc -l <remarks) lines and not 4"; bad=1; }
 # What a new configuration changes.
 change() { sed "$@" <centre.toml >centre.new; }
-change
+cp centre.toml centre.new
 try 'nothing changes
 status 0' view centre.toml centre.new
 change -e 's#10.0.0.7/8#10.0.0.0/9,10.128.0.0/9 172.16.0.9#' -e 's#access = "0.0.0.0"#access = "0.0.0.0/0"#'

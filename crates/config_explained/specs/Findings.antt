@@ -37,10 +37,15 @@ abbrev pub FindsToml : Option Members → List ℕ → Finding → Type 0
 FindsToml None text f = IsReasoned text f
 FindsToml (Some keys) text f = f ≡ Nothing
 
+-- the place at an offset
+abbrev pub IsNotUtf8 : List ℕ → ℕ → Finding → Type 0
+IsNotUtf8 text offset (NotUtf8 at place) = (at ≡ offset) × IsPlaceAfter (take offset text) place
+IsNotUtf8 text offset _ = ⊥
+
 -- where a text is not UTF-8, or not TOML
 pub record FindsText (text : List ℕ) (f : Finding) : Type 0 where
   pub utf8 : IsUtf8 text → FindsToml (parse_document text) text f
-  pub bytes : ¬ IsUtf8 text → f ≡ NotUtf8 (utf8_valid_len text)
+  pub bytes : ¬ IsUtf8 text → IsNotUtf8 text (utf8_valid_len text) f
 
 -- ---- a value of another kind
 

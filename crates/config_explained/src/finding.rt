@@ -1,10 +1,11 @@
 //! What is found where a configuration is refused.
-ghost use Rattle.std.specs.Prelude.{◌≡◌, option_and_then, option_map, IfOk};
+ghost use Rattle.std.specs.Prelude.{◌≡◌, ◌≤◌, length, option_and_then, option_map, IfOk};
 ghost use Rattle.std.specs.Str.{IsUtf8};
 ghost use Rattle.toml.specs.Parse.{parse_document};
 ghost use Rattle.toml.specs.View.{table_view};
 ghost use Rattle.access_list.specs.Tokens.{first_refused};
-ghost use Rattle.config_explained.specs.Findings.{Finds, FindsEntry, FindsKind, FindsText, FindsToml, IsEntry, text_at};
+ghost use Rattle.config_explained.specs.Findings.{Finds, FindsEntry, FindsKind, FindsText, FindsToml, IsEntry};
+ghost use Rattle.config_explained.specs.Findings.{IsNotUtf8, text_at};
 
 use crate::kind::Kind;
 use crate::place::{Place, line_from, place_of};
@@ -23,9 +24,10 @@ use toml::Table;
 pub enum Finding {
     /// Nothing that the fault and the step don't say.
     Nothing,
-    /// The text is not UTF-8: after so many bytes it can't go on.
+    /// The text is not UTF-8: after so many bytes, at that place, it can't go on.
     NotUtf8 {
         offset: usize,
+        place: Place,
     },
     /// The text is not TOML: the reason, the place, and the line of that place.
     NotToml {
@@ -64,10 +66,17 @@ fn text_finding(alloc: Global, text: &[u8]) -> Result<Finding, AllocError>
 {
     match str::from_utf8(text) {
         Ok(utf8) => toml_finding(alloc, utf8),
-        Err(error) => Ok(Finding::NotUtf8 {
-            offset: error.valid_up_to(),
-        }),
+        Err(error) => Ok(bytes_finding(text, error.valid_up_to())),
     }
+}
+
+/// What is found in a text that is UTF-8 up to an offset.
+fn bytes_finding(text: &[u8], offset: usize) -> Finding
+    requires { offset ≤ length text.now }
+    ensures { IsNotUtf8 text.now offset result }
+{
+    let place = place_of(text, offset);
+    Finding::NotUtf8 { offset, place }
 }
 
 /// What is found in a text that is not TOML.
@@ -158,18 +167,16 @@ impl Display for Finding {
     fn fmt<W: Write>(&self, f: &mut Formatter<W>) -> fmt::Result {
         match self {
             Finding::Nothing => Ok(()),
-            Finding::NotUtf8 { offset } => writeln!(f, "  offset: {offset}"),
+            Finding::NotUtf8 { offset, place } => {
+                put_place(f, place)?;
+                writeln!(f, "  offset: {offset}\n  found: bytes that are not UTF-8")
+            }
             Finding::NotToml {
                 reason,
                 place,
                 line,
             } => {
-                let Place {
-                    line: at,
-                    column,
-                    ..
-                } = *place;
-                writeln!(f, "  line: {at}\n  column: {column}")?;
+                put_place(f, place)?;
                 put_line(f, "reason", reason)?;
                 put_text(f, "text", line)
             }
@@ -179,6 +186,12 @@ impl Display for Finding {
             Finding::Entry { text } => put_text(f, "entry", text),
         }
     }
+}
+
+/// The lines of a place.
+fn put_place<W: Write>(f: &mut Formatter<W>, place: &Place) -> fmt::Result {
+    let Place { line, column, .. } = *place;
+    writeln!(f, "  line: {line}\n  column: {column}")
 }
 
 /// A line that quotes a text.

@@ -144,7 +144,9 @@ fn a_text_that_is_not_toml(rt: HostRuntime) -> Result<(), Fail> {
 fn a_text_that_is_not_utf8(rt: HostRuntime) -> Result<(), Fail> {
     let told = refusal(rt.alloc(), b"title = \"\xC3\xA9\xFF\"\n")?;
     assert!(rt;
-        told.as_str() == "  file: island.toml\n  offset: 11\n  allowed: TOML in UTF-8\n",
+        told.as_str()
+            == "  file: island.toml\n  line: 1\n  column: 11\n  offset: 11\n  \
+                found: bytes that are not UTF-8\n  allowed: TOML in UTF-8\n",
         "{told}"
     );
     Ok(())
