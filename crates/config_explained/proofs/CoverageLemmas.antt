@@ -29,7 +29,7 @@ has_each n cube a h e =
     (ap (bit_and a) (sym narrow) ∙ sym (and_assoc n.mask a cube.mask) ∙ ap (λ x. bit_and x n.mask) at
     ∙ and_assoc n.mask cube.address cube.mask ∙ ap (bit_and cube.address) narrow ∙ sym same)
 
-meets_at : (n cube : Token) (a : ℕ) → is_in a cube ≡ true → is_in a n ≡ true → meets cube n ≡ true
+pub meets_at : (n cube : Token) (a : ℕ) → is_in a cube ≡ true → is_in a n ≡ true → meets cube n ≡ true
 meets_at n cube a e e' =
     let at : bit_and a cube.mask ≡ bit_and cube.address cube.mask = eqb-true _ _ e in
     let at' : bit_and a n.mask ≡ bit_and n.address n.mask = eqb-true _ _ e' in
@@ -56,7 +56,7 @@ none_met (n ∷ ns) cube h a low e =
     (λ f. let more = none_met ns cube (rw f at h) a low e in
     both (is_in a n) (λ y. absurd (true≢false (sym (meets_at n cube a e y) ∙ f))) (λ g. rw g more))
 
-is_itself : (cube : Token) → is_in cube.address cube ≡ true
+pub is_itself : (cube : Token) → is_in cube.address cube ≡ true
 is_itself cube = eq-eqb _ _ refl
 
 pub not_both : (ns : List Token) (cube : Token) → cube.address < 2 ^ 32 → AdmitsNone ns cube → AdmitsAll ns cube → ⊥
@@ -113,7 +113,7 @@ clear_same m k within =
     let pow = bit_at-pow_same k in
     omega (arith, and, not, pow)
 
-clear_other : (m k i : ℕ) → k < 32 → i < 32 → i ≢ k → bit_at (bit_and m (bit_not w32 (2 ^ k))) i ≡ bit_at m i
+pub clear_other : (m k i : ℕ) → k < 32 → i < 32 → i ≢ k → bit_at (bit_and m (bit_not w32 (2 ^ k))) i ≡ bit_at m i
 clear_other m k i within within' other =
     let and = bit_at_and m (bit_not w32 (2 ^ k)) i in
     let not = bit_at_not w32 (2 ^ k) i (below_32 k within) within' in

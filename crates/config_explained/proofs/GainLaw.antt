@@ -11,21 +11,23 @@ use Rattle.std.proofs.lemmas.Nat.{and_assoc, and_comm, and_le_l, or_lt, pow_pos}
 use Rattle.std.proofs.lemmas.Nat.Bits.{and_pow, bit_at-lt, bit_at-zero, bit_at_above, bit_at_and, bit_at_or, same_from_bits}
 use Rattle.protocol.proofs.FoundLemmas.{both}
 use Rattle.protocol.specs.Access.{HasMask, Token, allows, is_in}
-use Rattle.config_explained.specs.Coverage.{AdmitsAll, AdmitsNone, admits_all, admits_none, coverage, with, without}
-use Rattle.config_explained.specs.Gains.{by_gain, everything, gain_of, gains, gains_in, masks_from}
+use Rattle.config_explained.specs.Coverage.{AdmitsAll, AdmitsNone, admits_all, admits_none, coverage, meets, with, without}
+use Rattle.config_explained.specs.Gains.{by_gain, everything, gain_of, gains, gains_in, masks_at, masks_of}
 use Rattle.config_explained.specs.declared.coverage.Coverage.{Coverage}
 use Rattle.config_explained.specs.declared.coverage.Coverage.TheVariants.{Whole, Part, Nothing}
 use Rattle.config_explained.proofs.CoverageLemmas.{agrees_in, all_found, all_tested, below_32, bit_is, clear_same, in_with}
 use Rattle.config_explained.proofs.CoverageLemmas.{in_without, none_found, none_tested, not_all_tested, not_both, of_with}
-use Rattle.config_explained.proofs.CoverageLemmas.{of_without, or_other, or_same}
+use Rattle.config_explained.proofs.CoverageLemmas.{clear_other, is_itself, meets_at, of_without, or_other, or_same}
 
 -- ---- the bits of masks
 
-mask_kept : (ns : List Token) (m i : ℕ) → bit_at m i ≡ 1 → bit_at (masks_from m ns) i ≡ 1
-mask_kept [] m i one = one
-mask_kept (n ∷ ns) m i one =
-    mask_kept ns (bit_or m n.mask) i
-    (let or = bit_at_or m n.mask i in let low = bit_at-lt n.mask i in omega (arith, or, one, low))
+mask_kept : (ns : List Token) (m : ℕ) (n : Token) (i : ℕ) → bit_at m i ≡ 1 → bit_at (masks_of m n ns) i ≡ 1
+mask_kept [] m n i one = one
+mask_kept (t ∷ ts) m n i one =
+    both (meets n t)
+    (λ y. rw y (mask_kept ts (bit_or m t.mask) n i
+    (let or = bit_at_or m t.mask i in let low = bit_at-lt t.mask i in omega (arith, or, one, low))))
+    (λ f. rw f (mask_kept ts m n i one))
 
 -- each bit of a mask
 abbrev HasBits : ℕ → Token → Type 0
@@ -48,15 +50,32 @@ same_in t n a within e =
     ∙ and_assoc t.mask n.address n.mask ∙ ap (bit_and n.address) narrow in
     ap (λ x. x == bit_and t.address t.mask) same
 
-alike : (ns : List Token) (m : ℕ) (n : Token) (a : ℕ) → HasBits (masks_from m ns) n → is_in a n ≡ true
+not_in : (b : Bool) → (b ≡ true → ⊥) → b ≡ false
+not_in true h = absurd (h refl)
+not_in false h = refl
+
+-- none of a network's addresses is in one that it doesn't meet
+not_met : (t n : Token) (a : ℕ) → meets n t ≡ false → is_in a n ≡ true → is_in a t ≡ false
+not_met t n a apart e = not_in (is_in a t) (λ y. true≢false (sym (meets_at t n a e y) ∙ apart))
+
+alike : (ns : List Token) (m : ℕ) (n : Token) (a : ℕ) → HasBits (masks_of m n ns) n → is_in a n ≡ true
     → allows ns a ≡ allows ns n.address
 alike [] m n a bits e = refl
 alike (t ∷ ts) m n a bits e =
+    both (meets n t)
+    (λ y.
+    let bits' : HasBits (masks_of (bit_or m t.mask) n ts) n = rw y at bits in
     let head : is_in a t ≡ is_in n.address t =
-    same_in t n a (λ i one. bits i (mask_kept ts (bit_or m t.mask) i
+    same_in t n a (λ i one. bits' i (mask_kept ts (bit_or m t.mask) n i
     (let or = bit_at_or m t.mask i in let low = bit_at-lt m i in omega (arith, or, one, low)))) e in
-    let tail : allows ts a ≡ allows ts n.address = alike ts (bit_or m t.mask) n a bits e in
-    rw (head, tail)
+    let tail : allows ts a ≡ allows ts n.address = alike ts (bit_or m t.mask) n a bits' e in
+    rw (head, tail))
+    (λ f.
+    let bits' : HasBits (masks_of m n ts) n = rw f at bits in
+    let one = not_met t n a f e in
+    let two = not_met t n n.address f (is_itself n) in
+    let tail : allows ts a ≡ allows ts n.address = alike ts m n a bits' e in
+    rw (one, two, tail))
 
 -- ---- how much is admitted
 
@@ -137,10 +156,6 @@ or_false : (b : Bool) → (b || false) ≡ b
 or_false true = refl
 or_false false = refl
 
-not_in : (b : Bool) → (b ≡ true → ⊥) → b ≡ false
-not_in true h = absurd (h refl)
-not_in false h = refl
-
 not_with : (a k : ℕ) (n : Token) → k < 32 → bit_at a k ≡ 0 → is_in a (with (2 ^ k) n) ≡ false
 not_with a k n within clear =
     not_in (is_in a (with (2 ^ k) n)) (λ e.
@@ -181,42 +196,110 @@ halves_admit old new n a k first second within masked free one two = record {
 
 -- ---- all cuts
 
--- a network that was cut at the bits of masks from one on
-record IsCut (masks k : ℕ) (n : Token) : Type 0 where
-  done : (i : ℕ) → k ≤ i → bit_at masks i ≡ 1 → bit_at n.mask i ≡ 1
+-- a network that was cut, from a bit on, at the bits of those masks that are left there
+record IsCut (old new : List Token) (k : ℕ) (n : Token) : Type 0 where
+  done : (i : ℕ) → k ≤ i → bit_at (masks_at old new n) i ≡ 1 → bit_at n.mask i ≡ 1
   free : (i : ℕ) → i < k → bit_at n.mask i ≡ 0
   masked : HasMask n
   low : n.address < 2 ^ 32
 
-done_below : (masks k : ℕ) (n : Token) → ((i : ℕ) → suc k ≤ i → bit_at masks i ≡ 1 → bit_at n.mask i ≡ 1)
-    → (bit_at masks k ≡ 1 → bit_at n.mask k ≡ 1) → (i : ℕ) → k ≤ i → bit_at masks i ≡ 1 → bit_at n.mask i ≡ 1
-done_below masks k n done here i above one =
-    ⊎_elim
-    (λ same. let at : i ≡ k = same in rw at (here (rw at at one)))
-    (λ other. done i (omega (arith, above, other)) one)
-    (cases_eq i k)
-
-passed : (masks k : ℕ) (n : Token) → bit_at masks k ≡ 0 → IsCut masks (suc k) n → IsCut masks k n
-passed masks k n none c = record {
-  done = done_below masks k n c.done (λ one. absurd (omega (arith, none, one)));
+passed : (old new : List Token) (k : ℕ) (n : Token) → bit_at (masks_at old new n) k ≡ 0 → IsCut old new (suc k) n
+    → IsCut old new k n
+passed old new k n none c = record {
+  done = λ i above one.
+      ⊎_elim
+      (λ same. let at : i ≡ k = same in absurd (let one' : bit_at (masks_at old new n) k ≡ 1 = rw at at one in
+      omega (arith, none, one')))
+      (λ other. c.done i (omega (arith, above, other)) one)
+      (cases_eq i k);
   free = λ i below. c.free i (omega (arith, below));
   masked = c.masked;
   low = c.low;
 }
 
-bits_of_halves : (masks k : ℕ) (n half : Token) → k < 32 → half.mask ≡ bit_or n.mask (2 ^ k) → half.address < 2 ^ 32
-    → IsCut masks (suc k) n → IsCut masks k half
-bits_of_halves masks k n half within is low c = record {
-  done = done_below masks k half
-      (λ i above one. ap (λ m. bit_at m i) is ∙ or_other n.mask k i (λ same. omega (arith, above, same))
-      ∙ c.done i above one)
-      (λ one. ap (λ m. bit_at m k) is ∙ or_same n.mask k);
-  free = λ i below.
-      ap (λ m. bit_at m i) is ∙ or_other n.mask k i (λ same. omega (arith, below, same))
-      ∙ c.free i (omega (arith, below));
-  masked = subst (λ m. m < 0x100000000) (sym is) (or_lt 32 n.mask (2 ^ k) c.masked (below_32 k within));
+-- a network that a part of one meets meets that
+meets_whole : (t n : Token) (k address : ℕ) → HasMask n
+    → ((i : ℕ) → i ≢ k → i < 32 → bit_at address i ≡ bit_at n.address i) → bit_at n.mask k ≡ 0
+    → meets (record { address = address; mask = bit_or n.mask (2 ^ k) }) t ≡ true → meets n t ≡ true
+meets_whole t n k address masked same free met =
+    let at : bit_and t.address (bit_and t.mask (bit_or n.mask (2 ^ k)))
+    ≡ bit_and address (bit_and t.mask (bit_or n.mask (2 ^ k))) = eqb-true _ _ met in
+    eq-eqb _ _ (same_from_bits (bit_and t.address (bit_and t.mask n.mask)) (bit_and n.address (bit_and t.mask n.mask))
+    (λ i.
+    let left = bit_at_and t.address (bit_and t.mask n.mask) i in
+    let right = bit_at_and n.address (bit_and t.mask n.mask) i in
+    let both_masks = bit_at_and t.mask n.mask i in
+    ⊎_elim
+    (λ clear. omega (arith, left, right, both_masks, clear))
+    (λ set.
+    let other : i ≢ k = λ e. (let set' : bit_at n.mask k ≡ 1 = rw e at set in omega (arith, set', free)) in
+    let within : i < 32 = below_mask n i masked set in
+    let bits : bit_at (bit_and t.address (bit_and t.mask (bit_or n.mask (2 ^ k)))) i
+    ≡ bit_at (bit_and address (bit_and t.mask (bit_or n.mask (2 ^ k)))) i = ap (λ x. bit_at x i) at in
+    let l = bit_at_and t.address (bit_and t.mask (bit_or n.mask (2 ^ k))) i in
+    let r = bit_at_and address (bit_and t.mask (bit_or n.mask (2 ^ k))) i in
+    let m = bit_at_and t.mask (bit_or n.mask (2 ^ k)) i in
+    let o = or_other n.mask k i other in
+    let s = same i other within in
+    omega (arith, left, right, both_masks, bits, l, r, m, o, s, set))
+    (bit_is n.mask i)))
+  where
+    below_mask : (n : Token) (i : ℕ) → HasMask n → bit_at n.mask i ≡ 1 → i < 32
+    below_mask n i masked set =
+        ⊎_elim
+        (λ within. within)
+        (λ above. let none = bit_at_above n.mask 32 i masked above in absurd (omega (arith, none, set)))
+        (cases_lt i 32)
+
+-- so no bit is left in a part that is not left in the whole
+fewer : (ns : List Token) (m m' : ℕ) (n half : Token) (i : ℕ)
+    → ((t : Token) → meets half t ≡ true → meets n t ≡ true) → (bit_at m i ≡ 1 → bit_at m' i ≡ 1)
+    → bit_at (masks_of m half ns) i ≡ 1 → bit_at (masks_of m' n ns) i ≡ 1
+fewer [] m m' n half i whole kept one = kept one
+fewer (t ∷ ts) m m' n half i whole kept one =
+    both (meets half t)
+    (λ y.
+    rw (whole t y) (fewer ts (bit_or m t.mask) (bit_or m' t.mask) n half i whole
+    (λ has.
+    let or = bit_at_or m t.mask i in
+    let or' = bit_at_or m' t.mask i in
+    let low' = bit_at-lt t.mask i in
+    let low'' = bit_at-lt m' i in
+    ⊎_elim
+    (λ clear. omega (arith, or, or', low', low'', clear, has))
+    (λ set. let set' = kept set in omega (arith, or', low', set'))
+    (bit_is m i))
+    (rw y at one)))
+    (λ f.
+    let rest : bit_at (masks_of m half ts) i ≡ 1 = rw f at one in
+    both (meets n t)
+    (λ y. rw y (fewer ts m (bit_or m' t.mask) n half i whole
+    (λ has. let has' = kept has in let or' = bit_at_or m' t.mask i in let low' = bit_at-lt t.mask i in
+    omega (arith, has', or', low')) rest))
+    (λ g. rw g (fewer ts m m' n half i whole kept rest)))
+
+cut_half : (old new : List Token) (k address : ℕ) (n : Token) → k < 32
+    → ((i : ℕ) → i ≢ k → i < 32 → bit_at address i ≡ bit_at n.address i) → address < 2 ^ 32
+    → IsCut old new (suc k) n → IsCut old new k (record { address = address; mask = bit_or n.mask (2 ^ k) })
+cut_half old new k address n within same low c = record {
+  done = λ i above one.
+      ⊎_elim
+      (λ at. let is : i ≡ k = at in rw is (or_same n.mask k))
+      (λ other.
+      or_other n.mask k i other
+      ∙ c.done i (omega (arith, above, other))
+      (fewer new (masks_of 0 half old) (masks_of 0 n old) n half i whole (fewer old 0 0 n half i whole (λ h. h)) one))
+      (cases_eq i k);
+  free = λ i below. or_other n.mask k i (λ e. omega (arith, below, e)) ∙ c.free i (omega (arith, below));
+  masked = or_lt 32 n.mask (2 ^ k) c.masked (below_32 k within);
   low = low;
 }
+  where
+    half : Token
+    half = record { address = address; mask = bit_or n.mask (2 ^ k) }
+
+    whole : (t : Token) → meets half t ≡ true → meets n t ≡ true
+    whole t met = meets_whole t n k address c.masked same (c.free k (omega arith)) met
 
 -- At the end a list admits all of a network or nothing.
 settled : (list : List Token) (n : Token) → n.address < 2 ^ 32
@@ -244,35 +327,36 @@ no_bit masks k none =
     absurd (omega (arith, value, none, some)))
     (bit_is masks k)
 
-gains_admit : (old new : List Token) (masks : ℕ) → masks ≡ masks_from (masks_from 0 old) new → (k : ℕ) → k ≤ 32
-    → (n : Token) → IsCut masks k n → (a : ℕ) → a < 2 ^ 32 → Admit old new n a (gains_in old new masks k n)
+gains_admit : (old new : List Token) (k : ℕ) → k ≤ 32 → (n : Token) → IsCut old new k n → (a : ℕ) → a < 2 ^ 32
+    → Admit old new n a (gains_in old new k n)
 unfolding gains_in
-gains_admit old new masks is zero few n c a low =
-    let bits : HasBits (masks_from (masks_from 0 old) new) n = λ i one. c.done i (omega arith) (rw is one) in
-    let bits' : HasBits (masks_from 0 old) n = λ i one. bits i (mask_kept new (masks_from 0 old) i one) in
+gains_admit old new zero few n c a low =
+    let bits : HasBits (masks_at old new n) n = λ i one. c.done i (omega arith) one in
+    let bits' : HasBits (masks_of 0 n old) n = λ i one. bits i (mask_kept new (masks_of 0 n old) n i one) in
     by_parts old new n a [] low (coverage old n) (coverage new n) refl refl (λ part.
     absurd (no_part (coverage old n) (coverage new n)
     (settled old n c.low (λ b e. alike old 0 n b bits' e))
-    (settled new n c.low (λ b e. alike new (masks_from 0 old) n b bits e)) part))
-gains_admit old new masks is (suc k) few n c a low =
+    (settled new n c.low (λ b e. alike new (masks_of 0 n old) n b bits e)) part))
+gains_admit old new (suc k) few n c a low =
     let within : k < 32 = omega (arith, few) in
-    both (bit_and masks (2 ^ k) == 0)
+    both (bit_and (masks_at old new n) (2 ^ k) == 0)
     (λ y.
-    let next = passed masks k n (no_bit masks k (eqb-true _ _ y)) c in
-    rw y (gains_admit old new masks is k (omega (arith, few)) n next a low))
+    let next = passed old new k n (no_bit (masks_at old new n) k (eqb-true _ _ y)) c in
+    rw y (gains_admit old new k (omega (arith, few)) n next a low))
     (λ f.
     let less = and_le_l n.address (bit_not w32 (2 ^ k)) in
-    let first = bits_of_halves masks k n (without (2 ^ k) n) within refl (omega (arith, less, c.low)) c in
-    let second = bits_of_halves masks k n (with (2 ^ k) n) within refl
+    let first = cut_half old new k (bit_and n.address (bit_not w32 (2 ^ k))) n within
+    (λ i other below. clear_other n.address k i within below other) (omega (arith, less, c.low)) c in
+    let second = cut_half old new k (bit_or n.address (2 ^ k)) n within (λ i other below. or_other n.address k i other)
     (or_lt 32 n.address (2 ^ k) c.low (below_32 k within)) c in
     let few' : k ≤ 32 = omega (arith, few) in
     rw f (by_parts old new n a
-    (gains_in old new masks k (without (2 ^ k) n) ++ gains_in old new masks k (with (2 ^ k) n)) low (coverage old n)
+    (gains_in old new k (without (2 ^ k) n) ++ gains_in old new k (with (2 ^ k) n)) low (coverage old n)
     (coverage new n) refl refl (λ part.
-    halves_admit old new n a k (gains_in old new masks k (without (2 ^ k) n))
-    (gains_in old new masks k (with (2 ^ k) n)) within c.masked (c.free k (omega arith))
-    (gains_admit old new masks is k few' (without (2 ^ k) n) first a low)
-    (gains_admit old new masks is k few' (with (2 ^ k) n) second a low))))
+    halves_admit old new n a k (gains_in old new k (without (2 ^ k) n))
+    (gains_in old new k (with (2 ^ k) n)) within c.masked (c.free k (omega arith))
+    (gains_admit old new k few' (without (2 ^ k) n) first a low)
+    (gains_admit old new k few' (with (2 ^ k) n) second a low))))
 
 in_everything : (a : ℕ) → is_in a everything ≡ true
 in_everything a =
@@ -283,14 +367,14 @@ in_everything a =
     omega (arith, one, two, none)))
 
 -- the networks that gain admit an address exactly if the new list does and the old one doesn't
-pub gains_allow : (old new : List Token) → masks_from (masks_from 0 old) new < 2 ^ 32 → (a : ℕ) → a < 2 ^ 32
+pub gains_allow : (old new : List Token) → masks_at old new everything < 2 ^ 32 → (a : ℕ) → a < 2 ^ 32
     → allows (gains old new) a ≡ (allows new a && not (allows old a))
 gains_allow old new low a below =
-    let masks = masks_from (masks_from 0 old) new in
-    let start : IsCut masks 32 everything = record {
-      done = λ i above one. let none = bit_at_above masks 32 i low above in absurd (omega (arith, none, one));
+    let start : IsCut old new 32 everything = record {
+      done = λ i above one. let none = bit_at_above (masks_at old new everything) 32 i low above in
+          absurd (omega (arith, none, one));
       free = λ i within. bit_at-zero i;
       masked = omega arith;
       low = omega arith;
     } in
-    (gains_admit old new masks refl 32 (omega arith) everything start a below).inside (in_everything a)
+    (gains_admit old new 32 (omega arith) everything start a below).inside (in_everything a)

@@ -7,25 +7,25 @@ use Rattle.protocol.proofs.FoundLemmas.{both}
 use Rattle.config_explained.specs.Coverage.{coverage, with, without}
 use Rattle.config_explained.specs.declared.coverage.Coverage.{Coverage}
 use Rattle.config_explained.specs.declared.coverage.Coverage.TheVariants.{Part}
-use Rattle.config_explained.specs.Gains.{by_gain, gain_of, gains_in}
+use Rattle.config_explained.specs.Gains.{by_gain, gain_of, gains_in, masks_at}
 
 -- one that is cut in two
-pub cut_in_two : (old new : List Token) (masks bits : ℕ) (n : Token) → (bit_and masks (2 ^ bits) ≡ 0 → ⊥)
+pub cut_in_two : (old new : List Token) (bits : ℕ) (n : Token) → (bit_and (masks_at old new n) (2 ^ bits) ≡ 0 → ⊥)
     → gain_of (coverage old n) (coverage new n) ≡ Part
-    → gains_in old new masks (suc bits) n
-    ≡ gains_in old new masks bits (without (2 ^ bits) n) ++ gains_in old new masks bits (with (2 ^ bits) n)
+    → gains_in old new (suc bits) n
+    ≡ gains_in old new bits (without (2 ^ bits) n) ++ gains_in old new bits (with (2 ^ bits) n)
 unfolding gains_in
-cut_in_two old new masks bits n one part =
-    both (bit_and masks (2 ^ bits) == 0)
+cut_in_two old new bits n one part =
+    both (bit_and (masks_at old new n) (2 ^ bits) == 0)
     (λ y. absurd (one (eqb-true _ _ y)))
     (λ f. rw (f, part))
 
-pub halves_of : (old new : List Token) (masks bits : ℕ) (n : Token) → 0 < bits
-    → (bit_and masks (2 ^ (bits - 1)) ≡ 0 → ⊥) → gain_of (coverage old n) (coverage new n) ≡ Part
-    → gains_in old new masks bits n
-    ≡ gains_in old new masks (bits - 1) (without (2 ^ (bits - 1)) n)
-    ++ gains_in old new masks (bits - 1) (with (2 ^ (bits - 1)) n)
-halves_of old new masks zero n some one part = absurd (omega (arith, some))
-halves_of old new masks (suc bits) n some one part =
+pub halves_of : (old new : List Token) (bits : ℕ) (n : Token) → 0 < bits
+    → (bit_and (masks_at old new n) (2 ^ (bits - 1)) ≡ 0 → ⊥) → gain_of (coverage old n) (coverage new n) ≡ Part
+    → gains_in old new bits n
+    ≡ gains_in old new (bits - 1) (without (2 ^ (bits - 1)) n)
+    ++ gains_in old new (bits - 1) (with (2 ^ (bits - 1)) n)
+halves_of old new zero n some one part = absurd (omega (arith, some))
+halves_of old new (suc bits) n some one part =
     let same : suc bits - 1 ≡ bits = omega arith in
-    rw same (cut_in_two old new masks bits n (rw same at one) part)
+    rw same (cut_in_two old new bits n (rw same at one) part)

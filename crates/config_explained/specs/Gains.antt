@@ -1,7 +1,7 @@
 -- Which addresses a new list admits that an old one doesn't, as networks.
 use Rattle.std.specs.Prelude.{ℕ, zero, suc, ◌^◌, ◌==◌, if◌then◌else◌, List, [], ◌∷◌, ◌++◌, bit_and, bit_or}
 use Rattle.protocol.specs.Access.{Token}
-use Rattle.config_explained.specs.Coverage.{coverage, with, without}
+use Rattle.config_explained.specs.Coverage.{coverage, meets, with, without}
 use Rattle.config_explained.specs.declared.coverage.Coverage.{Coverage}
 use Rattle.config_explained.specs.declared.coverage.Coverage.TheVariants.{Whole, Part, Nothing}
 
@@ -25,20 +25,24 @@ by_gain Nothing n halves = []
 by_gain Whole n halves = n ∷ []
 by_gain Part n halves = halves
 
--- The networks that gain in one, as large as they can be. One of which only a part gains is cut in two at the highest
--- bit that a mask of the lists has; `bits` is how many bits there are to be cut at.
-unfoldable pub gains_in : (old new : List Token) → (masks bits : ℕ) → Token → List Token
-gains_in old new masks zero n = by_gain (gain_of (coverage old n) (coverage new n)) n []
-gains_in old new masks (suc bits) n =
-    if bit_and masks (2 ^ bits) == 0 then gains_in old new masks bits n
-    else by_gain (gain_of (coverage old n) (coverage new n)) n
-    (gains_in old new masks bits (without (2 ^ bits) n) ++ gains_in old new masks bits (with (2 ^ bits) n))
+-- the bits that a mask has, or that of one of some networks which meet another one
+abbrev pub masks_of : ℕ → Token → List Token → ℕ
+masks_of masks n [] = masks
+masks_of masks n (t ∷ ts) = masks_of (if meets n t then bit_or masks t.mask else masks) n ts
 
--- the bits that a mask or one of some networks has
-abbrev pub masks_from : ℕ → List Token → ℕ
-masks_from masks [] = masks
-masks_from masks (n ∷ ns) = masks_from (bit_or masks n.mask) ns
+-- the same of two lists
+abbrev pub masks_at : (old new : List Token) → Token → ℕ
+masks_at old new n = masks_of (masks_of 0 n old) n new
+
+-- The networks that gain in one, as large as they can be. One of which only a part gains is cut in two at the highest
+-- bit that a mask of a network there has; `bits` is how many bits there are to be cut at.
+unfoldable pub gains_in : (old new : List Token) → (bits : ℕ) → Token → List Token
+gains_in old new zero n = by_gain (gain_of (coverage old n) (coverage new n)) n []
+gains_in old new (suc bits) n =
+    if bit_and (masks_at old new n) (2 ^ bits) == 0 then gains_in old new bits n
+    else by_gain (gain_of (coverage old n) (coverage new n)) n
+    (gains_in old new bits (without (2 ^ bits) n) ++ gains_in old new bits (with (2 ^ bits) n))
 
 -- the networks that gain by a new list
 abbrev pub gains : (old new : List Token) → List Token
-gains old new = gains_in old new (masks_from (masks_from 0 old) new) 32 everything
+gains old new = gains_in old new 32 everything

@@ -26,7 +26,7 @@ impl Network {
     }
 
     /// Whether it has an address that another network has.
-    fn meets(self, other: Network) -> bool
+    pub(crate) fn meets(self, other: Network) -> bool
         ensures { result ≡ meets other self }
     {
         let both = self.mask & other.mask;

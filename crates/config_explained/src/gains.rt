@@ -2,27 +2,28 @@
 ghost use Rattle.std.specs.Prelude.{◌≡◌, ℕ, ◌<◌, ◌≤◌, ◌^◌, ◌++◌, ◌&&◌, [], IfOk, OnOk, not};
 ghost use Rattle.protocol.specs.Access.{allows};
 ghost use Rattle.config_explained.specs.Coverage.{coverage};
-ghost use Rattle.config_explained.specs.Gains.{by_gain, gain_of, gains, gains_in, masks_from};
+ghost use Rattle.config_explained.specs.Gains.{by_gain, gain_of, gains, gains_in, masks_at, masks_of};
 
 use crate::coverage::{Coverage, coverage_of};
 use crate::network::Network;
 use std::alloc::{AllocError, Global};
 
-/// Two lists that are compared, and the bits that a mask of them has.
+/// Two lists that are compared.
 #[derive(Clone, Copy)]
 struct Lists<'a> {
     old: &'a [Network],
     new: &'a [Network],
-    masks: u32,
 }
 
-/// The bits that a mask or one of some networks has.
-fn masks_from(masks: u32, networks: &[Network]) -> u32
-    ensures { result ≡ masks_from masks networks.now }
+/// The bits that a mask has, or that of one of some networks which meet another one.
+fn masks_of(masks: u32, network: Network, others: &[Network]) -> u32
+    ensures { result ≡ masks_of masks network others.now }
 {
     let mut all = masks;
-    for network in networks {
-        all |= network.mask;
+    for other in others {
+        if other.meets(network) {
+            all |= other.mask;
+        }
     }
     all
 }
@@ -39,6 +40,13 @@ fn gain_of(old: Coverage, new: Coverage) -> Coverage
 }
 
 impl Lists<'_> {
+    /// The bits that a mask of a network of them has which meets another one.
+    fn masks_at(&self, network: Network) -> u32
+        ensures { result ≡ masks_at self.now.old.now self.now.new.now network }
+    {
+        masks_of(masks_of(0, network, self.old), network, self.new)
+    }
+
     /// How much of a network gains.
     fn gain_of(&self, network: Network) -> Coverage
         ensures { result ≡ gain_of (coverage self.now.old.now network) (coverage self.now.new.now network) }
@@ -73,13 +81,14 @@ impl Lists<'_> {
     ) -> Result<(), AllocError>
         requires { bits ≤ 32 }
         ensures { OnOk result (gains.new.items ≡ gains.old.items
-            ++ gains_in self.now.old.now self.now.new.now self.now.masks bits network) }
+            ++ gains_in self.now.old.now self.now.new.now bits network) }
     {
         if bits == 0 {
             return self.put_whole(gains, network);
         }
         let bit = 1 << (bits - 1);
-        if self.masks & bit == 0 {
+        let masks = self.masks_at(network);
+        if masks & bit == 0 {
             return self.put_gains(gains, bits - 1, network);
         }
         match self.gain_of(network) {
@@ -98,7 +107,7 @@ impl Lists<'_> {
 
 /// The networks of the addresses that a new list admits and an old one doesn't, in the order of their addresses, each as
 /// large as it can be. Only memory can lack. It takes few steps for networks whose masks have their ones on the left; for
-/// others up to one for each pattern of the bits that some mask has.
+/// others up to one for each pattern of the bits that a mask has which is not so.
 pub(crate) fn gains(
     alloc: Global,
     old: &[Network],
@@ -108,13 +117,13 @@ pub(crate) fn gains(
     ensures words { IfOk result (λ networks. (a : ℕ) → a < 2 ^ 32
         → allows networks.items a ≡ (allows new.now a && not (allows old.now a))) }
 {
-    let masks = masks_from(masks_from(0, old), new);
-    let lists = Lists { old, new, masks };
+    let lists = Lists { old, new };
     let mut gains = Vec::new(alloc);
     let everything = Network {
         address: 0,
         mask: 0,
     };
+    let _masks = lists.masks_at(everything);
     lists.put_gains(&mut gains, 32, everything)?;
     Ok(gains)
 }
