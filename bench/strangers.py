@@ -9,7 +9,7 @@ silence between two packets of a reader, in milliseconds. Each packet is checked
 in memory, which answers come, and when dead feeds are noticed. Server, strangers and readers each have a processor of their own.
 
 Everything is on loopback, limited in number and time, but for the row `dead`, which makes two network namespaces of its own. With
-names of rows only these are played: calm crowd babble100 babble1000 scan1 scan50 stuck halfclose hoard followers dead.
+names of rows only these are played: calm crowd babble100 babble1000 scan1 scan50 stuck halfclose hoard followers status dead.
 """
 
 import os
@@ -22,7 +22,7 @@ import sys
 import time
 
 import load
-from programs import HERE, RunningProgram, build, config_file, raise_descriptor_limit, serve_words
+from programs import HERE, RunningProgram, build, config_file, free_ports, raise_descriptor_limit, serve_words
 
 SECONDS = 8
 RATE = 200
@@ -35,13 +35,13 @@ SERVER, STRANGER, WATCH = (PROCESSORS[it % len(PROCESSORS)] for it in range(3))
 GREETING = b"SeedLink v3.0 (station access)\r\n"
 
 
-def config_text(stations):
-    """A station for the readers, one that gets no record, and so many that hold all they can."""
+def config_text(stations, most=HELD):
+    """A station for the readers, one that gets no record, and so many that hold all they can, or fewer records."""
     head = f'title = "Strangers"\nmax_connections = {PLACES}\n'
     codes = ["WLF", "NONE", *(f"S{it:02d}" for it in range(stations))]
     held = {"NONE": 1}
     stanza = '\n[[station]]\nnetwork = "GE"\ncode = "{}"\ndescription = "Station"\ncapacity = {}\n'
-    return head + "".join(stanza.format(it, held.get(it, HELD)) for it in codes)
+    return head + "".join(stanza.format(it, held.get(it, most if it.startswith("S") else HELD)) for it in codes)
 
 
 def record_of(code, number):
@@ -242,7 +242,61 @@ def play_dead(listen, feed):
     time.sleep(300)
 
 
-PLAYS = {"crowd": play_crowd, "babble": play_babble, "scan": play_scan, "hoard": play_hoard, "dead": play_dead}
+QUESTION = b"GET /metrics HTTP/1.1\r\nHost: here\r\n\r\n"
+KINDS = [QUESTION] * 7 + [b"GET /met", b"\x16\x03\x01" * 2_000, b"GET / HTTP/1.1\r\n" + b"X: y\r\n" * 2_000]
+
+
+class Askers:
+    """Connections to a status port, each of which asks once and takes what it is answered, but for every tenth."""
+
+    def __init__(self, port):
+        self.port, self.poll, self.open = port, select.epoll(), {}
+
+    def come(self, number):
+        client = socket.socket(socket.AF_INET, socket.SOCK_STREAM | socket.SOCK_NONBLOCK)
+        client.bind((f"127.0.{number // 200 % 200}.{number % 200 + 2}", 0))
+        client.connect_ex(("127.0.0.1", self.port))
+        self.open[client.fileno()] = (client, KINDS[number % len(KINDS)], number % 10 == 0, time.monotonic())
+        self.poll.register(client.fileno(), select.EPOLLOUT)
+
+    def go(self, descriptor):
+        self.poll.unregister(descriptor)
+        self.open.pop(descriptor)[0].close()
+
+    def tend(self):
+        """Goes on with those that may."""
+        for descriptor, event in self.poll.poll(0):
+            client, question, is_deaf, _ = self.open[descriptor]
+            try:
+                if event & select.EPOLLOUT:
+                    client.send(question)
+                    self.poll.modify(descriptor, 0 if is_deaf else select.EPOLLIN)
+                elif not event & select.EPOLLIN or not client.recv(1 << 20):
+                    self.go(descriptor)
+            except BlockingIOError:
+                pass
+            except OSError:
+                self.go(descriptor)
+        late = time.monotonic() - 6
+        for descriptor in [it for it, (_, _, _, since) in self.open.items() if since < late]:
+            self.go(descriptor)
+
+
+def play_status(listen, feed, port):
+    """A thousand requests a second for the metrics, of which three in ten are none, and one in ten is never taken."""
+    askers = Askers(int(port))
+    begun()
+    begin = time.monotonic()
+    number = 0
+    while time.monotonic() - begin < 60:
+        while number < (time.monotonic() - begin) * 1_000:
+            askers.come(number)
+            number += 1
+        askers.tend()
+        time.sleep(0.001)
+
+
+PLAYS = {"status": play_status, "crowd": play_crowd, "babble": play_babble, "scan": play_scan, "hoard": play_hoard, "dead": play_dead}
 
 # The rows.
 
@@ -392,6 +446,27 @@ def followers():
     return with_config(0, play)
 
 
+def metrics_lines(port):
+    """How many lines the metrics have."""
+    client = load.dial(port)
+    client.sendall(QUESTION)
+    came = b""
+    while piece := client.recv(1 << 20):
+        came += piece
+    client.close()
+    return came.count(b"\n")
+
+
+def status():
+    """A thousand requests a second at the status port of a server with 1,024 stations."""
+    with config_file(config_text(1_022, 1)) as config:
+        port = free_ports()[0]
+        with serving(config, "--status", f"127.0.0.1:{port}") as server:
+            is_well = watched("1,000 requests a second for the metrics of 1,024 stations", server, CALM, "status", port)
+            time.sleep(6)
+            return is_well and told("of the lines of 3 metrics of 1,024 stations: missing after them", (max(0, 3 * 1_024 - metrics_lines(port)),), (0,))
+
+
 def run(*words):
     subprocess.run(words, check=True)
 
@@ -450,6 +525,7 @@ ROWS = {
     "halfclose": half_close,
     "hoard": hoard,
     "followers": followers,
+    "status": status,
     "dead": dead,
 }
 
