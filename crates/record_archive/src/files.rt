@@ -1,7 +1,8 @@
 //! Files of records that are known by names.
 //!
-//! A path is looked at before each record. It costs a call of the system a record. Once a second would leave what comes
-//! in between in a file that is gone, while the state counts it.
+//! A path is looked at before the first record of each piece that is read from a server, of at most 126 packets, which
+//! costs a call of the system a piece. Once a second would leave what comes in between in a file that is gone, while
+//! the state counts it.
 ghost use Rattle.std.specs.Prelude.{◌≡◌, ◌<◌, ℕ, List, length, IfOk, OnErr, OnOk};
 ghost use Rattle.std.specs.declared.option.Option.{Option};
 ghost use Rattle.record_archive.specs.Files.{Tells, TellsSame, AddsTo, MakesSafe};
