@@ -31,8 +31,8 @@ pub static STYLE: &[u8] =
     .silent td{background:var(--alarm)}.silent .age::before{content:'silent, ';font-weight:600}\
     .who{white-space:normal;min-width:7rem;max-width:18rem;overflow-wrap:anywhere}\
     svg{display:block;width:120px;height:24px;fill:var(--bar)}small{display:block;color:var(--dim)}\
-    @media(max-width:640px){body{padding:.6rem;font-size:14px}.minor{display:none}svg{width:72px}\
-    th,td{padding:.3rem .4rem}small{white-space:normal}}";
+    @media(max-width:640px){body{padding:.6rem;font-size:13px}.minor{display:none}svg{width:56px}\
+    th,td{padding:.3rem .25rem}th,small{white-space:normal}}";
 
 /// The head of the page, and its title.
 #[tactic(auto, unfolding(crate::specs::Pages::page_title))]
