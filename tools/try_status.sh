@@ -5,7 +5,8 @@
 #
 #     tools/try_status.sh [FOLDER]
 #
-# With a folder it leaves pictures there, of 360 and 1,400 pixels, light and dark. docs/status.png is the light one of 1,400.
+# With a folder it leaves pictures there, of 360 and 1,400 pixels, light and dark. docs/status.png is one of 1,100, of a server that
+# had run for half an hour.
 # Wants curl, python3, promtool and prometheus (Debian's prometheus), and chromium. With SEEDLINKD=PATH in the environment that
 # program is tried, and else one that is built first.
 set -u
