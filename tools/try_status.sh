@@ -7,7 +7,7 @@
 #
 # With a folder it leaves pictures there, of 360 and 1,400 pixels, light and dark. docs/status.png is one of 1,100, of a server that
 # had run for half an hour.
-# Wants curl, python3, promtool and prometheus (Debian's prometheus), and chromium. With SEEDLINKD=PATH in the environment that
+# Wants curl, python3, promtool and prometheus (Debian's prometheus), and chromium. With PROGRAM=PATH in the environment that
 # program is tried, and else one that is built first.
 set -u
 top=$(cd "$(dirname "$(readlink -f "$0")")/.." && pwd)
@@ -27,8 +27,8 @@ fail() {
 for it in curl python3 promtool prometheus chromium; do
     command -v "$it" >/dev/null || fail "$it is missing"
 done
-program=${SEEDLINKD:-$top/crates/seedlinkd/out/seedlinkd}
-[ -n "${SEEDLINKD:-}" ] || "$top/seedlinkd" --build || exit 3
+program=${PROGRAM:-$top/crates/seedlinkd/out/seedlinkd}
+[ -n "${PROGRAM-}" ] || "$top/seedlinkd" --build || exit 3
 "$program" --version || exit 3
 records=$top/examples/records/records.mseed
 
