@@ -1,5 +1,6 @@
 #!/usr/bin/env python3
-"""Compares the pages with the tree: links and their anchors, what each crate stands on, counts, and the lengths of pages.
+"""Compares the pages with the tree: links and their anchors, what each crate stands on, counts, and the lengths of pages; and
+looks whether each edit that has to be refused can be made at all.
 
 usage: tools/try_pages.py
 
@@ -93,6 +94,18 @@ def check_counts():
         found.append(f"the gate has {edits} edits, of at most {MOST_EDITS}")
 
 
+def check_edits():
+    """Each edit names a file of its crate, and texts that stand there once."""
+    for edit in sorted(glob.glob("crates/*/must-fail/*.edit") + glob.glob("attack/*/*.edit")):
+        crate, path = edit.split("/")[1], None
+        for line in text_of(edit).splitlines():
+            word, _, rest = line.partition(": ")
+            if word == "file":
+                path = f"crates/{crate}/{rest.strip()}"
+            elif word == "old" and (not os.path.exists(path) or text_of(path).count(rest) != 1):
+                found.append(f"{edit}: {path} has not once {rest.strip()}")
+
+
 def main():
     os.chdir(TOP)
     all_crates = crates()
@@ -106,6 +119,7 @@ def main():
             found.append(f"{page}: {lines} lines, of at most {most}")
     check_layers(all_crates)
     check_counts()
+    check_edits()
     print("\n".join(sorted(set(found))) or "the pages agree with the tree")
     return 1 if found else 0
 
