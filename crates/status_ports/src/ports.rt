@@ -11,6 +11,9 @@ use std::net::{Net, Shutdown, SocketAddr, SocketAddrV4};
 /// How many connections there are at a time.
 const CONNECTIONS: usize = 8;
 
+/// How many connections are taken at one look, with those that are closed at once.
+const AT_ONCE: usize = 64;
+
 /// How many bytes a read asks for.
 const READ: usize = 1_024;
 
@@ -194,25 +197,33 @@ impl StatusPorts {
         Ok(self.listener.local_addr()?.port())
     }
 
-    /// Takes a connection if one waits and there is room. One that may not ask is closed with no byte.
-    fn accept(&mut self, now: u64) {
-        let Some(place) = free_place(self.slots.as_slice()) else {
-            return;
-        };
+    /// Takes a connection if one waits, and tells whether one did. One that may not ask is closed with no byte, and so is
+    /// one for which there is no room: else those that gave up would stand before all who come later.
+    fn accept(&mut self, now: u64) -> bool {
         let Ok((stream, from)) = self.listener.accept() else {
-            return;
+            return false;
         };
-        if let SocketAddr::V4(from) = from {
+        if let (SocketAddr::V4(from), Some(place)) = (from, free_place(self.slots.as_slice())) {
             if may_ask(&self.list, *from.ip()) && place < self.slots.len() {
                 self.slots[place].begin(stream, now);
             }
         }
+        true
     }
 
-    /// Looks once at each connection, and takes one more if one waits. Answers a request that is to be answered, if
+    /// Takes the connections that wait, so many at most.
+    fn accept_waiting(&mut self, now: u64) {
+        for _ in 0..AT_ONCE {
+            if !self.accept(now) {
+                return;
+            }
+        }
+    }
+
+    /// Looks once at each connection, and takes those that wait. Answers a request that is to be answered, if
     /// there is one. It never waits.
     pub fn look(&mut self, now: u64) -> Option<Asked> {
-        self.accept(now);
+        self.accept_waiting(now);
         for slot in self.slots.iter_mut() {
             slot.step(now);
         }
