@@ -271,16 +271,22 @@ took=$(($(now) - begun)) look=$(($(now) - looked))
 [ $took -le $(((silent + 1) * 1000 + 2 * look)) ] || fail "XX APE turned red after $took ms, with looks of $look ms"
 echo "a station turns red $took ms after its feeder stopped, with --silent $silent and looks of $look ms"
 
-# Eight connections that say nothing keep nobody out for longer than five seconds.
+# Eight connections that say nothing keep nobody out for longer than five seconds: one more is closed, and asks again.
 python3 - "$status" <<'SLOW' || fail "slow connections keep the port"
-import socket, sys, time, urllib.request, urllib.error
+import socket, sys, time, urllib.error, urllib.request
 port = int(sys.argv[1])
 slow = [socket.create_connection(("127.0.0.1", port)) for _ in range(8)]
 begun = time.time()
-try:
-    urllib.request.urlopen(f"http://127.0.0.1:{port}/metrics", timeout=8).read()
-except urllib.error.HTTPError:
-    pass
+while time.time() - begun < 8:
+    try:
+        urllib.request.urlopen(f"http://127.0.0.1:{port}/metrics", timeout=8).read()
+        break
+    except urllib.error.HTTPError:
+        break
+    except OSError:
+        time.sleep(0.1)
+else:
+    raise SystemExit("nobody is answered")
 print(f"after eight slow connections: {time.time() - begun:.1f} s")
 SLOW
 # Who may not ask is closed with no byte.
