@@ -446,16 +446,29 @@ def followers():
     return with_config(0, play)
 
 
-def metrics_lines(port):
-    """How many lines the metrics have. Those who asked before and are gone stand before this one: a hundred of them go a second."""
-    client = load.dial(port)
-    client.settimeout(90)
-    client.sendall(QUESTION)
+def metrics(port):
+    """What is answered at the status port; nothing if it is full."""
     came = b""
-    while piece := client.recv(1 << 20):
-        came += piece
-    client.close()
-    return came.count(b"\n")
+    try:
+        client = load.dial(port)
+        client.sendall(QUESTION)
+        while piece := client.recv(1 << 20):
+            came += piece
+        client.close()
+    except OSError:
+        return b""
+    return came
+
+
+def metrics_lines(port):
+    """How many lines the metrics have. Those who take nothing may hold the port for five seconds more, so it is asked again."""
+    begin = time.monotonic()
+    while time.monotonic() - begin < 10:
+        came = metrics(port)
+        if came:
+            return came.count(b"\n")
+        time.sleep(0.2)
+    return 0
 
 
 def status():
