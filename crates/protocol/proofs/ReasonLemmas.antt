@@ -2,27 +2,14 @@
 use Rattle.std.proofs.Common.{◌≡◌, ℕ, ◌==◌, List, [], ◌∷◌, refl, ap, sym, ◌∙◌}
 use Rattle.std.specs.Prelude.{Option, Some, find}
 use Rattle.std.specs.Str.{bytes_eq}
-use Rattle.protocol.specs.Reason.{number_of, name_of}
+use Rattle.protocol.specs.Reason.{number_of, name_of, reasons, reason_by}
 use Rattle.protocol.specs.declared.reason.Reason.{Reason}
 use Rattle.protocol.specs.declared.reason.Reason.TheVariants as reason
 
--- all of them
-abbrev all : List Reason
-all =
-    reason.Sequence ∷ reason.Quality ∷ reason.Time ∷ reason.Blockettes ∷ reason.No1000 ∷ reason.Length ∷
-    reason.Field ∷ reason.NotAPacket ∷ reason.Address ∷ reason.Mask ∷ reason.Toml ∷ reason.Missing ∷ reason.Limit ∷
-    reason.Duplicate ∷ reason.Access ∷ reason.OutOfMemory ∷ reason.Gone ∷ reason.NoRoom ∷ reason.UnknownStation ∷
-    reason.Exhausted ∷ reason.Different ∷ reason.Poll ∷ reason.Partial ∷ reason.Read ∷ reason.Write ∷ reason.File ∷
-    reason.Script ∷ reason.Listen ∷ reason.Connect ∷ reason.Device ∷ reason.Numbers ∷ reason.Refused ∷
-    reason.AllRefused ∷ reason.BadReply ∷ reason.State ∷ reason.Shape ∷ reason.Range ∷ reason.Full ∷ []
-
-abbrev by_number : ℕ → Option Reason
-by_number n = find (λ r. number_of r == n) all
-
 abbrev by_name : List ℕ → Option Reason
-by_name name = find (λ r. bytes_eq (name_of r) name) all
+by_name name = find (λ r. bytes_eq (name_of r) name) reasons
 
-number_found : (r : Reason) → by_number (number_of r) ≡ Some r
+pub number_found : (r : Reason) → reason_by (number_of r) ≡ Some r
 number_found reason.Sequence = refl
 number_found reason.Quality = refl
 number_found reason.Time = refl
@@ -106,7 +93,7 @@ unsome : (r s : Reason) → Some r ≡ Some s → r ≡ s
 unsome r s e = cc
 
 pub one_number : (r s : Reason) → number_of r ≡ number_of s → r ≡ s
-one_number r s e = unsome r s (sym (number_found r) ∙ ap by_number e ∙ number_found s)
+one_number r s e = unsome r s (sym (number_found r) ∙ ap reason_by e ∙ number_found s)
 
 pub one_name : (r s : Reason) → name_of r ≡ name_of s → r ≡ s
 one_name r s e = unsome r s (sym (name_found r) ∙ ap by_name e ∙ name_found s)

@@ -1,5 +1,5 @@
 -- Why something is refused: the numbers and names by which the program tells it.
-use Rattle.std.specs.Prelude.{ℕ, List, codes, Bool, true, false}
+use Rattle.std.specs.Prelude.{ℕ, List, [], ◌∷◌, Option, find, ◌==◌, codes, Bool, true, false}
 use Rattle.protocol.specs.declared.reason.Reason.{Reason}
 use Rattle.protocol.specs.declared.reason.Reason.TheVariants as reason
 
@@ -94,3 +94,17 @@ is_memory _ = false
 abbrev pub is_output : Reason → Bool
 is_output reason.Write = true
 is_output _ = false
+
+-- all reasons, in the order of their numbers
+abbrev pub reasons : List Reason
+reasons =
+    reason.Sequence ∷ reason.Quality ∷ reason.Time ∷ reason.Blockettes ∷ reason.No1000 ∷ reason.Length ∷
+    reason.Field ∷ reason.NotAPacket ∷ reason.Address ∷ reason.Mask ∷ reason.Toml ∷ reason.Missing ∷ reason.Limit ∷
+    reason.Duplicate ∷ reason.Access ∷ reason.OutOfMemory ∷ reason.Gone ∷ reason.NoRoom ∷ reason.UnknownStation ∷
+    reason.Exhausted ∷ reason.Different ∷ reason.Poll ∷ reason.Partial ∷ reason.Read ∷ reason.Write ∷ reason.File ∷
+    reason.Script ∷ reason.Listen ∷ reason.Connect ∷ reason.Device ∷ reason.Numbers ∷ reason.Refused ∷
+    reason.AllRefused ∷ reason.BadReply ∷ reason.State ∷ reason.Shape ∷ reason.Range ∷ reason.Full ∷ []
+
+-- the reason with that number, if there is one
+abbrev pub reason_by : ℕ → Option Reason
+reason_by number = find (λ r. number_of r == number) reasons

@@ -8,7 +8,7 @@ ghost use Rattle.std.specs.Prelude.{Bool, true, false, List, [], ◌∷◌, map,
 ghost use Rattle.std.specs.List.{list_any, concat};
 ghost use Rattle.protocol.specs.declared.record.RecordFault.{RecordFault};
 ghost use Rattle.protocol.specs.declared.reason.Reason.{Reason};
-ghost use Rattle.protocol.specs.Reason.{number_of as reason_number, name_of as reason_name};
+ghost use Rattle.protocol.specs.Reason.{number_of as reason_number, name_of as reason_name, reason_by};
 ghost use Rattle.protocol.specs.Time.{days_before, is_leap, days_of_year_before};
 ghost use Rattle.protocol.specs.Record.{Facts, header_of};
 ghost use Rattle.protocol.specs.Reading.{Not, HasFacts, IsTrueOf, IsFirstFault};
@@ -75,10 +75,12 @@ pub fn calendar()
     ensures months { (y : ℕ) → days_of_year_before y 13 ≡ (if is_leap y then 366 else 365) }
 {}
 
-/// No two reasons to refuse something have the same number, and none the same name.
+/// No two reasons to refuse something have the same number, and none the same name; each is found among all of them by
+/// its number.
 pub fn reasons_told()
     ensures numbers { (r s : Reason) → reason_number r ≡ reason_number s → r ≡ s }
     ensures names { (r s : Reason) → reason_name r ≡ reason_name s → r ≡ s }
+    ensures found { (r : Reason) → reason_by (reason_number r) ≡ Some r }
 {}
 
 // ---- What stands on the wire

@@ -1,6 +1,6 @@
 //! Why something is refused: the one table of the numbers, names and sentences by which the program tells it.
 ghost use Rattle.std.specs.Prelude.{◌≡◌, false, true};
-ghost use Rattle.protocol.specs.Reason.{name_of, number_of, is_memory, is_output};
+ghost use Rattle.protocol.specs.Reason.{name_of, number_of, is_memory, is_output, reasons};
 
 /// Why something is refused, by a row of the table of `docs/PROFILE.md`: the same reason for the same cause, wherever
 /// it comes up.
@@ -46,6 +46,48 @@ pub enum Reason {
     Full,
 }
 
+/// All of them, in the order of their numbers.
+static REASONS: [Reason; 38] = [
+    Reason::Sequence,
+    Reason::Quality,
+    Reason::Time,
+    Reason::Blockettes,
+    Reason::No1000,
+    Reason::Length,
+    Reason::Field,
+    Reason::NotAPacket,
+    Reason::Address,
+    Reason::Mask,
+    Reason::Toml,
+    Reason::Missing,
+    Reason::Limit,
+    Reason::Duplicate,
+    Reason::Access,
+    Reason::OutOfMemory,
+    Reason::Gone,
+    Reason::NoRoom,
+    Reason::UnknownStation,
+    Reason::Exhausted,
+    Reason::Different,
+    Reason::Poll,
+    Reason::Partial,
+    Reason::Read,
+    Reason::Write,
+    Reason::File,
+    Reason::Script,
+    Reason::Listen,
+    Reason::Connect,
+    Reason::Device,
+    Reason::Numbers,
+    Reason::Refused,
+    Reason::AllRefused,
+    Reason::BadReply,
+    Reason::State,
+    Reason::Shape,
+    Reason::Range,
+    Reason::Full,
+];
+
 /// A row of the table.
 #[derive(Clone, Copy, Drop)]
 struct Row {
@@ -67,6 +109,13 @@ fn row_of(number: u8, name: &'static str, cause: &'static str) -> Row
 }
 
 impl Reason {
+    /// All of them, 38, in the order of their numbers.
+    pub fn all() -> &'static [Reason]
+        ensures { result.now ≡ reasons }
+    {
+        &REASONS
+    }
+
     /// Its row of the table.
     fn row(self) -> Row
         ensures number { result.number ≡ number_of self }
