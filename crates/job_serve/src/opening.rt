@@ -1,5 +1,5 @@
 //! What a server has before it listens: where it is to, whom it takes, and what its files say.
-ghost use Rattle.std.specs.Prelude.{◌≡◌, IfOk};
+ghost use Rattle.std.specs.Prelude.{◌≡◌, IfOk, is_some};
 ghost use Rattle.job_serve.specs.Admitting.{FeedsFrom};
 
 use crate::admitting::admission_of;
@@ -60,11 +60,13 @@ pub struct ServedFiles<'a> {
 }
 
 /// Reads the files that the words name. The keys of the configuration that are not known are named. A configuration
-/// that is to be read again has to be a plain file.
+/// that is to be read again has to be a plain file. Where the words name a file of numbers, they are kept there.
 pub fn served_by<'a, R: Files<File = File> + Eprint + AllocGlobal>(
     rt: &R,
     options: &ServeOptions<'a>,
-) -> Result<Served<'a>, Incident<'a>> {
+) -> Result<Served<'a>, Incident<'a>>
+    ensures { IfOk result (λ served. is_some served.files.numbers ≡ is_some options.now.numbers) }
+{
     if options.reread.is_some() {
         plain_at(rt, options.config)?;
     }
