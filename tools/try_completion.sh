@@ -28,6 +28,8 @@ files="island.toml records.mseed"
 offers "serve" ser
 offers "check" c
 offers "--version" --vers
+offers "faults" --help ""
+offers "" check --help ""
 offers "$files" serve ""
 offers "island.toml" serve i
 offers "--report --reread" serve island.toml --re

@@ -76,7 +76,7 @@ def synopsis(tables):
     for command, arguments in tables:
         yield from (".Nm", ".Op Fl v", f".Cm {command}")
         yield from (argument.page_line() for argument in arguments)
-    yield from (".Nm", ".Fl -help | -version")
+    yield from (".Nm", ".Fl -help Op Cm faults", ".Nm", ".Fl -version")
 
 
 def usage(command, arguments):
@@ -100,7 +100,7 @@ def usages(tables):
     yield ""
     for command, arguments in tables:
         yield from usage_lines(command, arguments)
-    yield from ("    seedlinkd --help | --version", "")
+    yield from ("    seedlinkd --help [faults] | --version", "")
 
 
 def put(text, name, lines):

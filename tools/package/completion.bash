@@ -32,6 +32,11 @@ _seedlinkd() {
         fi
     done
     COMPREPLY=()
+    # What --help has a page of, beside the commands, as its last lines say.
+    if [[ ${COMP_WORDS[COMP_CWORD - 1]} == @(--help|-h) ]]; then
+        [ "$COMP_CWORD" = 2 ] && mapfile -t COMPREPLY < <(compgen -W faults -- "$current")
+        return
+    fi
     help=$("$program" ${command:+"$command"} --help 2>/dev/null) || return
     if [ -z "$command" ]; then
         local commands

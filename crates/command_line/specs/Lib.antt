@@ -1,3 +1,4 @@
 pub mod Building
 pub mod Commands
+pub mod Faults
 pub mod Jobs

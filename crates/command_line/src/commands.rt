@@ -14,6 +14,9 @@ use std::alloc::{AllocError, Global};
 /// function was proved before the program was built.
 pub const VERSION: &str = "0.1.0 (each function proved, logic dac8208d650f15bf)";
 
+/// What the help of the whole program ends with.
+const MORE_HELP: &str = "`seedlinkd --help faults` lists the faults by their numbers";
+
 /// A command that is being built, unless memory ran out on the way.
 type Built<'a> = Result<Command<'a>, AllocError>;
 
@@ -23,10 +26,7 @@ fn with_argument<'a>(command: Built<'a>, argument: Arg<'a>) -> Built<'a>
     requires { argument.global ≡ false }
     ensures { (app : App) → Builds command.entry app → Builds result (with_rule app (rule_of argument.entry)) }
 {
-    match command {
-        Ok(command) => command.arg(argument),
-        Err(error) => Err(error),
-    }
+    command?.arg(argument)
 }
 
 /// A command with the flag `-v` or `--verbose`.
@@ -156,6 +156,7 @@ fn bare<'a>(alloc: Global) -> Built<'a>
 {
     let bare = Command::new(alloc, "seedlinkd")
         .about("A SeedLink 3 server whose stations are open to stated addresses only")
+        .after_help(MORE_HELP)
         .version(VERSION)
         .subcommand_required(true);
     Ok(bare)

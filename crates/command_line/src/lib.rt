@@ -3,6 +3,7 @@
 
 mod argument;
 mod commands;
+mod faults;
 mod job;
 mod mistakes;
 mod tables;

@@ -13,6 +13,7 @@ ghost use Rattle.command_line.specs.Jobs.{status_asked, verbose_by, verbose_in, 
 ghost use Rattle.command_line.specs.declared.job.WordsFault.TheVariants.{OutOfMemory};
 
 use crate::commands::program;
+use crate::faults::{asks_for_faults, faults_text};
 use crate::job::{
     CheckOptions, Every, FeedOptions, Job, ReadOptions, Request, ServeOptions, ViewOptions,
     WordsFault,
@@ -386,8 +387,19 @@ fn is_shown(kind: ErrorKind) -> bool
     matches!(kind, ErrorKind::DisplayHelp | ErrorKind::DisplayVersion)
 }
 
+/// The text for the user of words that `clap` refuses: the table of faults if that is asked for, else what `clap` says.
+fn refusal_text(alloc: Global, error: clap::Error, words: &[String]) -> Result<String, AllocError> {
+    if is_shown(error.kind()) && asks_for_faults(words) {
+        return faults_text(alloc);
+    }
+    match error.to_string(alloc) {
+        Ok(text) => Ok(text),
+        Err(_) => Err(AllocError),
+    }
+}
+
 /// What the user is told of words that `clap` refuses.
-fn refused(alloc: Global, error: clap::Error) -> WordsFault
+fn refused(alloc: Global, error: clap::Error, words: &[String]) -> WordsFault
     ensures memory { kind_of error ≡ ErrorKind.OutOfMemory → result ≡ OutOfMemory }
     ensures help { HelpIs (is_shown (kind_of error)) result }
 {
@@ -395,7 +407,7 @@ fn refused(alloc: Global, error: clap::Error) -> WordsFault
     if kind == ErrorKind::OutOfMemory {
         return WordsFault::OutOfMemory;
     }
-    match error.to_string(alloc) {
+    match refusal_text(alloc, error, words) {
         Ok(text) => WordsFault::Refused {
             text,
             is_help: is_shown(kind),
@@ -422,8 +434,8 @@ fn mistaken(alloc: Global, matches: &ArgMatches<'_>) -> WordsFault
 /// Which words name which job is said by the definitions of `clap`: at Ok `clap` finds no fault with the words, so that
 /// no word is left over, and each text and number of the job is the one that stands at its place.
 ///
-/// It fails with Refused if the words are no job, with the text that `clap` has for the user and whether that is help
-/// or the version, and with OutOfMemory only if there is no memory.
+/// It fails with Refused if the words are no job, with the text that `clap` has for the user (for `--help faults` the
+/// table of all faults) and whether that is help or the version, and with OutOfMemory only if there is no memory.
 pub fn read_words<'a>(alloc: Global, words: &'a [String]) -> Result<Request<'a>, WordsFault>
     ensures ok { IfOk result (λ request. job_of (map string_bytes words.entry.now) ≡ Some (asked request.job)) }
     ensures verbose { IfOk result (λ request. request.is_verbose ≡ verbose_of (map string_bytes words.entry.now)) }
@@ -443,6 +455,6 @@ pub fn read_words<'a>(alloc: Global, words: &'a [String]) -> Result<Request<'a>,
             Ok(None) => Err(mistaken(alloc, &matches)),
             Err(_) => Err(WordsFault::OutOfMemory),
         },
-        Err(error) => Err(refused(alloc, error)),
+        Err(error) => Err(refused(alloc, error, words)),
     }
 }

@@ -2,7 +2,9 @@
 mod changes;
 mod endpoints;
 mod explained;
+mod explained_jobs;
 mod read_words;
+mod refused_words;
 mod replays;
 mod scripts;
 mod views;
