@@ -16,10 +16,7 @@ pub fn config_at<'a, R: Files + AllocGlobal>(
     rt: &R,
     path: &'a str,
 ) -> Result<Config, Incident<'a>> {
-    let text = match text_at(rt, path) {
-        Ok(text) => text,
-        Err(incident) => return Err(incident),
-    };
+    let text = text_at(rt, path)?;
     config_in(rt.alloc(), path, text.as_slice())
 }
 

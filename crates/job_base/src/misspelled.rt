@@ -61,10 +61,7 @@ pub fn tell_unknown_keys<'a, R: Eprint + AllocGlobal>(
     ensures { IfOk result (λ _. is_strict ≡ true → IsUtf8 text.now → IfSome (parse_document text.now)
         (λ keys. named (unknown_text keys (stations_of config.now)) ≡ [])) }
 {
-    let lines = match unknown_lines(rt.alloc(), path, config, text) {
-        Ok(lines) => lines,
-        Err(incident) => return Err(incident),
-    };
+    let lines = unknown_lines(rt.alloc(), path, config, text)?;
     tell_lines(rt, lines.as_slice());
     refuse_unknown(path, lines.as_slice(), is_strict)
 }
@@ -75,16 +72,8 @@ pub fn checked_config_at<'a, R: Files + Eprint + AllocGlobal>(
     path: &'a str,
     is_strict: bool,
 ) -> Result<Config, Incident<'a>> {
-    let text = match text_at(rt, path) {
-        Ok(text) => text,
-        Err(incident) => return Err(incident),
-    };
-    let config = match config_in(rt.alloc(), path, text.as_slice()) {
-        Ok(config) => config,
-        Err(incident) => return Err(incident),
-    };
-    match tell_unknown_keys(rt, path, &config, text.as_slice(), is_strict) {
-        Ok(()) => Ok(config),
-        Err(incident) => Err(incident),
-    }
+    let text = text_at(rt, path)?;
+    let config = config_in(rt.alloc(), path, text.as_slice())?;
+    tell_unknown_keys(rt, path, &config, text.as_slice(), is_strict)?;
+    Ok(config)
 }

@@ -25,10 +25,8 @@ pub fn plain_text_at<'a, R: Files + AllocGlobal>(
     rt: &R,
     path: &'a str,
 ) -> Result<Vec<u8>, Incident<'a>> {
-    match plain_at(rt, path) {
-        Ok(()) => text_at(rt, path),
-        Err(incident) => Err(incident),
-    }
+    plain_at(rt, path)?;
+    text_at(rt, path)
 }
 
 /// Where a file is that is to be replaced: if a path is a symbolic link, the file to which it points. It fails if that

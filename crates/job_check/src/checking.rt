@@ -53,10 +53,8 @@ fn check_by<'a, R: Files<File = File> + Print + Eprint + Clock + AllocGlobal>(
     options: CheckOptions<'a>,
     config: &'a str,
 ) -> Result<(), Incident<'a>> {
-    match config_at(rt, config) {
-        Ok(config) => check_named(rt, words, options, &ConfiguredStations::new(&config)),
-        Err(incident) => Err(incident),
-    }
+    let config = config_at(rt, config)?;
+    check_named(rt, words, options, &ConfiguredStations::new(&config))
 }
 
 /// The same, of files that may have records of these stations.
@@ -66,17 +64,11 @@ fn check_named<'a, R: Files<File = File> + Print + Eprint + Clock + AllocGlobal,
     options: CheckOptions<'a>,
     stations: &S,
 ) -> Result<(), Incident<'a>> {
-    let names = match files_of(rt, words) {
-        Ok(names) => names,
-        Err(incident) => return Err(incident),
-    };
+    let names = files_of(rt, words)?;
     let Ok(mut check) = RecordCheck::new(rt.alloc()) else {
         return Err(Incident::from(Failure::OutOfMemory));
     };
-    let first = match check_each(rt, names, options, stations, &mut check) {
-        Ok(first) => first,
-        Err(incident) => return Err(incident),
-    };
+    let first = check_each(rt, names, options, stations, &mut check)?;
     match list_streams(rt, listing_options(options), &mut check) {
         Ok(()) => first_of(first),
         Err(fault) => Err(Incident::from(Failure::Check(fault))),
@@ -102,10 +94,8 @@ fn check_each<'a, R: Files<File = File> + Print + Eprint + Clock + AllocGlobal, 
     let is_alone = names.len() == 1;
     let mut first = None;
     'files: for name in names {
-        match check_file(rt, name, options, stations, check, is_alone) {
-            Ok(refused) => first = first.or(refused),
-            Err(incident) => return Err(incident),
-        }
+        let refused = check_file(rt, name, options, stations, check, is_alone)?;
+        first = first.or(refused);
     }
     Ok(first)
 }

@@ -61,18 +61,16 @@ fn write_all<'a, R: Print + AllocGlobal>(
     new_text: &[u8],
 ) -> Result<(), StreamFault> {
     let mut out = Outer::new(io::writer(rt));
-    match list_changes(rt.alloc(), old, old_text, new, new_text, &mut out) {
-        Ok(()) => match first_difference(rt.alloc(), old, new) {
-            Ok(Some(difference)) => write_difference(rt.alloc(), path, difference, &mut out),
-            Ok(None) => Ok(()),
-            Err(_) => Err(StreamFault::OutOfMemory),
-        },
-        Err(fault) => Err(fault),
+    list_changes(rt.alloc(), old, old_text, new, new_text, &mut out)?;
+    match first_difference(rt.alloc(), old, new) {
+        Ok(Some(difference)) => write_difference(rt.alloc(), path, difference, &mut out),
+        Ok(None) => Ok(()),
+        Err(_) => Err(StreamFault::OutOfMemory),
     }
 }
 
-/// Names the keys of the new configuration that are not known, for which it is refused with `is_strict`, and writes what
-/// it changes.
+/// Names the keys of the new configuration that are not known, for which it is refused with `is_strict`, and writes
+/// what it changes.
 fn compare<'a, R: Print + Eprint + AllocGlobal>(
     rt: &R,
     old: &Config,
@@ -81,16 +79,11 @@ fn compare<'a, R: Print + Eprint + AllocGlobal>(
     new_text: &[u8],
     is_strict: bool,
 ) -> Result<(), Incident<'a>> {
-    let new = match config_in(rt.alloc(), path, new_text) {
-        Ok(new) => new,
-        Err(incident) => return Err(incident),
-    };
-    match tell_unknown_keys(rt, path, &new, new_text, is_strict) {
-        Ok(()) => match write_all(rt, old, old_text, path, &new, new_text) {
-            Ok(()) => Ok(()),
-            Err(fault) => Err(Failure::Check(fault).in_file(path)),
-        },
-        Err(incident) => Err(incident),
+    let new = config_in(rt.alloc(), path, new_text)?;
+    tell_unknown_keys(rt, path, &new, new_text, is_strict)?;
+    match write_all(rt, old, old_text, path, &new, new_text) {
+        Ok(()) => Ok(()),
+        Err(fault) => Err(Failure::Check(fault).in_file(path)),
     }
 }
 

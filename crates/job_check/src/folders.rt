@@ -18,8 +18,8 @@ pub struct FolderFault {
     pub reason: io::Error,
 }
 
-/// How the names of files end that are no records as they stand: what was compressed, and the torn ends that a reader put
-/// aside.
+/// How the names of files end that are no records as they stand: what was compressed, and the torn ends that a reader
+/// put aside.
 const PASSED_OVER: [&str; 5] = [".gz", ".bz2", ".xz", ".zst", ".torn"];
 
 /// Whether what has this name in a folder is passed over: it is hidden, as a lock is, or is no file of records by its
@@ -92,10 +92,7 @@ pub fn files_below<R: Files + AllocGlobal>(
     if walk.folders.push(folder).is_err() {
         return Err(no_memory(alloc));
     }
-    match look_into_all(rt, &mut walk) {
-        Ok(()) => {}
-        Err(fault) => return Err(fault),
-    }
+    look_into_all(rt, &mut walk)?;
     let Walk { mut files, .. } = walk;
     match files.sort() {
         Ok(()) => Ok(files),

@@ -184,10 +184,7 @@ pub fn files_of<'a, R: Files + AllocGlobal>(
 ) -> Result<Vec<FileName<'a>>, Incident<'a>> {
     let mut names = Vec::new(rt.alloc());
     for word in words {
-        match add_word(rt, &mut names, word) {
-            Ok(()) => {}
-            Err(incident) => return Err(incident),
-        }
+        add_word(rt, &mut names, word)?;
     }
     Ok(names)
 }

@@ -72,10 +72,7 @@ fn output_for(
     ensures line { IfErr result (λ e. e.fault ≡ ScriptIsNone
         → FailsAtLine (slice_split is_line_feed text.now) e.line) }
 {
-    let events = match events_of(alloc, text) {
-        Ok(events) => events,
-        Err(error) => return Err(error),
-    };
+    let events = events_of(alloc, text)?;
     match output_after(alloc, style, config, events.as_slice()) {
         Ok(output) => Ok(output),
         Err(_) => Err(ScriptError {
@@ -180,12 +177,7 @@ pub fn replay_files<'a, R: Files + Print + AllocGlobal>(
     config: &'a str,
     script: &'a str,
 ) -> Result<(), Incident<'a>> {
-    let config = match config_at(rt, config) {
-        Ok(config) => config,
-        Err(incident) => return Err(incident),
-    };
-    match open(rt, script) {
-        Ok(file) => replay_open(rt, style, config, script, file),
-        Err(incident) => Err(incident),
-    }
+    let config = config_at(rt, config)?;
+    let file = open(rt, script)?;
+    replay_open(rt, style, config, script, file)
 }

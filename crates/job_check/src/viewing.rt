@@ -84,14 +84,14 @@ pub fn list_station<W: Sink>(
         found ≡ is_some (holder_text keys config.now network.now code.now))) }
 {
     match holder_of(alloc, config, text, network, code) {
-        Ok(Some(line)) => match write_text(line.as_slice(), out) {
-            Ok(()) => Ok(true),
-            Err(fault) => Err(fault),
-        },
-        Ok(None) => match write_text(b"", out) {
-            Ok(()) => Ok(false),
-            Err(fault) => Err(fault),
-        },
+        Ok(Some(line)) => {
+            write_text(line.as_slice(), out)?;
+            Ok(true)
+        }
+        Ok(None) => {
+            write_text(b"", out)?;
+            Ok(false)
+        }
         Err(_) => Err(StreamFault::OutOfMemory),
     }
 }
@@ -261,10 +261,8 @@ fn view_config<'a, R: Files + Print + Eprint + AllocGlobal>(
     if matches!(asked_in(options), Asked::Other(_)) {
         return write_view(rt, options, config, text);
     }
-    match tell_unknown_keys(rt, options.config, config, text, options.is_strict) {
-        Ok(()) => write_view(rt, options, config, text),
-        Err(incident) => Err(incident),
-    }
+    tell_unknown_keys(rt, options.config, config, text, options.is_strict)?;
+    write_view(rt, options, config, text)
 }
 
 /// The same of the configuration that the text of a file spells.
@@ -273,22 +271,18 @@ fn view_text<'a, R: Files + Print + Eprint + AllocGlobal>(
     options: &ViewOptions<'a>,
     text: &[u8],
 ) -> Result<(), Incident<'a>> {
-    match config_in(rt.alloc(), options.config, text) {
-        Ok(config) => view_config(rt, options, &config, text),
-        Err(incident) => Err(incident),
-    }
+    let config = config_in(rt.alloc(), options.config, text)?;
+    view_config(rt, options, &config, text)
 }
 
 /// Writes what an address sees of the configuration in a file, or how much of a network sees each station, or who may
 /// use a station of it, or what another configuration changes, or all stations with whom they are open to. In the last
-/// case entries of lists that admit something else than they look like are named on the standard error. So are keys that
-/// are not known, and if the options are strict the configuration is refused for them.
+/// case entries of lists that admit something else than they look like are named on the standard error. So are keys
+/// that are not known, and if the options are strict the configuration is refused for them.
 pub fn view_file<'a, R: Files + Print + Eprint + AllocGlobal>(
     rt: &R,
     options: ViewOptions<'a>,
 ) -> Result<(), Incident<'a>> {
-    match text_at(rt, options.config) {
-        Ok(text) => view_text(rt, &options, text.as_slice()),
-        Err(incident) => Err(incident),
-    }
+    let text = text_at(rt, options.config)?;
+    view_text(rt, &options, text.as_slice())
 }

@@ -163,15 +163,9 @@ fn send_each<
     ensures { progress.new.sent.count ≡ feed.new.taken / 512 }
 {
     'files: for path in files {
-        let file = match input(rt, path) {
-            Ok(file) => file,
-            Err(incident) => return Err(incident),
-        };
+        let file = input(rt, path)?;
         let first = FileRecord::first_of(path);
-        match send_input(rt, feed, rules, progress, file, first, server) {
-            Ok(()) => {}
-            Err(incident) => return Err(incident),
-        }
+        send_input(rt, feed, rules, progress, file, first, server)?;
     }
     Ok(())
 }
@@ -216,13 +210,9 @@ fn send_open<'a, R: Files<File = File> + Eprint + Clock + Net + AllocGlobal, S: 
 ) -> Result<SentFeed<R::Stream>, Incident<'a>>
     ensures { IfOk result (λ feed. feed.count ≡ progress.new.sent.count) }
 {
-    match connection(rt, server) {
-        Ok(stream) => {
-            let feed = Feed::new(stream);
-            send_over(rt, feed, rules, progress, file, first, others, server.word)
-        }
-        Err(incident) => Err(incident),
-    }
+    let stream = connection(rt, server)?;
+    let feed = Feed::new(stream);
+    send_over(rt, feed, rules, progress, file, first, others, server.word)
 }
 
 /// The same of files of which none is open yet.
@@ -236,10 +226,8 @@ fn send_from<'a, R: Files<File = File> + Eprint + Clock + Net + AllocGlobal, S: 
 ) -> Result<SentFeed<R::Stream>, Incident<'a>>
     ensures { IfOk result (λ feed. feed.count ≡ progress.new.sent.count) }
 {
-    match input(rt, first.file) {
-        Ok(file) => send_open(rt, server, file, first, others, rules, progress),
-        Err(incident) => Err(incident),
-    }
+    let file = input(rt, first.file)?;
+    send_open(rt, server, file, first, others, rules, progress)
 }
 
 /// Sends the records of files to a server, one file after the other, those of the first file from that record on (1 is
@@ -262,10 +250,8 @@ pub fn send_files<'a, R: Files<File = File> + Eprint + Clock + Net + AllocGlobal
         return Ok(None);
     };
     let first = FileRecord { file, number: from };
-    match send_from(rt, server, first, others, rules, progress) {
-        Ok(feed) => Ok(Some(feed)),
-        Err(incident) => Err(incident),
-    }
+    let feed = send_from(rt, server, first, others, rules, progress)?;
+    Ok(Some(feed))
 }
 
 /// Sends the records of files to a server, and waits until it has read them.
@@ -376,13 +362,11 @@ pub fn feed_files<'a, R: Files<File = File> + Eprint + Clock + Net + AllocGlobal
     is_verbose: bool,
 ) -> Result<(), Incident<'a>> {
     match options.config {
-        Some(path) => match checked_config_at(rt, path, false) {
-            Ok(config) => {
-                let stations = ConfiguredStations::new(&config);
-                feed_by(rt, server, files, options, &stations, is_verbose)
-            }
-            Err(incident) => Err(incident),
-        },
+        Some(path) => {
+            let config = checked_config_at(rt, path, false)?;
+            let stations = ConfiguredStations::new(&config);
+            feed_by(rt, server, files, options, &stations, is_verbose)
+        }
         None => feed_by(rt, server, files, options, &AllStations, is_verbose),
     }
 }

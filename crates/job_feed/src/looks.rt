@@ -14,10 +14,8 @@ use std::{fs, io};
 
 /// Whether a file can be opened.
 fn open_once<'a, R: Files>(rt: &R, path: &'a str) -> Result<(), Incident<'a>> {
-    match open(rt, path) {
-        Ok(_) => Ok(()),
-        Err(incident) => Err(incident),
-    }
+    open(rt, path)?;
+    Ok(())
 }
 
 /// Whether there is a file from which records can be read. A plain file is opened, and a folder is refused. A pipe or a
@@ -48,10 +46,7 @@ fn try_each<T: Copy, E: Drop, F: Fn(T) -> Result<(), E>>(items: &[T], attempt: F
     ensures { OnOk result (All (λ item. F.post attempt item (Ok tt)) items.now) }
 {
     for item in items {
-        match attempt(*item) {
-            Ok(()) => {}
-            Err(fault) => return Err(fault),
-        }
+        attempt(*item)?;
     }
     Ok(())
 }

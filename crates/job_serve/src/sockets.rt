@@ -208,11 +208,7 @@ fn run_logged<'a, 'l, R: Files<File = File> + Clock + AllocGlobal, D: Device + D
         return Err(no_memory());
     };
     let Served { config, files, .. } = served;
-    match serve_by(rt, request, config, files, logged, lines, status) {
-        Ok(logged) => {
-            let (ports, _journal) = logged.into_parts();
-            Ok(ports)
-        }
-        Err(incident) => Err(incident),
-    }
+    let logged = serve_by(rt, request, config, files, logged, lines, status)?;
+    let (ports, _journal) = logged.into_parts();
+    Ok(ports)
 }

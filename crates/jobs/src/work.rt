@@ -42,10 +42,8 @@ fn done<'a>(ended: Result<(), Incident<'a>>) -> Result<Outcome, Incident<'a>>
     ensures done { OnOk ended.entry (result ≡ Ok Done) }
     ensures fault { OnErr ended.entry (IsErr result) }
 {
-    match ended {
-        Ok(()) => Ok(Outcome::Done),
-        Err(incident) => Err(incident),
-    }
+    ended?;
+    Ok(Outcome::Done)
 }
 
 /// What a look at a server comes to, by whether a station is silent.
@@ -53,10 +51,9 @@ fn looked<'a>(is_silent: Result<bool, Incident<'a>>) -> Result<Outcome, Incident
     ensures done { IfOk is_silent.entry (λ silent. result ≡ Ok (outcome_of silent)) }
     ensures fault { OnErr is_silent.entry (IsErr result) }
 {
-    match is_silent {
-        Ok(true) => Ok(Outcome::Silent),
-        Ok(false) => Ok(Outcome::Done),
-        Err(incident) => Err(incident),
+    match is_silent? {
+        true => Ok(Outcome::Silent),
+        false => Ok(Outcome::Done),
     }
 }
 
