@@ -5,8 +5,8 @@
 //! bytes first. `number ROUNDS` reads a sequence number and writes the one that follows. `header ROUNDS` reads the
 //! header of a record. `selectors ROUNDS` asks sixteen selectors whether a record passes, and `pool ROUNDS` asks the
 //! same sixteen in a pool that holds 1,024. `listing ROUNDS` reads packets and lists them, `archive STATIONS ROUNDS
-//! FOLDER` reads packets of so many stations by turns into an archive, and `drained STATIONS ROUNDS` reads the same bytes
-//! and does nothing with them.
+//! FOLDER` reads packets of so many stations by turns into an archive, and `drained STATIONS ROUNDS` reads the same
+//! bytes and does nothing with them.
 //!
 //! Works with a server: `arrive CAPACITY ROUNDS`: a record arrives at one of 1,024 stations, whose ring holds so many
 //! and is full. `packets REQUESTS CAPACITY ROUNDS`: a client that asks by FETCH for so many stations, whose rings are
@@ -21,8 +21,9 @@
 //! clients wait at another station. `reload CLIENTS CHANGED ROUNDS`: a new configuration comes into force, in which
 //! so many of 1,024 stations have lists that differ for no client's address. `named STATIONS CLIENTS`: so many
 //! clients name so many of 1,024 stations each. `refused STATIONS ROUNDS LINE`: a client to whom every second one of so
-//! many stations is hidden says a line. `lone STATIONS ROUNDS`: a client follows so many stations, at which lone records
-//! arrive by turns. `sleepers CLIENTS ROUNDS`: a turn of a loop hands one client a packet while so many others wait.
+//! many stations is hidden says a line. `lone STATIONS ROUNDS`: a client follows so many stations, at which lone
+//! records arrive by turns. `sleepers CLIENTS ROUNDS`: a turn of a loop hands one client a packet while so many others
+//! wait.
 #![tactic(auto)]
 
 mod archiving;

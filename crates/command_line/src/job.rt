@@ -111,7 +111,8 @@ pub struct ServeOptions<'a> {
     pub numbers: Option<&'a str>,
     /// `--status A:P`: where it tells how it stands; nowhere without one.
     pub status: Option<&'a str>,
-    /// `--status-from LIST`: the addresses that may ask there; those of this machine without a list. Only beside `status`.
+    /// `--status-from LIST`: the addresses that may ask there; those of this machine without a list. Only beside
+    /// `status`.
     pub status_from: Option<&'a str>,
     /// `--silent N`: a station counts as silent there after so many seconds without a record. Only beside `status`.
     pub silent: Option<usize>,

@@ -25,7 +25,8 @@
 //! | `B ready yes` | an offer to B would find something |
 //! | `B close` | B's connection ends; its name may be given again |
 //! | `B gone yes` | the server knows no open client B, in each of its calls |
-//! | `w1 arrive GE WLF -- BHZ 2024,60,0,0,0,0 100` | a record arrives and is called w1: a line of a script, as is `w1 arrive-hex HEX` |
+//! | `w1 arrive GE WLF -- BHZ 2024,60,0,0,0,0 100` | a record arrives and is called w1: a line of a script, as is `w1
+//! arrive-hex HEX` |
 //! | `w1 number FFFFFE` | w1 was given that number |
 //! | `x refuse 32 arrive GE NONE -- BHZ 2024,60,0,0,0,0 100` | a record arrives, and is refused with that number |
 //! | `reader wants GE_WLF:BH? GE_APE` | a reader is to ask for these |
@@ -33,15 +34,18 @@
 //! | `reader asks HELLO\r` | the reader asked this; after a fault perhaps only a beginning of it |
 //! | `reader prints refused GE APE\n` | the reader printed this |
 //! | `reader fault 42` | this fault ended it; 0 for none |
-//! | `records FILE,FILE lines LISTING` | a check of files of records prints what stands in LISTING; `streams` instead of `lines` for the lines of streams alone, `dates` for both with times as dates, `gaps` for gaps and overlaps alone, `all` for all of these with times as dates |
-//! | `records FILE fault 4 2 512` | the first fault is number 4, of the second record, which begins after 512 bytes; or `none` |
+//! | `records FILE,FILE lines LISTING` | a check of files of records prints what stands in LISTING; `streams` instead
+//! of `lines` for the lines of streams alone, `dates` for both with times as dates, `gaps` for gaps and overlaps alone,
+//! `all` for all of these with times as dates |
+//! | `records FILE fault 4 2 512` | the first fault is number 4, of the second record, which begins after 512 bytes; or
+//! `none` |
 //! | `list admits yes 10.0.0.7 10.0.0.0/8` | this access list admits the address |
 //! | `list refuse 12 10.0.0.0/33` | this access list is refused with that number |
 //! | `config refuse 23 FILE` | this configuration is refused with that number |
 //!
-//! What B is handed is all that it took since it was last compared. If that is shorter than what is wanted, or nothing is
-//! wanted, B first takes 520 bytes more: so `B < OK` alone compares a whole answer. Bytes are spelled with `\r`, `\n` and
-//! `\\`; `\xff` is any byte by its two hexadecimal digits, and `\251*A` is A 251 times.
+//! What B is handed is all that it took since it was last compared. If that is shorter than what is wanted, or nothing
+//! is wanted, B first takes 520 bytes more: so `B < OK` alone compares a whole answer. Bytes are spelled with `\r`,
+//! `\n` and `\\`; `\xff` is any byte by its two hexadecimal digits, and `\251*A` is A 251 times.
 #![tactic(auto)]
 
 mod clients;

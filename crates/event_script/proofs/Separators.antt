@@ -141,7 +141,8 @@ parts-cut s text [] rest e = ap (slice_split (λ b. b == s)) e
 parts-cut s text (c ∷ cs) rest e = next-part s text c e.0 ∙ ap (λ ps. c.front ∷ ps) (parts-cut s c.rest cs rest e.1)
 
 -- the parts of a text whose rest has no separator
-pub six-cut : (s : ℕ) (text : List ℕ) (cs : List ScriptCut) (rest : List ℕ) → IsCutInto s text cs rest → None ≡ cut_by s rest
+pub six-cut : (s : ℕ) (text : List ℕ) (cs : List ScriptCut) (rest : List ℕ) → IsCutInto s text cs rest
+    → None ≡ cut_by s rest
     → six_of s text ≡ six_in (fronts cs (rest ∷ []))
 six-cut s text cs rest e last = ap six_in (parts-cut s text cs rest e ∙ ap (fronts cs) (last-part s rest last))
 
@@ -160,7 +161,8 @@ six-passed s text a b c d e rest (Some f) cuts is some =
     (omega (arith, length-slice_split (λ x. x == s) f.rest))
 
 -- behind five cuts there is none
-pub six-ended : (s : ℕ) (text : List ℕ) (cs : List ScriptCut) (rest : List ℕ) (o : Option ScriptCut) → IsCutInto s text cs rest
+pub six-ended : (s : ℕ) (text : List ℕ) (cs : List ScriptCut) (rest : List ℕ) (o : Option ScriptCut)
+    → IsCutInto s text cs rest
     → o ≡ cut_by s rest → is_some o ≡ false → six_of s text ≡ six_in (fronts cs (rest ∷ []))
 six-ended s text cs rest None cuts is none = six-cut s text cs rest cuts is
 six-ended s text cs rest (Some f) cuts is none = absurd (true≢false none)

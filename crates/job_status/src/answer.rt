@@ -49,7 +49,8 @@ fn is_silent_by(code: u16) -> Option<bool>
 
 /// The answer that bytes hold, all of it: whether a station is silent is told by the code, 503 or 200.
 ///
-/// It fails with Ended if the head or the body is not complete, and with Other if it is not the answer of a status port.
+/// It fails with Ended if the head or the body is not complete, and with Other if it is not the answer of a status
+/// port.
 pub fn answer_in(bytes: &[u8]) -> Result<Answer<'_>, StatusFault>
     ensures { IfOk result (λ answer. Answers bytes.now answer.body.now answer.is_silent) }
 {

@@ -1,4 +1,5 @@
-//! Tables in columns: a table's columns are separated by tabs in its text, and by two spaces and more where it is shown.
+//! Tables in columns: a table's columns are separated by tabs in its text, and by two spaces and more where it is
+//! shown.
 ghost use Rattle.std.specs.Prelude.{◌≡◌, ◌≤◌, ◌++◌, OnOk, length, replicate};
 ghost use Rattle.job_status.specs.Columns.{after, gap, laid_block, laid_byte, laid_from, origin, widened, widths_from};
 ghost use Rattle.job_status.specs.Columns.{shown};

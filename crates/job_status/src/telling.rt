@@ -48,8 +48,9 @@ fn tell_over<'a, R: Print + Net + AllocGlobal>(
 
 /// Writes how a server stands, by its status port that a word names. Whether a station is silent.
 ///
-/// It fails with Address if the word is no address with a port, with Connect if no connection could be made, with Status
-/// if the answer ends too early or is not that of a status port, if not all could be written, and for want of memory.
+/// It fails with Address if the word is no address with a port, with Connect if no connection could be made, with
+/// Status if the answer ends too early or is not that of a status port, if not all could be written, and for want of
+/// memory.
 pub fn tell_status<'a, R: Print + Net + AllocGlobal>(
     rt: &R,
     word: &'a str,

@@ -1,5 +1,5 @@
-//! What the user is told, and the exit status: 0 if the job was done or help was asked for, 1 at a fault of input or of a
-//! device, and if a server that was asked for its status has a silent station, and 2 if the command line is invalid.
+//! What the user is told, and the exit status: 0 if the job was done or help was asked for, 1 at a fault of input or of
+//! a device, and if a server that was asked for its status has a silent station, and 2 if the command line is invalid.
 ghost use Rattle.std.specs.Prelude.{◌≡◌, ◌≢◌, ◌⊎◌, false, true, map, string_bytes, IfOk, OnErr};
 ghost use Rattle.std.specs.Process.{exit_status};
 ghost use Rattle.command_line.specs.Jobs.{IsJob, IsMistake};

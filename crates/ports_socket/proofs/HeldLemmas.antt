@@ -90,7 +90,8 @@ module _ (slots : Slab KeptConnection) (ps : List ConnectionPlace) (key : ℕ) (
 
 -- ---- what is written as it was, and what joins and leaves
 
-pub unchanged : (slots : Slab KeptConnection) (ps : List ConnectionPlace) (key : ℕ) (h : KeptConnection) → get slots key ≡ Some h
+pub unchanged : (slots : Slab KeptConnection) (ps : List ConnectionPlace) (key : ℕ) (h : KeptConnection)
+    → get slots key ≡ Some h
     → values (connections_at (with_value slots key h) ps) ≡ values (connections_at slots ps)
 unchanged slots ps key h kept = ap (λ s. values (connections_at s ps)) (wrote-same slots key h kept)
 
@@ -101,7 +102,8 @@ values-last zero (c ∷ d ∷ ds) is = absurd (omega (arith, is))
 values-last (suc k) (c ∷ cs) is = ap (λ l. value_of c ∷ l) (values-last k cs (omega (arith, is)))
 
 -- the last of them went
-pub popped-values : (slots new : Slab KeptConnection) (ps front : List ConnectionPlace) (p : ConnectionPlace) → IsTable slots ps
+pub popped-values : (slots new : Slab KeptConnection) (ps front : List ConnectionPlace) (p : ConnectionPlace)
+    → IsTable slots ps
     → ps ≡ front ++ p ∷ [] → Updates slots new p.key None
     → values (connections_at new front)
     ≡ take (length (values (connections_at slots ps)) - 1) (values (connections_at slots ps))
@@ -117,7 +119,8 @@ popped-values slots new ps front p table parts updates =
     ∙ values-last (length front) cs long
     ∙ ap (λ k. take k (values cs)) (sym counted)
 
-pub popped-table : (slots new : Slab KeptConnection) (ps front : List ConnectionPlace) (p : ConnectionPlace) → IsTable slots ps
+pub popped-table : (slots new : Slab KeptConnection) (ps front : List ConnectionPlace) (p : ConnectionPlace)
+    → IsTable slots ps
     → ps ≡ front ++ p ∷ [] → Updates slots new p.key None → IsTable new front
 popped-table slots new ps front p table parts updates =
     let end : IsLast ps front p = subst (λ (l : List ConnectionPlace). IsLast l front p) (sym parts) (last front p) in

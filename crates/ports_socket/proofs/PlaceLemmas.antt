@@ -35,7 +35,8 @@ rise-push (x ∷ xs) m h below = (
   rise-push xs m h.1 (λ j lt. below (suc j) (omega (arith, lt))),
 )
 
-above-remove : (n : ℕ) (ps : List ConnectionPlace) (i : ℕ) → AreAbove n (numbers_of ps) → AreAbove n (numbers_of (remove ps i))
+above-remove : (n : ℕ) (ps : List ConnectionPlace) (i : ℕ) → AreAbove n (numbers_of ps)
+    → AreAbove n (numbers_of (remove ps i))
 above-remove n [] zero h = tt
 above-remove n [] (suc i) h = tt
 above-remove n (p ∷ ps) zero h = h.1
@@ -107,7 +108,8 @@ pub below-last : (n : ℕ) (ps : List ConnectionPlace) → Rise (numbers_of ps) 
     → last ≡ get_or ps (length ps - 1) last → nat_lt last.number n ≡ true → AreBelow n (numbers_of ps)
 below-last n ps rise last read less = λ j inside.
     let is_last : get_or (numbers_of ps) (length ps - 1) 0 ≡ last.number =
-    number-read ps (length ps - 1) last (omega (arith, long ps, inside)) ∙ ap (λ (p : ConnectionPlace). p.number) (sym read) in
+    number-read ps (length ps - 1) last (omega (arith, long ps, inside))
+    ∙ ap (λ (p : ConnectionPlace). p.number) (sym read) in
     let lt = is-less last.number n less in
     let end : length ps - 1 < length (numbers_of ps) = omega (arith, long ps, inside) in
     let within : j ≤ length ps - 1 = omega (arith, long ps, inside) in

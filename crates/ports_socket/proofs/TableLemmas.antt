@@ -17,7 +17,8 @@ use Rattle.ports_socket.proofs.PlaceLemmas.{above-at, long, number-read, rise-pu
 
 -- ---- what is kept is as it was, under all keys
 
-pub there-same : (slots new : Slab KeptConnection) (ps : List ConnectionPlace) → ((key : ℕ) → get new key ≡ get slots key)
+pub there-same : (slots new : Slab KeptConnection) (ps : List ConnectionPlace)
+    → ((key : ℕ) → get new key ≡ get slots key)
     → AreThere slots ps → AreThere new ps
 there-same slots new [] same there = tt
 there-same slots new (p ∷ ps) same there = (
@@ -30,7 +31,8 @@ there-same slots new (p ∷ ps) same there = (
   there-same slots new ps same there.1,
 )
 
-pub table-same : (slots new : Slab KeptConnection) (ps : List ConnectionPlace) → ((key : ℕ) → get new key ≡ get slots key)
+pub table-same : (slots new : Slab KeptConnection) (ps : List ConnectionPlace)
+    → ((key : ℕ) → get new key ≡ get slots key)
     → IsTable slots ps → IsTable new ps
 table-same slots new ps same table = record {
   rise = table.rise;
@@ -38,7 +40,8 @@ table-same slots new ps same table = record {
   listed = λ key held at opened. table.listed key held (sym (same key) ∙ at) opened;
 }
 
-pub connections-same : (slots new : Slab KeptConnection) (ps : List ConnectionPlace) → ((key : ℕ) → get new key ≡ get slots key)
+pub connections-same : (slots new : Slab KeptConnection) (ps : List ConnectionPlace)
+    → ((key : ℕ) → get new key ≡ get slots key)
     → connections_at new ps ≡ connections_at slots ps
 connections-same slots new [] same = refl
 connections-same slots new (p ∷ ps) same = ap₂ with_held (same p.key) (connections-same slots new ps same)
@@ -63,17 +66,20 @@ IsShut (Some held) = held.is_open ≡ false
 some-same : (a b : KeptConnection) → Some a ≡ Some b → a ≡ b
 some-same a b e = cc
 
-held-there : (slots : Slab KeptConnection) (p : ConnectionPlace) (key : ℕ) (h : KeptConnection) (t : IsThere slots p) → get slots key ≡ Some h
+held-there : (slots : Slab KeptConnection) (p : ConnectionPlace) (key : ℕ) (h : KeptConnection) (t : IsThere slots p)
+    → get slots key ≡ Some h
     → p.key ≡ key → t.held ≡ h
 held-there slots p key h t kept same =
     some-same t.held h (sym t.kept ∙ ap (get slots) same ∙ kept)
 
-number-there : (slots : Slab KeptConnection) (p : ConnectionPlace) (key : ℕ) (h : KeptConnection) → IsThere slots p → get slots key ≡ Some h
+number-there : (slots : Slab KeptConnection) (p : ConnectionPlace) (key : ℕ) (h : KeptConnection) → IsThere slots p
+    → get slots key ≡ Some h
     → p.key ≡ key → h.connection.number ≡ p.number
 number-there slots p key h t kept same =
     ap (λ (x : KeptConnection). x.connection.number) (sym (held-there slots p key h t kept same)) ∙ t.number
 
-pub else-above : (slots : Slab KeptConnection) (key : ℕ) (h : KeptConnection) (ps : List ConnectionPlace) → AreThere slots ps
+pub else-above : (slots : Slab KeptConnection) (key : ℕ) (h : KeptConnection) (ps : List ConnectionPlace)
+    → AreThere slots ps
     → get slots key ≡ Some h → AreAbove h.connection.number (numbers_of ps) → AreElse key ps
 else-above slots key h [] there kept above = tt
 else-above slots key h (p ∷ ps) there kept above = (
@@ -81,16 +87,19 @@ else-above slots key h (p ∷ ps) there kept above = (
   else-above slots key h ps there.1 kept above.1,
 )
 
-not-opened : (slots : Slab KeptConnection) (p : ConnectionPlace) (key : ℕ) (o : Option KeptConnection) → IsThere slots p → get slots key ≡ o
+not-opened : (slots : Slab KeptConnection) (p : ConnectionPlace) (key : ℕ) (o : Option KeptConnection)
+    → IsThere slots p → get slots key ≡ o
     → IsShut o → p.key ≡ key → ⊥
 not-opened slots p key None t kept shut same =
     let none : Some t.held ≡ None = sym t.kept ∙ ap (get slots) same ∙ kept in absurd (cc)
 not-opened slots p key (Some h) t kept shut same =
-    let is : h.is_open ≡ true = ap (λ (x : KeptConnection). x.is_open) (sym (held-there slots p key h t kept same)) ∙ t.opened in
+    let is : h.is_open ≡ true = ap (λ (x : KeptConnection). x.is_open) (sym (held-there slots p key h t kept same))
+    ∙ t.opened in
     let no : true ≡ false = sym is ∙ shut in
     absurd (cc)
 
-pub else-shut : (slots : Slab KeptConnection) (key : ℕ) (ps : List ConnectionPlace) → AreThere slots ps → IsShut (get slots key)
+pub else-shut : (slots : Slab KeptConnection) (key : ℕ) (ps : List ConnectionPlace) → AreThere slots ps
+    → IsShut (get slots key)
     → AreElse key ps
 else-shut slots key [] there shut = tt
 else-shut slots key (p ∷ ps) there shut = (
@@ -104,7 +113,8 @@ connections-else old new key o [] apart updates = refl
 connections-else old new key o (p ∷ ps) apart updates =
     ap₂ with_held (updates.others p.key apart.0) (connections-else old new key o ps apart.1 updates)
 
-pub there-else : (old new : Slab KeptConnection) (key : ℕ) (o : Option KeptConnection) (ps : List ConnectionPlace) → AreElse key ps
+pub there-else : (old new : Slab KeptConnection) (key : ℕ) (o : Option KeptConnection) (ps : List ConnectionPlace)
+    → AreElse key ps
     → Updates old new key o → AreThere old ps → AreThere new ps
 there-else old new key o [] apart updates there = tt
 there-else old new key o (p ∷ ps) apart updates there = (
@@ -130,7 +140,8 @@ numbers-there slots (p ∷ ps) there =
     ap (λ o. numbers_in (with_held o (connections_at slots ps))) there.0.kept
     ∙ ap₂ (λ n ns. n ∷ ns) there.0.number (numbers-there slots ps there.1)
 
-pub rise-there : (slots : Slab KeptConnection) (ps : List ConnectionPlace) → IsTable slots ps → Rise (numbers_in (connections_at slots ps))
+pub rise-there : (slots : Slab KeptConnection) (ps : List ConnectionPlace) → IsTable slots ps
+    → Rise (numbers_in (connections_at slots ps))
 rise-there slots ps table = subst Rise (sym (numbers-there slots ps table.there)) table.rise
 
 pub length-there : (slots : Slab KeptConnection) (ps : List ConnectionPlace) → AreThere slots ps
@@ -149,12 +160,14 @@ pub record IsWritten (n : ℕ) (cs new : List Connection) (c d : Connection) : T
   pub read : c ≡ get_or cs at c
   pub is : new ≡ set cs at d
 
-above-among : (n : ℕ) (p : ConnectionPlace) (ps : List ConnectionPlace) → AreAbove n (numbers_of ps) → IsAmong p ps → n < p.number
+above-among : (n : ℕ) (p : ConnectionPlace) (ps : List ConnectionPlace) → AreAbove n (numbers_of ps) → IsAmong p ps
+    → n < p.number
 above-among n p [] above among = absurd among
 above-among n p (q ∷ qs) above (inl same) = subst (λ (x : ConnectionPlace). n < x.number) same above.0
 above-among n p (q ∷ qs) above (inr rest) = above-among n p qs above.1 rest
 
-written-here : (n : ℕ) (o o' : Option KeptConnection) (h h' : KeptConnection) (cs new : List Connection) → o ≡ Some h → o' ≡ Some h'
+written-here : (n : ℕ) (o o' : Option KeptConnection) (h h' : KeptConnection) (cs new : List Connection) → o ≡ Some h
+    → o' ≡ Some h'
     → new ≡ cs → h.connection.number ≡ n → IsWritten n (with_held o cs) (with_held o' new) h.connection h'.connection
 written-here n o o' h h' cs new was is same number =
     subst (λ x. IsWritten n (with_held x cs) (with_held o' new) h.connection h'.connection) (sym was)
@@ -180,7 +193,8 @@ written-past n o o' t cs new c d was is w =
 
 module _ (slots new : Slab KeptConnection) (key : ℕ) (h h' : KeptConnection) (kept : get slots key ≡ Some h)
     (updates : Updates slots new key (Some h')) where
-  written-at : (ps : List ConnectionPlace) (p : ConnectionPlace) → AreThere slots ps → Rise (numbers_of ps) → p.key ≡ key
+  written-at : (ps : List ConnectionPlace) (p : ConnectionPlace) → AreThere slots ps → Rise (numbers_of ps)
+      → p.key ≡ key
       → h.connection.number ≡ p.number → IsAmong p ps
       → IsWritten p.number (connections_at slots ps) (connections_at new ps) h.connection h'.connection
   written-at [] p there rise same number among = absurd among
@@ -260,13 +274,15 @@ shut-closed None = tt
 shut-closed (Some held) = refl
 
 -- what is written as it was
-pub wrote-same : (slots : Slab KeptConnection) (key : ℕ) (h : KeptConnection) → get slots key ≡ Some h → with_value slots key h ≡ slots
+pub wrote-same : (slots : Slab KeptConnection) (key : ℕ) (h : KeptConnection) → get slots key ≡ Some h
+    → with_value slots key h ≡ slots
 wrote-same slots key h kept =
     ap (λ l. record slots { slots = l }) (ap (set slots.slots key) (sym kept) ∙ set-get_or slots.slots key None)
 
 -- ---- one that is not open is written to, or goes
 
-pub shut-table : (slots new : Slab KeptConnection) (ps : List ConnectionPlace) (key : ℕ) (o : Option KeptConnection) → IsTable slots ps
+pub shut-table : (slots new : Slab KeptConnection) (ps : List ConnectionPlace) (key : ℕ) (o : Option KeptConnection)
+    → IsTable slots ps
     → IsShut (get slots key) → Updates slots new key o → IsShut o → IsTable new ps
 shut-table slots new ps key o table was updates shut = record {
   rise = table.rise;
@@ -280,9 +296,11 @@ shut-table slots new ps key o table was updates shut = record {
     no : (o : Option KeptConnection) (held : KeptConnection) → o ≡ Some held → held.is_open ≡ true → IsShut o → ⊥
     no None held e opened s = absurd (cc)
     no (Some h) held e opened s =
-        let is : true ≡ false = sym opened ∙ ap (λ (x : KeptConnection). x.is_open) (sym (some-same h held e)) ∙ s in absurd (cc)
+        let is : true ≡ false = sym opened ∙ ap (λ (x : KeptConnection). x.is_open) (sym (some-same h held e))
+        ∙ s in absurd (cc)
 
-pub shut-same : (slots new : Slab KeptConnection) (ps : List ConnectionPlace) (key : ℕ) (o : Option KeptConnection) → IsTable slots ps
+pub shut-same : (slots new : Slab KeptConnection) (ps : List ConnectionPlace) (key : ℕ) (o : Option KeptConnection)
+    → IsTable slots ps
     → IsShut (get slots key) → Updates slots new key o → connections_at new ps ≡ connections_at slots ps
 shut-same slots new ps key o table was updates =
     connections-else slots new key o ps (else-shut slots key ps table.there was) updates
@@ -301,7 +319,8 @@ module _ (slots : Slab KeptConnection) (ps : List ConnectionPlace) (key : ℕ) (
 
 -- ---- one leaves
 
-above-other : (slots : Slab KeptConnection) (p : ConnectionPlace) (ps : List ConnectionPlace) (at : ℕ) → IsThere slots p → AreThere slots ps
+above-other : (slots : Slab KeptConnection) (p : ConnectionPlace) (ps : List ConnectionPlace) (at : ℕ)
+    → IsThere slots p → AreThere slots ps
     → AreAbove p.number (numbers_of ps) → at < length ps → (q : ConnectionPlace) → q ≡ get_or ps at q → p.key ≢ q.key
 above-other slots p ps at t there above inside q read =
     λ same.
@@ -313,14 +332,16 @@ above-other slots p ps at t there above inside q read =
     let equal : one.held.connection.number ≡ p.number = number-there slots p q.key one.held t one.kept same in
     omega (arith, numbered, higher, equal, one.number)
   where
-    there-at : (slots : Slab KeptConnection) (ps : List ConnectionPlace) (at : ℕ) → AreThere slots ps → at < length ps → (q : ConnectionPlace)
+    there-at : (slots : Slab KeptConnection) (ps : List ConnectionPlace) (at : ℕ) → AreThere slots ps
+        → at < length ps → (q : ConnectionPlace)
         → q ≡ get_or ps at q → IsThere slots q
     there-at slots [] at there inside q read = absurd (omega (arith, inside))
     there-at slots (x ∷ xs) zero there inside q read = subst (λ (y : ConnectionPlace). IsThere slots y) (sym read) there.0
     there-at slots (x ∷ xs) (suc at) there inside q read =
         there-at slots xs at there.1 (omega (arith, inside)) q read
 
-pub there-place : (slots : Slab KeptConnection) (ps : List ConnectionPlace) (at : ℕ) → AreThere slots ps → at < length ps → (q : ConnectionPlace)
+pub there-place : (slots : Slab KeptConnection) (ps : List ConnectionPlace) (at : ℕ) → AreThere slots ps
+    → at < length ps → (q : ConnectionPlace)
     → q ≡ get_or ps at q → IsThere slots q
 there-place slots [] at there inside q read = absurd (omega (arith, inside))
 there-place slots (x ∷ xs) zero there inside q read = subst (λ (y : ConnectionPlace). IsThere slots y) (sym read) there.0
@@ -328,7 +349,8 @@ there-place slots (x ∷ xs) (suc at) there inside q read =
     there-place slots xs at there.1 (omega (arith, inside)) q read
 
 -- the places that are left have other keys
-else-remove : (slots : Slab KeptConnection) (ps : List ConnectionPlace) (at : ℕ) (q : ConnectionPlace) → AreThere slots ps → Rise (numbers_of ps)
+else-remove : (slots : Slab KeptConnection) (ps : List ConnectionPlace) (at : ℕ) (q : ConnectionPlace)
+    → AreThere slots ps → Rise (numbers_of ps)
     → at < length ps → q ≡ get_or ps at q → AreElse q.key (remove ps at)
 else-remove slots [] at q there rise inside read = absurd (omega (arith, inside))
 else-remove slots (x ∷ xs) zero q there rise inside read =
@@ -340,7 +362,8 @@ else-remove slots (x ∷ xs) (suc at) q there rise inside read = (
   else-remove slots xs at q there.1 rise.1 (omega (arith, inside)) read,
 )
 
-there-remove : (slots : Slab KeptConnection) (ps : List ConnectionPlace) (at : ℕ) → AreThere slots ps → AreThere slots (remove ps at)
+there-remove : (slots : Slab KeptConnection) (ps : List ConnectionPlace) (at : ℕ) → AreThere slots ps
+    → AreThere slots (remove ps at)
 there-remove slots [] zero there = tt
 there-remove slots [] (suc at) there = tt
 there-remove slots (x ∷ xs) zero there = there.1
@@ -357,7 +380,8 @@ connections-remove slots (x ∷ xs) (suc at) there =
     ∙ ap (λ l. there.0.held.connection ∷ l) (connections-remove slots xs at there.1)
     ∙ sym (ap (λ o. remove (with_held o (connections_at slots xs)) (suc at)) there.0.kept)
 
-among-remove : (ps : List ConnectionPlace) (at : ℕ) (q p : ConnectionPlace) → q ≡ get_or ps at q → p.key ≢ q.key → IsAmong p ps
+among-remove : (ps : List ConnectionPlace) (at : ℕ) (q p : ConnectionPlace) → q ≡ get_or ps at q → p.key ≢ q.key
+    → IsAmong p ps
     → IsAmong p (remove ps at)
 among-remove [] at q p read other among = absurd among
 among-remove (x ∷ xs) zero q p read other (inl here) =
@@ -407,7 +431,8 @@ last (x ∷ xs) p =
 
 -- ---- one joins
 
-there-push : (slots : Slab KeptConnection) (ps : List ConnectionPlace) (p : ConnectionPlace) → AreThere slots ps → IsThere slots p
+there-push : (slots : Slab KeptConnection) (ps : List ConnectionPlace) (p : ConnectionPlace) → AreThere slots ps
+    → IsThere slots p
     → AreThere slots (ps ++ p ∷ [])
 there-push slots [] p there one = (one, tt)
 there-push slots (x ∷ xs) p there one = (there.0, there-push slots xs p there.1 one)

@@ -1,5 +1,5 @@
-//! What a client's connection gives: so many bytes between two polls, so that one that sends without an end keeps nobody
-//! waiting; and the end of what it sends, and when that is told.
+//! What a client's connection gives: so many bytes between two polls, so that one that sends without an end keeps
+//! nobody waiting; and the end of what it sends, and when that is told.
 //!
 //! A client's end is told once nothing moved to it from one poll to the next, and nothing waits for it. The system
 //! reports a peer that has closed its connection and one that has closed its sending half alone in the same way; the

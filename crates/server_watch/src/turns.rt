@@ -44,8 +44,8 @@ fn count_in_all(buckets: &mut [TurnBucket<'static>], micros: u64)
 }
 
 impl Turns {
-    /// There was no turn. The bounds go from a tenth of a millisecond, which a turn takes that hands on one record, to a
-    /// second, which no client should wait.
+    /// There was no turn. The bounds go from a tenth of a millisecond, which a turn takes that hands on one record, to
+    /// a second, which no client should wait.
     pub fn new() -> Turns
         ensures bounds { map (λ b. b.bound.now) result.buckets ≡ bound_texts }
         ensures buckets { map (λ b. b.micros) result.buckets ≡ bounds }

@@ -172,4 +172,5 @@ turn_lines t = turn_head ++ bucket_rows t.buckets.now ++ turn_end t
 -- all metrics
 unfoldable pub metrics_text : StatusValue → List ℕ
 metrics_text v =
-    server_lines v ++ client_lines v.client_bytes ++ turn_lines v.turns ++ refusal_lines v.refusals.now ++ away_lines v.away.now ++ station_lines v.stations.now
+    server_lines v ++ client_lines v.client_bytes ++ turn_lines v.turns ++ refusal_lines v.refusals.now
+    ++ away_lines v.away.now ++ station_lines v.stations.now

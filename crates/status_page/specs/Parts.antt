@@ -1,5 +1,6 @@
 -- Parts of an answer, and their texts. HTML: character references. Prometheus, text format 0.0.4: values of labels.
-use Rattle.std.specs.Prelude.{ℕ, ℤ, pos, negsuc, ◌==◌, ◌||◌, ◌+◌, ◌/◌, ◌%◌, nat_lt, if◌then◌else◌, List, [], ◌∷◌, ◌++◌, codes}
+use Rattle.std.specs.Prelude.{ℕ, ℤ, pos, negsuc, ◌==◌, ◌||◌, ◌+◌, ◌/◌, ◌%◌, nat_lt, if◌then◌else◌, List, [], ◌∷◌, ◌++◌}
+use Rattle.std.specs.Prelude.{codes}
 use Rattle.std.specs.Prelude.{decimal, flat_map, slice_index}
 use Rattle.sl_time.specs.Written.{moment_text}
 use Rattle.status_page.specs.declared.parts.Part.{Part}

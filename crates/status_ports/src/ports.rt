@@ -197,8 +197,8 @@ impl StatusPorts {
         Ok(self.listener.local_addr()?.port())
     }
 
-    /// Takes a connection if one waits, and tells whether one did. One that may not ask is closed with no byte, and so is
-    /// one for which there is no room: else those that gave up would stand before all who come later.
+    /// Takes a connection if one waits, and tells whether one did. One that may not ask is closed with no byte, and so
+    /// is one for which there is no room: else those that gave up would stand before all who come later.
     fn accept(&mut self, now: u64) -> bool {
         let Ok((stream, from)) = self.listener.accept() else {
             return false;

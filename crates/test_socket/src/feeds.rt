@@ -143,7 +143,8 @@ fn make_torn_file<R: Files + AllocGlobal>(rt: &R) -> Result<(), Fail> {
     Ok(())
 }
 
-/// Sends that file as `feed --skip` does to a server, which has its turns then. Whether the two records alone were sent.
+/// Sends that file as `feed --skip` does to a server, which has its turns then. Whether the two records alone were
+/// sent.
 fn are_sent_alone<R: Files<File = File> + Eprint + Clock + Net + AllocGlobal>(
     rt: &R,
     centre: &mut Centre,

@@ -1,5 +1,5 @@
-//! Visitors of a server that the words of a command line start: while it runs, they act whenever it opens a file, as its
-//! configuration after each turn.
+//! Visitors of a server that the words of a command line start: while it runs, they act whenever it opens a file, as
+//! its configuration after each turn.
 use crate::outcome::{free_ports, job_of};
 use loopback::{Actor, GREETING, Visitor, packet, record};
 use std::alloc::Global;
