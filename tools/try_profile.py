@@ -3,7 +3,8 @@
 
     tools/try_profile.py
 
-- Each fault of its tables is a reason of the program by that number and name, and each reason stands in a table.
+- Each fault of its tables is a reason of the program by that number and name, and each reason stands in a table, and in what
+  --help faults lists, in the order of the numbers.
 - What tools/write_manual.py writes stands there, and the manual leaves out no option and no fault.
 - The table of keys has the rows of the program's own, in the same order.
 - Each example of the table of configurations is refused with the fault of its row.
@@ -55,6 +56,12 @@ def faults_of_tables(page):
     return {(int(number), word) for cell in cells for number, word in re.findall(r"\b(\d+) ([A-Z][a-z]\w*)", cell)}
 
 
+def faults_of_help():
+    """The same of what --help faults prints, in its order."""
+    done = subprocess.run([PROGRAM, "--help", "faults"], capture_output=True, text=True, timeout=20, check=True)
+    return [(int(number), word) for number, word in re.findall(r"^ +(\d+) (\w+) +[a-z]", done.stdout, re.M)]
+
+
 KINDS = {"Text": "text", "WholeNumber": "whole number", "Tables": "array of tables"}
 
 
@@ -103,6 +110,7 @@ def try_tables(page):
     told, said = faults_of_sources(), faults_of_tables(page)
     check(told <= said, f"no table has {sorted(told - said)}")
     check(said <= told, f"nothing reports {sorted(said - told)}")
+    check(faults_of_help() == sorted(told), "--help faults lists others, or in another order")
     keys, rows = list(keys_of_sources()), keys_of_page(page)
     check(len(keys) == 10 and keys == rows, f"the table of keys has {rows}, not {keys}")
     with tempfile.TemporaryDirectory() as room:
