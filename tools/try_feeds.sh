@@ -73,9 +73,9 @@ holders=
 # A server that is killed while a feed sends.
 good=0
 for _ in $(seq "$times"); do
-    { cat "$room/many"; sleep 0.3; cat "$room/one"; } | "$program" feed "127.0.0.1:$((port + 1))" /dev/stdin 2>"$room/told" &
+    { cat "$room/many"; sleep 1; cat "$room/one"; } | "$program" feed "127.0.0.1:$((port + 1))" /dev/stdin 2>"$room/told" &
     feeder=$!
-    sleep 0.1
+    sleep 0.5
     kill -KILL "$server"
     wait "$feeder"
     [ $? -eq 1 ] && grep -q "$untaken" "$room/told" && good=$((good + 1))

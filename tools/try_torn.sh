@@ -48,7 +48,7 @@ start() {
 begin() {
     "$program" serve "$top/examples/loopback.toml" --listen "127.0.0.1:$port" --feed "127.0.0.1:$((port + 1))" --report 1 --log 2>said &
     server=$!
-    until grep -q clients said; do
+    until grep -qs clients said; do
         kill -0 "$server" 2>/dev/null || return 1
         sleep 0.1
     done
