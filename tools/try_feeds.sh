@@ -35,6 +35,7 @@ start() {
     done
 }
 begin() {
+    : >"$room/said"
     "$program" serve "$top/examples/loopback.toml" --listen "127.0.0.1:$port" --feed "127.0.0.1:$((port + 1))" --report 1 2>"$room/said" &
     server=$!
     until grep -q clients "$room/said"; do
