@@ -1,53 +1,34 @@
 -- At which step the reading of a configuration fails first: all steps before it succeed, and it gives the fault.
-use Rattle.std.specs.Prelude.{◌≡◌, ℕ, ◌+◌, List, [], take, slice_get, Option, Some, None, Result, Ok, Err, IsOk}
-use Rattle.std.specs.Prelude.{IsOkAnd, option_map}
-use Rattle.std.specs.Result.{result_ok}
+use Rattle.std.specs.Prelude.{◌≡◌, ℕ, ◌+◌, List, [], ◌∷◌, ◌++◌, take, slice_get, Option, Some, None, Result, Ok, Err}
+use Rattle.std.specs.Prelude.{IsOk, IsOkAnd, option_map}
+use Rattle.std.specs.Result.{result_err, result_ok}
 use Rattle.toml.specs.Data.{Data, Members}
 use Rattle.protocol.specs.Catalog.{Entry}
 use Rattle.catalog.specs.Keys.{table_in}
 use Rattle.catalog.specs.Reading.{entry_of, not_repeated, station_values, stations_read}
-use Rattle.catalog.specs.Settings.{access_of, title_of, connections_of, network_of, code_of, description_of}
-use Rattle.catalog.specs.Settings.{capacity_of, first_of}
-use Rattle.catalog.specs.Steps.{◌>>=◌}
+use Rattle.catalog.specs.Settings.{access_of, title_of, connections_of, network_of, code_of, key_fault, key_steps}
+use Rattle.catalog.specs.Settings.{setting_steps}
+use Rattle.catalog.specs.Steps.{◌>>=◌, first_fault}
 use Rattle.catalog.specs.declared.fault.ConfigFault.{ConfigFault}
 use Rattle.catalog.specs.declared.fault.ConfigFault.TheVariants.{Toml}
 use Rattle.catalog.specs.declared.error.ConfigError.{ConfigError}
 use Rattle.catalog.specs.declared.error.Step.{Step}
 use Rattle.catalog.specs.declared.error.Step.TheVariants as step
-use Rattle.catalog.specs.declared.error.StationStep.{StationStep}
-use Rattle.catalog.specs.declared.error.StationStep.TheVariants.{Table, Network, Code, Description, Capacity, First}
-use Rattle.catalog.specs.declared.error.StationStep.TheVariants.{Access, Codes}
+use Rattle.catalog.specs.declared.settings.StationStep.{StationStep}
+use Rattle.catalog.specs.declared.settings.StationStep.TheVariants.{Table, Network, Code, Codes}
 
 -- ---- one station, by its table where it is one
 
--- all steps before one succeed
-abbrev pub AreReadBefore : Result Members ConfigFault → StationStep → Type 0
-AreReadBefore table Table = Unit {0}
-AreReadBefore table Network = IsOk table
-AreReadBefore table Code = IsOk table × IsOk (table >>= network_of)
-AreReadBefore table Description = IsOk table × IsOk (table >>= network_of) × IsOk (table >>= code_of)
-AreReadBefore table Capacity =
-    IsOk table × IsOk (table >>= network_of) × IsOk (table >>= code_of) × IsOk (table >>= description_of)
-AreReadBefore table First =
-    IsOk table × IsOk (table >>= network_of) × IsOk (table >>= code_of) × IsOk (table >>= description_of)
-    × IsOk (table >>= capacity_of)
-AreReadBefore table Access =
-    IsOk table × IsOk (table >>= network_of) × IsOk (table >>= code_of) × IsOk (table >>= description_of)
-    × IsOk (table >>= capacity_of) × IsOk (table >>= first_of)
-AreReadBefore table Codes =
-    IsOk table × IsOk (table >>= network_of) × IsOk (table >>= code_of) × IsOk (table >>= description_of)
-    × IsOk (table >>= capacity_of) × IsOk (table >>= first_of) × IsOk (table >>= access_of)
+-- the steps of its reading, in order
+abbrev pub station_steps : List StationStep
+station_steps = Table ∷ key_steps ++ Codes ∷ []
 
--- a step fails, with that fault; the last one is that no earlier station has the same codes
-abbrev pub FailsIn : List Entry → Result Members ConfigFault → StationStep → ConfigFault → Type 0
-FailsIn earlier table Table fault = table ≡ Err fault
-FailsIn earlier table Network fault = (table >>= network_of) ≡ Err fault
-FailsIn earlier table Code fault = (table >>= code_of) ≡ Err fault
-FailsIn earlier table Description fault = (table >>= description_of) ≡ Err fault
-FailsIn earlier table Capacity fault = (table >>= capacity_of) ≡ Err fault
-FailsIn earlier table First fault = (table >>= first_of) ≡ Err fault
-FailsIn earlier table Access fault = (table >>= access_of) ≡ Err fault
-FailsIn earlier table Codes fault = ((table >>= entry_of) >>= not_repeated earlier) ≡ Err fault
+-- The fault of a step behind earlier stations, if it fails: the last is that none of them has the same codes. Without a
+-- table each fails.
+abbrev pub fault_at : List Entry → Result Members ConfigFault → StationStep → Option ConfigFault
+fault_at earlier (Err fault) s = Some fault
+fault_at earlier (Ok members) Codes = result_err (entry_of members >>= not_repeated earlier)
+fault_at earlier (Ok members) s = key_fault members s
 
 -- the network's code, where it was read before a step
 abbrev pub network_before : Result Members ConfigFault → StationStep → Option (List ℕ)
@@ -62,10 +43,10 @@ code_before table Network = None
 code_before table Code = None
 code_before table _ = result_ok (table >>= code_of)
 
--- it fails first at that step, with the fault of an error, which has the codes that were read before
+-- it is the first step that fails, with the fault of an error, which has the codes that were read before
 abbrev pub FailsFirst : List Entry → Result Members ConfigFault → ConfigError → StationStep → Type 0
 FailsFirst earlier table e s =
-    AreReadBefore table s × FailsIn earlier table s e.fault
+    (first_fault (fault_at earlier table) station_steps ≡ Some (s, e.fault))
     × (option_map (λ text. text.items) e.network ≡ network_before table s)
     × (option_map (λ text. text.items) e.code ≡ code_before table s)
 
@@ -78,15 +59,12 @@ FailsAtStep place earlier table e _ = ⊥
 abbrev pub FailsWithin : ℕ → List Entry → Result Members ConfigFault → ConfigError → Type 0
 FailsWithin place earlier table e = FailsAtStep place earlier table e e.step
 
--- the same of the settings beside the codes
+-- the first step of the settings that fails; both codes are read before
 abbrev pub FailsAtSetting : Members → ConfigFault → StationStep → Type 0
-FailsAtSetting table fault Description = description_of table ≡ Err fault
-FailsAtSetting table fault Capacity = IsOk (description_of table) × (capacity_of table ≡ Err fault)
-FailsAtSetting table fault First =
-    IsOk (description_of table) × IsOk (capacity_of table) × (first_of table ≡ Err fault)
-FailsAtSetting table fault Access =
-    IsOk (description_of table) × IsOk (capacity_of table) × IsOk (first_of table) × (access_of table ≡ Err fault)
-FailsAtSetting table fault _ = ⊥
+FailsAtSetting members fault s =
+    (first_fault (key_fault members) setting_steps ≡ Some (s, fault))
+    × (network_before (Ok members) s ≡ result_ok (network_of members))
+    × (code_before (Ok members) s ≡ result_ok (code_of members))
 
 -- ---- all stations
 

@@ -7,26 +7,28 @@ use Rattle.std.specs.List.{list_all, list_any}
 use Rattle.toml.specs.Data.{Data, Members, as_table}
 use Rattle.protocol.specs.Catalog.{Config, Entry, Station, has_codes}
 use Rattle.catalog.specs.Keys.{elements_at, table_in}
-use Rattle.catalog.specs.Settings.{access_of, title_of, connections_of, network_of, code_of, description_of}
-use Rattle.catalog.specs.Settings.{capacity_of, first_of}
+use Rattle.catalog.specs.Settings.{access_of, title_of, connections_of, network_of, code_of, settings_of}
 use Rattle.catalog.specs.Steps.{◌>>=◌, within_if}
 use Rattle.catalog.specs.declared.fault.ConfigFault.{ConfigFault}
 use Rattle.catalog.specs.declared.fault.ConfigFault.TheVariants.{Toml, Missing, Duplicate}
 
 -- ---- one station
 
--- the settings of a station, key after key
+-- a station's codes and its settings, key after key
 unfoldable pub entry_of : Members → Result Entry ConfigFault
 entry_of members = do
   network ← network_of members
   code ← code_of members
-  description ← description_of members
-  capacity ← capacity_of members
-  first ← first_of members
-  access ← access_of members
+  settings ← settings_of members
   Ok (record {
-    station = record { network = network; code = code; description = description; capacity = capacity; first = first };
-    access = access;
+    station = record {
+      network = network;
+      code = code;
+      description = settings.description;
+      capacity = settings.capacity;
+      first = settings.first;
+    };
+    access = settings.access;
   })
 
 -- an earlier station has the same network and code

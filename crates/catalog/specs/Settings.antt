@@ -1,5 +1,7 @@
--- The settings that a configuration's table and a station's table have, each of one key alone.
-use Rattle.std.specs.Prelude.{ℕ, ℤ, List, Option, Some, None, Result, Ok, Err, codes}
+-- The settings that a configuration's table and a station's table have, each of one key alone, and which key of a
+-- station is read after which.
+use Rattle.std.specs.Prelude.{⊤, ℕ, ℤ, List, [], ◌∷◌, Option, Some, None, Result, Ok, Err, codes}
+use Rattle.std.specs.Result.{result_err}
 use Rattle.toml.specs.Data.{Members}
 use Rattle.protocol.specs.Access.{Token}
 use Rattle.protocol.specs.Packet.{number_of}
@@ -10,6 +12,9 @@ use Rattle.catalog.specs.Steps.{◌>>=◌, within, within_if}
 use Rattle.catalog.specs.Texts.{is_title, is_network, is_code, is_description}
 use Rattle.catalog.specs.declared.fault.ConfigFault.{ConfigFault}
 use Rattle.catalog.specs.declared.fault.ConfigFault.TheVariants.{Access}
+use Rattle.catalog.specs.declared.settings.Settings.{Settings}
+use Rattle.catalog.specs.declared.settings.StationStep.{StationStep}
+use Rattle.catalog.specs.declared.settings.StationStep.TheVariants as step
 
 -- ---- of both
 
@@ -88,3 +93,50 @@ unfoldable pub first_of : Members → Result ℕ ConfigFault
 first_of members = do
   text ← text_if_any (codes "first") members
   first_by text
+
+-- the definitions of all of these, to be opened together
+unfoldable pub station_settings : ⊤
+unfolding network_of code_of description_of capacity_of first_of access_of
+station_settings = tt
+
+-- ---- which key of a station is read after which
+
+-- the settings of a station beside its codes
+pub record SettingsValue : Type 0 where
+  pub description : List ℕ
+  pub capacity : ℕ
+  pub first : ℕ
+  pub access : Option (List Token)
+
+-- those of the code
+abbrev pub settings_value : Settings → SettingsValue
+settings_value s =
+    record { description = s.description.items; capacity = s.capacity; first = s.first; access = s.access }
+
+-- they are read key after key
+abbrev pub settings_of : Members → Result SettingsValue ConfigFault
+settings_of members = do
+  description ← description_of members
+  capacity ← capacity_of members
+  first ← first_of members
+  access ← access_of members
+  Ok (record { description = description; capacity = capacity; first = first; access = access })
+
+-- the steps that read them, in the same order
+abbrev pub setting_steps : List StationStep
+setting_steps = step.Description ∷ step.Capacity ∷ step.First ∷ step.Access ∷ []
+
+-- the steps that read a key of a station, in order: its codes come before its settings
+abbrev pub key_steps : List StationStep
+key_steps = step.Network ∷ step.Code ∷ setting_steps
+
+-- why the value of a key is refused at the step that reads it, if it is; the other steps read no key
+abbrev pub key_fault : Members → StationStep → Option ConfigFault
+key_fault _ step.Table = None
+key_fault members step.Network = result_err (network_of members)
+key_fault members step.Code = result_err (code_of members)
+key_fault members step.Description = result_err (description_of members)
+key_fault members step.Capacity = result_err (capacity_of members)
+key_fault members step.First = result_err (first_of members)
+key_fault members step.Access = result_err (access_of members)
+key_fault _ step.Codes = None

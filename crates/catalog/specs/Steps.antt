@@ -1,5 +1,5 @@
 -- Steps of a reading, one after the other: the first that fails is told.
-use Rattle.std.specs.Prelude.{Bool, if◌then◌else◌, Option, Some, None, Result, Ok, Err}
+use Rattle.std.specs.Prelude.{Bool, if◌then◌else◌, List, [], ◌∷◌, Option, Some, None, Result, Ok, Err}
 use Rattle.catalog.specs.declared.fault.ConfigFault.{ConfigFault}
 use Rattle.catalog.specs.declared.fault.ConfigFault.TheVariants.{Missing, Limit}
 
@@ -22,3 +22,15 @@ within (Some x) = Ok x
 -- the same, where a test says so
 abbrev pub within_if : {A : Type 0} → Bool → A → Result A ConfigFault
 within_if b x = if b then Ok x else Err Limit
+
+-- ---- which step fails first
+
+-- a step with its fault, or else what comes after it
+abbrev pub fault_or : {S : Type 0} → S → Option ConfigFault → Option (S × ConfigFault) → Option (S × ConfigFault)
+fault_or step (Some fault) later = Some (step, fault)
+fault_or step None later = later
+
+-- the first of some steps that fails, with its fault, by the fault of each step that fails
+abbrev pub first_fault : {S : Type 0} → (S → Option ConfigFault) → List S → Option (S × ConfigFault)
+first_fault fault_at [] = None
+first_fault fault_at (step ∷ later) = fault_or step (fault_at step) (first_fault fault_at later)

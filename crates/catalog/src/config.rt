@@ -67,18 +67,13 @@ impl Model for Config {
 
 impl Config {
     /// Reads the text of a configuration, which is TOML in UTF-8. Its keys are judged in this order, and the first that
-    /// fails is told: `title`, `access`, `max_connections`, `station`, and then for each station in order `network`,
-    /// `code`, `description`, `capacity`, `first`, `access`, and whether an earlier station has the same network and
-    /// code. Other keys are ignored.
+    /// fails is told: `title`, `access`, `max_connections`, `station`, and then those of each station in order, by the
+    /// steps of `StationStep`, which say what is allowed there. Other keys are ignored.
     ///
     /// - `title` has 1 to 100 bytes of printable ASCII.
-    /// - `access`, of the server or of a station, is a list of addresses and masks, and may be missing.
+    /// - `access` is a list of addresses and masks, and may be missing.
     /// - `max_connections` is 1 to 10,000, and 100 where it is missing.
     /// - `station` is an array of 1 to 1,024 tables.
-    /// - `network` has 1 to 2 and `code` 1 to 5 of `A` to `Z` and `0` to `9`.
-    /// - `description` has at most 60 bytes of printable ASCII.
-    /// - `capacity` is 1 to 65,536.
-    /// - `first` has 1 to 6 hexadecimal digits of either case, and is 0 where it is missing.
     ///
     /// It fails with Toml where the bytes are no UTF-8 or no TOML; with Missing where a key that has to be there is
     /// missing, or one has a value of another kind; with Limit where a value is outside these limits; with Access where

@@ -1,21 +1,6 @@
 //! At which step the reading of a configuration failed.
 use crate::fault::ConfigFault;
-
-/// A step of the reading of one station.
-#[derive(Clone, Copy, Drop)]
-pub enum StationStep {
-    /// It is a table.
-    Table,
-    /// The value of a key, where it has to be there, is there, is of its kind and is within its limits.
-    Network,
-    Code,
-    Description,
-    Capacity,
-    First,
-    Access,
-    /// No earlier station has the same network and code.
-    Codes,
-}
+use crate::settings::StationStep;
 
 /// A step of the reading of a configuration.
 #[derive(Clone, Copy, Drop)]

@@ -18,8 +18,9 @@ pub mod view;
 
 pub use changes::Changes;
 pub use config::Config;
-pub use error::{ConfigError, StationStep, Step};
+pub use error::{ConfigError, Step};
 pub use fault::ConfigFault;
 pub use numbers::KeptNumber;
+pub use settings::StationStep;
 pub use station::Station;
 pub use view::View;

@@ -8,9 +8,10 @@ ghost use Rattle.catalog.specs.Places.{HasDistinctCodes};
 ghost use Rattle.catalog.specs.Reading.{is_few, is_repeated, is_table, station_of, station_values, stations_of};
 ghost use Rattle.catalog.specs.Reading.{stations_read};
 
-use crate::error::{ConfigError, StationStep, Step};
+use crate::error::{ConfigError, Step};
 use crate::fault::ConfigFault;
 use crate::keys::{elements_at, table_in};
+use crate::settings::StationStep;
 use crate::station::Station;
 use std::alloc::Global;
 use toml::{Table, Value};

@@ -1,8 +1,12 @@
-//! The settings that a configuration's table and a station's table have: a function a key.
-ghost use Rattle.std.specs.Prelude.{◌≡◌, ◌≢◌, ◌≤◌, length, IfOk, IfErr, Ok, Err};
+//! The settings that a configuration's table and a station's table have: a function a key, and which key of a station is
+//! read after which.
+ghost use Rattle.std.specs.Prelude.{◌≡◌, ◌≢◌, ◌≤◌, length, IfOk, IfErr, Ok, Err, None};
 ghost use Rattle.toml.specs.View.{table_view};
+ghost use Rattle.catalog.specs.Failing.{FailsAtSetting};
 ghost use Rattle.catalog.specs.Settings.{access_spelled, access_of, title_of, connections_of, network_of, code_of};
-ghost use Rattle.catalog.specs.Settings.{description_of, capacity_of, first_of};
+ghost use Rattle.catalog.specs.Settings.{description_of, capacity_of, first_of, key_fault, setting_steps, settings_of};
+ghost use Rattle.catalog.specs.Settings.{settings_value};
+ghost use Rattle.catalog.specs.Steps.{first_fault};
 
 use crate::fault::ConfigFault;
 use crate::keys::{copied_if, number_at, number_if_any, number_up_to, text_at, text_if_any};
@@ -117,5 +121,80 @@ pub fn first_of(table: &Table) -> Result<Seq, ConfigFault>
     match text_if_any(table, "first")? {
         Some(text) => Seq::parse(text).ok_or(ConfigFault::Limit),
         None => Ok(Seq::of(0).unwrap()),
+    }
+}
+
+/// A step of the reading of one station, in the order in which they are made.
+#[derive(Clone, Copy, Drop)]
+pub enum StationStep {
+    /// It is a table.
+    Table,
+    /// `network` has 1 to 2 of `A` to `Z` and `0` to `9`.
+    Network,
+    /// `code` has 1 to 5 of them.
+    Code,
+    /// `description` has at most 60 bytes of printable ASCII.
+    Description,
+    /// `capacity` is a whole number from 1 to 65,536.
+    Capacity,
+    /// `first` has 1 to 6 hexadecimal digits of either case, and is 0 if it is missing.
+    First,
+    /// `access` is a list of addresses and masks, and may be missing.
+    Access,
+    /// No earlier station has the same network and code.
+    Codes,
+}
+
+/// The settings of a station beside its codes.
+#[derive(Drop)]
+pub(crate) struct Settings {
+    pub description: Vec<u8>,
+    pub capacity: usize,
+    pub first: Seq,
+    pub access: Option<AccessList>,
+}
+
+/// Why they are refused, and at which step.
+#[derive(Clone, Copy, Drop)]
+pub(crate) struct SettingsError {
+    pub fault: ConfigFault,
+    pub step: StationStep,
+}
+
+impl Settings {
+    /// Reads the settings of a station's table beside its codes, key after key.
+    pub fn read(alloc: Global, table: &Table) -> Result<Settings, SettingsError>
+        ensures ok { IfOk result (λ s. settings_of (table_view table.now) ≡ Ok (settings_value s)) }
+        ensures steps { IfOk result (λ s. first_fault (key_fault (table_view table.now)) setting_steps ≡ None) }
+        ensures short { IfOk result (λ s. length s.description.items ≤ 60) }
+        ensures some { IfOk result (λ s. 1 ≤ s.capacity) }
+        ensures limit { IfOk result (λ s. s.capacity ≤ 65536) }
+        ensures fault { IfErr result (λ e. e.fault ≢ ConfigFault.OutOfMemory
+            → settings_of (table_view table.now) ≡ Err e.fault) }
+        ensures step { IfErr result (λ e. e.fault ≢ ConfigFault.OutOfMemory
+            → FailsAtSetting (table_view table.now) e.fault e.step) }
+    {
+        let description = read_at(StationStep::Description, description_of(alloc, table))?;
+        let capacity = read_at(StationStep::Capacity, capacity_of(table))?;
+        let first = read_at(StationStep::First, first_of(table))?;
+        let access = read_at(StationStep::Access, access_of(alloc, table))?;
+        Ok(Settings {
+            description,
+            capacity,
+            first,
+            access,
+        })
+    }
+}
+
+/// What a step has read, or why it is refused there.
+fn read_at<T>(step: StationStep, read: Result<T, ConfigFault>) -> Result<T, SettingsError>
+    ensures ok { IfOk result (λ value. read ≡ Ok value) }
+    ensures fault { IfErr result (λ e. read ≡ Err e.fault) }
+    ensures step { IfErr result (λ e. e.step ≡ step) }
+{
+    match read {
+        Ok(value) => Ok(value),
+        Err(fault) => Err(SettingsError { fault, step }),
     }
 }

@@ -1,20 +1,21 @@
 //! Stations of a configuration.
-ghost use Rattle.std.specs.Prelude.{◌≡◌, ◌≢◌, ◌≤◌, length, List, Some, IfOk, OnOk, IfErr, Ok, Err, option_map};
+ghost use Rattle.std.specs.Prelude.{◌≡◌, ◌≢◌, ◌≤◌, length, List, Some, None, IfOk, OnOk, IfErr, Ok, Err, option_map};
 ghost use Rattle.std.specs.Net.Addr.{ipv4_bits};
 ghost use Rattle.toml.specs.View.{table_view};
 ghost use Rattle.protocol.specs.Catalog.{Entry, has_codes, is_same_station, sees};
 ghost use Rattle.catalog.specs.Changes.{is_same_list};
-ghost use Rattle.catalog.specs.Failing.{AreReadBefore, FailsAtSetting, FailsWithin};
+ghost use Rattle.catalog.specs.Failing.{FailsWithin};
 ghost use Rattle.catalog.specs.Indexing.{key, HasShortCodes};
 ghost use Rattle.catalog.specs.Reading.{entry_of};
-ghost use Rattle.catalog.specs.Settings.{access_of, capacity_of, code_of, description_of, first_of, network_of};
-ghost use Rattle.catalog.specs.declared.error.StationStep.TheVariants.{Codes as AtCodes};
+ghost use Rattle.catalog.specs.Settings.{code_of, key_fault, key_steps, network_of};
+ghost use Rattle.catalog.specs.Steps.{first_fault};
+ghost use Rattle.catalog.specs.declared.settings.StationStep.TheVariants.{Codes as AtCodes};
 ghost use Rattle.catalog.specs.declared.error.Step.TheVariants.{Station as StationAt};
 
 use crate::codes::Codes;
-use crate::error::{ConfigError, StationStep, Step};
+use crate::error::{ConfigError, Step};
 use crate::fault::ConfigFault;
-use crate::settings::{access_of, capacity_of, code_of, description_of, first_of, network_of};
+use crate::settings::{Settings, StationStep, code_of, network_of};
 use access_list::AccessList;
 use sl_packet::Seq;
 use std::alloc::{AllocError, Global};
@@ -67,7 +68,7 @@ impl Station {
     #[tactic(auto, unfolding(crate::specs::Reading::entry_of))]
     pub(crate) fn read(alloc: Global, table: &Table, place: usize) -> Result<Station, ConfigError>
         ensures ok { IfOk result (λ station. entry_of (table_view table.now) ≡ Ok station) }
-        ensures keys { OnOk result (AreReadBefore (Ok (table_view table.now)) AtCodes) }
+        ensures keys { OnOk result (first_fault (key_fault (table_view table.now)) key_steps ≡ None) }
         ensures network { IfOk result (λ station. network_of (table_view table.now) ≡ Ok station.station.network) }
         ensures code { IfOk result (λ station. code_of (table_view table.now) ≡ Ok station.station.code) }
         ensures fault { IfErr result (λ e. e.fault ≢ ConfigFault.OutOfMemory
@@ -234,71 +235,6 @@ impl Station {
             (Some(own), _) => own.allows(address),
             (None, Some(global)) => global.allows(address),
             (None, None) => true,
-        }
-    }
-}
-
-/// The settings of a station beside its codes.
-#[derive(Drop)]
-struct Settings {
-    description: Vec<u8>,
-    capacity: usize,
-    first: Seq,
-    access: Option<AccessList>,
-}
-
-/// Why they are refused, and at which step.
-#[derive(Clone, Copy, Drop)]
-struct SettingsError {
-    fault: ConfigFault,
-    step: StationStep,
-}
-
-impl Settings {
-    /// Reads the settings of a station's table beside its codes, key after key.
-    fn read(alloc: Global, table: &Table) -> Result<Settings, SettingsError>
-        ensures description { IfOk result (λ s. description_of (table_view table.now) ≡ Ok s.description.items) }
-        ensures short { IfOk result (λ s. length s.description.items ≤ 60) }
-        ensures capacity { IfOk result (λ s. capacity_of (table_view table.now) ≡ Ok s.capacity) }
-        ensures some { IfOk result (λ s. 1 ≤ s.capacity) }
-        ensures limit { IfOk result (λ s. s.capacity ≤ 65536) }
-        ensures first { IfOk result (λ s. first_of (table_view table.now) ≡ Ok s.first) }
-        ensures access { IfOk result (λ s. access_of (table_view table.now) ≡ Ok s.access) }
-        ensures step { IfErr result (λ e. e.fault ≢ ConfigFault.OutOfMemory
-            → FailsAtSetting (table_view table.now) e.fault e.step) }
-    {
-        let description = match description_of(alloc, table) {
-            Ok(description) => description,
-            Err(fault) => return Err(SettingsError {
-                fault,
-                step: StationStep::Description,
-            }),
-        };
-        let capacity = match capacity_of(table) {
-            Ok(capacity) => capacity,
-            Err(fault) => return Err(SettingsError {
-                fault,
-                step: StationStep::Capacity,
-            }),
-        };
-        let first = match first_of(table) {
-            Ok(first) => first,
-            Err(fault) => return Err(SettingsError {
-                fault,
-                step: StationStep::First,
-            }),
-        };
-        match access_of(alloc, table) {
-            Ok(access) => Ok(Settings {
-                description,
-                capacity,
-                first,
-                access,
-            }),
-            Err(fault) => Err(SettingsError {
-                fault,
-                step: StationStep::Access,
-            }),
         }
     }
 }

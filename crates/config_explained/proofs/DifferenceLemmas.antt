@@ -9,10 +9,10 @@ use Rattle.protocol.specs.Catalog.{Config, Entry, Station, stations_of, is_same_
 use Rattle.protocol.specs.Catalog.{is_same_but_for_access}
 use Rattle.catalog.specs.declared.error.Step.{Step}
 use Rattle.catalog.specs.declared.error.Step.TheVariants as step
-use Rattle.catalog.specs.declared.error.StationStep.{StationStep}
+use Rattle.catalog.specs.declared.settings.StationStep.{StationStep}
 use Rattle.protocol.proofs.FoundLemmas.{both}
 use Rattle.config_explained.specs.Differences.{differing_among, differing_key, differing_step, differs, step_by, step_or}
-use Rattle.config_explained.specs.KeyTable.{station_steps}
+use Rattle.catalog.specs.Settings.{key_steps}
 
 -- ---- one station after the other
 
@@ -113,7 +113,7 @@ not_not true = refl
 not_not false = refl
 
 -- no key of the table differs, and the settings are the same
-same_settings : (s t : Station) → list_all (λ k. not (differs s t k)) station_steps ≡ is_same_station s t
+same_settings : (s t : Station) → list_all (λ k. not (differs s t k)) key_steps ≡ is_same_station s t
 same_settings s t = simp (not_not, and_true, and_regroup)
 
 neither : (place : ℕ) (key : Option StationStep) (further : Option Step) → step_or place key further ≡ None
@@ -129,7 +129,7 @@ same_stations place (s ∷ ss) [] none = absurd cc
 same_stations place (s ∷ ss) (t ∷ ts) none =
     let parts = neither place (differing_key s t) (differing_among (place + 1) ss ts) none in
     ap₂ (λ x y. x && y)
-    (sym (same_settings s t) ∙ none_differs (differs s t) station_steps parts.0)
+    (sym (same_settings s t) ∙ none_differs (differs s t) key_steps parts.0)
     (same_stations (place + 1) ss ts parts.1)
 
 none_among : (place : ℕ) (ss ts : List Station) → are_same_stations ss ts ≡ true → differing_among place ss ts ≡ None
@@ -139,7 +139,7 @@ none_among place (s ∷ ss) [] same = absurd (true≢false (sym same))
 none_among place (s ∷ ss) (t ∷ ts) same =
     let parts = and_parts (is_same_station s t) (are_same_stations ss ts) same in
     ap₂ (step_or place)
-    (all_are_same (differs s t) station_steps (same_settings s t ∙ parts.0))
+    (all_are_same (differs s t) key_steps (same_settings s t ∙ parts.0))
     (none_among (place + 1) ss ts parts.1)
 
 by_keys : (a b : Bool) (o : Option Step) (same : Bool) → (o ≡ None → same ≡ true) → step_by a b o ≡ None

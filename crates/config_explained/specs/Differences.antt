@@ -5,8 +5,9 @@ use Rattle.std.specs.Str.{bytes_eq}
 use Rattle.protocol.specs.Catalog.{Config, Station, stations_of}
 use Rattle.catalog.specs.declared.error.Step.{Step}
 use Rattle.catalog.specs.declared.error.Step.TheVariants as step
-use Rattle.catalog.specs.declared.error.StationStep.{StationStep}
-use Rattle.config_explained.specs.KeyTable.{setting_of, station_steps}
+use Rattle.catalog.specs.declared.settings.StationStep.{StationStep}
+use Rattle.catalog.specs.Settings.{key_steps}
+use Rattle.config_explained.specs.KeyTable.{setting_of}
 use Rattle.config_explained.specs.SettingValues.{SettingValue, is_same_value, setting_value}
 use Rattle.config_explained.specs.SettingValues.SettingValue.{nothing, text, number}
 use Rattle.config_explained.specs.declared.difference.Difference.{Difference}
@@ -50,7 +51,7 @@ differs s t key = not (is_same_value (setting_of s key) (setting_of t key))
 
 -- of two stations
 abbrev pub differing_key : Station → Station → Option StationStep
-differing_key s t = find (differs s t) station_steps
+differing_key s t = find (differs s t) key_steps
 
 -- at a place, or else further on
 abbrev pub step_or : ℕ → Option StationStep → Option Step → Option Step

@@ -7,7 +7,7 @@ use Rattle.protocol.specs.Catalog.{Config, Entry, Station, has_codes}
 use Rattle.protocol.specs.Pieces.{split, without_empty}
 use Rattle.access_list.specs.Tokens.{is_separator}
 use Rattle.catalog.specs.declared.error.Step.TheVariants as step
-use Rattle.catalog.specs.declared.error.StationStep.TheVariants as station
+use Rattle.catalog.specs.declared.settings.StationStep.TheVariants as station
 use Rattle.config_explained.specs.Findings.{text_at}
 
 -- the entries of a list: what stands between its separators

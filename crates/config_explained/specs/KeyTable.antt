@@ -7,8 +7,8 @@ use Rattle.protocol.specs.Catalog.{Station}
 use Rattle.catalog.specs.Reading.{entry_of, config_of}
 use Rattle.catalog.specs.declared.error.Step.{Step}
 use Rattle.catalog.specs.declared.error.Step.TheVariants as step
-use Rattle.catalog.specs.declared.error.StationStep.{StationStep}
-use Rattle.catalog.specs.declared.error.StationStep.TheVariants as station
+use Rattle.catalog.specs.declared.settings.StationStep.{StationStep}
+use Rattle.catalog.specs.declared.settings.StationStep.TheVariants as station
 use Rattle.config_explained.specs.declared.key.Key.{Key}
 use Rattle.config_explained.specs.declared.key.Key.TheVariants as key
 use Rattle.config_explained.specs.SettingValues.{SettingValue}
@@ -112,10 +112,18 @@ key_at step.MaxConnections = Some key.MaxConnections
 key_at step.Stations = Some key.Station
 key_at (step.Station place s) = station_key_at s
 
--- the steps that take the keys of a station
-abbrev pub station_steps : List StationStep
-station_steps =
-    station.Network ∷ station.Code ∷ station.Description ∷ station.Capacity ∷ station.First ∷ station.Access ∷ []
+-- the step that takes a key
+abbrev pub step_of : Key → Step
+step_of key.Title = step.Title
+step_of key.ServerAccess = step.Access
+step_of key.MaxConnections = step.MaxConnections
+step_of key.Station = step.Stations
+step_of key.Network = step.Station 0 station.Network
+step_of key.Code = step.Station 0 station.Code
+step_of key.Description = step.Station 0 station.Description
+step_of key.Capacity = step.Station 0 station.Capacity
+step_of key.First = step.Station 0 station.First
+step_of key.Access = step.Station 0 station.Access
 
 -- ---- the values that a station has of them
 
@@ -140,4 +148,4 @@ pub record ReadsTheTable : Type 0 where
   pub of_station : (m m' : Members) → AreAlike station_keys m m' → entry_of m ≡ entry_of m'
   pub of_server : (m m' : Members) → AreAlike server_keys m m' → config_of m ≡ config_of m'
   -- and each key of the list is taken by a step
-  pub each : (k : Key) → (s : Step) × (key_at s ≡ Some k)
+  pub each : (k : Key) → key_at (step_of k) ≡ Some k

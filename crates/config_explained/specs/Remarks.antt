@@ -8,7 +8,7 @@ use Rattle.protocol.specs.Catalog.{Station}
 use Rattle.protocol.specs.Pieces.{split}
 use Rattle.access_list.specs.Tokens.{is_separator, ones, token_of}
 use Rattle.catalog.specs.declared.error.Step.TheVariants as step
-use Rattle.catalog.specs.declared.error.StationStep.TheVariants as station
+use Rattle.catalog.specs.declared.settings.StationStep.TheVariants as station
 use Rattle.config_explained.specs.Findings.{text_at}
 use Rattle.config_explained.specs.Unknown.{Whose, owner_words}
 use Rattle.config_explained.specs.Unknown.Whose.{TheServer, TheStation}

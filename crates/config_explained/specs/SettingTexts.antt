@@ -4,7 +4,7 @@ use Rattle.config_explained.specs.KeyTable.{key_at, name_of, row_of}
 use Rattle.config_explained.specs.declared.key.Key.{Key}
 use Rattle.catalog.specs.declared.error.Step.{Step}
 use Rattle.catalog.specs.declared.error.Step.TheVariants as step
-use Rattle.catalog.specs.declared.error.StationStep.TheVariants as station
+use Rattle.catalog.specs.declared.settings.StationStep.TheVariants as station
 use Rattle.config_explained.specs.declared.kind.Kind.{Kind}
 use Rattle.config_explained.specs.declared.kind.Kind.TheVariants as kind
 

@@ -3,8 +3,8 @@ use Rattle.std.specs.Prelude.{ℕ, Option, Some, None, option_and_then}
 use Rattle.toml.specs.Data.{Data, Members, at, get, get_member}
 use Rattle.catalog.specs.declared.error.Step.{Step}
 use Rattle.catalog.specs.declared.error.Step.TheVariants as step
-use Rattle.catalog.specs.declared.error.StationStep.{StationStep}
-use Rattle.catalog.specs.declared.error.StationStep.TheVariants as station
+use Rattle.catalog.specs.declared.settings.StationStep.{StationStep}
+use Rattle.catalog.specs.declared.settings.StationStep.TheVariants as station
 use Rattle.config_explained.specs.KeyTable.{key_at, name_of, station_key_at}
 use Rattle.config_explained.specs.declared.key.Key.{Key}
 use Rattle.config_explained.specs.declared.key.Key.TheVariants as key

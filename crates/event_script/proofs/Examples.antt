@@ -10,8 +10,7 @@ use Rattle.protocol.specs.World.Event.{Open, Bytes, Take, Close, Arrive, Reload}
 use Rattle.protocol.proofs.Vectors.{sample}
 use Rattle.catalog.specs.Keys.{text_at, text_if_any, number_at, number_if_any, elements_at}
 use Rattle.catalog.specs.Reading.{config_of, stations_of, station_values, station_of, entry_of}
-use Rattle.catalog.specs.Settings.{title_of, access_of, connections_of, network_of, code_of, description_of}
-use Rattle.catalog.specs.Settings.{capacity_of, first_of}
+use Rattle.catalog.specs.Settings.{title_of, access_of, connections_of, station_settings}
 use Rattle.record_check.specs.Listing.{reading_of}
 use Rattle.event_script.specs.Dialogue.{dialogue_of}
 use Rattle.event_script.specs.Script.{config_told, event_of}
@@ -84,16 +83,12 @@ short_record = refl
 -- ---- configurations
 
 -- what an example unfolds to compute what keys hold, and the configuration of a text
-unfoldable numbers_on_literals : ⊤
-unfolding connections_of capacity_of first_of number_at number_if_any
-numbers_on_literals = tt
-
-unfoldable texts_on_literals : ⊤
-unfolding title_of access_of network_of code_of description_of text_at text_if_any elements_at
-texts_on_literals = tt
+unfoldable keys_on_literals : ⊤
+unfolding title_of access_of connections_of station_settings text_at text_if_any number_at number_if_any elements_at
+keys_on_literals = tt
 
 unfoldable stations_on_literals : ⊤
-unfolding numbers_on_literals texts_on_literals config_of stations_of station_values station_of entry_of
+unfolding keys_on_literals config_of stations_of station_values station_of entry_of
 stations_on_literals = tt
 
 unfoldable config_on_literals : ⊤
