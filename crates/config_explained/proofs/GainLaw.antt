@@ -1,13 +1,11 @@
 -- The networks that gain admit the addresses that the new list admits and the old one doesn't.
-use Rattle.std.proofs.Common.{◌≡◌, ◌≢◌, ◌∙◌, ℕ, zero, suc, ◌+◌, ◌*◌, ◌<◌, ◌≤◌, ◌^◌, ◌==◌, ◌&&◌, ◌||◌, Bool, true, false, true≢false}
-use Rattle.std.proofs.Common.{List, [], ◌∷◌, ◌++◌, refl, sym, ap, arith, eqb-true, eq-eqb, ◌⊎◌, ⊎_elim, inl, inr, min, max, not}
-use Rattle.std.proofs.Common.{if◌then◌else◌, subst}
+use Rattle.std.proofs.Common.{◌≡◌, ◌≢◌, ◌∙◌, ℕ, zero, suc, ◌*◌, ◌<◌, ◌≤◌, ◌^◌, ◌==◌, ◌&&◌, ◌||◌, Bool, true, false, true≢false}
+use Rattle.std.proofs.Common.{List, [], ◌∷◌, ◌++◌, refl, sym, ap, arith, eqb-true, eq-eqb, ◌⊎◌, ⊎_elim, inl, inr, not}
 use Rattle.std.specs.Prelude.{bit_and, bit_or}
 use Rattle.std.specs.Int.{bit_at, bit_not, w32}
-use Rattle.std.specs.List.{list_any}
 use Rattle.std.proofs.lemmas.Bool.{cases_eq, cases_lt}
 use Rattle.std.proofs.lemmas.List.Folds.{list_any-append}
-use Rattle.std.proofs.lemmas.Nat.{and_assoc, and_comm, and_le_l, or_lt, pow_pos}
+use Rattle.std.proofs.lemmas.Nat.{and_assoc, and_le_l, or_lt, pow_pos}
 use Rattle.std.proofs.lemmas.Nat.Bits.{and_pow, bit_at-lt, bit_at-zero, bit_at_above, bit_at_and, bit_at_or, same_from_bits}
 use Rattle.protocol.proofs.FoundLemmas.{both}
 use Rattle.protocol.specs.Access.{HasMask, Token, allows, is_in}

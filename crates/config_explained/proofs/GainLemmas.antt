@@ -1,13 +1,12 @@
 -- Networks that gain, half by half.
-use Rattle.std.proofs.Common.{◌≡◌, ℕ, zero, suc, ◌+◌, ◌-◌, ◌<◌, ◌^◌, ◌==◌, Bool, true, false, List, [], ◌++◌, refl, ap, arith}
-use Rattle.std.proofs.Common.{if◌then◌else◌, eqb-true}
+use Rattle.std.proofs.Common.{◌≡◌, ℕ, zero, suc, ◌-◌, ◌<◌, ◌^◌, ◌==◌, List, ◌++◌, arith}
+use Rattle.std.proofs.Common.{eqb-true}
 use Rattle.std.specs.Prelude.{bit_and}
 use Rattle.protocol.specs.Access.{Token}
 use Rattle.protocol.proofs.FoundLemmas.{both}
 use Rattle.config_explained.specs.Coverage.{coverage, with, without}
-use Rattle.config_explained.specs.declared.coverage.Coverage.{Coverage}
 use Rattle.config_explained.specs.declared.coverage.Coverage.TheVariants.{Part}
-use Rattle.config_explained.specs.Gains.{by_gain, gain_of, gains_in, masks_at}
+use Rattle.config_explained.specs.Gains.{gain_of, gains_in, masks_at}
 
 -- one that is cut in two
 pub cut_in_two : (old new : List Token) (bits : ℕ) (n : Token) → (bit_and (masks_at old new n) (2 ^ bits) ≡ 0 → ⊥)

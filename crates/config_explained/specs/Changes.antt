@@ -1,9 +1,9 @@
 -- What a new configuration changes, and for whom: the lines of `view OLD NEW`. They are this project's own.
-use Rattle.std.specs.Prelude.{ℕ, ◌+◌, Bool, true, false, if◌then◌else◌, List, [], ◌∷◌, ◌++◌, flat_map, map, codes}
+use Rattle.std.specs.Prelude.{ℕ, ◌+◌, Bool, true, false, List, [], ◌∷◌, ◌++◌, flat_map, map, codes}
 use Rattle.std.specs.Prelude.{decimal, position, Option, Some, None}
 use Rattle.toml.specs.Data.{Members}
 use Rattle.protocol.specs.Access.{Token}
-use Rattle.protocol.specs.Catalog.{Config, Entry, Station, has_codes, is_same_but_for_access, stations_of}
+use Rattle.protocol.specs.Catalog.{Config, Station, has_codes, is_same_but_for_access, stations_of}
 use Rattle.protocol.specs.Reason.{name_of, number_of}
 use Rattle.protocol.specs.declared.reason.Reason.{Reason}
 use Rattle.protocol.specs.declared.reason.Reason.TheVariants.{Different}

@@ -1,5 +1,5 @@
 -- The five parts of the line, one after the other.
-use Rattle.std.proofs.Common.{◌≡◌, ◌∙◌, ◌++◌, ◌∷◌, [], ℕ, List, OnOk, ap, append_assoc, codes, rules, subst}
+use Rattle.std.proofs.Common.{◌≡◌, ◌∙◌, ◌++◌, ◌∷◌, [], ℕ, List, OnOk, ap, append_assoc, codes, subst}
 use Rattle.std.specs.Prelude.{decimal}
 use Rattle.protocol.specs.Reason.{name_of, number_of}
 use Rattle.config_explained.specs.Changes.{reason_line}

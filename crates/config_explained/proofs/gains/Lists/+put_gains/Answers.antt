@@ -2,7 +2,7 @@
 use Rattle.std.proofs.Common.{◌≡◌, ◌<◌, ◌-◌, ◌*◌, ◌%◌, ◌^◌, ◌++◌, ℕ, List, OnOk, arith, sym, ap, subst, ◌∙◌, append_assoc, bit_and}
 use Rattle.std.proofs.lemmas.Nat.{one_shl}
 use Rattle.protocol.specs.Access.{Token}
-use Rattle.config_explained.specs.Coverage.{coverage, with, without}
+use Rattle.config_explained.specs.Coverage.{with, without}
 use Rattle.config_explained.specs.Gains.{gains_in, masks_at}
 use Rattle.config_explained.proofs.GainLemmas.{halves_of}
 use Rattle.config_explained.proofs.gains.Lists.+put_gains.Goals as goal
