@@ -88,11 +88,7 @@ impl Counts {
                 let _gone = self.visitors.remove(*port);
             }
             Visit::Away(away) => count(&mut self.away, name_of(away.reason)),
-            Visit::Refused {
-                port: _,
-                record: _,
-                refusal,
-            } => count(&mut self.refusals, name_of_refusal(refusal)),
+            Visit::Refused { refusal, .. } => count(&mut self.refusals, name_of_refusal(refusal)),
             _ => {}
         }
     }

@@ -70,17 +70,16 @@ pub struct Operator<'r, 'a, 'l, R, D> {
     is_verbose: bool,
     /// Whether a configuration is refused for keys that are not known.
     is_strict: bool,
-    /// The lines that named such keys last.
+    /// The lines that named such keys last, of a text that is not the one in force.
     unknown: Vec<u8>,
     errors: &'l SharedLines<D>,
     /// The status port, if there is one.
     status: Option<StatusDesk<'l>>,
     /// Whether it is told when another configuration comes into force.
     is_logged: bool,
-    /// The text of the configuration that was read last.
-    text: Vec<u8>,
-    /// The configuration in force.
+    /// The configuration in force, and its text.
     in_force: Config,
+    text: Vec<u8>,
     /// What the configuration that was read last differs in first, but for access lists.
     difference: Option<Difference>,
 }
@@ -117,8 +116,7 @@ impl<'r, 'a, 'l, R, D: Device> Operator<'r, 'a, 'l, R, D> {
         self.tell(&incident);
     }
 
-    /// Another configuration comes into force, of another text than the last one: that is told, and which clients it
-    /// cuts.
+    /// Another configuration comes into force: that is told, and which clients it cuts.
     fn note_in_force(&mut self, alloc: Global, config: &Config) {
         let cut = self.errors.cut(&self.in_force, config);
         self.errors.tell(InForceLine { cut });
@@ -127,7 +125,7 @@ impl<'r, 'a, 'l, R, D: Device> Operator<'r, 'a, 'l, R, D> {
         }
     }
 
-    /// The status port tells who may use each station by the text that was read last.
+    /// The status port tells who may use each station by the text in force.
     fn take_config(&mut self, alloc: Global, config: &Config) {
         if let Some(status) = &mut self.status {
             status.take_config(alloc, config, self.text.as_slice());
@@ -241,22 +239,47 @@ fn line_of(incident: &Incident<'_>, is_verbose: bool) -> Line {
 }
 
 impl<'r, 'a, 'l, R: Files<File = File> + AllocGlobal, D: Device> Operator<'r, 'a, 'l, R, D> {
-    /// The configuration as it is now, and whether its text is another one than the last one. Keys that are not known
-    /// are named if they are others than those that were named last, and if it is strict, the configuration is refused
-    /// for them.
-    fn read_config(&mut self) -> Result<(Config, bool), Incident<'a>> {
+    /// The text of the configuration as it is now.
+    fn read_text(&mut self) -> Result<Vec<u8>, Incident<'a>> {
         self.spare.let_go();
         let text = plain_text_at(self.rt, self.path);
         self.spare.take(self.rt);
-        let text = text?;
+        text
+    }
+
+    /// The configuration that a text spells. Keys that are not known are named if they are others than those that were
+    /// named last, and if it is strict, the configuration is refused for them.
+    fn config_of(&mut self, text: &[u8]) -> Result<Config, Incident<'a>> {
         let alloc = self.rt.alloc();
-        let config = config_in(alloc, self.path, text.as_slice())?;
-        let lines = unknown_lines(alloc, self.path, &config, text.as_slice())?;
+        let config = config_in(alloc, self.path, text)?;
+        let lines = unknown_lines(alloc, self.path, &config, text)?;
         self.tell_unknown(lines);
         refuse_unknown(self.path, self.unknown.as_slice(), self.is_strict)?;
-        let is_new = text.as_slice() != self.text.as_slice();
-        self.text = text;
-        Ok((config, is_new))
+        Ok(config)
+    }
+
+    /// The text is the one in force: there is nothing that it differs in, and no key of another one.
+    fn note_unchanged(&mut self) {
+        self.difference = None;
+        self.unknown = Vec::new(self.rt.alloc());
+    }
+
+    /// Compares a configuration of another text with the one in force. If it differs in access lists alone, it comes
+    /// into force, and its text with it.
+    fn compare(&mut self, config: &Config, text: Vec<u8>) {
+        let alloc = self.rt.alloc();
+        match first_difference(alloc, &self.in_force, config) {
+            Ok(None) => {
+                self.difference = None;
+                self.text = text;
+                self.take_config(alloc, config);
+                if self.is_logged {
+                    self.note_in_force(alloc, config);
+                }
+            }
+            Ok(difference) => self.difference = difference,
+            Err(_) => self.difference = None,
+        }
     }
 }
 
@@ -279,26 +302,19 @@ impl<'r, 'a, 'l, R: Files<File = File> + Clock + AllocGlobal, D: Device> Between
         }
     }
 
-    fn configuration(&mut self) -> Result<Config, Incident<'a>> {
-        let (mut config, is_new) = self.read_config()?;
+    /// By its text: one that is the same, byte for byte, is not read as a configuration again.
+    fn configuration(&mut self) -> Result<Option<Config>, Incident<'a>> {
+        let text = self.read_text()?;
+        if text.as_slice() == self.text.as_slice() {
+            self.note_unchanged();
+            return Ok(None);
+        }
+        let mut config = self.config_of(text.as_slice())?;
         if let Some(file) = &self.numbers {
             file.begin(&mut config);
         }
-        let alloc = self.rt.alloc();
-        match first_difference(alloc, &self.in_force, &config) {
-            Ok(None) => {
-                self.difference = None;
-                if is_new {
-                    self.take_config(alloc, &config);
-                }
-                if self.is_logged && is_new {
-                    self.note_in_force(alloc, &config);
-                }
-            }
-            Ok(difference) => self.difference = difference,
-            Err(_) => self.difference = None,
-        }
-        Ok(config)
+        self.compare(&config, text);
+        Ok(Some(config))
     }
 
     fn refused(&mut self, refusal: Refusal<Incident<'a>>)

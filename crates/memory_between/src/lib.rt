@@ -18,7 +18,7 @@ use std::alloc::{AllocError, Global};
 #[derive(Drop)]
 pub enum MadeBetween {
     Looked(Due),
-    Configuration(Result<Config, u8>),
+    Configuration(Result<Option<Config>, u8>),
     Refused(Refusal<u8>),
     Report(Activity),
     Keep(Vec<Seq>, Result<(), u8>),
@@ -30,7 +30,7 @@ pub enum MadeBetween {
 #[derive(Drop)]
 pub struct MemoryBetween {
     alloc: Global,
-    script: Vec<Result<Config, u8>>,
+    script: Vec<Result<Option<Config>, u8>>,
     unkept: Vec<bool>,
     due: Vec<Due>,
     made: Vec<MadeBetween>,
@@ -40,7 +40,7 @@ pub struct MemoryBetween {
 
 impl MemoryBetween {
     /// Answers that follow the script, the last first. Once it is over, there is no configuration.
-    pub fn new(alloc: Global, script: Vec<Result<Config, u8>>) -> MemoryBetween
+    pub fn new(alloc: Global, script: Vec<Result<Option<Config>, u8>>) -> MemoryBetween
         ensures calls { told result ≡ Some [] }
     {
         MemoryBetween {
@@ -83,7 +83,7 @@ impl MemoryBetween {
     }
 
     // The next answer of the script.
-    fn answer(&mut self) -> Result<Config, u8>
+    fn answer(&mut self) -> Result<Option<Config>, u8>
         ensures same { told self.new ≡ told self.old }
     {
         match self.script.pop() {
@@ -137,16 +137,20 @@ impl Between for MemoryBetween {
         due
     }
 
-    fn configuration(&mut self) -> Result<Config, u8>
+    fn configuration(&mut self) -> Result<Option<Config>, u8>
         ensures call { Tells (told self.old) (told self.new) (Configuration result ∷ []) }
     {
         match self.answer() {
-            Ok(config) => {
+            Ok(Some(config)) => {
                 match config.copy(self.alloc) {
-                    Ok(copy) => self.remember(MadeBetween::Configuration(Ok(copy))),
+                    Ok(copy) => self.remember(MadeBetween::Configuration(Ok(Some(copy)))),
                     Err(_) => self.lost = true,
                 }
-                Ok(config)
+                Ok(Some(config))
+            }
+            Ok(None) => {
+                self.remember(MadeBetween::Configuration(Ok(None)));
+                Ok(None)
             }
             Err(fault) => {
                 self.remember(MadeBetween::Configuration(Err(fault)));

@@ -53,12 +53,13 @@ module _ {F : Type 0} where
       → Since a ys (n + m)
   since-since a b ys m n s r = record { xs = r.xs; was = r.was; counts = omega (arith, s.counts, r.counts) }
 
-  reread-asks : (config : Config) (answer : Result Config F)
+  reread-asks : (config : Config) (answer : Result (Option Config) F)
       → asks (Configuration answer ∷ refusals config answer) ≡ 1
   reread-asks config (Err fault) = refl
-  reread-asks config (Ok new) = by (is_same_but_for_access config new)
+  reread-asks config (Ok None) = refl
+  reread-asks config (Ok (Some new)) = by (is_same_but_for_access config new)
     where
-      by : (same : Bool) → asks {F = F} (Configuration (Ok new) ∷ (if same then [] else Refuses Different ∷ [])) ≡ 1
+      by : (same : Bool) → asks {F = F} (Configuration (Ok (Some new)) ∷ (if same then [] else Refuses Different ∷ [])) ≡ 1
       by true = refl
       by false = refl
 

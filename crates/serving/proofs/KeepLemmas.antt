@@ -98,13 +98,14 @@ module _ {F : Type 0} where
       let q : ys ≡ x ++ l = cc in
       record { xs = x; was = refl; is = ap kept_by q ∙ kept-append nothing_kept x l }
 
-  refused-keep : (k : Kept) (config : Config) (answer : Result Config F)
+  refused-keep : (k : Kept) (config : Config) (answer : Result (Option Config) F)
       → kept_from k (Configuration answer ∷ refusals config answer) ≡ k
   refused-keep k config (Err fault) = refl
-  refused-keep k config (Ok new) = by (is_same_but_for_access config new)
+  refused-keep k config (Ok None) = refl
+  refused-keep k config (Ok (Some new)) = by (is_same_but_for_access config new)
     where
       by : (same : Bool)
-          → kept_from {F = F} k (Configuration (Ok new) ∷ (if same then [] else Refuses Different ∷ [])) ≡ k
+          → kept_from {F = F} k (Configuration (Ok (Some new)) ∷ (if same then [] else Refuses Different ∷ [])) ≡ k
       by true = refl
       by false = refl
 
@@ -128,10 +129,11 @@ module _ {F : Type 0} where
   look-before false by_time a b ys p e = record { xs = ys; was = sym p.1 ∙ e; is = refl }
 
   -- A stop brings no record.
-  reloads-bring : (config : Config) (w : World) (answer : Result Config F)
+  reloads-bring : (config : Config) (w : World) (answer : Result (Option Config) F)
       → (world_then config w (reloads answer)).history ≡ w.history
   reloads-bring config w (Err fault) = refl
-  reloads-bring config w (Ok new) = refl
+  reloads-bring config w (Ok None) = refl
+  reloads-bring config w (Ok (Some new)) = refl
 
   reread-brings : (due : Bool) (config : Config) (w : World) (v v' : LoopValue) (a b : Option (List (Asked F)))
       (acts : List Act) → RereadsIf due config w v a acts v' b → (world_then config w acts).history ≡ w.history

@@ -56,10 +56,11 @@ module _ {F : Type 0} where
   report-rest true w v = record { no_look = refl; asks = refl }
   report-rest false w v = record { no_look = refl; asks = refl }
 
-  refusals-rest : (config : Config) (answer : Result Config F) (rest : List (Asked F)) → looks rest ≡ []
+  refusals-rest : (config : Config) (answer : Result (Option Config) F) (rest : List (Asked F)) → looks rest ≡ []
       → looks (refusals config answer ++ rest) ≡ []
   refusals-rest config (Err fault) rest h = h
-  refusals-rest config (Ok new) rest h = by (is_same_but_for_access config new)
+  refusals-rest config (Ok None) rest h = h
+  refusals-rest config (Ok (Some new)) rest h = by (is_same_but_for_access config new)
     where
       by : (same : Bool) → looks ((if same then [] else Refuses Different ∷ []) ++ rest) ≡ []
       by true = h

@@ -1,6 +1,6 @@
 -- Runs, turn after turn.
 use Rattle.std.proofs.Common.{◌≡◌, ℕ, suc, ◌<◌, ◌≤◌, arith, Bool, true, false, Result, Ok, Err, List}
-use Rattle.std.proofs.Common.{[], ◌∷◌, ◌++◌, refl, sym, ap, subst, ◌∙◌, Option}
+use Rattle.std.proofs.Common.{[], ◌∷◌, ◌++◌, refl, sym, ap, subst, ◌∙◌, Option, Some, None}
 use Rattle.protocol.specs.Catalog.{Config}
 use Rattle.protocol.specs.World.{World}
 use Rattle.station_ring.specs.Levels.{raises_after}
@@ -55,10 +55,11 @@ module _ (config : Config) (w : World) (acts : List Act) (deeds : List Deed) whe
       hands-then config w acts (Turning deeds ∷ []) before (hands-turning here there deeds hands)
 
 -- A stop hands no byte.
-hands-reloads : {F : Type 0} (config : Config) (w : World) (answer : Result Config F)
+hands-reloads : {F : Type 0} (config : Config) (w : World) (answer : Result (Option Config) F)
     → HandsThroughout config w (reloads answer)
 hands-reloads config w (Err fault) = hands-nothing config w
-hands-reloads config w (Ok new) = hands-reloading config w new
+hands-reloads config w (Ok None) = hands-nothing config w
+hands-reloads config w (Ok (Some new)) = hands-reloading config w new
 
 hands-stop : {F : Type 0} (due : Bool) (config : Config) (w : World) (v v' : LoopValue) (a b : Option (List (Asked F)))
     (acts : List Act) → RereadsIf due config w v a acts v' b → HandsThroughout config w acts
@@ -68,9 +69,10 @@ hands-stop false config w v v' a b acts x =
     subst (λ l. HandsThroughout config w l) (sym x.0) (hands-nothing config w)
 
 -- A stop calls no port.
-reloads-call : {F : Type 0} (answer : Result Config F) → all_calls (reloads answer) ≡ []
+reloads-call : {F : Type 0} (answer : Result (Option Config) F) → all_calls (reloads answer) ≡ []
 reloads-call (Err fault) = refl
-reloads-call (Ok new) = refl
+reloads-call (Ok None) = refl
+reloads-call (Ok (Some new)) = refl
 
 stop-calls : {F : Type 0} (due : Bool) (config : Config) (w : World) (v v' : LoopValue) (a b : Option (List (Asked F)))
     (acts : List Act) → RereadsIf due config w v a acts v' b → all_calls acts ≡ []

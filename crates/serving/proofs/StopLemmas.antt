@@ -35,11 +35,11 @@ Tells-trans (Some x) (Some y) (Some z) xs ys p q = q ∙ ap (λ l. l ++ ys) p �
 
 -- what is told of a configuration that came into force, or did not
 in-force : {F : Type 0} (config new : Config) → is_same_but_for_access config new ≡ true
-    → refusals {F = F} config (Ok new) ≡ []
+    → refusals {F = F} config (Ok (Some new)) ≡ []
 in-force config new e = rw e
 
 different : {F : Type 0} (config new : Config) → is_same_but_for_access config new ≡ false
-    → refusals {F = F} config (Ok new) ≡ Refuses Different ∷ []
+    → refusals {F = F} config (Ok (Some new)) ≡ Refuses Different ∷ []
 different config new e = rw e
 
 pub not-due : {F : Type 0} (config : Config) (w : World) (v : LoopValue) (asked : Option (List (Asked F))) →
@@ -50,13 +50,13 @@ module _ {F : Type 0} (config : Config) (w : World) (v v' : LoopValue)
     (only : v' ≡ record v { server = v'.server }) (new : Config) (stands : StandsAt v.server config w)
     (goes : StandsAt v'.server (config_by config (Reload new)) (step config w (Reload new)))
     (a b : Option (List (Asked F))) where
-  given : (told : List (Asked F)) → refusals config (Ok new) ≡ told → Tells a b (Configuration (Ok new) ∷ told) →
+  given : (told : List (Asked F)) → refusals config (Ok (Some new)) ≡ told → Tells a b (Configuration (Ok (Some new)) ∷ told) →
       SomeReread true config w v a v' b
   given told e tells = record {
     acts = Reloading new ∷ [];
     rereads = record {
-      answer = Ok new;
-      tells = subst (λ l. Tells a b (Configuration (Ok new) ∷ l)) (sym e) tells;
+      answer = Ok (Some new);
+      tells = subst (λ l. Tells a b (Configuration (Ok (Some new)) ∷ l)) (sym e) tells;
       comes = refl;
       stands = goes;
       only = only;
@@ -68,16 +68,16 @@ module _ {F : Type 0} (config : Config) (w : World) (v v' : LoopValue)
       → is_same_but_for_access config new ≡ same
   in_place same e = ap (λ c. is_same_but_for_access c new) (sym stands.config_is) ∙ sym e
 
-  pub came-into-force : true ≡ is_same_but_for_access v.server.config new → Tells a b (Configuration (Ok new) ∷ []) →
+  pub came-into-force : true ≡ is_same_but_for_access v.server.config new → Tells a b (Configuration (Ok (Some new)) ∷ []) →
       SomeReread true config w v a v' b
   came-into-force same tells = given [] (in-force config new (in_place true same)) tells
 
   pub was-different : false ≡ is_same_but_for_access v.server.config new → (between : Option (List (Asked F))) →
-      Tells a between (Configuration (Ok new) ∷ []) → Tells between b (Refuses Different ∷ []) →
+      Tells a between (Configuration (Ok (Some new)) ∷ []) → Tells between b (Refuses Different ∷ []) →
       SomeReread true config w v a v' b
   was-different same between tells more =
       given (Refuses Different ∷ []) (different config new (in_place false same))
-      (Tells-trans a between b (Configuration (Ok new) ∷ []) (Refuses Different ∷ []) tells more)
+      (Tells-trans a between b (Configuration (Ok (Some new)) ∷ []) (Refuses Different ∷ []) tells more)
 
 pub was-unread : {F : Type 0} (config : Config) (w : World) (v : LoopValue) (a b c : Option (List (Asked F)))
     (fault : F) →
@@ -89,6 +89,21 @@ was-unread config w v a b c fault tells more stands =
       rereads = record {
         answer = Err fault;
         tells = Tells-trans a b c (Configuration (Err fault) ∷ []) (Refuses (Unread fault) ∷ []) tells more;
+        comes = refl;
+        stands = stands;
+        only = refl;
+      };
+      stands = stands;
+    }
+
+pub was-unchanged : {F : Type 0} (config : Config) (w : World) (v : LoopValue) (a b : Option (List (Asked F)))
+    → Tells a b (Configuration (Ok None) ∷ []) → StandsAt v.server config w → SomeReread true config w v a v b
+was-unchanged config w v a b tells stands =
+    record {
+      acts = [];
+      rereads = record {
+        answer = Ok None;
+        tells = tells;
         comes = refl;
         stands = stands;
         only = refl;

@@ -9,7 +9,8 @@ use Rattle.serving.specs.declared.between.Refusal.{Refusal}
 pub data Asked (F : Type 0) : Type 0 where
   -- what is due by time
   Looks : Due → Asked F
-  Configuration : Result Config F → Asked F
+  -- the configuration as it is now; nothing if it is as it was when it came into force last
+  Configuration : Result (Option Config) F → Asked F
   Refuses : Refusal F → Asked F
   Reports : Activity → Asked F
   -- the numbers of the stations, in order, are to be kept

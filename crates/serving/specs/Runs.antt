@@ -27,19 +27,21 @@ use Rattle.serving.specs.Acts.Act.{Turning, Reloading}
 -- ---- between two turns
 
 -- what is told of a configuration that was asked for
-abbrev pub refusals : {F : Type 0} → Config → Result Config F → List (Asked F)
+abbrev pub refusals : {F : Type 0} → Config → Result (Option Config) F → List (Asked F)
 refusals config (Err fault) = Refuses (Unread fault) ∷ []
-refusals config (Ok new) = if is_same_but_for_access config new then [] else Refuses Different ∷ []
+refusals config (Ok None) = []
+refusals config (Ok (Some new)) = if is_same_but_for_access config new then [] else Refuses Different ∷ []
 
--- what comes of it: it is given to the server, where there is one
-abbrev pub reloads : {F : Type 0} → Result Config F → List Act
+-- what comes of it: it is given to the server, where there is another one
+abbrev pub reloads : {F : Type 0} → Result (Option Config) F → List Act
 reloads (Err fault) = []
-reloads (Ok new) = Reloading new ∷ []
+reloads (Ok None) = []
+reloads (Ok (Some new)) = Reloading new ∷ []
 
 -- The configuration was asked for once, and its answer was done.
 pub record Rereads {F : Type 0} (config : Config) (w : World) (v : LoopValue) (asked : Option (List (Asked F)))
     (acts : List Act) (v' : LoopValue) (asked' : Option (List (Asked F))) : Type 0 where
-  pub answer : Result Config F
+  pub answer : Result (Option Config) F
   pub tells : Tells asked asked' (Configuration answer ∷ refusals config answer)
   pub comes : acts ≡ reloads answer
   pub stands : StandsAt v'.server (config_then config acts) (world_then config w acts)

@@ -43,8 +43,8 @@ pub trait Between {
     fn due(&mut self) -> Due
         ensures call { Tells (asked self.old) (asked self.new) (Looks result ∷ []) };
 
-    /// The configuration as it is now.
-    fn configuration(&mut self) -> Result<Config, Self::Fault>
+    /// The configuration as it is now. None if it is as it was when it came into force last.
+    fn configuration(&mut self) -> Result<Option<Config>, Self::Fault>
         ensures call { Tells (asked self.old) (asked self.new) (Configuration result ∷ []) };
 
     /// A configuration did not come into force, or numbers were not kept.
@@ -86,7 +86,7 @@ impl Between for NothingBetween {
         }
     }
 
-    fn configuration(&mut self) -> Result<Config, NoConfiguration> {
+    fn configuration(&mut self) -> Result<Option<Config>, NoConfiguration> {
         Err(NoConfiguration)
     }
 

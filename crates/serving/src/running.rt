@@ -41,7 +41,7 @@ fn one_turn<P: Ports>(server: &mut Loop<P>, failures: u8) -> u8
     }
 }
 
-/// Asks for the configuration, if that is due, and gives it to the server. A refusal is handed on.
+/// Asks for the configuration, if that is due, and gives it to the server if it is another one. A refusal is handed on.
 fn reread<P: Ports, B: Between>(server: &mut Loop<P>, between: &mut B, due: bool)
     ensures rereads { (config : ProtocolConfig) (w : World) → StandsAt server.old.server config w →
         SomeReread due config w server.old (B.asked between.old) server.new
@@ -53,10 +53,11 @@ fn reread<P: Ports, B: Between>(server: &mut Loop<P>, between: &mut B, due: bool
         return;
     }
     match between.configuration() {
-        Ok(config) => match server.reload(config) {
+        Ok(Some(config)) => match server.reload(config) {
             Ok(()) => {}
             Err(_) => between.refused(Refusal::Different),
         },
+        Ok(None) => {}
         Err(fault) => between.refused(Refusal::Unread(fault)),
     }
 }

@@ -7,15 +7,18 @@ use std::alloc::Global;
 use std::test::Fail;
 use test_centre::{CENTRE, FOREST_CLOSED, ISLAND_LARGER};
 
-/// What is asked in seven turns of a server that reads its configuration again after every second and reports after
-/// every third: after two it has other lists, after four another capacity, and after six there is none.
-static ASKED: [&str; 7] = [
+/// What is asked in nine turns of a server that reads its configuration again after every second and reports after
+/// every third: after two it has other lists, after four another capacity, after six there is none, and after eight it
+/// is as it was.
+static ASKED: [&str; 9] = [
     "configuration",
     "report",
     "configuration",
     "different",
     "no configuration",
     "unread",
+    "report",
+    "the same configuration",
     "report",
 ];
 
@@ -33,11 +36,12 @@ static ASKED_BY_TIME: [&str; 8] = [
 ];
 
 /// The configurations that are read, the last first.
-fn readings(alloc: Global) -> Result<Vec<Result<Config, u8>>, Fail> {
+fn readings(alloc: Global) -> Result<Vec<Result<Option<Config>, u8>>, Fail> {
     let mut readings = Vec::new(alloc);
+    readings.push(Ok(None))?;
     readings.push(Err(7))?;
-    readings.push(Ok(Config::read(alloc, ISLAND_LARGER)?))?;
-    readings.push(Ok(Config::read(alloc, FOREST_CLOSED)?))?;
+    readings.push(Ok(Some(Config::read(alloc, ISLAND_LARGER)?)))?;
+    readings.push(Ok(Some(Config::read(alloc, FOREST_CLOSED)?)))?;
     Ok(readings)
 }
 
@@ -45,7 +49,8 @@ fn readings(alloc: Global) -> Result<Vec<Result<Config, u8>>, Fail> {
 fn words_of(made: &MadeBetween) -> &'static str {
     match made {
         MadeBetween::Looked(_) => "looked",
-        MadeBetween::Configuration(Ok(_)) => "configuration",
+        MadeBetween::Configuration(Ok(Some(_))) => "configuration",
+        MadeBetween::Configuration(Ok(None)) => "the same configuration",
         MadeBetween::Configuration(Err(_)) => "no configuration",
         MadeBetween::Refused(Refusal::Different) => "different",
         MadeBetween::Refused(Refusal::Unread(7)) => "unread",
@@ -86,7 +91,7 @@ fn were_made(between: &MemoryBetween, wanted: &[&'static str]) -> bool {
 fn a_server_asks_and_reports_when_it_is_due(rt: HostRuntime) -> Result<(), Fail> {
     let mut between = MemoryBetween::new(rt.alloc(), readings(rt.alloc())?);
     let timetable = Timetable {
-        turns: Some(7),
+        turns: Some(9),
         reread: Some(2),
         report: Some(3),
         timed: false,
@@ -94,7 +99,7 @@ fn a_server_asks_and_reports_when_it_is_due(rt: HostRuntime) -> Result<(), Fail>
     };
     run_over(rt.alloc(), &mut between, timetable)?;
     assert!(rt; were_made(&between, &ASKED));
-    assert_eq!(rt; between.watched(), 7);
+    assert_eq!(rt; between.watched(), 9);
     Ok(())
 }
 
@@ -111,7 +116,7 @@ fn times(alloc: Global) -> Result<Vec<Due>, Fail> {
 fn a_server_asks_and_reports_when_it_is_time(rt: HostRuntime) -> Result<(), Fail> {
     let mut readings = Vec::new(rt.alloc());
     for _ in 0..2 {
-        readings.push(Ok(Config::read(rt.alloc(), FOREST_CLOSED)?))?;
+        readings.push(Ok(Some(Config::read(rt.alloc(), FOREST_CLOSED)?)))?;
     }
     let mut between = MemoryBetween::new(rt.alloc(), readings).with_due(times(rt.alloc())?);
     let timetable = Timetable {
