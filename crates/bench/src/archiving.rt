@@ -91,7 +91,7 @@ fn archive_at<'r, R: Files<File = File> + Clock>(
     stations: Vec<StationCodes>,
 ) -> anyhow::Result<Archived<'r, R>> {
     let most = NonZeroUsize::new(OPEN).unwrap_or(NonZeroUsize::MIN);
-    let files = DiskFiles::new(rt, alloc, FilePlace::Below(top), most, false)?;
+    let files = DiskFiles::new(rt, alloc, FilePlace::Below(top), most, false);
     let files = ContinuedFiles::new(alloc, files, Vec::new(alloc), Unnamed::Kept);
     Ok(Archived {
         archive: Archive::new(alloc, files, stations),

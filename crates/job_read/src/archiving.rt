@@ -70,15 +70,13 @@ pub fn files_at<'r, 'a: 'r, R: Files<File = File> + Clock + AllocGlobal>(
     stations: usize,
     named: Option<Vec<FileLength>>,
     unnamed: Unnamed,
-) -> Result<ContinuedFiles<DiskFiles<'r, R>>, Incident<'a>> {
+) -> ContinuedFiles<DiskFiles<'r, R>> {
     let open = open_count(descriptor_limit(), stations);
-    let Ok(files) = DiskFiles::new(rt, rt.alloc(), place, open, named.is_some()) else {
-        return Err(Incident::from(Failure::OutOfMemory));
-    };
-    Ok(match named {
+    let files = DiskFiles::new(rt, rt.alloc(), place, open, named.is_some());
+    match named {
         Some(named) => ContinuedFiles::new(rt.alloc(), files, named, unnamed),
         None => ContinuedFiles::new(rt.alloc(), files, Vec::new(rt.alloc()), Unnamed::Kept),
-    })
+    }
 }
 
 /// The archive below a folder of records of the stations that are wanted, to which nobody else adds records of these
@@ -94,7 +92,7 @@ pub fn archive_at<'r, 'a: 'r, R: Files<File = File> + Clock + AllocGlobal>(
     };
     let locks = locks_at(rt, top, &stations)?;
     let place = FilePlace::Below(top);
-    let files = files_at(rt, place, stations.len(), named, Unnamed::Tail)?;
+    let files = files_at(rt, place, stations.len(), named, Unnamed::Tail);
     Ok(ToldArchive {
         rt,
         archive: RefCell::new(Archive::new(rt.alloc(), files, stations)),
@@ -246,13 +244,13 @@ pub fn output_at<'r, 'a: 'r, R: Files<File = File> + Clock + AllocGlobal>(
     rt: &'r R,
     path: &'a str,
     named: Vec<FileLength>,
-) -> Result<ToldOutput<'r, R>, Incident<'a>> {
-    let files = files_at(rt, FilePlace::At(path), 0, Some(named), Unnamed::Kept)?;
-    Ok(ToldOutput {
+) -> ToldOutput<'r, R> {
+    let files = files_at(rt, FilePlace::At(path), 0, Some(named), Unnamed::Kept);
+    ToldOutput {
         rt,
         output: RefCell::new(ContinuedOutput::new(files)),
         failures: 0,
-    })
+    }
 }
 
 impl<'r, R: Files<File = File> + Clock> ToldOutput<'r, R> {
@@ -269,9 +267,7 @@ pub fn mend_end<'a, R: Files<File = File> + Eprint + Clock + AllocGlobal>(
     path: &'a str,
 ) -> Result<(), Incident<'a>> {
     let place = FilePlace::At(path);
-    let Ok(mut files) = DiskFiles::new(rt, rt.alloc(), place, NonZeroUsize::MIN, false) else {
-        return Err(Incident::from(Failure::OutOfMemory));
-    };
+    let mut files = DiskFiles::new(rt, rt.alloc(), place, NonZeroUsize::MIN, false);
     if files.count(ONE_FILE).is_err() {
         return Err(unopened(path, unlasting(files.take_failure()).reason));
     }

@@ -262,7 +262,7 @@ fn list_and_go_on<'a, R: Files<File = File> + Print + Eprint + Clock + Net + All
     let Ok(lengths) = state.lengths(rt.alloc()) else {
         return Err(Incident::from(Failure::OutOfMemory));
     };
-    let mut records = output_at(rt, path, lengths)?;
+    let mut records = output_at(rt, path, lengths);
     let lines = Outer::new(io::writer(rt));
     match list_on(rt, reading, Some(state), None, lines, &mut records) {
         Ok(()) => Ok(()),

@@ -1,3 +1,4 @@
+mod PlaceLemmas
 mod PutLemmas
 mod WalkLemmas
 mod RunLemmas

@@ -1,5 +1,6 @@
 pub mod Paths
 pub mod Stations
+pub mod Places
 pub mod Archives
 pub mod Stores
 pub mod Files

@@ -14,36 +14,32 @@ use crate::disk_files::{DiskFiles, FileFailure};
 use crate::files::RecordFiles;
 use crate::folders::{FolderFault, Folders};
 use crate::lengths::FileLength;
-use crate::placing::{ArchiveFault, Place, Placed, put_record};
+use crate::placing::{ArchiveFault, Placed, put_record};
 use crate::stations::StationCodes;
+use crate::streams::Streams;
 use mseed_header::Header;
 use std::alloc::Global;
 use std::fs::File;
 use std::rt::{Clock, Files};
 
 /// An archive of some stations in folders. A record is put into its file if it is of one of the stations. Memory is
-/// taken only for the texts of places.
+/// taken only for streams of which no record came before, or none of that day.
 #[derive(Drop)]
 pub struct Archive<F: Folders> {
     folders: F,
-    stations: Vec<StationCodes>,
-    place: Place,
+    streams: Streams,
     unplaced: u64,
 }
 
 impl<F: Folders> Archive<F> {
     /// An archive of these stations in these folders.
     pub fn new(alloc: Global, folders: F, stations: Vec<StationCodes>) -> Archive<F>
-        ensures folders { (result.folders ≡ folders) × (result.stations ≡ stations) }
+        ensures folders { (result.folders ≡ folders) × (result.streams.stations ≡ stations) }
         ensures nothing { result.unplaced ≡ 0 }
     {
         Archive {
             folders,
-            stations,
-            place: Place {
-                folder: Vec::new(alloc),
-                file: Vec::new(alloc),
-            },
+            streams: Streams::new(alloc, stations),
             unplaced: 0,
         }
     }
@@ -76,22 +72,16 @@ impl<F: Folders> Archive<F> {
         header: &Option<Header<'_>>,
     ) -> Result<(), ArchiveFault>
         requires { header.now ≡ result_ok (header_of bytes.now) }
-        ensures put { OnOk result (HoldsMore self.old.stations.items (F.puts self.old.folders)
+        ensures put { OnOk result (HoldsMore self.old.streams.stations.items (F.puts self.old.folders)
             (F.puts self.new.folders) (bytes.now ∷ [])) }
         ensures refused { OnErr result (F.puts self.new.folders ≡ F.puts self.old.folders) }
         ensures fault { Fails (F.failures self.old.folders) (F.failures self.new.folders) result }
         ensures counted { OnOk result
-            (CountsUnplaced self.old.stations.items self.old.unplaced self.new.unplaced bytes.now) }
+            (CountsUnplaced self.old.streams.stations.items self.old.unplaced self.new.unplaced bytes.now) }
         ensures uncounted { OnErr result (self.new.unplaced ≡ self.old.unplaced) }
-        ensures stations { self.new.stations ≡ self.old.stations }
+        ensures stations { self.new.streams.stations ≡ self.old.streams.stations }
     {
-        match put_record(
-            &mut self.folders,
-            &mut self.place,
-            self.stations.as_slice(),
-            bytes,
-            header,
-        ) {
+        match put_record(&mut self.folders, &mut self.streams, bytes, header) {
             Ok(Placed::InFile) => Ok(()),
             Ok(Placed::Unplaced) => {
                 self.unplaced = self.unplaced.saturating_add(1);

@@ -9,11 +9,11 @@ use crate::disk_files::{DiskFiles, FileFailure};
 use crate::files::RecordFiles;
 use crate::folders::{FolderFault, Folders};
 use crate::lengths::FileLength;
+use crate::place::Place;
+use crate::streams::place_after;
 use crate::walk::Walk;
 use std::alloc::{AllocError, Global};
-use std::collections::HashMap;
 use std::fs::File;
-use std::mem;
 use std::rt::{Clock, Files};
 
 /// For how many syncs a file is remembered to which nothing was handed.
@@ -59,6 +59,13 @@ impl Progress {
     }
 }
 
+/// A file to which a record was handed.
+#[derive(Drop)]
+struct Known {
+    name: String,
+    progress: Progress,
+}
+
 /// Files of records to which each record is added once, though it is handed again to a reader that goes on after one
 /// that was stopped.
 #[derive(Drop)]
@@ -68,9 +75,10 @@ pub struct ContinuedFiles<F: RecordFiles> {
     /// What the state says of files, when the reader begins.
     named: Vec<FileLength>,
     unnamed: Unnamed,
-    all: HashMap<String, Progress>,
-    /// The name of the file to which a record was handed last.
-    name: Vec<u8>,
+    /// In the order of their names.
+    all: Vec<Known>,
+    /// The place of the file to which a record was handed last.
+    last: usize,
     syncs: u64,
     failures: u64,
 }
@@ -93,14 +101,6 @@ fn text_of(bytes: &[u8]) -> Result<&str, FolderFault> {
     }
 }
 
-/// The name of a file in a folder takes the place of another name.
-fn set_name(name: &mut Vec<u8>, folder: &[u8], file: &[u8]) -> Result<(), AllocError> {
-    name.clear();
-    name.extend_from_slice(folder)?;
-    name.push(b'/')?;
-    name.extend_from_slice(file)
-}
-
 impl<F: RecordFiles> ContinuedFiles<F> {
     /// These files, of which a state names some.
     pub fn new(
@@ -116,8 +116,8 @@ impl<F: RecordFiles> ContinuedFiles<F> {
             files,
             named,
             unnamed,
-            all: HashMap::new(alloc),
-            name: Vec::new(alloc),
+            all: Vec::new(alloc),
+            last: 0,
             syncs: 0,
             failures: 0,
         }
@@ -146,38 +146,76 @@ impl<F: RecordFiles> ContinuedFiles<F> {
         }
     }
 
-    /// How far a file is that has so many records. One that has fewer than before was replaced: of that nothing is
-    /// known.
-    fn progress_of(&self, name: &str, count: u64) -> Progress {
-        match self.all.get(name) {
-            Some(progress) if progress.count <= count => *progress,
-            Some(_) => Progress {
-                walk: Walk::new(count, count),
-                count,
-                syncs: self.syncs,
-            },
-            None => Progress {
-                walk: Walk::new(self.kept_of(name, count), count),
-                count,
-                syncs: self.syncs,
-            },
+    /// How far a file is that has so many records, to which none was handed while it had as many. If it was known, it
+    /// was replaced, and nothing is known of what it has now.
+    fn progress_of(&self, is_known: bool, name: &str, count: u64) -> Progress {
+        let kept = if is_known {
+            count
+        } else {
+            self.kept_of(name, count)
+        };
+        Progress {
+            walk: Walk::new(kept, count),
+            count,
+            syncs: self.syncs,
         }
     }
 
-    /// Remembers how far a file is.
-    fn remember(&mut self, name: &str, progress: Progress) -> Result<(), FolderFault>
+    /// Whether the file of that name stands at a place.
+    fn is_at(&self, place: usize, name: &str) -> bool {
+        match self.all.get(place) {
+            Some(known) => known.name.as_str() == name,
+            None => false,
+        }
+    }
+
+    /// The place of a file to which a record was handed, or the place where it belongs. The one after that of the last
+    /// record is looked at first, since records of several files come mostly by turns, and then that one.
+    fn place_of(&self, name: &str) -> Result<usize, usize> {
+        let next = place_after(self.last, self.all.len());
+        if self.is_at(next, name) {
+            return Ok(next);
+        }
+        if self.is_at(self.last, name) {
+            return Ok(self.last);
+        }
+        self.all
+            .binary_search_by(|known| known.name.as_str().cmp(name))
+    }
+
+    /// Remembers how far a file is, at its place or where it belongs.
+    fn remember(
+        &mut self,
+        place: Result<usize, usize>,
+        name: &str,
+        progress: Progress,
+    ) -> Result<(), FolderFault>
         ensures same { self.new.files ≡ self.old.files }
         ensures failures { self.new.failures ≡ self.old.failures }
     {
-        if let Some(known) = self.all.get_mut(name) {
-            *known = progress;
-            return Ok(());
+        match place {
+            Ok(at) => {
+                if let Some(known) = self.all.get_mut(at) {
+                    known.progress = progress;
+                }
+                Ok(())
+            }
+            Err(at) => self.remember_new(at, name, progress),
         }
+    }
+
+    /// Remembers how far a file is to which no record was handed before.
+    fn remember_new(&mut self, at: usize, name: &str, progress: Progress) -> Result<(), FolderFault>
+        ensures same { self.new.files ≡ self.old.files }
+        ensures failures { self.new.failures ≡ self.old.failures }
+    {
         let Ok(name) = String::from_str(self.alloc, name) else {
             return Err(FolderFault);
         };
-        match self.all.insert(name, progress) {
-            Ok(_) => Ok(()),
+        let at = at.min(self.all.len());
+        self.last = at;
+        match self.all.insert(at, Known { name, progress }) {
+            Ok(()) => Ok(()),
             Err(_) => Err(FolderFault),
         }
     }
@@ -193,30 +231,20 @@ impl<F: RecordFiles> ContinuedFiles<F> {
     {
         let count = self.files.count(name)?;
         let syncs = self.syncs;
-        if let Some(known) = self.all.get_mut(name) {
-            if known.count <= count {
-                return known.hand(&mut self.files, name, bytes, count, syncs);
+        let place = self.place_of(name);
+        if let Ok(at) = place {
+            self.last = at;
+            if let Some(known) = self.all.get_mut(at) {
+                if known.progress.count <= count {
+                    return known
+                        .progress
+                        .hand(&mut self.files, name, bytes, count, syncs);
+                }
             }
         }
-        let mut progress = self.progress_of(name, count);
+        let mut progress = self.progress_of(place.is_ok(), name, count);
         progress.hand(&mut self.files, name, bytes, count, syncs)?;
-        self.remember(name, progress)
-    }
-
-    /// The same to a file in a folder, whose name takes the place of another one.
-    fn hand_in(
-        &mut self,
-        name: &mut Vec<u8>,
-        folder: &[u8],
-        file: &[u8],
-        bytes: &[u8; 512],
-    ) -> Result<(), FolderFault>
-        ensures { self.new.failures ≡ self.old.failures }
-    {
-        match set_name(name, folder, file) {
-            Ok(()) => self.hand(text_of(name)?, bytes),
-            Err(_) => Err(FolderFault),
-        }
+        self.remember(place, name, progress)
     }
 
     /// Files to which nothing was handed for long are forgotten.
@@ -225,7 +253,7 @@ impl<F: RecordFiles> ContinuedFiles<F> {
         ensures failures { self.new.failures ≡ self.old.failures }
     {
         let syncs = self.syncs;
-        self.all.retain(|_, progress| syncs < progress.syncs.saturating_add(REMEMBERED));
+        self.all.retain(|known| syncs < known.progress.syncs.saturating_add(REMEMBERED));
         if syncs >= REMEMBERED {
             self.named.clear();
         }
@@ -261,9 +289,9 @@ impl<F: RecordFiles> ContinuedFiles<F> {
     /// How many records of each file don't come again.
     fn lengths(&self) -> Result<Vec<FileLength>, AllocError> {
         let mut lengths = Vec::new(self.alloc);
-        for (name, progress) in &self.all {
-            let count = progress.walk.kept_length(progress.count);
-            lengths.push(FileLength::new(self.alloc, name.as_bytes(), count)?)?;
+        for known in &self.all {
+            let count = known.progress.walk.kept_length(known.progress.count);
+            lengths.push(FileLength::new(self.alloc, known.name.as_bytes(), count)?)?;
         }
         self.put_named(&mut lengths)?;
         Ok(lengths)
@@ -275,7 +303,7 @@ impl<F: RecordFiles> ContinuedFiles<F> {
             let Ok(name) = text_of(length.name()) else {
                 continue;
             };
-            if !self.all.contains_key(name) {
+            if self.place_of(name).is_err() {
                 lengths.push(FileLength::new(self.alloc, length.name(), length.count())?)?;
             }
         }
@@ -305,15 +333,13 @@ impl<F: RecordFiles> Folders for ContinuedFiles<F> {
 
     ghost failures = { λ c. c.failures };
 
-    fn put(&mut self, folder: &[u8], file: &[u8], bytes: &[u8; 512]) -> Result<(), FolderFault>
-        ensures put { OnOk result
-            (PutsOne None None (record { folder = folder.now; file = file.now; bytes = bytes.now })) }
+    fn put(&mut self, place: &Place, bytes: &[u8; 512]) -> Result<(), FolderFault>
+        ensures put { OnOk result (PutsOne None None
+            (record { folder = place.now.folder; file = place.now.file; bytes = bytes.now })) }
         ensures refused { OnErr result (PutsNothing None None) }
         ensures failure { CountsFailure self.old.failures self.new.failures result }
     {
-        let mut name = mem::replace(&mut self.name, Vec::new(self.alloc));
-        let put = self.hand_in(&mut name, folder, file, bytes);
-        self.name = name;
+        let put = self.hand(place.path(), bytes);
         if put.is_err() {
             self.failures = self.failures.wrapping_add(1);
         }

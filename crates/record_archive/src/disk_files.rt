@@ -1,10 +1,10 @@
 //! Files of records on the disk.
-ghost use Rattle.std.specs.Prelude.{None};
+ghost use Rattle.std.specs.Prelude.{◌<◌, IfOk, None, length};
 
 use crate::files::RecordFiles;
 use crate::folders::FolderFault;
 use crate::open_file::{OpenFile, RECORD, identity_of};
-use lru::LruCache;
+use crate::open_files::{NamedFile, OpenFiles};
 use std::alloc::Global;
 use std::fs::{self, File, Metadata, OpenOptions};
 use std::io::{self, ErrorKind};
@@ -32,13 +32,14 @@ pub struct FileFailure {
     pub reason: io::Error,
 }
 
-/// Files of records on the disk, which no others write to meanwhile. Those that were written last are kept open.
+/// Files of records on the disk, which no others write to meanwhile. Those that were written last are kept open, by and
+/// large.
 #[derive(Drop)]
 pub struct DiskFiles<'a, R: Files<File = File>> {
     rt: &'a R,
     alloc: Global,
     place: FilePlace<'a>,
-    open: LruCache<String, OpenFile>,
+    opened: OpenFiles,
     /// How many pieces of records were begun, and when the last one was, in milliseconds.
     piece: u64,
     now: u64,
@@ -128,22 +129,19 @@ impl<'a, R: Files<File = File> + Clock> DiskFiles<'a, R> {
         place: FilePlace<'a>,
         most: NonZeroUsize,
         lasts: bool,
-    ) -> io::Result<DiskFiles<'a, R>> {
-        match LruCache::sparse(alloc, most) {
-            Ok(open) => Ok(DiskFiles {
-                rt,
-                alloc,
-                place,
-                open,
-                piece: 0,
-                now: milliseconds(rt),
-                lasts,
-                is_lost: false,
-                lost: None,
-                torn: None,
-                failure: None,
-            }),
-            Err(_) => Err(no_memory()),
+    ) -> DiskFiles<'a, R> {
+        DiskFiles {
+            rt,
+            alloc,
+            place,
+            opened: OpenFiles::new(alloc, most),
+            piece: 0,
+            now: milliseconds(rt),
+            lasts,
+            is_lost: false,
+            lost: None,
+            torn: None,
+            failure: None,
         }
     }
 
@@ -184,38 +182,46 @@ impl<'a, R: Files<File = File> + Clock> DiskFiles<'a, R> {
     }
 
     /// A file is no more kept open.
-    fn let_go(&mut self, name: &str, file: OpenFile) {
+    fn let_go(&mut self, open: NamedFile) {
         if !self.lasts {
             return;
         }
-        if let Err(reason) = file.sync() {
+        if let Err(reason) = open.file.sync() {
             self.is_lost = true;
-            self.lost = Some(self.failure_at(name, reason));
+            self.lost = Some(FileFailure {
+                path: Some(open.path),
+                reason,
+            });
         }
     }
 
-    /// The file that was written longest ago is no more kept open. Answers whether there was one.
-    fn let_go_oldest(&mut self) -> bool {
-        match self.open.pop_lru() {
-            Some((name, oldest)) => {
-                self.let_go(name.as_str(), oldest);
+    /// A file that was not written for long is no more kept open. Answers whether there was one.
+    fn let_go_old(&mut self) -> bool {
+        match self.opened.take_old() {
+            Some(old) => {
+                self.let_go(old);
                 true
             }
             None => false,
         }
     }
 
-    /// Keeps a file open, in place of the one that was written longest ago.
-    fn keep_open(&mut self, name: &str, file: OpenFile) -> io::Result<()> {
+    /// Keeps a file open, if need be in place of one that was not written for long.
+    fn keep_open(&mut self, name: &str, path: String, file: OpenFile) -> io::Result<()> {
         let Ok(name) = String::from_str(self.alloc, name) else {
             return Err(no_memory());
         };
-        match self.open.push(name, file) {
-            Ok(Some((name, oldest))) => {
-                self.let_go(name.as_str(), oldest);
-                Ok(())
-            }
-            Ok(None) => Ok(()),
+        if self.opened.is_full() {
+            self.let_go_old();
+        }
+        let opened = NamedFile {
+            name,
+            path,
+            file,
+            is_found: true,
+        };
+        match self.opened.push(opened) {
+            Ok(()) => Ok(()),
             Err(_) => Err(no_memory()),
         }
     }
@@ -225,7 +231,7 @@ impl<'a, R: Files<File = File> + Clock> DiskFiles<'a, R> {
         for _ in 0..u64::MAX {
             match made_at(self.rt, path) {
                 Err(reason) if is_full(&reason) => {
-                    if !self.let_go_oldest() {
+                    if !self.let_go_old() {
                         return Err(reason);
                     }
                 }
@@ -235,11 +241,8 @@ impl<'a, R: Files<File = File> + Clock> DiskFiles<'a, R> {
         Err(io::Error::from(ErrorKind::Other))
     }
 
-    /// Has a file open.
-    fn have_open(&mut self, name: &str) -> io::Result<()> {
-        if self.open.contains(name) {
-            return Ok(());
-        }
+    /// Opens the file of a name, which is not open.
+    fn open_new(&mut self, name: &str) -> io::Result<()> {
         let path = self.path_of(name)?;
         let is_new = plain_at(self.rt, path.as_str())?.is_none();
         let file = self.open_at(path.as_str())?;
@@ -247,13 +250,27 @@ impl<'a, R: Files<File = File> + Clock> DiskFiles<'a, R> {
             sync_folder(self.rt, path.as_str());
         }
         let opened = OpenFile::new(file, self.now, self.piece)?;
-        self.keep_open(name, opened)
+        self.keep_open(name, path, opened)
+    }
+
+    /// Has the file of a name open. Answers its place among those that are.
+    fn have_open(&mut self, name: &str) -> io::Result<usize>
+        ensures { IfOk result (λ at. at < length self.new.opened.all.items) }
+    {
+        if let Some(at) = self.opened.find_again(name) {
+            return Ok(at);
+        }
+        self.open_new(name)?;
+        match self.opened.find(name) {
+            Some(at) => Ok(at),
+            None => Err(io::Error::from(ErrorKind::Other)),
+        }
     }
 
     /// A file is closed that is open, but is no more the one at its path.
     fn close_other(&mut self, name: &str, found: &Option<Metadata>) {
-        let is_same = match (self.open.peek(name), found) {
-            (Some(open), Some(found)) => open.is_at(identity_of(found)),
+        let is_same = match (self.opened.get(name), found) {
+            (Some(open), Some(found)) => open.file.is_at(identity_of(found)),
             (Some(_), None) => false,
             (None, _) => true,
         };
@@ -264,8 +281,8 @@ impl<'a, R: Files<File = File> + Clock> DiskFiles<'a, R> {
 
     /// A file is closed, if it is open.
     fn close(&mut self, name: &str) {
-        if let Some(open) = self.open.pop(name) {
-            self.let_go(name, open);
+        if let Some(open) = self.opened.take(name) {
+            self.let_go(open);
         }
     }
 
@@ -283,18 +300,16 @@ impl<'a, R: Files<File = File> + Clock> DiskFiles<'a, R> {
     }
 
     /// How many records stand in a file that is open, if its path was seen to name it since the piece began.
-    fn count_open(&self, name: &str) -> Option<u64> {
-        match self.open.peek(name) {
-            Some(open) => open.count_in(self.piece),
-            None => None,
-        }
+    fn count_open(&mut self, name: &str) -> Option<u64> {
+        let at = self.opened.find(name)?;
+        self.opened.all[at].file.count_in(self.piece)
     }
 
     /// A file that is open has that length, and its path names it.
     fn see(&mut self, name: &str, length: u64) {
         let piece = self.piece;
-        if let Some(open) = self.open.peek_mut(name) {
-            open.see(piece, length);
+        if let Some(at) = self.opened.find_again(name) {
+            self.opened.all[at].file.see(piece, length);
         }
     }
 
@@ -306,10 +321,17 @@ impl<'a, R: Files<File = File> + Clock> DiskFiles<'a, R> {
         }
     }
 
+    /// What the system says of the file that a path names.
+    fn found_at(&self, name: &str) -> io::Result<Option<Metadata>> {
+        match self.opened.get(name) {
+            Some(open) => plain_at(self.rt, open.path.as_str()),
+            None => plain_at(self.rt, self.path_of(name)?.as_str()),
+        }
+    }
+
     /// How many whole records stand in the file that a path names, whose torn end is put aside.
     fn count_by_path(&mut self, name: &str) -> io::Result<u64> {
-        let path = self.path_of(name)?;
-        let found = plain_at(self.rt, path.as_str())?;
+        let found = self.found_at(name)?;
         self.close_other(name, &found);
         let length = match found {
             Some(found) => found.len(),
@@ -317,6 +339,7 @@ impl<'a, R: Files<File = File> + Clock> DiskFiles<'a, R> {
         };
         if length % RECORD != 0 {
             self.close(name);
+            let path = self.path_of(name)?;
             self.put_aside(path, length)?;
         }
         self.see(name, length);
@@ -325,32 +348,23 @@ impl<'a, R: Files<File = File> + Clock> DiskFiles<'a, R> {
 
     /// Reads the record at a place of a file.
     fn read_at(&mut self, name: &str, place: u64, bytes: &mut [u8; 512]) -> io::Result<()> {
-        self.have_open(name)?;
-        match self.open.get(name) {
-            Some(file) => file.read(place, bytes),
-            None => Err(io::Error::from(ErrorKind::Other)),
-        }
+        let at = self.have_open(name)?;
+        self.opened.all[at].file.read(place, bytes)
     }
 
     /// Adds a record at the end of a file.
     fn add_at(&mut self, name: &str, bytes: &[u8; 512]) -> io::Result<()> {
         let now = self.now;
-        if let Some(file) = self.open.get_mut(name) {
-            return file.add(bytes, now);
-        }
-        self.have_open(name)?;
-        match self.open.get_mut(name) {
-            Some(file) => file.add(bytes, now),
-            None => Err(io::Error::from(ErrorKind::Other)),
-        }
+        let at = self.have_open(name)?;
+        self.opened.all[at].file.add(bytes, now)
     }
 
     /// Has the system put on the disk what was added to files that are open.
     fn sync_open(&self) -> Result<(), FileFailure> {
-        for (name, file) in self.open.iter() {
-            match file.sync() {
+        for open in &self.opened.all {
+            match open.file.sync() {
                 Ok(()) => {}
-                Err(reason) => return Err(self.failure_at(name.as_str(), reason)),
+                Err(reason) => return Err(self.failure_at(open.name.as_str(), reason)),
             }
         }
         Ok(())
@@ -359,13 +373,9 @@ impl<'a, R: Files<File = File> + Clock> DiskFiles<'a, R> {
     /// Closes files to which nothing was added for a minute.
     fn close_idle(&mut self) {
         let now = milliseconds(self.rt);
-        for _ in 0..self.open.len() {
-            let is_idle = match self.open.peek_lru() {
-                Some((_, oldest)) => oldest.is_idle(now, IDLE),
-                None => false,
-            };
-            if !is_idle || !self.let_go_oldest() {
-                return;
+        for at in (0..self.opened.all.len()).rev() {
+            if let Some(idle) = self.opened.take_idle(at, now, IDLE) {
+                self.let_go(idle);
             }
         }
     }

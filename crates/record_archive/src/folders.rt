@@ -4,6 +4,8 @@ ghost use Rattle.std.specs.declared.option.Option.{Option};
 ghost use Rattle.sl_io.specs.Counts.{CountsFailure};
 ghost use Rattle.record_archive.specs.Archives.{Put, PutsNothing, PutsOne};
 
+use crate::place::Place;
+
 /// A folder can't be made, or a file can't be opened or takes no more.
 #[derive(Clone, Copy, Drop)]
 pub struct FolderFault;
@@ -17,11 +19,11 @@ pub trait Folders {
     // How many calls failed.
     ghost failures: { Self → ℕ };
 
-    /// Puts the bytes of a record at the end of a file in a folder, both of which are made if they are not there. The
-    /// folder is a path of names with `/` between them, and the file a name. A put that fails puts nothing.
-    fn put(&mut self, folder: &[u8], file: &[u8], bytes: &[u8; 512]) -> Result<(), FolderFault>
+    /// Puts the bytes of a record at the end of a file in a folder, both of which are made if they are not there. A put
+    /// that fails puts nothing.
+    fn put(&mut self, place: &Place, bytes: &[u8; 512]) -> Result<(), FolderFault>
         ensures put { OnOk result (PutsOne (puts self.old) (puts self.new)
-            (record { folder = folder.now; file = file.now; bytes = bytes.now })) }
+            (record { folder = place.now.folder; file = place.now.file; bytes = bytes.now })) }
         ensures refused { OnErr result (PutsNothing (puts self.old) (puts self.new)) }
         ensures failure { CountsFailure (failures self.old) (failures self.new) result };
 }

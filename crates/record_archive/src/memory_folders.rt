@@ -5,6 +5,7 @@ ghost use Rattle.record_archive.specs.Archives.{Put, PutsNothing, PutsOne};
 ghost use Rattle.record_archive.specs.Stores.{stored};
 
 use crate::folders::{FolderFault, Folders};
+use crate::place::Place;
 use std::alloc::{AllocError, Global};
 
 /// A record that was put, and where.
@@ -64,15 +65,15 @@ impl Folders for MemoryFolders {
 
     ghost failures = { λ f. f.failures };
 
-    fn put(&mut self, folder: &[u8], file: &[u8], bytes: &[u8; 512]) -> Result<(), FolderFault>
+    fn put(&mut self, place: &Place, bytes: &[u8; 512]) -> Result<(), FolderFault>
         ensures put { OnOk result
             (PutsOne (Some (map stored self.old.all.items)) (Some (map stored self.new.all.items))
-            (record { folder = folder.now; file = file.now; bytes = bytes.now })) }
+            (record { folder = place.now.folder; file = place.now.file; bytes = bytes.now })) }
         ensures refused { OnErr result
             (PutsNothing (Some (map stored self.old.all.items)) (Some (map stored self.new.all.items))) }
         ensures failure { CountsFailure self.old.failures self.new.failures result }
     {
-        match self.keep(folder, file, bytes) {
+        match self.keep(place.folder(), place.file(), bytes) {
             Ok(()) => Ok(()),
             Err(_) => {
                 self.failures = self.failures.wrapping_add(1);

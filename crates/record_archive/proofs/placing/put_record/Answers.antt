@@ -8,9 +8,9 @@ put_read-requires g c = valid-record c.args.bytes.now _ (sym c.requires ∙ c.in
 
 pub returns-in-None-clause-put : goal.returns-in-None-clause-put
 returns-in-None-clause-put g c =
-    held-same c.args.stations.now (g.F.Folders.puts c.args.folders.now) c.args.bytes.now
-    (invalid-record c.args.stations.now c.args.bytes.now (sym c.requires ∙ c.in-None.is))
+    held-same c.args.streams.now.stations.items (g.F.Folders.puts c.args.folders.now) c.args.bytes.now
+    (invalid-record c.args.streams.now.stations.items c.args.bytes.now (sym c.requires ∙ c.in-None.is))
 
 pub returns-in-None-clause-unplaced : goal.returns-in-None-clause-unplaced
 returns-in-None-clause-unplaced g c = λ e.
-    invalid-record c.args.stations.now c.args.bytes.now (sym c.requires ∙ c.in-None.is)
+    invalid-record c.args.streams.now.stations.items c.args.bytes.now (sym c.requires ∙ c.in-None.is)
