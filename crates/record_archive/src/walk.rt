@@ -51,6 +51,9 @@ fn find<F: RecordFiles>(
         → MatchOption found (AreOthers rs from to bytes.now)
         (λ place. (record_at rs place ≡ bytes.now) × AreOthers rs from place bytes.now)) }
 {
+    if from >= to {
+        return Ok(None);
+    }
     let mut other = [0u8; 512];
     for place in from..to {
         files.read(name, place, &mut other)?;
