@@ -1,4 +1,6 @@
 mod EntryLemmas
+pub mod OrderLemmas
+mod OrderChangeLemmas
 pub mod NamedLemmas
 pub mod ModeLemmas
 pub mod ChoiceLemmas

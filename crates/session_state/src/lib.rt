@@ -9,11 +9,12 @@ pub mod choices;
 mod kept_action;
 mod named;
 mod negotiation;
+mod order;
 mod refusals;
 pub mod session;
 mod waiting;
 
-pub use choices::{Ahead, Cursor, Entry};
+pub use choices::{Cursor, Entry};
 pub use kept_action::KeptAction;
 pub use refusals::NoRoom;
 pub use session::{Session, Settled, State};

@@ -18,12 +18,14 @@ ghost use Rattle.session_state.specs.NamedValues.{Choice, blank, entry_of, begun
 ghost use Rattle.session_state.specs.Choices.{action_value, choices_in, has_action, is_of_station, is_entry_of_station};
 ghost use Rattle.session_state.specs.Choices.{kept_at, passed_at};
 ghost use Rattle.session_state.specs.Entries.{IsIndexed, IsOnlyAt, TellsAhead};
+ghost use Rattle.session_state.specs.Orders.{IsEarliest};
 ghost use Rattle.session_state.specs.declared.choices.Ahead.TheVariants.{Nobody};
 ghost use Rattle.session_state.specs.Changes.{all_selectors, outcome_after, selecting_in, widened, widening};
 
 use crate::choices::{Ahead, Cursor, Entry, after_pass, put};
 use crate::kept_action::KeptAction;
 use crate::negotiation::Change;
+use crate::order::{earliest, follow};
 use catalog::Config;
 use protocol::record::Kind;
 use selector::{Pool, Selector};
@@ -123,13 +125,17 @@ pub struct Named {
     // by a place of the configuration, the index of the station that is named there, if one is
     indexes: Vec<u8>,
     ahead: Ahead,
+    // the index of each, in the order of their records ahead once several may have one
+    order: Vec<u8>,
     current: Option<usize>,
     pool: Pool,
 }
 
 impl Model for Named {
+    ghost use Rattle.std.specs.Prelude.{◌≤◌, length};
     ghost use Rattle.std.specs.Vec.{vec_capacity};
     ghost use Rattle.session_state.specs.Entries.{IsIndexed, TellsAhead};
+    ghost use Rattle.session_state.specs.Orders.{HasSorted, IsOrder};
     ghost use Rattle.session_state.specs.NamedValues.{NamedValue, IsNamed, choices_with};
 
     ghost Value = { NamedValue };
@@ -137,7 +143,9 @@ impl Model for Named {
     ghost view = { λ n. record { choices = choices_with n.entries.items n.pool; current = n.current } };
 
     ghost invariant = { λ n. IsNamed n.entries.items n.current n.pool (vec_capacity n.entries)
-        × IsIndexed n.entries.items n.indexes.items × TellsAhead n.ahead n.entries.items };
+        × IsIndexed n.entries.items n.indexes.items × TellsAhead n.ahead n.entries.items
+        × IsOrder n.order.items (length n.entries.items) × HasSorted n.ahead n.order.items n.entries.items
+        × (255 ≤ vec_capacity n.order) };
 }
 
 impl Named {
@@ -149,13 +157,16 @@ impl Named {
         let mut entries = Vec::with_capacity(alloc, CAPACITY)?;
         let mut indexes = Vec::new(alloc);
         indexes.resize(places, 0)?;
+        let mut order = Vec::with_capacity(alloc, CAPACITY)?;
         let pool = Pool::new(alloc)?;
         put(&mut entries, 0, None);
+        order.push_reserved(0);
         set_index(&mut indexes, 0, 0);
         Ok(Named {
             entries,
             indexes,
             ahead: Ahead::Nobody,
+            order,
             current: Some(0),
             pool,
         })
@@ -186,6 +197,7 @@ impl Named {
     {
         self.pool.clear(0);
         self.entries.clear();
+        self.order.clear();
         self.ahead = Ahead::Nobody;
         self.current = None;
     }
@@ -254,6 +266,7 @@ impl Named {
         }
         put(&mut self.entries, place, None);
         set_index(&mut self.indexes, place, i as u8);
+        self.order.push_reserved(i as u8);
         self.current = Some(i);
         Change::Done
     }
@@ -388,8 +401,16 @@ impl Named {
         } }
     {
         let _ = &self.pool;
-        self.ahead = after_pass(self.ahead, i, cursor.ahead().is_some());
+        let before = self.ahead;
+        self.ahead = after_pass(before, i, cursor.ahead().is_some());
         self.entries[i].cursor = cursor;
+        follow(
+            &mut self.order,
+            self.entries.as_slice(),
+            before,
+            self.ahead,
+            i,
+        );
     }
 
     /// The index of the station at a place, where it is found at once: there is no other at that place.
@@ -400,12 +421,12 @@ impl Named {
         only_at(self.entries.as_slice(), place, i)
     }
 
-    /// Which of the stations' requests may have a record ahead.
-    pub fn ahead(&self) -> Ahead
-        ensures { TellsAhead result (map entry_of self.now.choices) }
+    /// The station whose request's record ahead came first, by its index, if a request has one.
+    pub fn earliest(&self) -> Option<usize>
+        ensures { IsEarliest (map entry_of self.now.choices) result }
     {
         let _ = &self.pool;
-        self.ahead
+        earliest(self.ahead, self.order.as_slice(), self.entries.as_slice())
     }
 
     /// Keeps that none has a record ahead.

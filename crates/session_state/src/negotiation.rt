@@ -12,10 +12,11 @@ ghost use Rattle.protocol.specs.Session.{act, choices_of, choose_station, end_mu
 ghost use Rattle.catalog.specs.Places.{station_at, view_in};
 ghost use Rattle.session_state.specs.Choices.{action_value, negotiated_in};
 ghost use Rattle.session_state.specs.Entries.{IsOnlyAt, TellsAhead};
+ghost use Rattle.session_state.specs.Orders.{IsEarliest};
 ghost use Rattle.session_state.specs.declared.choices.Ahead.TheVariants.{Nobody};
 ghost use Rattle.session_state.specs.Changes.{outcome_after, selecting};
 
-use crate::choices::{Ahead, Cursor, Entry};
+use crate::choices::{Cursor, Entry};
 use crate::named::Named;
 use catalog::{Config, View};
 use protocol::record::Kind;
@@ -124,14 +125,14 @@ impl Negotiation {
         }
     }
 
-    /// Which of the stations' requests may have a record ahead.
-    pub fn ahead(&self) -> Ahead
-        ensures { TellsAhead result (map entry_of (chosen_of self.now)) }
+    /// The station whose request's record ahead came first, by its index, if a request has one.
+    pub fn earliest(&self) -> Option<usize>
+        ensures { IsEarliest (map entry_of (chosen_of self.now)) result }
     {
         if self.is_multi {
-            self.named.ahead()
+            self.named.earliest()
         } else {
-            Ahead::Nobody
+            None
         }
     }
 

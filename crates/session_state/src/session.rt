@@ -7,10 +7,11 @@ ghost use Rattle.std.specs.Prelude.{length, drop};
 ghost use Rattle.std.specs.Prelude.{◌↔◌, map, nat_lt, not, is_ok, is_some, true, false, codes, ℕ, Some, slice_get};
 ghost use Rattle.protocol.specs.History.{Arrival};
 ghost use Rattle.session_state.specs.Entries.{IsOnlyAt, TellsAhead};
+ghost use Rattle.session_state.specs.Orders.{IsEarliest};
 ghost use Rattle.session_state.specs.declared.choices.Ahead.TheVariants.{Nobody};
 ghost use Rattle.protocol.specs.Client.{read_on, received, offered, after_take, cut, new_client, is_ending, is_nothing};
 
-use crate::choices::{Ahead, Cursor, Entry};
+use crate::choices::{Cursor, Entry};
 use crate::negotiation::Negotiation;
 use crate::refusals::NoRoom;
 use crate::waiting::{Waiting, put_bytes, put_packet};
@@ -417,12 +418,12 @@ impl Session {
         self.mode.find(place)
     }
 
-    /// Which of the named stations' requests may have a record ahead.
-    pub fn ahead(&self) -> Ahead
-        ensures { TellsAhead result (map entry_of (chosen_of self.now.mode)) }
+    /// The named station whose request's record ahead came first, by its index, if a request has one.
+    pub fn earliest(&self) -> Option<usize>
+        ensures { IsEarliest (map entry_of (chosen_of self.now.mode)) result }
     {
         let _ = &self.state;
-        self.mode.ahead()
+        self.mode.earliest()
     }
 
     /// Keeps that none has a record ahead.

@@ -1,6 +1,6 @@
 -- A transfer that knows which of its requests has something to look at, or a record ahead.
-use Rattle.std.proofs.Common.{◌≡◌, ◌≢◌, ℕ, ◌+◌, ◌-◌, ◌<◌, ◌≤◌, zero, suc, add-one, nat_lt, List, []}
-use Rattle.std.proofs.Common.{◌∷◌, length, map, slice_get, Option, Some, None, unwrap_or, refl, sym, ap, subst}
+use Rattle.std.proofs.Common.{◌≡◌, ◌≢◌, ℕ, ◌+◌, zero, suc, nat_lt, List, []}
+use Rattle.std.proofs.Common.{◌∷◌, map, slice_get, Option, Some, None, unwrap_or, refl, sym, ap, subst}
 use Rattle.std.proofs.Common.{◌∙◌, arith}
 use Rattle.std.specs.Prelude.{◌==◌, if◌then◌else◌}
 use Rattle.std.proofs.lemmas.Bool.Decides.{nat_tests}
@@ -10,16 +10,14 @@ use Rattle.station_ring.specs.HeldRecords.{RingsValue}
 use Rattle.sl_lines.specs.declared.actions.Action.{Action}
 use Rattle.session_state.specs.declared.choices.Cursor.{Cursor}
 use Rattle.session_state.specs.declared.choices.Entry.{Entry}
-use Rattle.session_state.specs.declared.choices.Ahead.TheVariants.{Nobody, Only}
+use Rattle.session_state.specs.declared.choices.Ahead.TheVariants.{Nobody}
 use Rattle.session_state.specs.NamedValues.{Choice, ahead_of, entry_of}
 use Rattle.session_state.specs.Choices.{chosen_of}
 use Rattle.session_state.specs.Entries.{IsOnlyAt, TellsAhead}
 use Rattle.session_state.specs.Sessions.{SessionValue}
-use Rattle.transfer.specs.declared.choosing.First.{First}
+use Rattle.transfer.specs.declared.overview.First.{First}
 use Rattle.transfer.specs.Cursors.{HasLooked, HasPassedAll, IsLooked, OfAll, PassedIn, RestsIn}
-use Rattle.transfer.specs.Firsts.{IsGlance, IsGlancedUpTo, best_after, best_of, earlier}
-use Rattle.transfer.proofs.EntryLemmas.{choice-there, item-is}
-use Rattle.transfer.proofs.BestLemmas.{glanced-all, glanced-none, glanced-nothing, glanced-record}
+use Rattle.transfer.specs.Firsts.{best_after, best_of, earlier}
 use Rattle.transfer.proofs.PassedLemmas.{one-rests}
 use Rattle.transfer.proofs.RestLemmas.{Passes}
 
@@ -106,73 +104,9 @@ caught-up rings next i cursor a n m c passes kept made at rests others all =
           (subst (λ d. OfAll (HasLooked rings) (chosen_of d)) mode looked);
     }
 
--- ---- glances at the cursors that may tell of a record
-
--- no request has one ahead
+-- no request has a record ahead
 abbrev pub AreQuiet : List Choice → Type 0
 AreQuiet cs = (j : ℕ) (c : Choice) → slice_get cs j ≡ Some c → ahead_of c.cursor ≡ None
-
-pub quiet-choices : (cs : List Choice) → TellsAhead Nobody (map entry_of cs) → AreQuiet cs
-quiet-choices cs tells j c at = tells j (entry_of c) (mapped cs j c at)
-
--- so many were looked over, of which none has one, from some on
-glanced-on : (next from : ℕ) (cs : List Choice) (best : Option First)
-    → ((j : ℕ) (c : Choice) → from ≤ j → slice_get cs j ≡ Some c → ahead_of c.cursor ≡ None)
-    → IsGlancedUpTo next cs from best → (more : ℕ) → from + more ≤ length cs → IsGlancedUpTo next cs (from + more) best
-glanced-on next from cs best quiet so_far zero low =
-    subst (λ k. IsGlancedUpTo next cs k best) (let e : from ≡ from + 0 = omega arith in e) so_far
-glanced-on next from cs best quiet so_far (suc more) low =
-    let i : ℕ = from + more in
-    let within : i < length cs = omega (arith, low) in
-    let x = choice-there cs i within in
-    let step = glanced-nothing next i cs x.0 (entry_of x.0) best refl x.1 within (item-is cs i x.0 x.1)
-    (quiet i x.0 (omega arith) x.1) (glanced-on next from cs best quiet so_far more (omega (arith, low))) in
-    subst (λ k. IsGlancedUpTo next cs k best) (let e : from + more + 1 ≡ from + suc more = omega arith in e) step
-
-pub glance-quiet : (next : ℕ) (cs : List Choice) → AreQuiet cs → IsGlance next cs None
-glance-quiet next cs quiet =
-    let all = glanced-on next 0 cs None (λ j c low at. quiet j c at) (glanced-none next cs) (length cs) (omega arith) in
-    glanced-all next (0 + length cs) cs None (omega arith) all
-
--- of one alone
-abbrev pub AreQuietBut : ℕ → List Choice → Type 0
-AreQuietBut i cs = (j : ℕ) (c : Choice) → j ≢ i → slice_get cs j ≡ Some c → ahead_of c.cursor ≡ None
-
-pub quiet-others : (i : ℕ) (cs : List Choice) → TellsAhead (Only i) (map entry_of cs) → AreQuietBut i cs
-quiet-others i cs tells j c apart at = tells j (entry_of c) apart (mapped cs j c at)
-
--- none has one, if that one hasn't
-pub quiet-all : (i : ℕ) (cs : List Choice) → AreQuietBut i cs
-    → ((c : Choice) → slice_get cs i ≡ Some c → ahead_of c.cursor ≡ None) → AreQuiet cs
-quiet-all i cs others own j c at = both (j == i)
-    (λ y. let same : j ≡ i = grind (arith, nat_tests) in own c (ap (slice_get cs) (sym same) ∙ at))
-    (λ n. others j c (λ e. absurd (grind (arith, nat_tests))) at)
-
-before-one : (next i : ℕ) (cs : List Choice) → AreQuietBut i cs → (k : ℕ) → k ≤ i → k ≤ length cs
-    → IsGlancedUpTo next cs k None
-before-one next i cs others zero low few = glanced-none next cs
-before-one next i cs others (suc k) low few =
-    let within : k < length cs = omega arith in
-    let x = choice-there cs k within in
-    subst (λ n. IsGlancedUpTo next cs n None) (add-one k)
-    (glanced-nothing next k cs x.0 (entry_of x.0) None refl x.1 within (item-is cs k x.0 x.1)
-    (others k x.0 (λ e. absurd (omega arith)) x.1) (before-one next i cs others k (omega arith) (omega arith)))
-
-pub glance-one : (next i stamp : ℕ) (cs : List Choice) (c : Choice) → AreQuietBut i cs → i < length cs
-    → slice_get cs i ≡ Some c → ahead_of c.cursor ≡ Some stamp → next ≤ stamp
-    → IsGlance next cs (Some (record { index = i; stamp = stamp }))
-glance-one next i stamp cs c others within at is late =
-    let first : Option First = Some (record { index = i; stamp = stamp }) in
-    let so_far = glanced-record next i cs c (entry_of c) None first stamp refl at within (item-is cs i c at) is late
-    refl
-    (before-one next i cs others i (omega arith) (omega arith)) in
-    let left : (k : ℕ) × (i + 1 + k ≡ length cs) = rest-of (i + 1) (length cs) (omega arith) in
-    glanced-all next (i + 1 + left.0) cs first (let e = left.1 in omega arith)
-    (glanced-on next (i + 1) cs first (λ j x low there. others j x (λ e. absurd (omega arith)) there) so_far left.0
-    (let e = left.1 in omega arith))
-  where
-    rest-of : (a b : ℕ) → a ≤ b → (k : ℕ) × (a + k ≡ b)
-    rest-of a b h = (b - a, omega arith)
 
 -- ---- none is first
 

@@ -1,21 +1,19 @@
 -- The first of what many requests are to send, found in one walk.
 use Rattle.std.proofs.Common.{◌≡◌, ℕ, ◌+◌, ◌<◌, ◌≤◌, zero, suc, add-one, List, [], ◌∷◌, length, take, get_or, slice_get}
-use Rattle.std.proofs.Common.{Option, Some, None, true, false, nat_le, unwrap_or, refl, sym, ap, ap₂, subst, ◌∙◌, arith}
+use Rattle.std.proofs.Common.{Option, Some, None, unwrap_or, refl, sym, ap, ap₂, subst, ◌∙◌, arith}
 use Rattle.std.specs.Prelude.{◌==◌, nat_lt}
 use Rattle.std.proofs.lemmas.Bool.Decides.{nat_tests}
 use Rattle.protocol.proofs.FoundLemmas.{both}
 use Rattle.station_ring.specs.HeldRecords.{RingsValue}
-use Rattle.session_state.specs.declared.choices.Entry.{Entry}
-use Rattle.session_state.specs.NamedValues.{Choice, ahead_of, entry_of}
+use Rattle.session_state.specs.NamedValues.{Choice, ahead_of}
 use Rattle.session_state.specs.Choices.{chosen_of}
 use Rattle.session_state.specs.Sessions.{SessionValue}
-use Rattle.transfer.specs.declared.choosing.First.{First}
+use Rattle.transfer.specs.declared.overview.First.{First}
 use Rattle.transfer.specs.Cursors.{OfAll, PassedIn, RestsIn}
-use Rattle.transfer.specs.Firsts.{IsGlance, IsGlancedUpTo, LeadsSoFar, RestBetween, best_after, best_of, earlier}
-use Rattle.transfer.specs.Firsts.{is_unsent}
-use Rattle.transfer.proofs.EntryLemmas.{choice-there, item-is, looked-rests}
+use Rattle.transfer.specs.Firsts.{LeadsSoFar, RestBetween, best_after, best_of, earlier}
+use Rattle.transfer.proofs.EntryLemmas.{choice-there, item-is}
 use Rattle.transfer.proofs.FirstsLemmas.{leads-more, leads-none}
-use Rattle.transfer.proofs.RestLemmas.{Moves, choice-within}
+use Rattle.transfer.proofs.RestLemmas.{Moves}
 
 one-more : (cs : List Choice) (i k : ℕ) (c : Choice) (best : Option First) → i < length cs → c ≡ get_or cs i c
     → best_after best k (take (suc i) cs) ≡ earlier (best_after best k (take i cs)) (k + i) (ahead_of c.cursor)
@@ -105,63 +103,3 @@ rest-more rings next from i cs c at fresh so_far = λ j x low high there. both (
     let same : Some x ≡ Some c = sym there ∙ ap (slice_get cs) here ∙ at in
     subst (λ z. PassedIn rings next z → RestsIn rings next z) (ap (λ o. unwrap_or o x) (sym same)) fresh)
     (λ n. so_far j x low (grind (arith, nat_tests)) there)
-
--- ---- glances
-
-pub glanced-none : (next : ℕ) (cs : List Choice) → IsGlancedUpTo next cs 0 None
-glanced-none next cs = record {
-  rests = λ rings looked j x low high at. absurd (omega (arith, low, high));
-  first = refl;
-}
-
--- One cursor more was looked at.
-pub glanced-more : (next i : ℕ) (cs : List Choice) (c : Choice) (e : Entry) (best later : Option First)
-    → entry_of c ≡ e → slice_get cs i ≡ Some c → i < length cs → c ≡ get_or cs i c
-    → is_unsent next (ahead_of e.cursor) ≡ true
-    → later ≡ earlier best i (ahead_of e.cursor) → IsGlancedUpTo next cs i best → IsGlancedUpTo next cs (i + 1) later
-glanced-more next i cs c e best later same there within item unsent step so_far = record {
-  rests = λ rings looked. rest-more rings next 0 i cs c there
-      (looked-rests rings next c e same unsent (looked i c there)) (so_far.rests rings looked);
-  first = step
-      ∙ ap (λ (y : Entry). earlier best i (ahead_of y.cursor)) (sym same)
-      ∙ ap (λ b. earlier b i (ahead_of c.cursor)) so_far.first
-      ∙ sym (best-more cs i c within item);
-}
-
--- All were looked at.
-pub glanced-all : (next i : ℕ) (cs : List Choice) (best : Option First) → length cs ≤ i → IsGlancedUpTo next cs i best
-    → IsGlance next cs best
-glanced-all next i cs best all so_far = record {
-  rests = λ rings looked passed j x at. so_far.rests rings looked j x (omega arith) (choice-within cs j x i all at) at
-      (passed j x at);
-  best = best-whole cs i best all so_far.first;
-}
-
-late : (next stamp : ℕ) → next ≤ stamp → nat_le next stamp ≡ true
-late next stamp low = grind (arith, nat_tests)
-
--- the same of one that tells of a record
-pub glanced-record : (next i : ℕ) (cs : List Choice) (c : Choice) (e : Entry) (best later : Option First) (stamp : ℕ)
-    → entry_of c ≡ e → slice_get cs i ≡ Some c → i < length cs → c ≡ get_or cs i c → ahead_of e.cursor ≡ Some stamp
-    → next ≤ stamp → later ≡ earlier best i (Some stamp) → IsGlancedUpTo next cs i best
-    → IsGlancedUpTo next cs (i + 1) later
-glanced-record next i cs c e best later stamp same there within item is unsent step so_far =
-    glanced-more next i cs c e best later same there within item (ap (is_unsent next) is ∙ late next stamp unsent)
-    (step ∙ ap (earlier best i) (sym is)) so_far
-
--- and of one that tells of none
-pub glanced-nothing : (next i : ℕ) (cs : List Choice) (c : Choice) (e : Entry) (best : Option First) → entry_of c ≡ e
-    → slice_get cs i ≡ Some c → i < length cs → c ≡ get_or cs i c → ahead_of e.cursor ≡ None
-    → IsGlancedUpTo next cs i best → IsGlancedUpTo next cs (i + 1) best
-glanced-nothing next i cs c e best same there within item is so_far =
-    glanced-more next i cs c e best best same there within item (ap (is_unsent next) is)
-    (ap (earlier best i) (sym is)) so_far
-
-pub comes-sooner : (best : First) (i stamp : ℕ) → stamp < best.stamp
-    → earlier (Some best) i (Some stamp) ≡ Some (record { index = i; stamp = stamp })
-comes-sooner best i stamp low =
-    let test : nat_lt stamp best.stamp ≡ true = grind (arith, nat_tests) in rw test refl
-
-pub comes-later : (best : First) (i stamp : ℕ) → best.stamp ≤ stamp → earlier (Some best) i (Some stamp) ≡ Some best
-comes-later best i stamp high =
-    let test : nat_lt stamp best.stamp ≡ false = grind (arith, nat_tests) in rw test refl

@@ -14,6 +14,7 @@ pub mod RequestLemmas
 pub mod SleepLemmas
 pub mod EntryLemmas
 pub mod BestLemmas
+mod EarliestLemmas
 pub mod FilterLemmas
 pub mod SearchLemmas
 mod RefusedLemmas

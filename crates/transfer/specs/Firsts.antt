@@ -7,9 +7,9 @@ use Rattle.protocol.specs.History.{Arrival, next}
 use Rattle.station_ring.specs.HeldRecords.{RingsValue, holdings_of}
 use Rattle.session_state.specs.NamedValues.{Choice, ahead_of}
 use Rattle.session_state.specs.Choices.{request_in}
-use Rattle.transfer.specs.declared.choosing.First.{First}
-use Rattle.transfer.specs.declared.choosing.Overview.{Overview}
-use Rattle.transfer.specs.declared.choosing.Overview.TheVariants.{Stale, Fresh}
+use Rattle.transfer.specs.declared.overview.First.{First}
+use Rattle.transfer.specs.declared.overview.Overview.{Overview}
+use Rattle.transfer.specs.declared.overview.Overview.TheVariants.{Stale, Fresh}
 use Rattle.transfer.specs.Choosing.{comes_before}
 use Rattle.transfer.specs.Cursors.{HasLooked, OfAll, PassedIn, RestsIn}
 use Rattle.transfer.specs.Sleeping.{HasNothing}
@@ -74,17 +74,17 @@ IsOverview rings next choices from before (Stale index first) =
     IsStaleOverview rings next choices from before index first
 IsOverview rings next choices from before (Fresh first) = IsFreshOverview rings next choices from before first
 
--- The cursors of so many requests tell what each is to send, and what is first among them is found.
-pub record IsGlancedUpTo (next : ℕ) (choices : List Choice) (i : ℕ) (best : Option First) : Type 0 where
-  pub rests : (rings : RingsValue) → OfAll (HasLooked rings) choices → RestBetween rings next 0 i choices
-  pub first : best ≡ best_of (take i choices)
+-- What is found has the stamp of the first, and is a record ahead of the request with that index.
+pub record IsBest (choices : List Choice) (first : Option First) : Type 0 where
+  pub stamp : option_map (λ f. f.stamp) first ≡ option_map (λ f. f.stamp) (best_of choices)
+  pub there : IfSome first (λ f. IsAhead choices f.index f.stamp)
 
 -- What a glance at the cursors comes to, while each tells what its request is to send; where a record that a cursor
 -- tells of was sent, nothing.
 pub record IsGlance (next : ℕ) (choices : List Choice) (first : Option First) : Type 0 where
   pub rests : (rings : RingsValue) → OfAll (HasLooked rings) choices → OfAll (PassedIn rings next) choices
       → OfAll (RestsIn rings next) choices
-  pub best : first ≡ best_of choices
+  pub best : IsBest choices first
 
 abbrev pub Glances : (next : ℕ) → List Choice → Overview → Type 0
 Glances next choices (Stale index first) = ⊤

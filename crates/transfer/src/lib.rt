@@ -5,6 +5,7 @@
 mod choosing;
 mod cursors;
 mod filters;
+mod overview;
 mod searching;
 mod sleeping;
 mod starting;

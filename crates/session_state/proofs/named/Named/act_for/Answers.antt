@@ -3,6 +3,7 @@ use Rattle.sl_lines.specs.declared.actions.Action.{Action}
 use Rattle.session_state.specs.declared.choices.Entry.{Entry}
 use Rattle.session_state.proofs.EntryLemmas.{indexed-set, read-at, read-same, tells-set}
 use Rattle.session_state.proofs.NamedLemmas.{acted-there, below, naming-entry}
+use Rattle.session_state.proofs.OrderChangeLemmas.{order-set, sorted-set}
 use Rattle.session_state.proofs.named.Named.act_for.Goals as goal
 
 pub index_mut-requires : goal.index_mut-requires
@@ -20,6 +21,9 @@ invariant_of-self c =
       naming-entry es c.self.inside.current c.self.inside.pool _ c.args.i f c.self.invariant.0,
       indexed-set es c.self.inside.indexes.items c.args.i e f c.self.invariant.1 at refl,
       tells-set c.self.inside.ahead es c.args.i e f c.self.invariant.2 at refl,
+      order-set es c.args.i f c.self.inside.order.items c.self.invariant.3,
+      sorted-set c.self.inside.ahead es c.args.i e f c.self.inside.order.items c.self.invariant.4 at refl,
+      c.self.invariant.5,
     )
 
 pub returns : goal.returns

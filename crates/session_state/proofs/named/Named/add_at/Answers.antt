@@ -13,6 +13,9 @@ invariant_of-self c = (
       (below _ _ _ c.args.i _ c.self.view_is c.requires),
   c.self.invariant.1,
   c.self.invariant.2,
+  c.self.invariant.3,
+  c.self.invariant.4,
+  c.self.invariant.5,
 )
 
 pub returns-clause-new : goal.returns-clause-new

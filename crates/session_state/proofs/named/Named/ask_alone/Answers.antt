@@ -4,6 +4,7 @@ use Rattle.session_state.specs.Entries.{IsIndexed}
 use Rattle.session_state.specs.NamedValues.{NamedValue, ahead_of}
 use Rattle.session_state.proofs.EntryLemmas.{indexed-only, tells-only}
 use Rattle.session_state.proofs.NamedLemmas.{naming-entry, with-length}
+use Rattle.session_state.proofs.OrderChangeLemmas.{order-set}
 use Rattle.session_state.proofs.named.Named.ask_alone.Goals as goal
 
 pub invariant_of-self : goal.invariant_of-self
@@ -18,4 +19,7 @@ invariant_of-self c =
           (ap (λ k. slice_set c.self.inside.indexes.items k 0) (ap (λ (x : Entry). x.station) c.new.ensures)
           ∙ sym c.set_index.ensures) (indexed-only es c.self.inside.indexes.items f one),
       tells-only es f one (ap (λ (x : Entry). ahead_of x.cursor) c.new.ensures),
+      order-set es 0 f c.self.inside.order.items c.self.invariant.3,
+      tt,
+      c.self.invariant.5,
     )

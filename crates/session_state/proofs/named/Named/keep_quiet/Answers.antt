@@ -12,4 +12,7 @@ invariant_of-self c = (
       (sym
       (naming-entries c.self.inside.entries.items c.self.inside.current c.self.inside.pool c.args.self.now
       c.self.view_is)) c.requires,
+  c.self.invariant.3,
+  tt,
+  c.self.invariant.5,
 )

@@ -17,4 +17,7 @@ invariant_of-self c = (
   },
   c.self.invariant.1,
   c.self.invariant.2,
+  c.self.invariant.3,
+  c.self.invariant.4,
+  c.self.invariant.5,
 )
