@@ -1,7 +1,7 @@
 -- Named stations in the order in which the records ahead of their requests came.
 use Rattle.std.proofs.Common.{◌≡◌, ◌≢◌, ℕ, ◌+◌, ◌-◌, ◌<◌, ◌≤◌, Bool, true, false, List, [], ◌∷◌, length, slice_get}
 use Rattle.std.proofs.Common.{Option, Some, None, refl, sym, ap, subst, ◌∙◌, arith, nat_lt, get_or}
-use Rattle.std.specs.Prelude.{◌==◌, if◌then◌else◌, is_some, slice_index}
+use Rattle.std.specs.Prelude.{◌==◌, if◌then◌else◌, slice_index}
 use Rattle.std.proofs.lemmas.Bool.Decides.{nat_tests}
 use Rattle.std.specs.List.{position, position_or_len}
 use Rattle.std.proofs.lemmas.List.Quantifiers.{position-Some}
@@ -302,14 +302,6 @@ sooner-apart es order k e = both (nat_lt 0 k)
 pub ahead-read : (es : List Entry) (i : ℕ) (e : Entry) → i < length es
     → ahead_at es i ≡ ahead_of (get_or es i e).cursor
 ahead-read es i e low = ap stamp_in (slice_get-get_or es i e low)
-
-pub none-told : (o : Option ℕ) → is_some o ≡ false → o ≡ None
-none-told None e = refl
-none-told (Some s) e = absurd cc
-
-pub some-told : (o : Option ℕ) → is_some o ≡ true → o ≢ None
-some-told None e = absurd cc
-some-told (Some s) e = λ q. absurd cc
 
 -- where nothing stands in the order, there is no entry
 pub none-there : (es : List Entry) (order : List ℕ) → IsOrder order (length es) → None ≡ slice_get order 0 → (j : ℕ)

@@ -2,6 +2,7 @@
 use Rattle.std.specs.Prelude.{◌≡◌, ◌≢◌, ℕ, ◌<◌, ◌≤◌, Bool, true, false, nat_lt, List, length, slice_get, slice_index}
 use Rattle.std.specs.Prelude.{Option, Some, None}
 use Rattle.session_state.specs.declared.choices.Entry.{Entry}
+use Rattle.session_state.specs.declared.choices.First.{First}
 use Rattle.session_state.specs.declared.choices.Ahead.{Ahead}
 use Rattle.session_state.specs.declared.choices.Ahead.TheVariants.{Nobody, Only, Several}
 use Rattle.session_state.specs.NamedValues.{ahead_of}
@@ -25,10 +26,10 @@ is_sooner (Some s) (Some t) = nat_lt s t
 abbrev pub IsLater : List Entry → (a b : ℕ) → Type 0
 IsLater es a b = is_sooner (ahead_at es a) (ahead_at es b) ≡ false
 
--- No request has a record ahead; or this one has, and no other's came before it.
-abbrev pub IsEarliest : List Entry → Option ℕ → Type 0
+-- No request has a record ahead; or this one has, with that stamp, and no other's came before it.
+abbrev pub IsEarliest : List Entry → Option First → Type 0
 IsEarliest es None = (j : ℕ) → ahead_at es j ≡ None
-IsEarliest es (Some i) = ((j : ℕ) → IsLater es j i) × (ahead_at es i ≢ None)
+IsEarliest es (Some f) = (ahead_at es f.index ≡ Some f.stamp) × ((j : ℕ) → IsLater es j f.index)
 
 -- where an index stands
 pub record StandsIn (order : List ℕ) (i : ℕ) : Type 0 where

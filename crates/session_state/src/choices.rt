@@ -71,6 +71,15 @@ impl Entry {
     }
 }
 
+/// The request whose record ahead came first, by its index among the named stations, and that record's stamp.
+#[derive(Clone, Copy)]
+pub struct First {
+    /// The index of the request's station.
+    pub index: usize,
+    /// The stamp of the record.
+    pub stamp: u64,
+}
+
 /// Which requests of a transfer may have a record ahead.
 #[derive(Clone, Copy)]
 pub enum Ahead {

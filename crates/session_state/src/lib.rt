@@ -14,7 +14,7 @@ mod refusals;
 pub mod session;
 mod waiting;
 
-pub use choices::{Cursor, Entry};
+pub use choices::{Cursor, Entry, First};
 pub use kept_action::KeptAction;
 pub use refusals::NoRoom;
 pub use session::{Session, Settled, State};

@@ -22,7 +22,7 @@ ghost use Rattle.session_state.specs.Orders.{IsEarliest};
 ghost use Rattle.session_state.specs.declared.choices.Ahead.TheVariants.{Nobody};
 ghost use Rattle.session_state.specs.Changes.{all_selectors, outcome_after, selecting_in, widened, widening};
 
-use crate::choices::{Ahead, Cursor, Entry, after_pass, put};
+use crate::choices::{Ahead, Cursor, Entry, First, after_pass, put};
 use crate::kept_action::KeptAction;
 use crate::negotiation::Change;
 use crate::order::{earliest, follow};
@@ -421,8 +421,8 @@ impl Named {
         only_at(self.entries.as_slice(), place, i)
     }
 
-    /// The station whose request's record ahead came first, by its index, if a request has one.
-    pub fn earliest(&self) -> Option<usize>
+    /// The request whose record ahead came first, if one has any.
+    pub fn earliest(&self) -> Option<First>
         ensures { IsEarliest (map entry_of self.now.choices) result }
     {
         let _ = &self.pool;

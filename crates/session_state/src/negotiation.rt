@@ -16,7 +16,7 @@ ghost use Rattle.session_state.specs.Orders.{IsEarliest};
 ghost use Rattle.session_state.specs.declared.choices.Ahead.TheVariants.{Nobody};
 ghost use Rattle.session_state.specs.Changes.{outcome_after, selecting};
 
-use crate::choices::{Cursor, Entry};
+use crate::choices::{Cursor, Entry, First};
 use crate::named::Named;
 use catalog::{Config, View};
 use protocol::record::Kind;
@@ -125,8 +125,8 @@ impl Negotiation {
         }
     }
 
-    /// The station whose request's record ahead came first, by its index, if a request has one.
-    pub fn earliest(&self) -> Option<usize>
+    /// The request whose record ahead came first, if one has any.
+    pub fn earliest(&self) -> Option<First>
         ensures { IsEarliest (map entry_of (chosen_of self.now)) result }
     {
         if self.is_multi {

@@ -13,7 +13,7 @@ ghost use Rattle.session_state.specs.Entries.{TellsAhead};
 ghost use Rattle.session_state.specs.Orders.{HasSorted, IsEarliest, IsLater, IsOrder, IsReady, IsSortedBut, IsSortedFrom};
 ghost use Rattle.session_state.specs.Orders.{ahead_at, is_sooner};
 
-use crate::choices::{Ahead, Entry};
+use crate::choices::{Ahead, Entry, First};
 
 /// Whether the request with the index `a` has a record ahead that came before that of the one with the index `b`, if
 /// that has one.
@@ -138,8 +138,9 @@ fn bring_the_only(order: &mut [u8], entries: &[Entry], before: Ahead, i: usize)
 }
 
 /// The order once the record ahead of the request with that index is another one and several may have one, where so
-/// many might before.
-pub(crate) fn put_in_order(order: &mut [u8], entries: &[Entry], before: Ahead, i: usize)
+/// many might before. It is kept out of its callers, which stay small for a client with one request.
+#[inline(never)]
+fn put_in_order(order: &mut [u8], entries: &[Entry], before: Ahead, i: usize)
     requires order { IsOrder order.old (length entries.now) }
     requires index { i < length entries.now }
     requires ready { IsReady before i entries.now order.old }
@@ -169,36 +170,34 @@ pub(crate) fn follow(order: &mut Vec<u8>, entries: &[Entry], before: Ahead, now:
 }
 
 /// The first request in the order, if it has a record ahead.
-fn first_of(order: &[u8], entries: &[Entry]) -> Option<usize>
+fn first_of(order: &[u8], entries: &[Entry]) -> Option<First>
     requires order { IsOrder order.now (length entries.now) }
     requires sorted { IsSortedFrom 0 entries.now order.now }
     ensures { IsEarliest entries.now result }
 {
     let index = usize::from(*order.first()?);
-    if entries[index].cursor.ahead().is_some() {
-        Some(index)
-    } else {
-        None
+    match entries[index].cursor.ahead() {
+        Some(stamp) => Some(First { index, stamp }),
+        None => None,
     }
 }
 
 /// The request with that index, if it has a record ahead, where no other has.
-fn only_of(entries: &[Entry], i: usize) -> Option<usize>
-    requires { TellsAhead (Only i) entries.now }
+fn only_of(entries: &[Entry], index: usize) -> Option<First>
+    requires { TellsAhead (Only index) entries.now }
     ensures { IsEarliest entries.now result }
 {
-    if i >= entries.len() {
+    if index >= entries.len() {
         return None;
     }
-    if entries[i].cursor.ahead().is_some() {
-        Some(i)
-    } else {
-        None
+    match entries[index].cursor.ahead() {
+        Some(stamp) => Some(First { index, stamp }),
+        None => None,
     }
 }
 
 /// The request whose record ahead came first, if one has any.
-pub(crate) fn earliest(ahead: Ahead, order: &[u8], entries: &[Entry]) -> Option<usize>
+pub(crate) fn earliest(ahead: Ahead, order: &[u8], entries: &[Entry]) -> Option<First>
     requires order { IsOrder order.now (length entries.now) }
     requires sorted { HasSorted ahead order.now entries.now }
     requires tells { TellsAhead ahead entries.now }
@@ -206,7 +205,7 @@ pub(crate) fn earliest(ahead: Ahead, order: &[u8], entries: &[Entry]) -> Option<
 {
     match ahead {
         Ahead::Nobody => None,
-        Ahead::Only(i) => only_of(entries, i),
+        Ahead::Only(index) => only_of(entries, index),
         Ahead::Several => first_of(order, entries),
     }
 }

@@ -11,7 +11,7 @@ ghost use Rattle.session_state.specs.Orders.{IsEarliest};
 ghost use Rattle.session_state.specs.declared.choices.Ahead.TheVariants.{Nobody};
 ghost use Rattle.protocol.specs.Client.{read_on, received, offered, after_take, cut, new_client, is_ending, is_nothing};
 
-use crate::choices::{Cursor, Entry};
+use crate::choices::{Cursor, Entry, First};
 use crate::negotiation::Negotiation;
 use crate::refusals::NoRoom;
 use crate::waiting::{Waiting, put_bytes, put_packet};
@@ -418,8 +418,8 @@ impl Session {
         self.mode.find(place)
     }
 
-    /// The named station whose request's record ahead came first, by its index, if a request has one.
-    pub fn earliest(&self) -> Option<usize>
+    /// The request whose record ahead came first, if one has any.
+    pub fn earliest(&self) -> Option<First>
         ensures { IsEarliest (map entry_of (chosen_of self.now.mode)) result }
     {
         let _ = &self.state;

@@ -15,7 +15,7 @@ use Rattle.session_state.specs.NamedValues.{Choice, ahead_of, entry_of}
 use Rattle.session_state.specs.Choices.{chosen_of}
 use Rattle.session_state.specs.Entries.{IsOnlyAt, TellsAhead}
 use Rattle.session_state.specs.Sessions.{SessionValue}
-use Rattle.transfer.specs.declared.overview.First.{First}
+use Rattle.session_state.specs.declared.choices.First.{First}
 use Rattle.transfer.specs.Cursors.{HasLooked, HasPassedAll, IsLooked, OfAll, PassedIn, RestsIn}
 use Rattle.transfer.specs.Firsts.{best_after, best_of, earlier}
 use Rattle.transfer.proofs.PassedLemmas.{one-rests}

@@ -8,7 +8,7 @@ use Rattle.station_ring.specs.HeldRecords.{RingsValue}
 use Rattle.session_state.specs.NamedValues.{Choice, ahead_of}
 use Rattle.session_state.specs.Choices.{chosen_of}
 use Rattle.session_state.specs.Sessions.{SessionValue}
-use Rattle.transfer.specs.declared.overview.First.{First}
+use Rattle.session_state.specs.declared.choices.First.{First}
 use Rattle.transfer.specs.Cursors.{OfAll, PassedIn, RestsIn}
 use Rattle.transfer.specs.Firsts.{LeadsSoFar, RestBetween, best_after, best_of, earlier}
 use Rattle.transfer.proofs.EntryLemmas.{choice-there, item-is}

@@ -1,15 +1,14 @@
 -- The request whose record ahead came first, as the session tells it.
-use Rattle.std.proofs.Common.{◌≡◌, ℕ, ◌+◌, ◌<◌, ◌≤◌, zero, suc, true, false, List, [], ◌∷◌, length, map, nat_lt}
+use Rattle.std.proofs.Common.{◌≡◌, ℕ, ◌+◌, ◌≤◌, zero, suc, true, false, List, [], ◌∷◌, length, map, nat_lt}
 use Rattle.std.proofs.Common.{Option, Some, None, option_map, slice_get, unwrap_or, refl, sym, ap, subst, ◌∙◌, arith}
 use Rattle.std.specs.Prelude.{IfSome}
 use Rattle.std.proofs.lemmas.Bool.Decides.{nat_tests}
-use Rattle.std.proofs.lemmas.List.{length-map}
 use Rattle.protocol.proofs.FoundLemmas.{both}
 use Rattle.station_ring.specs.HeldRecords.{RingsValue}
 use Rattle.session_state.specs.NamedValues.{Choice, ahead_of, entry_of}
 use Rattle.session_state.specs.Orders.{IsEarliest, ahead_at, is_sooner, stamp_in}
-use Rattle.session_state.proofs.OrderLemmas.{beyond, later-self, later-trans}
-use Rattle.transfer.specs.declared.overview.First.{First}
+use Rattle.session_state.proofs.OrderLemmas.{later-self, later-trans}
+use Rattle.session_state.specs.declared.choices.First.{First}
 use Rattle.transfer.specs.Cursors.{HasLooked, OfAll, PassedIn, RestsIn}
 use Rattle.transfer.specs.Firsts.{IsAhead, IsBest, IsGlance, LeadsSoFar, best_after, best_of, earlier, is_unsent}
 use Rattle.transfer.proofs.AloneLemmas.{mapped}
@@ -37,12 +36,6 @@ tells-of [] j stamp e = absurd cc
 tells-of (c ∷ cs) zero stamp e = record { choice = c; at = refl; ahead = e }
 tells-of (c ∷ cs) (suc j) stamp e =
     let more = tells-of cs j stamp e in record { choice = more.choice; at = more.at; ahead = more.ahead }
-
-pub first-within : (cs : List Choice) (i : ℕ) → IsEarliest (map entry_of cs) (Some i) → i < length cs
-first-within cs i first = both (nat_lt i (length cs))
-    (λ y. grind (arith, nat_tests))
-    (λ n. let far : length (map entry_of cs) ≤ i = grind (arith, nat_tests, length-map cs entry_of) in
-    absurd (first.1 (beyond (map entry_of cs) i far)))
 
 -- ---- no record ahead came before that of the best
 
@@ -114,38 +107,37 @@ unsent-later next stamp (Some s) low later = grind (arith, nat_tests)
 same-stamp : (s t : ℕ) → nat_lt s t ≡ false → nat_lt t s ≡ false → s ≡ t
 same-stamp s t p q = grind (arith, nat_tests)
 
-pub glance-some : (next i stamp : ℕ) (cs : List Choice) → IsEarliest (map entry_of cs) (Some i)
-    → ahead_at (map entry_of cs) i ≡ Some stamp → next ≤ stamp
-    → IsGlance next cs (Some (record { index = i; stamp = stamp }))
-glance-some next i stamp cs first ahead low = record {
-  rests = rests-all next cs (λ j c at. unsent-later next stamp (ahead_of c.cursor) low (later j c at));
+pub glance-some : (next : ℕ) (cs : List Choice) (first : First) → IsEarliest (map entry_of cs) (Some first)
+    → next ≤ first.stamp → IsGlance next cs (Some first)
+glance-some next cs first is low = record {
+  rests = rests-all next cs (λ j c at. unsent-later next first.stamp (ahead_of c.cursor) low (later j c at));
   best = record {
     stamp = by (best_of cs) refl;
     there = record { choice = own.choice; at = own.at; ahead = own.ahead };
   };
 }
   where
-    own : TellsOf cs i stamp
-    own = tells-of cs i stamp ahead
+    own : TellsOf cs first.index first.stamp
+    own = tells-of cs first.index first.stamp is.0
 
-    later : (j : ℕ) (c : Choice) → slice_get cs j ≡ Some c → is_sooner (ahead_of c.cursor) (Some stamp) ≡ false
+    later : (j : ℕ) (c : Choice) → slice_get cs j ≡ Some c → is_sooner (ahead_of c.cursor) (Some first.stamp) ≡ false
     later j c at =
-        subst (λ o. is_sooner (ahead_of c.cursor) o ≡ false) ahead
-        (subst (λ o. is_sooner o (ahead_at (map entry_of cs) i) ≡ false) (told cs j c at) (first.0 j))
+        subst (λ o. is_sooner (ahead_of c.cursor) o ≡ false) is.0
+        (subst (λ o. is_sooner o (ahead_at (map entry_of cs) first.index) ≡ false) (told cs j c at) (is.1 j))
 
-    least : (o : Option First) → best_of cs ≡ o → is_sooner (Some stamp) (stamp_of o) ≡ false
+    least : (o : Option First) → best_of cs ≡ o → is_sooner (Some first.stamp) (stamp_of o) ≡ false
     least o e =
-        subst (λ b. is_sooner (Some stamp) (stamp_of b) ≡ false) e
+        subst (λ b. is_sooner (Some first.stamp) (stamp_of b) ≡ false) e
         (subst (λ a. is_sooner a (stamp_of (best_of cs)) ≡ false) own.ahead
-        (least-each None 0 cs i own.choice own.at))
+        (least-each None 0 cs first.index own.choice own.at))
 
-    by : (o : Option First) → best_of cs ≡ o → Some stamp ≡ stamp_of o
+    by : (o : Option First) → best_of cs ≡ o → Some first.stamp ≡ stamp_of o
     by None e = absurd (let wrong : true ≡ false = least None e in cc)
     by (Some f) e =
         let there = best-there cs f e in
-        let other : nat_lt f.stamp stamp ≡ false =
-        subst (λ a. is_sooner a (Some stamp) ≡ false) there.ahead (later f.index there.choice there.at) in
-        ap (λ n. Some n) (same-stamp stamp f.stamp (least (Some f) e) other)
+        let other : nat_lt f.stamp first.stamp ≡ false =
+        subst (λ a. is_sooner a (Some first.stamp) ≡ false) there.ahead (later f.index there.choice there.at) in
+        ap (λ n. Some n) (same-stamp first.stamp f.stamp (least (Some f) e) other)
 
 -- ---- what is as good as the first of all
 

@@ -13,7 +13,7 @@ use Rattle.station_ring.proofs.HistoryLemmas.{walk_all}
 use Rattle.sl_lines.specs.declared.actions.Action.{Action}
 use Rattle.session_state.specs.NamedValues.{Choice, ahead_of}
 use Rattle.session_state.specs.Choices.{request_in}
-use Rattle.transfer.specs.declared.overview.First.{First}
+use Rattle.session_state.specs.declared.choices.First.{First}
 use Rattle.transfer.specs.Choosing.{comes_before}
 use Rattle.transfer.specs.Cursors.{OfAll, PassedIn, RestsAt, RestsIn}
 use Rattle.transfer.specs.Firsts.{IsAhead, LeadsSoFar, earlier, is_unsent}

@@ -7,7 +7,7 @@ use Rattle.protocol.specs.History.{Arrival, next}
 use Rattle.station_ring.specs.HeldRecords.{RingsValue, holdings_of}
 use Rattle.session_state.specs.NamedValues.{Choice, ahead_of}
 use Rattle.session_state.specs.Choices.{request_in}
-use Rattle.transfer.specs.declared.overview.First.{First}
+use Rattle.session_state.specs.declared.choices.First.{First}
 use Rattle.transfer.specs.declared.overview.Overview.{Overview}
 use Rattle.transfer.specs.declared.overview.Overview.TheVariants.{Stale, Fresh}
 use Rattle.transfer.specs.Choosing.{comes_before}

@@ -26,11 +26,11 @@ ghost use Rattle.transfer.specs.Firsts.{IsAhead};
 ghost use Rattle.transfer.specs.Sleeping.{HasNothing, MayCome, MoreMayCome, Sleeps, starts_after};
 ghost use Rattle.transfer.specs.Choosing.{answer_of, is_over_of, is_transfer, HoldsThere, IsAtCursor};
 
-use crate::overview::{First, rest};
+use crate::overview::rest;
 use crate::searching::{Reached, search_from};
 use crate::wanting::{Candidate, has_passed_its_end};
 use catalog::Config;
-use session_state::{Action, Entry, Session, State};
+use session_state::{Action, Entry, First, Session, State};
 use station_ring::{Rings, arrivals_by_place};
 
 /// What an offer in a transfer leads to.

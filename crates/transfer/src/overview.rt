@@ -18,7 +18,7 @@ ghost use Rattle.transfer.specs.Firsts.{Glances, IsBest, IsOverview, LeadsSoFar,
 ghost use Rattle.transfer.specs.Choosing.{comes_before};
 
 use crate::wanting::{cursor_in, unasked};
-use session_state::{Cursor, Entry, Session};
+use session_state::{Cursor, Entry, First, Session};
 use station_ring::Rings;
 
 /// Whether a record that a request knows of may still be sent.
@@ -58,13 +58,6 @@ fn cursor_of(session: &Session, i: usize, rings: &Rings, next: u64) -> Cursor
         Some(ring) => cursor_in(ring, session, i, next),
         None => unasked(),
     }
-}
-
-/// The request whose record ahead came first, by its index among the named stations, and that record's stamp.
-#[derive(Clone, Copy)]
-pub(crate) struct First {
-    pub(crate) index: usize,
-    pub(crate) stamp: u64,
 }
 
 /// Whether a record came before the one that was found so far, where one was.
@@ -119,17 +112,13 @@ fn look(entries: &[Entry], rings: &Rings, next: u64, from: usize, before: Option
 fn look_ahead(session: &Session, next: u64) -> Overview
     ensures { Glances next (chosen_of session.now.mode) result }
 {
-    let Some(index) = session.earliest() else {
-        return Overview::Fresh(None);
-    };
-    let entry = session.choice(index);
-    match entry.cursor.ahead() {
+    match session.earliest() {
         None => Overview::Fresh(None),
-        Some(stamp) => {
-            if stamp < next {
-                Overview::Stale(index, None)
+        Some(first) => {
+            if first.stamp < next {
+                Overview::Stale(first.index, None)
             } else {
-                Overview::Fresh(Some(First { index, stamp }))
+                Overview::Fresh(Some(first))
             }
         }
     }

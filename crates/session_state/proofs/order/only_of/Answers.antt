@@ -1,21 +1,22 @@
 use Rattle.std.proofs.Common.{◌∙◌, sym}
-use Rattle.session_state.proofs.OrderLemmas.{ahead-read, beyond, none-told, some-told}
+use Rattle.session_state.proofs.OrderLemmas.{ahead-read, beyond}
 use Rattle.session_state.proofs.OrderChangeLemmas.{only-none, only-some}
 use Rattle.session_state.proofs.order.only_of.Goals as goal
 
-pub returns-then-i-entries : goal.returns-then-i-entries
-returns-then-i-entries c =
-    only-none c.args.entries.now c.args.i c.requires (beyond c.args.entries.now c.args.i c.if-i-entries.true)
+pub returns-then-index-entries : goal.returns-then-index-entries
+returns-then-index-entries c =
+    only-none c.args.entries.now c.args.index c.requires
+    (beyond c.args.entries.now c.args.index c.if-index-entries.true)
 
-pub returns-then-is_some : goal.returns-then-is_some
-returns-then-is_some c = (
-  only-some c.args.entries.now c.args.i c.requires,
-  λ none. some-told c.ahead.result (sym c.is_some.ensures ∙ c.if-is_some.true)
-      (c.ahead.ensures ∙ sym (ahead-read c.args.entries.now c.args.i c.index-entries-i.result c.if-i-entries.false) ∙ none),
+pub returns-in-Some : goal.returns-in-Some
+returns-in-Some c = (
+  ahead-read c.args.entries.now c.args.index c.index-entries-index.result c.if-index-entries.false
+      ∙ sym c.ahead.ensures ∙ c.in-Some.is,
+  only-some c.args.entries.now c.args.index c.requires,
 )
 
-pub returns-else-is_some : goal.returns-else-is_some
-returns-else-is_some c =
-    only-none c.args.entries.now c.args.i c.requires
-    (ahead-read c.args.entries.now c.args.i c.index-entries-i.result c.if-i-entries.false ∙ sym c.ahead.ensures
-    ∙ none-told c.ahead.result (sym c.is_some.ensures ∙ c.if-is_some.false))
+pub returns-in-None : goal.returns-in-None
+returns-in-None c =
+    only-none c.args.entries.now c.args.index c.requires
+    (ahead-read c.args.entries.now c.args.index c.index-entries-index.result c.if-index-entries.false
+    ∙ sym c.ahead.ensures ∙ c.in-None.is)
