@@ -14,6 +14,7 @@ use crate::path::{has_place, put_file, put_folder};
 use crate::place::Place;
 use crate::stations::{StationCodes, is_wanted};
 use mseed_header::{Header, Kind};
+use record_check::kind_letter;
 use sl_time::{DayOfYear, Tick, day_of, of_btime};
 use std::alloc::{AllocError, Global};
 use std::marker::Model;
@@ -32,7 +33,7 @@ struct Span {
 #[derive(Drop)]
 pub(crate) struct Stream {
     codes: [u8; 12],
-    /// The codes as a number.
+    /// The codes and the type as a number.
     number: u128,
     kind: Kind,
     span: Span,
@@ -63,10 +64,11 @@ fn codes_of(bytes: &[u8; 512]) -> &[u8; 12]
     bytes[8..20].as_array().unwrap()
 }
 
-/// Codes as a number, so that they can be put in order.
-fn number_of(codes: &[u8; 12]) -> u128 {
+/// Codes and a type as a number, so that they can be put in order.
+fn number_of(codes: &[u8; 12], kind: Kind) -> u128 {
     let [a, b, c, d, e, f, g, h, i, j, k, l] = *codes;
-    u128::from_be_bytes([0, 0, 0, 0, a, b, c, d, e, f, g, h, i, j, k, l])
+    let letter = kind_letter(kind);
+    u128::from_be_bytes([0, 0, 0, letter, a, b, c, d, e, f, g, h, i, j, k, l])
 }
 
 /// A day from its first moment on.
@@ -134,7 +136,7 @@ fn stream_of(
     let codes = codes_of(bytes);
     Ok(Some(Stream {
         codes: *codes,
-        number: number_of(codes),
+        number: number_of(codes, header.kind()),
         kind: header.kind(),
         span: span_of(day, header.start()),
         day,
@@ -164,12 +166,12 @@ impl Stream {
     }
 }
 
-/// The streams of some stations that are known. One is found by its codes.
+/// The streams of some stations that are known. One is found by its codes and its type.
 #[derive(Drop)]
 pub(crate) struct Streams {
     alloc: Global,
     stations: Vec<StationCodes>,
-    /// By their codes as numbers, rising.
+    /// By their numbers, rising.
     all: Vec<Stream>,
     /// The place of that of the last record.
     last: usize,
@@ -210,30 +212,29 @@ impl Streams {
         &self.all[place]
     }
 
-    /// Whether a stream with these codes stands at a place.
-    fn is_at(&self, place: usize, codes: &[u8; 12]) -> bool
+    /// Whether a stream with that number stands at a place.
+    fn is_at(&self, place: usize, number: u128) -> bool
         ensures { result ≡ true → place < length self.now.all.items }
     {
         match self.all.get(place) {
-            Some(stream) => stream.codes.as_slice() == codes.as_slice(),
+            Some(stream) => stream.number == number,
             None => false,
         }
     }
 
-    /// The place of the stream with these codes, or the place where it belongs. The one after that of the last record is
+    /// The place of the stream with that number, or the place where it belongs. The one after that of the last record is
     /// looked at first, since records of several streams come mostly by turns, and then that one.
-    fn place_of(&self, codes: &[u8; 12]) -> Result<usize, usize>
+    fn place_of(&self, number: u128) -> Result<usize, usize>
         ensures found { IfOk result (λ at. at < length self.now.all.items) }
         ensures absent { IfErr result (λ at. at ≤ length self.now.all.items) }
     {
         let next = place_after(self.last, self.all.len());
-        if self.is_at(next, codes) {
+        if self.is_at(next, number) {
             return Ok(next);
         }
-        if self.is_at(self.last, codes) {
+        if self.is_at(self.last, number) {
             return Ok(self.last);
         }
-        let number = number_of(codes);
         self.all
             .binary_search_by_key(&number, |stream| stream.number)
     }
@@ -302,7 +303,7 @@ impl Streams {
             → s ≡ get_or self.new.all.items at s → HasPlace s.year s.day self.old.stations.items header.now s.place)) }
         ensures none { result ≡ Ok None → IsUnplaced self.old.stations.items bytes.now }
     {
-        let place = self.place_of(codes_of(bytes));
+        let place = self.place_of(number_of(codes_of(bytes), header.kind()));
         match place {
             Ok(at) if self.all[at].has(bytes, header) => {
                 self.last = at;

@@ -25,7 +25,7 @@ abbrev stream : (c : goal.In_ok-place_in) → StreamValue
 stream c =
     record {
       codes = c.codes_of-codes.result.now;
-      kind = c.kind.result;
+      kind = c.kind-2.result;
       from = c.span_of.result.from;
       before = c.span_of.result.before;
       year = c.in-Some.day.year;
@@ -38,7 +38,7 @@ is-begun c =
     record {
       read = c.requires;
       codes = c.codes_of-codes.ensures;
-      kind = c.kind.ensures;
+      kind = c.kind-2.ensures;
       place = record {
         placed = sym c.has_place.ensures ∙ c.if-not-has_place.false;
         wanted = sym c.is_wanted.ensures ∙ c.if-not-is_wanted.false;
