@@ -4,9 +4,9 @@ use Rattle.clap.specs.Words.{Text, fault_of}
 use Rattle.clap.specs.declared.error.ErrorKind.TheVariants.{DisplayVersion, MissingRequiredArgument, UnknownArgument}
 use Rattle.clap.specs.declared.error.ErrorKind.TheVariants.{ValueValidation}
 use Rattle.clap.proofs.OnLiterals.{clap_on_literals}
-use Rattle.command_line.specs.declared.job.Every.TheVariants.{Seconds, Turns}
+use Rattle.periods.specs.declared.period.Period.TheVariants.{Seconds, Turns}
 use Rattle.command_line.specs.Commands.{program_app}
-use Rattle.command_line.specs.Jobs.{every_of, job_of, verbose_of}
+use Rattle.command_line.specs.Jobs.{period_of, job_of, verbose_of}
 use Rattle.command_line.specs.Jobs.{CheckAsked, FeedAsked, ReadAsked, ServeAsked, ViewAsked}
 use Rattle.command_line.specs.Jobs.Asked.{Check, Replay, View, Serve, Feed, Read, Status}
 
@@ -128,13 +128,13 @@ unfolding clap_on_literals
 seconds_asked = refl
 
 -- how often, in other words
-pub no_seconds : every_of (codes "s") ≡ None
+pub no_seconds : period_of (codes "s") ≡ None
 no_seconds = refl
 
-pub seconds_and_more : every_of (codes "60sec") ≡ None
+pub seconds_and_more : period_of (codes "60sec") ≡ None
 seconds_and_more = refl
 
-pub half_a_second : every_of (codes "0.5s") ≡ None
+pub half_a_second : period_of (codes "0.5s") ≡ None
 half_a_second = refl
 
 abbrev numbers_words : List Text

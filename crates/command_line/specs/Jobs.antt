@@ -13,8 +13,8 @@ use Rattle.protocol.specs.Reading.{Not}
 use Rattle.protocol.specs.Time.{digits_between}
 use Rattle.command_line.specs.Commands.{program_app}
 use Rattle.command_line.specs.declared.job.CheckOptions.{CheckOptions}
-use Rattle.command_line.specs.declared.job.Every.{Every}
-use Rattle.command_line.specs.declared.job.Every.TheVariants.{Turns, Seconds}
+use Rattle.periods.specs.declared.period.Period.{Period}
+use Rattle.periods.specs.declared.period.Period.TheVariants.{Turns, Seconds}
 use Rattle.command_line.specs.declared.job.FeedOptions.{FeedOptions}
 use Rattle.command_line.specs.declared.job.Job.{Job}
 use Rattle.command_line.specs.declared.job.Job.TheVariants as job
@@ -80,8 +80,8 @@ pub record ServeAsked : Type 0 where
   pub listen : List ℕ
   pub feed : List ℕ
   pub turns : Option ℕ
-  pub reread : Option Every
-  pub report : Option Every
+  pub reread : Option Period
+  pub report : Option Period
   pub feed_from : Option (List ℕ)
   pub per_address : Option ℕ
   pub numbers : Option (List ℕ)
@@ -239,21 +239,21 @@ abbrev pub is_s : ℕ → Bool
 is_s b = b == 115
 
 -- so many seconds, if nothing is behind the s
-abbrev pub seconds_if : List ℕ → List ℕ → Option Every
+abbrev pub seconds_if : List ℕ → List ℕ → Option Period
 seconds_if [] digits = option_map Seconds (number_of digits)
 seconds_if (b ∷ bs) digits = None
 
 -- how often, by the place of the first s: a number of seconds is before it, and without one it is of turns
-abbrev pub every_at : List ℕ → Option ℕ → Option Every
-every_at text None = option_map Turns (number_of text)
-every_at text (Some s) = seconds_if (drop (s + 1) text) (take s text)
+abbrev pub period_at : List ℕ → Option ℕ → Option Period
+period_at text None = option_map Turns (number_of text)
+period_at text (Some s) = seconds_if (drop (s + 1) text) (take s text)
 
-abbrev pub every_of : List ℕ → Option Every
-every_of text = every_at text (position is_s text)
+abbrev pub period_of : List ℕ → Option Period
+period_of text = period_at text (position is_s text)
 
 -- how often an option says
-abbrev pub every_in : Text → List Row → Option (Option Every)
-every_in name rows = spelled every_of (first_of name rows)
+abbrev pub period_in : Text → List Row → Option (Option Period)
+period_in name rows = spelled period_of (first_of name rows)
 
 -- they say something of a status page that is not asked for
 abbrev pub is_without_page : ServeAsked → Bool
@@ -265,7 +265,7 @@ serving o = if is_without_page o then None else Some (Serve o)
 
 -- a server's job, where all of it is there
 abbrev pub with_server : Option (List ℕ) → Option (List ℕ) → Option (List ℕ)
-    → Option (Option ℕ) → Option (Option Every) → Option (Option Every) → Option (Option ℕ) → Option (Option ℕ)
+    → Option (Option ℕ) → Option (Option Period) → Option (Option Period) → Option (Option ℕ) → Option (Option ℕ)
     → List Row → Option Asked
 with_server (Some config) (Some listen) (Some feed) (Some turns) (Some reread) (Some report) (Some per_address)
     (Some silent) rows =
@@ -290,7 +290,7 @@ with_server _ _ _ _ _ _ _ _ rows = None
 abbrev pub serve_asked : List Row → Option Asked
 serve_asked rows =
     with_server (first_of (codes "CONFIG") rows) (first_of (codes "listen") rows) (first_of (codes "feed") rows)
-    (number_in (codes "turns") rows) (every_in (codes "reread") rows) (every_in (codes "report") rows)
+    (number_in (codes "turns") rows) (period_in (codes "reread") rows) (period_in (codes "report") rows)
     (number_in (codes "per-address") rows) (number_in (codes "silent") rows) rows
 
 -- the options of `feed`, unless both `--strict` and `--skip` were given

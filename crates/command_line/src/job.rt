@@ -1,13 +1,6 @@
 //! What the program can be asked to do.
 
-/// How often something is done.
-#[derive(Clone, Copy, Drop)]
-pub enum Every {
-    /// Every so many turns.
-    Turns(usize),
-    /// Every so many seconds.
-    Seconds(usize),
-}
+use periods::Period;
 
 /// What the program is asked to do, with the texts of the command line as they stand there.
 #[derive(Drop)]
@@ -100,9 +93,9 @@ pub struct ServeOptions<'a> {
     /// `--turns N`: it ends after so many turns. Without it the server runs until it is ended from outside.
     pub turns: Option<usize>,
     /// `--reread N|Ns`: how often the configuration is read again.
-    pub reread: Option<Every>,
+    pub reread: Option<Period>,
     /// `--report N|Ns`: how often it is told what was done.
-    pub report: Option<Every>,
+    pub report: Option<Period>,
     /// `--feed-from LIST`: the addresses that feeds are taken from; all without a list.
     pub feed_from: Option<&'a str>,
     /// `--per-address N`: how many clients of one address are taken; any number without one.

@@ -11,7 +11,6 @@ mod words;
 
 pub use commands::VERSION;
 pub use job::{
-    CheckOptions, Every, FeedOptions, Job, ReadOptions, Request, ServeOptions, ViewOptions,
-    WordsFault,
+    CheckOptions, FeedOptions, Job, ReadOptions, Request, ServeOptions, ViewOptions, WordsFault,
 };
 pub use words::read_words;

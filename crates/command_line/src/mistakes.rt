@@ -1,7 +1,7 @@
 //! What the user is told of words that `clap` takes and that are no job.
 use crate::commands::command_named;
 use crate::job::ReadOptions;
-use crate::words::{every_in, number_in, read_options, text_at, texts_at};
+use crate::words::{number_in, period_in, read_options, text_at, texts_at};
 use clap::ArgMatches;
 use clap::error::ErrorKind;
 use std::alloc::{AllocError, Global};
@@ -42,7 +42,7 @@ fn read_mistake(arguments: &ArgMatches<'_>) -> &'static str {
 
 /// Whether the text of an option is not a period.
 fn is_no_period(arguments: &ArgMatches<'_>, name: &str) -> bool {
-    every_in(arguments, name).is_none()
+    period_in(arguments, name).is_none()
 }
 
 /// Whether the text of an option is not a number.

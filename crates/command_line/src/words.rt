@@ -4,7 +4,7 @@ ghost use Rattle.clap.specs.Words.{all_of, fault_of, first_of, found_of, kind_of
 ghost use Rattle.command_line.specs.Commands.{program_app};
 ghost use Rattle.command_line.specs.Jobs.{check_options_asked, check_options_in, flag_in};
 ghost use Rattle.command_line.specs.Jobs.{HelpIs, IsJob, IsTold, asked, asked_by, check_asked, feed_asked, is_shown};
-ghost use Rattle.command_line.specs.Jobs.{every_in, every_of, feed_options_asked, feed_options_in, goes_on};
+ghost use Rattle.command_line.specs.Jobs.{period_in, period_of, feed_options_asked, feed_options_in, goes_on};
 ghost use Rattle.command_line.specs.Jobs.{is_askable, is_spelled, job_of, number_in};
 ghost use Rattle.command_line.specs.Jobs.{number_of};
 ghost use Rattle.command_line.specs.Jobs.{options_asked, options_in, read_asked, replay_asked};
@@ -15,12 +15,12 @@ ghost use Rattle.command_line.specs.declared.job.WordsFault.TheVariants.{OutOfMe
 use crate::commands::program;
 use crate::faults::{asks_for_faults, faults_text};
 use crate::job::{
-    CheckOptions, Every, FeedOptions, Job, ReadOptions, Request, ServeOptions, ViewOptions,
-    WordsFault,
+    CheckOptions, FeedOptions, Job, ReadOptions, Request, ServeOptions, ViewOptions, WordsFault,
 };
 use crate::mistakes::mistake_text;
 use clap::ArgMatches;
 use clap::error::ErrorKind;
+use periods::Period;
 use std::alloc::{AllocError, Global};
 use text_parts::decimal;
 use text_parts::separators::cut_at;
@@ -127,40 +127,40 @@ pub fn number_in<'a>(arguments: &ArgMatches<'a>, name: &str) -> Option<Option<us
 }
 
 /// So many seconds, if nothing is behind the `s`.
-fn seconds_if(behind: &[u8], digits: &[u8]) -> Option<Every>
+fn seconds_if(behind: &[u8], digits: &[u8]) -> Option<Period>
     ensures { result ≡ seconds_if behind.now digits.now }
 {
     if !behind.is_empty() {
         return None;
     }
     match number_of(digits) {
-        Some(number) => Some(Every::Seconds(number)),
+        Some(number) => Some(Period::Seconds(number)),
         None => None,
     }
 }
 
 /// How often a text says: `N` is every so many turns, and `Ns` every so many seconds.
-fn every_of(text: &[u8]) -> Option<Every>
-    ensures { result ≡ every_of text.now }
+fn period_of(text: &[u8]) -> Option<Period>
+    ensures { result ≡ period_of text.now }
 {
     match cut_at(text, b's') {
         Some((digits, behind)) => seconds_if(behind, digits),
         None => match number_of(text) {
-            Some(number) => Some(Every::Turns(number)),
+            Some(number) => Some(Period::Turns(number)),
             None => None,
         },
     }
 }
 
 /// How often an option says: the inner None where it is left out, and None where the text does not say it.
-pub fn every_in<'a>(arguments: &ArgMatches<'a>, name: &str) -> Option<Option<Every>>
-    ensures { result ≡ every_in name.now (rows_of (found_of arguments.now)) }
+pub fn period_in<'a>(arguments: &ArgMatches<'a>, name: &str) -> Option<Option<Period>>
+    ensures { result ≡ period_in name.now (rows_of (found_of arguments.now)) }
 {
     let Some(text) = text_at(arguments, name) else {
         return Some(None);
     };
-    match every_of(text.as_bytes()) {
-        Some(every) => Some(Some(every)),
+    match period_of(text.as_bytes()) {
+        Some(period) => Some(Some(period)),
         None => None,
     }
 }
@@ -179,8 +179,8 @@ fn serve_job<'a>(arguments: &ArgMatches<'a>) -> Option<Job<'a>>
     let listen = text_at(arguments, "listen")?;
     let feed = text_at(arguments, "feed")?;
     let turns = number_in(arguments, "turns")?;
-    let reread = every_in(arguments, "reread")?;
-    let report = every_in(arguments, "report")?;
+    let reread = period_in(arguments, "reread")?;
+    let report = period_in(arguments, "report")?;
     let per_address = number_in(arguments, "per-address")?;
     let silent = number_in(arguments, "silent")?;
     let is_strict = has_flag(arguments, "strict");

@@ -14,7 +14,7 @@ use crate::opening::ServedFiles;
 use crate::spare::Spare;
 use crate::starting::InForceLine;
 use crate::status::StatusDesk;
-use crate::timetable::{seconds_in, timetable_of};
+use crate::timetable::timetable_of;
 use crate::visits::{SharedLines, micros_of};
 use catalog::Config;
 use command_line::ServeOptions;
@@ -173,8 +173,8 @@ impl<'r, 'a, 'l, R: Files<File = File> + Clock + AllocGlobal, D> Operator<'r, 'a
             rt,
             path: options.config,
             began: rt.monotonic().unwrap_or(Duration::ZERO),
-            reread: Pace::new(seconds_in(options.reread)),
-            report: Pace::new(seconds_in(options.report)),
+            reread: Pace::new(options.reread),
+            report: Pace::new(options.report),
             numbers,
             spare: Spare::new(rt),
             last_keep: LastKeep::Missing,

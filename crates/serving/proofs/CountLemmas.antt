@@ -9,7 +9,7 @@ use Rattle.event_loop.specs.Loops.{LoopValue}
 use Rattle.station_ring.specs.Levels.{raises_after}
 use Rattle.serving.specs.declared.timetable.Timetable.{Timetable}
 use Rattle.serving.specs.declared.between.Refusal.TheVariants.{Different}
-use Rattle.serving.specs.Timetables.{is_due, is_keep_due, nothing_due, turns_of}
+use Rattle.serving.specs.Timetables.{is_due, is_keep_due, is_timed, nothing_due, turns_of}
 use Rattle.serving.specs.Ahead.{numbers_ahead}
 use Rattle.serving.specs.Asked.{Asked, Tells}
 use Rattle.serving.specs.Asked.Asked.{Configuration, Keeps, Looks, Refuses}
@@ -96,14 +96,14 @@ module _ {F : Type 0} where
   untimed false by_time a b e p = p.0
 
   untimed-due : (t : Timetable) (done : ℕ) (a b : Option (List (Asked F))) (due : Due) → FindsDue t done a due b
-      → t.timed ≡ false → due.reread ≡ is_due t.reread done
+      → is_timed t ≡ false → due.reread ≡ is_due t.reread done
   untimed-due t done a b due x e =
       ap (λ (d : Due). d.reread) x.is
-      ∙ no-more (is_due t.reread done) x.by_time (untimed t.timed x.by_time a b e x.looks)
+      ∙ no-more (is_due t.reread done) x.by_time (untimed (is_timed t) x.by_time a b e x.looks)
 
   stop-since : (t : Timetable) (done : ℕ) (config : Config) (w : World) (v v' : LoopValue) (kept kept' : ℕ)
       (a b : Option (List (Asked F))) (acts : List Act) (ys : List (Asked F))
-      → Stops t done config w v kept a acts v' kept' b → t.timed ≡ false
+      → Stops t done config w v kept a acts v' kept' b → is_timed t ≡ false
       → b ≡ Some ys → Since a ys (if is_due t.reread done then 1 else 0)
   stop-since t done config w v v' kept kept' a b acts ys x untimed e =
       let due : Bool = x.due.report in
@@ -119,11 +119,11 @@ module _ {F : Type 0} where
       let k : Since x.looked r.xs 0 =
       keep-since (is_keep_due t kept (raises_after config w.history)) config w kept kept' x.looked x.first r.xs
       x.keep r.was in
-      let l : Since a k.xs 0 = look-since t.timed x.finds.by_time a x.looked k.xs x.finds.looks k.was in
+      let l : Since a k.xs 0 = look-since (is_timed t) x.finds.by_time a x.looked k.xs x.finds.looks k.was in
       record { xs = l.xs; was = l.was; counts = omega (arith, s.counts, r.counts, k.counts, l.counts) }
 
 module _ {F : Type 0} (t : Timetable) (config : Config) (w : World) (first : LoopValue)
-    (a : Option (List (Asked F))) (untimed : t.timed ≡ false) where
+    (a : Option (List (Asked F))) (untimed : is_timed t ≡ false) where
   counted : {done failures kept : ℕ} {acts : List Act} {v : LoopValue} {b : Option (List (Asked F))}
       → Runs t config w first a done failures kept acts v b → (ys : List (Asked F)) → b ≡ Some ys
       → Since a ys (due_in t.reread done)

@@ -29,7 +29,7 @@ use Rattle.serving.specs.declared.between.Due.{Due}
 use Rattle.serving.specs.Runs.{KeepsIf, LooksIf, RereadsIf, Runs, Stops, refusals, reloads, raises_kept, reports_if}
 use Rattle.serving.specs.Runs.{unkept}
 use Rattle.serving.specs.Runs.Runs.{begins, turned, failed}
-use Rattle.serving.specs.Timetables.{is_keep_due}
+use Rattle.serving.specs.Timetables.{is_keep_due, is_timed}
 use Rattle.serving.proofs.ActLemmas.{world-append}
 use Rattle.serving.proofs.RunLemmas.{world-turned}
 use Rattle.serving.proofs.AheadLemmas.{ahead-at, ahead-same, ahead-stays, raises-stay}
@@ -272,7 +272,7 @@ module _ (config : Config) where
       let s = reread-before x.due.reread k w' v' v'' x.first x.between stop r.xs x.reread r.was in
       let m = keep-follows (is_keep_due t kept (raises_after k w'.history)) t es w' h kept kept' x.looked x.first s.xs
       refl is x.keep s.was grows in
-      let o = look-before t.timed x.finds.by_time a x.looked m.0 x.finds.looks m.1 in
+      let o = look-before (is_timed t) x.finds.by_time a x.looked m.0 x.finds.looks m.1 in
       let same : kept_by ys ≡ kept_by s.xs = r.is ∙ s.is in (
         o.xs,
         o.was,

@@ -7,10 +7,12 @@ use Rattle.protocol.specs.Catalog.{Config, is_same_but_for_access}
 use Rattle.protocol.specs.World.{World}
 use Rattle.event_loop.specs.Loops.{LoopValue}
 use Rattle.station_ring.specs.Levels.{raises_after}
+use Rattle.periods.specs.declared.period.Period.{Period}
+use Rattle.periods.specs.declared.period.Period.TheVariants.{Seconds, Turns}
 use Rattle.serving.specs.declared.between.Due.{Due}
 use Rattle.serving.specs.declared.between.Refusal.TheVariants.{Different}
 use Rattle.serving.specs.declared.timetable.Timetable.{Timetable}
-use Rattle.serving.specs.Timetables.{is_due, is_keep_due}
+use Rattle.serving.specs.Timetables.{is_by_turns, is_due, is_keep_due, is_timed}
 use Rattle.serving.specs.Ahead.{numbers_ahead}
 use Rattle.serving.specs.Asked.{Asked, Tells}
 use Rattle.serving.specs.Asked.Asked.{Configuration, Keeps, Looks, Refuses, Reports}
@@ -26,8 +28,11 @@ record Adds {F : Type 0} (a : Option (List (Asked F))) (ys block : List (Asked F
   is : ys ≡ xs ++ block
 
 -- nothing goes by turns
-by-time : (every : Option ℕ) (done : ℕ) (by_time : Bool) → every ≡ None → (is_due every done || by_time) ≡ by_time
-by-time every done by_time e = ap (λ x. is_due x done || by_time) e
+by-time : (period : Option Period) (done : ℕ) (by_time : Bool) → is_by_turns period ≡ false
+    → (is_due period done || by_time) ≡ by_time
+by-time None done by_time e = refl
+by-time (Some (Turns n)) done by_time e = absurd cc
+by-time (Some (Seconds n)) done by_time e = refl
 
 -- what is added in four pieces
 pieces : {A : Type 0} (xs : List A) (x : A) (ks rs ps : List A)
@@ -126,7 +131,7 @@ module _ {F : Type 0} where
 
   stop-adds : (t : Timetable) (done : ℕ) (config : Config) (w : World) (v v' : LoopValue) (kept kept' : ℕ)
       (a b : Option (List (Asked F))) (acts : List Act) (ys : List (Asked F))
-      → Stops t done config w v kept a acts v' kept' b → t.timed ≡ true → t.reread ≡ None
+      → Stops t done config w v kept a acts v' kept' b → is_timed t ≡ true → is_by_turns t.reread ≡ false
       → b ≡ Some ys → AddsLook a ys
   stop-adds t done config w v v' kept kept' a b acts ys x timed none e =
       let d : Due = x.finds.by_time in
@@ -144,7 +149,7 @@ module _ {F : Type 0} where
       let rest : List (Asked F) = k.block ++ (r.block ++ report) in
       let is_rest : IsRest d.reread rest = subst (λ due. IsRest due rest) again k.is_rest in
       let l : Adds a k.added.xs (Looks d ∷ []) =
-      looked t.timed d a x.looked k.added.xs rest timed x.finds.looks k.added.was is_rest in
+      looked (is_timed t) d a x.looked k.added.xs rest timed x.finds.looks k.added.was is_rest in
       record {
         due = d;
         rest = rest;
@@ -218,7 +223,7 @@ module _ {F : Type 0} where
   }
 
 module _ {F : Type 0} (t : Timetable) (config : Config) (w : World) (first : LoopValue) (asked : List (Asked F))
-    (timed : t.timed ≡ true) (none : t.reread ≡ None) where
+    (timed : is_timed t ≡ true) (none : is_by_turns t.reread ≡ false) where
   looked-so : {done failures kept : ℕ} {acts : List Act} {v : LoopValue} {b : Option (List (Asked F))}
       → Runs t config w first (Some asked) done failures kept acts v b → (ys : List (Asked F)) → b ≡ Some ys
       → AddsLooks done asked ys

@@ -2,6 +2,7 @@
 use Rattle.std.proofs.Common.{◌≡◌, ℕ, zero, suc, ◌+◌, ◌-◌, ◌*◌, ◌/◌, ◌<◌, ◌≤◌, ◌↔◌, nat_le, Bool, true, false}
 use Rattle.std.proofs.Common.{List, [], ◌∷◌, length, slice_index_or, Option, Some, None, arith}
 use Rattle.std.proofs.lemmas.Bool.Decides.{nat_tests}
+use Rattle.periods.specs.declared.period.Period.TheVariants.{Seconds}
 use Rattle.serving.specs.Paces.{ComesOnTime, DontFall, HavePassed, comes_at, comes_by, last_before, last_by}
 
 -- whole seconds passed, by milliseconds
@@ -19,7 +20,7 @@ le-to a b h = grind (arith, nat_tests)
 
 -- at one look
 comes-once : (seconds last : ℕ) (now : Option ℕ) (times : List (Option ℕ)) → DontFall last (now ∷ times)
-    → (comes_by (Some seconds) last now ≡ true) ↔ HavePassed seconds last now
+    → (comes_by (Some (Seconds seconds)) last now ≡ true) ↔ HavePassed seconds last now
 comes-once seconds last None times h = (λ (e : false ≡ true). absurd cc, λ no. absurd no)
 comes-once seconds last (Some now) times h = (
   λ e. passed-from seconds last now (le-from seconds ((now - last) / 1000) e) h.0,
@@ -40,12 +41,13 @@ falls-on false last (Some now) times h = falls-none last now times h.0 h.1
 falls-on false last None times h = h
 
 comes-on : (seconds last : ℕ) (times : List (Option ℕ)) → DontFall last times → (i : ℕ) → i < length times →
-    (slice_index_or (comes_at (Some seconds) last times) i false ≡ true)
-    ↔ HavePassed seconds (last_before last times (comes_at (Some seconds) last times) i) (slice_index_or times i None)
+    (slice_index_or (comes_at (Some (Seconds seconds)) last times) i false ≡ true)
+    ↔ HavePassed seconds (last_before last times (comes_at (Some (Seconds seconds)) last times) i)
+    (slice_index_or times i None)
 comes-on seconds last [] h i lt = absurd (omega (arith, lt))
 comes-on seconds last (now ∷ times) h zero lt = comes-once seconds last now times h
 comes-on seconds last (now ∷ times) h (suc i) lt =
-    let c : Bool = comes_by (Some seconds) last now in
+    let c : Bool = comes_by (Some (Seconds seconds)) last now in
     comes-on seconds (last_by c last now) times (falls-on c last now times h) i (omega (arith, lt))
 
 pub comes-on-time : ComesOnTime

@@ -3,8 +3,9 @@ use Rattle.std.specs.Prelude.{◌≡◌, ℕ, zero, suc, ◌+◌, Bool, true, fa
 use Rattle.protocol.specs.Catalog.{Config}
 use Rattle.protocol.specs.World.{World}
 use Rattle.event_loop.specs.Loops.{LoopValue}
+use Rattle.periods.specs.declared.period.Period.{Period}
 use Rattle.serving.specs.declared.timetable.Timetable.{Timetable}
-use Rattle.serving.specs.Timetables.{is_due, turns_of}
+use Rattle.serving.specs.Timetables.{is_due, is_timed, turns_of}
 use Rattle.serving.specs.Asked.{Asked}
 use Rattle.serving.specs.Asked.Asked.{Configuration, Keeps, Looks, Refuses, Reports}
 use Rattle.serving.specs.Runs.{Ran}
@@ -22,12 +23,12 @@ abbrev pub asks : {F : Type 0} → List (Asked F) → ℕ
 asks calls = count_by is_ask calls
 
 -- after how many of the first so many turns something is due
-abbrev pub due_in : Option ℕ → ℕ → ℕ
-due_in every zero = 0
-due_in every (suc done) = due_in every done + (if is_due every (suc done) then 1 else 0)
+abbrev pub due_in : Option Period → ℕ → ℕ
+due_in period zero = 0
+due_in period (suc done) = due_in period done + (if is_due period (suc done) then 1 else 0)
 
 -- In a run of all its turns, of which none goes by time, the configuration is asked for as often as the timetable says.
 abbrev pub AsksAsDue : Type 0 → Type 0
 AsksAsDue F = (t : Timetable) (config : Config) (w : World) (first last : LoopValue) (asked asked' : List (Asked F)) →
-    t.timed ≡ false → Ran t config w first (Some asked) last (Some asked')
+    is_timed t ≡ false → Ran t config w first (Some asked) last (Some asked')
     → asks asked' ≡ asks asked + due_in t.reread (turns_of t)

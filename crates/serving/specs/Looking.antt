@@ -1,11 +1,11 @@
 -- When a configuration is asked for, by what is said to be due by time.
-use Rattle.std.specs.Prelude.{◌≡◌, ℕ, Bool, true, false, List, [], ◌∷◌, ◌++◌, length, map, Some, None}
+use Rattle.std.specs.Prelude.{◌≡◌, ℕ, Bool, true, false, List, [], ◌∷◌, ◌++◌, length, map, Some}
 use Rattle.protocol.specs.Catalog.{Config}
 use Rattle.protocol.specs.World.{World}
 use Rattle.event_loop.specs.Loops.{LoopValue}
 use Rattle.serving.specs.declared.between.Due.{Due}
 use Rattle.serving.specs.declared.timetable.Timetable.{Timetable}
-use Rattle.serving.specs.Timetables.{turns_of}
+use Rattle.serving.specs.Timetables.{is_by_turns, is_timed, turns_of}
 use Rattle.serving.specs.Asked.{Asked}
 use Rattle.serving.specs.Asked.Asked.{Configuration, Keeps, Looks, Refuses, Reports}
 use Rattle.serving.specs.Runs.{Ran}
@@ -48,8 +48,8 @@ pub record AddsLooks {F : Type 0} (turns : ℕ) (asked asked' : List (Asked F)) 
   pub is : asked' ≡ asked ++ new
   pub as_said : AsksByLooks turns new
 
--- In a run of all its turns that asks what is due by time, and rereads by time alone, it is so.
+-- In a run of all its turns that asks what is due by time, and does not reread by turns, it is so.
 abbrev pub AsksByTime : Type 0 → Type 0
 AsksByTime F = (t : Timetable) (config : Config) (w : World) (first last : LoopValue)
-    (asked asked' : List (Asked F)) → t.timed ≡ true → t.reread ≡ None
+    (asked asked' : List (Asked F)) → is_timed t ≡ true → is_by_turns t.reread ≡ false
     → Ran t config w first (Some asked) last (Some asked') → AddsLooks (turns_of t) asked asked'

@@ -1,22 +1,25 @@
 -- What is done every so many seconds.
 -- Paces are this project's own. Left out: how time passes between two looks at a clock.
-use Rattle.std.specs.Prelude.{◌≡◌, ℕ, zero, suc, ◌+◌, ◌-◌, ◌*◌, ◌/◌, ◌<◌, ◌≤◌, ◌↔◌, nat_le, Bool, true, false}
+use Rattle.std.specs.Prelude.{◌≡◌, ℕ, zero, suc, ◌+◌, ◌-◌, ◌*◌, ◌<◌, ◌≤◌, ◌↔◌, Bool, true, false}
 use Rattle.std.specs.Prelude.{List, [], ◌∷◌, length, slice_index_or, Option, Some, None}
+use Rattle.periods.specs.Periods.{has_passed}
+use Rattle.periods.specs.declared.period.Period.{Period}
+use Rattle.periods.specs.declared.period.Period.TheVariants.{Seconds}
 use Rattle.serving.specs.declared.between.Due.{Due}
 use Rattle.serving.specs.declared.pace.Pace.{Pace}
 
 -- from the time 0 on
-abbrev pub new_pace : Option ℕ → Pace
-new_pace seconds = record { seconds = seconds; last = 0 }
+abbrev pub new_pace : Option Period → Pace
+new_pace period = record { period = period; last = 0 }
 
 -- It comes at a time, in milliseconds: so many seconds passed since it came last.
-abbrev pub comes_by : Option ℕ → (last : ℕ) → Option ℕ → Bool
+abbrev pub comes_by : Option Period → (last : ℕ) → Option ℕ → Bool
 comes_by None last now = false
-comes_by (Some seconds) last None = false
-comes_by (Some seconds) last (Some now) = nat_le seconds ((now - last) / 1000)
+comes_by (Some period) last None = false
+comes_by (Some period) last (Some now) = has_passed period (now - last)
 
 abbrev pub comes : Pace → Option ℕ → Bool
-comes pace now = comes_by pace.seconds pace.last now
+comes pace now = comes_by pace.period pace.last now
 
 -- when it came last then
 abbrev pub last_by : Bool → (last : ℕ) → Option ℕ → ℕ
@@ -38,10 +41,10 @@ pub record IsPaced (reread report : Pace) (due : Due) (reread' report' : Pace) :
 -- ---- over several looks at a clock, of which some may fail
 
 -- at which of them it comes
-abbrev pub comes_at : Option ℕ → (last : ℕ) → List (Option ℕ) → List Bool
-comes_at seconds last [] = []
-comes_at seconds last (now ∷ times) =
-    comes_by seconds last now ∷ comes_at seconds (last_by (comes_by seconds last now) last now) times
+abbrev pub comes_at : Option Period → (last : ℕ) → List (Option ℕ) → List Bool
+comes_at period last [] = []
+comes_at period last (now ∷ times) =
+    comes_by period last now ∷ comes_at period (last_by (comes_by period last now) last now) times
 
 -- The times do not fall, from one on.
 abbrev pub DontFall : ℕ → List (Option ℕ) → Type 0
@@ -64,5 +67,6 @@ HavePassed seconds since (Some now) = since + 1000 * seconds ≤ now
 -- at the first look at which they have. At a look that failed it does not come.
 abbrev pub ComesOnTime : Type 0
 ComesOnTime = (seconds : ℕ) (times : List (Option ℕ)) → DontFall 0 times → (i : ℕ) → i < length times →
-    (slice_index_or (comes_at (Some seconds) 0 times) i false ≡ true)
-    ↔ HavePassed seconds (last_before 0 times (comes_at (Some seconds) 0 times) i) (slice_index_or times i None)
+    (slice_index_or (comes_at (Some (Seconds seconds)) 0 times) i false ≡ true)
+    ↔ HavePassed seconds (last_before 0 times (comes_at (Some (Seconds seconds)) 0 times) i)
+    (slice_index_or times i None)

@@ -17,7 +17,7 @@ use Rattle.serving.specs.declared.between.Refusal.TheVariants.{Unread, Different
 use Rattle.serving.specs.declared.running.Stopped.{Stopped}
 use Rattle.serving.specs.declared.timetable.Timetable.{Timetable}
 use Rattle.serving.specs.Ahead.{numbers_ahead}
-use Rattle.serving.specs.Timetables.{due_after, failures_kept, is_keep_due, nothing_due, turns_of}
+use Rattle.serving.specs.Timetables.{due_after, failures_kept, is_keep_due, is_timed, nothing_due, turns_of}
 use Rattle.serving.specs.declared.between.NoConfiguration.{NoConfiguration}
 use Rattle.serving.specs.Asked.{Asked, Tells}
 use Rattle.serving.specs.Asked.Asked.{Configuration, Keeps, Looks, Refuses, Reports}
@@ -106,7 +106,7 @@ LooksIf false asked by_time asked' = (by_time ≡ nothing_due) × (asked' ≡ as
 pub record FindsDue {F : Type 0} (t : Timetable) (done : ℕ) (asked : Option (List (Asked F))) (due : Due)
     (asked' : Option (List (Asked F))) : Type 0 where
   pub by_time : Due
-  pub looks : LooksIf t.timed asked by_time asked'
+  pub looks : LooksIf (is_timed t) asked by_time asked'
   pub is : due ≡ due_after t done by_time
 
 -- What is due after so many turns was done.
@@ -205,7 +205,7 @@ pub record GaveUp {F : Type 0} (t : Timetable) (config : Config) (w : World) (fi
 
 -- so many turns, with no stop between them
 abbrev pub block_of : ℕ → Timetable
-block_of turns = record { turns = Some turns; reread = None; report = None; timed = false; keep = false }
+block_of turns = record { turns = Some turns; reread = None; report = None; keep = false }
 
 -- All turns of a block were made.
 abbrev pub RanBlock : ℕ → Config → World → LoopValue → LoopValue → Type 0

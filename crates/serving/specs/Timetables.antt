@@ -1,6 +1,9 @@
 -- When a server stops between its turns. Timetables are this project's own. Left out: how time passes.
-use Rattle.std.specs.Prelude.{ℕ, zero, suc, ◌-◌, ◌%◌, ◌^◌, ◌==◌, ◌||◌, ◌&&◌, nat_lt, Bool, false, if◌then◌else◌, Option}
-use Rattle.std.specs.Prelude.{Some, None, unwrap_or}
+use Rattle.std.specs.Prelude.{ℕ, ◌-◌, ◌^◌, ◌||◌, ◌&&◌, nat_lt, Bool, true, false, if◌then◌else◌, Option, Some, None}
+use Rattle.std.specs.Prelude.{unwrap_or}
+use Rattle.periods.specs.Periods.{is_by_time as is_period_of_time, is_due_after}
+use Rattle.periods.specs.declared.period.Period.{Period}
+use Rattle.periods.specs.declared.period.Period.TheVariants.{Seconds, Turns}
 use Rattle.serving.specs.declared.between.Due.{Due}
 use Rattle.serving.specs.declared.timetable.Timetable.{Timetable}
 
@@ -8,11 +11,25 @@ use Rattle.serving.specs.declared.timetable.Timetable.{Timetable}
 abbrev pub turns_of : Timetable → ℕ
 turns_of t = unwrap_or t.turns (2 ^ 64 - 1)
 
--- so many turns are a multiple of a number
-abbrev pub is_due : Option ℕ → ℕ → Bool
+-- something is due after so many turns
+abbrev pub is_due : Option Period → ℕ → Bool
 is_due None done = false
-is_due (Some zero) done = false
-is_due (Some (suc n)) done = done % suc n == 0
+is_due (Some period) done = is_due_after period done
+
+-- it is done by turns
+abbrev pub is_by_turns : Option Period → Bool
+is_by_turns None = false
+is_by_turns (Some (Turns n)) = true
+is_by_turns (Some (Seconds n)) = false
+
+-- or by time
+abbrev pub is_by_time : Option Period → Bool
+is_by_time None = false
+is_by_time (Some period) = is_period_of_time period
+
+-- something goes by time
+abbrev pub is_timed : Timetable → Bool
+is_timed t = is_by_time t.reread || is_by_time t.report
 
 -- Numbers are kept, and the level of some station rose since they were.
 abbrev pub is_keep_due : Timetable → (kept raises : ℕ) → Bool

@@ -100,7 +100,7 @@ fn keep<P: Ports, B: Between>(
 fn due_after<B: Between>(between: &mut B, timetable: &Timetable, done: u64) -> Due
     ensures { FindsDue timetable.now done (B.asked between.old) result (B.asked between.new) }
 {
-    let by_time = if timetable.timed {
+    let by_time = if timetable.is_timed() {
         between.due()
     } else {
         Due {

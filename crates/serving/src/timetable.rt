@@ -5,36 +5,34 @@
 //! over the system's clock none are. A reread by time is the same reread. A look at a clock that fails is no time, and
 //! nothing is due then.
 ghost use Rattle.std.specs.Prelude.{◌≡◌, Some, None, false};
-ghost use Rattle.serving.specs.Timetables.{due_after, is_due, is_keep_due, turns_of};
+ghost use Rattle.serving.specs.Timetables.{due_after, is_by_time, is_due, is_keep_due, is_timed, turns_of};
 
 use crate::between::Due;
+use periods::Period;
 
-/// After how many turns a server ends, and at which multiples of a number of turns it reads its configuration again and
-/// reports what it has done. Without a number of turns it ends after 2^64 - 1; without another number, or if that is 0,
-/// it never stops for it.
+/// After how many turns a server ends, and how often it reads its configuration again and reports what it has done.
+/// Without a number of turns it ends after 2^64 - 1; without a period, or with one of 0 turns, it never stops for it.
 ///
-/// If it is `timed`, it is asked after each turn what is due by time, and that is done too.
+/// If one of the two goes by time, it is asked after each turn what is due by time, and that is done too.
 ///
 /// With `keep` it has the numbers of its stations kept, each time that the number to be kept of some station changed.
 #[derive(Clone, Copy, Drop)]
 pub struct Timetable {
     pub turns: Option<usize>,
-    pub reread: Option<usize>,
-    pub report: Option<usize>,
-    pub timed: bool,
+    pub reread: Option<Period>,
+    pub report: Option<Period>,
     pub keep: bool,
 }
 
 impl Timetable {
     /// So many turns, with no stop between them.
     pub fn of_turns(turns: u64) -> Timetable
-        ensures { result ≡ record { turns = Some turns; reread = None; report = None; timed = false; keep = false } }
+        ensures { result ≡ record { turns = Some turns; reread = None; report = None; keep = false } }
     {
         Timetable {
             turns: Some(turns as usize),
             reread: None,
             report: None,
-            timed: false,
             keep: false,
         }
     }
@@ -47,6 +45,13 @@ impl Timetable {
             None => u64::MAX,
             Some(turns) => turns as u64,
         }
+    }
+
+    /// Whether it is asked after each turn what is due by time.
+    pub fn is_timed(&self) -> bool
+        ensures { result ≡ is_timed self.now }
+    {
+        is_by_time(self.reread) || is_by_time(self.report)
     }
 
     /// What is due after so many turns, where by time that is due.
@@ -68,12 +73,22 @@ impl Timetable {
     }
 }
 
-/// Whether so many turns are a multiple of a number.
-fn is_due(every: Option<usize>, done: u64) -> bool
-    ensures { result ≡ is_due every done }
+/// Whether something is done by time.
+fn is_by_time(period: Option<Period>) -> bool
+    ensures { result ≡ is_by_time period }
 {
-    match every {
-        None | Some(0) => false,
-        Some(every) => done % (every as u64) == 0,
+    match period {
+        Some(period) => period.is_by_time(),
+        None => false,
+    }
+}
+
+/// Whether it is due after so many turns.
+fn is_due(period: Option<Period>, done: u64) -> bool
+    ensures { result ≡ is_due period done }
+{
+    match period {
+        Some(period) => period.is_due_after(done),
+        None => false,
     }
 }

@@ -2,6 +2,7 @@
 use catalog::Config;
 use memory_between::{MadeBetween, MemoryBetween};
 use memory_ports::{MemoryPorts, Script};
+use periods::Period;
 use serving::{Activity, Due, Refusal, Timetable, serve_between};
 use std::alloc::Global;
 use std::test::Fail;
@@ -92,9 +93,8 @@ fn a_server_asks_and_reports_when_it_is_due(rt: HostRuntime) -> Result<(), Fail>
     let mut between = MemoryBetween::new(rt.alloc(), readings(rt.alloc())?);
     let timetable = Timetable {
         turns: Some(9),
-        reread: Some(2),
-        report: Some(3),
-        timed: false,
+        reread: Some(Period::Turns(2)),
+        report: Some(Period::Turns(3)),
         keep: false,
     };
     run_over(rt.alloc(), &mut between, timetable)?;
@@ -121,9 +121,8 @@ fn a_server_asks_and_reports_when_it_is_time(rt: HostRuntime) -> Result<(), Fail
     let mut between = MemoryBetween::new(rt.alloc(), readings).with_due(times(rt.alloc())?);
     let timetable = Timetable {
         turns: Some(4),
-        reread: None,
-        report: None,
-        timed: true,
+        reread: Some(Period::Seconds(60)),
+        report: Some(Period::Seconds(60)),
         keep: false,
     };
     run_over(rt.alloc(), &mut between, timetable)?;

@@ -82,7 +82,6 @@ fn served(
         turns: Some(40),
         reread: None,
         report: None,
-        timed: false,
         keep: true,
     };
     let ports = serve_between(alloc, config, ports, &mut between, timetable)?;

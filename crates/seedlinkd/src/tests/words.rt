@@ -1,7 +1,8 @@
 //! Words of the command line that ask for a job.
 use command_line::{
-    CheckOptions, Every, FeedOptions, Job, Request, ServeOptions, ViewOptions, read_words,
+    CheckOptions, FeedOptions, Job, Request, ServeOptions, ViewOptions, read_words,
 };
+use periods::Period;
 use std::alloc::{AllocError, Global};
 use std::test::Fail;
 
@@ -231,12 +232,12 @@ fn serve_may_have_a_status_page(rt: HostRuntime) -> Result<(), Fail> {
 }
 
 /// A number, and whether it counts seconds and not turns.
-type Period = (usize, bool);
+type Counted = (usize, bool);
 
-fn period_of(every: Option<Every>) -> Option<Period> {
-    match every {
-        Some(Every::Turns(number)) => Some((number, false)),
-        Some(Every::Seconds(number)) => Some((number, true)),
+fn counted(period: Option<Period>) -> Option<Counted> {
+    match period {
+        Some(Period::Turns(number)) => Some((number, false)),
+        Some(Period::Seconds(number)) => Some((number, true)),
         None => None,
     }
 }
@@ -247,7 +248,7 @@ fn times(
     alloc: Global,
     option: &str,
     text: &str,
-) -> Result<Option<(Option<usize>, Option<Period>, Option<Period>)>, AllocError> {
+) -> Result<Option<(Option<usize>, Option<Counted>, Option<Counted>)>, AllocError> {
     let words = strings(
         alloc,
         &[
@@ -271,7 +272,7 @@ fn times(
                 report,
                 ..
             },
-        ) => Ok(Some((turns, period_of(reread), period_of(report)))),
+        ) => Ok(Some((turns, counted(reread), counted(report)))),
         _ => Ok(None),
     }
 }
