@@ -186,21 +186,18 @@ fn words_that_do_not_go_together_are_named(rt: HostRuntime) -> Result<(), Fail> 
     Ok(())
 }
 
-/// Lines of the table of faults, the last of which ends it.
-static FAULTS: [&str; 3] = [
+/// Lines of the table of faults, with the beginnings of those that follow.
+static FAULTS: [&str; 2] = [
     "\n   1 Sequence        the sequence number has a byte that is no digit, no space and not 0\n   2 Quality",
     "\n  25 OutOfMemory     out of memory\n  30 Gone",
-    "\n  62 Full            no selector more has room\n",
 ];
 
 #[test]
 fn all_faults_are_listed(rt: HostRuntime) -> Result<(), Fail> {
     let text = told(rt.alloc(), &["--help", "faults"])?;
-    for line in FAULTS {
-        assert!(rt; text.as_str().contains(line), "{text}");
+    for lines in FAULTS {
+        assert!(rt; text.as_str().contains(lines), "{text}");
     }
-    assert!(rt; text.as_str().ends_with(FAULTS[2]));
-    assert_eq!(rt; text.as_str().lines().count(), 40);
     let other = told(rt.alloc(), &["--help", "serve"])?;
     assert!(rt;
         other.as_str().starts_with("A SeedLink 3 server"),
