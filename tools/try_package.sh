@@ -131,6 +131,14 @@ states "after a feed"
 seedlinkd status 127.0.0.1:18002 | awk '$2 == "APE" { print "its status port:", $1, $2, $3, $5, "records" }'
 for it in $(pids); do grep -q '^Seccomp:.2' "/proc/$it/status" && grep -q '^CapEff:.0*$' "/proc/$it/status" && echo "system calls are filtered, no capability"; done
 find "$sds" -type f -name '*.D.*' | xargs cat | seedlinkd check /dev/stdin --quiet --summary
+# New lists: one that is no list is refused by the reload itself, and another one is in force once that ends.
+list=/etc/seedlinkd/seedlinkd.toml
+cp -p "$list" /root/lists
+sed '0,/^access = .*/s//access = "10.0.0.300"/' /root/lists >/root/new && cat /root/new >"$list"
+systemctl reload seedlinkd 2>/dev/null && echo "a reload of an invalid list failed to fail" || echo "a reload of an invalid list fails"
+sed '0,/^access = .*/s//access = "127.0.0.0\/16"/' /root/lists >/root/new && cat /root/new >"$list"
+systemctl reload seedlinkd && echo "a reload of another list ends"
+cat /root/lists >"$list"
 journalctl -u seedlinkd -u "$reader" -o cat | sort
 before=$(pids)
 dpkg -i --force-confold /root/newer.deb >>/root/dpkg 2>&1 || echo "the upgrade failed"
@@ -187,6 +195,7 @@ unshare --mount --propagation private sh "$bare/root/enter" "$bare" || fail "sys
 cat "$bare/root/said"
 for it in "after a feed: seedlinkd active, restarts 0" "after a feed: seedlinkd-archive@127.0.0.1:18000 active, restarts 0" "seedlinkd: refused CH DAVOX" \
     "its status port: GE APE ok 15 records" \
+    "a reload of an invalid list fails" "a reload of another list ends" "seedlinkd: new configuration in force" \
     "GE APE -- BHZ D 15 " "after an upgrade: seedlinkd active" "after an upgrade: seedlinkd-archive@127.0.0.1:18000 active" "after a removal: no program"; do
     grep -q "^$it" "$bare/root/said" || fail "under systemd: no line '$it'"
 done
