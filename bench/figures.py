@@ -223,6 +223,29 @@ def checked():
     return per(many, few, 15 * 69)
 
 
+@functools.cache
+def config_of(stations):
+    """The path of a configuration with so many stations, each with a list of its own."""
+    path = f"{FOLDER.name}/stations.toml"
+    with open(path, "w", encoding="utf-8") as file:
+        file.write('title = "Stations"\n')
+        for station in range(stations):
+            file.write(f'[[station]]\nnetwork = "GE"\ncode = "{station:05}"\ndescription = "Station {station}"\n')
+            file.write(f'capacity = 1\naccess = "10.0.0.0/8 192.168.0.{station % 250}"\n')
+    return path
+
+
+def served(turns):
+    """`seedlinkd serve` of 1,024 stations for so many turns, after each of which it reads its configuration again."""
+    nowhere = ("--listen", "127.0.0.1:0", "--feed", "127.0.0.1:0")
+    return instructions(PROGRAM, "serve", config_of(1_024), *nowhere, "--turns", str(turns), "--reread", "1")
+
+
+def reread():
+    """A reread of a text that did not change."""
+    return per(served(20), served(10), 10)
+
+
 def replayed(events):
     """`seedlinkd replay` of so many events."""
     return instructions(PROGRAM, "replay", CONFIG, script_file(events))
@@ -314,6 +337,7 @@ ROWS = (
     Row(256, "KiB more after a million clients, one after the other", kept_of_visits, "after a thousand of them"),
     # the program
     Row(4_000, "seedlinkd check, a record read out of the file and its line written", checked, "libmseed, the same: about 5,800"),
+    Row(1_000_000, "a reread of 1,024 stations whose text did not change", reread),
     Row(12_000, "seedlinkd replay with 100 clients, an event from line to output", event),
     Row(lambda: replayed(10_000) * 23 // 10_000, "seedlinkd replay of 20,000 events, in thousands", lambda: replayed(20_000) // 1_000,
         lambda: f"of 10,000 events: {replayed(10_000) // 1_000}, and at most 2.30 times that"),
