@@ -14,7 +14,7 @@ cd "$top"
 program=crates/seedlinkd/out/seedlinkd
 
 # The version stands in the program's sources alone, with the logic that proved it, which has to be the toolchain's.
-version=$(sed -n 's/^const VERSION: &str = "\([^ ]*\) .*";$/\1/p' crates/command_line/src/commands.rt)
+version=$(sed -n 's/^pub const VERSION: &str = "\([^ ]*\) .*";$/\1/p' crates/command_line/src/commands.rt)
 logic=$(rt version | sed -n 's/.* logic \([0-9a-f]*\).*/\1/p')
 [ "$("$program" --version)" = "seedlinkd $version (each function proved, logic $logic)" ] ||
     { echo "package: the program has another version than its sources, or another logic than the toolchain" >&2; exit 1; }

@@ -16,7 +16,7 @@ fail() {
 is_clean() { [ -z "$(git status --porcelain)" ]; }
 
 [ $# -eq 1 ] || fail "tools/release.sh VERSION"
-version=$(sed -n 's/^const VERSION: &str = "\([^ ]*\) .*";$/\1/p' crates/command_line/src/commands.rt)
+version=$(sed -n 's/^pub const VERSION: &str = "\([^ ]*\) .*";$/\1/p' crates/command_line/src/commands.rt)
 [ "$1" = "$version" ] || fail "the version of the sources is $version (VERSION in crates/command_line/src/commands.rt)"
 [ "$1" = "$(sed -n 's/^## //p' CHANGELOG.md | head -n 1)" ] || fail "the first version in CHANGELOG.md is another one"
 is_clean || fail "the working tree is not clean: git status says what was changed"
