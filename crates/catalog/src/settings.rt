@@ -1,5 +1,5 @@
-//! The settings that a configuration's table and a station's table have: a function a key, and which key of a station is
-//! read after which.
+//! The settings that a configuration's table and a station's table have: a function a key, and in which order the keys
+//! of a station are read.
 ghost use Rattle.std.specs.Prelude.{◌≡◌, ◌≢◌, ◌≤◌, length, IfOk, IfErr, Ok, Err, None};
 ghost use Rattle.toml.specs.View.{table_view};
 ghost use Rattle.catalog.specs.Failing.{FailsAtSetting};

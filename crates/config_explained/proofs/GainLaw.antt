@@ -1,6 +1,7 @@
 -- The networks that gain admit the addresses that the new list admits and the old one doesn't.
-use Rattle.std.proofs.Common.{◌≡◌, ◌≢◌, ◌∙◌, ℕ, zero, suc, ◌*◌, ◌<◌, ◌≤◌, ◌^◌, ◌==◌, ◌&&◌, ◌||◌, Bool, true, false, true≢false}
-use Rattle.std.proofs.Common.{List, [], ◌∷◌, ◌++◌, refl, sym, ap, arith, eqb-true, eq-eqb, ◌⊎◌, ⊎_elim, inl, inr, not}
+use Rattle.std.proofs.Common.{◌≡◌, ◌≢◌, ◌∙◌, ℕ, zero, suc, ◌*◌, ◌<◌, ◌≤◌, ◌^◌, ◌==◌, ◌&&◌, ◌||◌, Bool, true, false}
+use Rattle.std.proofs.Common.{true≢false, List, [], ◌∷◌, ◌++◌, refl, sym, ap, arith, eqb-true, eq-eqb}
+use Rattle.std.proofs.Common.{◌⊎◌, ⊎_elim, inl, inr, not}
 use Rattle.std.specs.Prelude.{bit_and, bit_or}
 use Rattle.std.specs.Int.{bit_at, bit_not, w32}
 use Rattle.std.proofs.lemmas.Bool.{cases_eq, cases_lt}

@@ -59,7 +59,8 @@ coded : (r : List ℕ) (x : Facts) → header_of r ≡ Ok x → IsCoded r x
 coded r x e =
     coded-if r x (list_all is_sequence_byte (take 6 r))
     (if is_quality (slice_index r 6) then read_in r (order_of r) else Err Quality) Sequence
-    (λ e2. coded-if r x (is_quality (slice_index r 6)) (read_in r (order_of r)) Quality (coded-in r x (order_of r)) e2) e
+    (λ e2. coded-if r x (is_quality (slice_index r 6)) (read_in r (order_of r)) Quality (coded-in r x (order_of r)) e2)
+    e
 
 -- a part of the codes of a record is a part of the record
 part : (at count rest : ℕ) (r : List ℕ) → take count (drop at (take (at + (count + rest)) (drop 8 r)))

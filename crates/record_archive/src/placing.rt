@@ -37,7 +37,8 @@ fn put_read<F: Folders>(
 ) -> Result<Placed, ArchiveFault>
     requires { header_of bytes.now ≡ Ok header.now }
     ensures stations { streams.new.stations ≡ streams.old.stations }
-    ensures put { OnOk result (HoldsMore streams.old.stations.items (F.puts folders.old) (F.puts folders.new) (bytes.now ∷ [])) }
+    ensures put { OnOk result
+        (HoldsMore streams.old.stations.items (F.puts folders.old) (F.puts folders.new) (bytes.now ∷ [])) }
     ensures placed { result ≡ Ok InFile → IsPlaced streams.old.stations.items bytes.now }
     ensures unplaced { result ≡ Ok Unplaced → IsUnplaced streams.old.stations.items bytes.now }
     ensures refused { OnErr result (F.puts folders.new ≡ F.puts folders.old) }
@@ -64,7 +65,8 @@ pub(crate) fn put_record<F: Folders>(
 ) -> Result<Placed, ArchiveFault>
     requires { header.now ≡ result_ok (header_of bytes.now) }
     ensures stations { streams.new.stations ≡ streams.old.stations }
-    ensures put { OnOk result (HoldsMore streams.old.stations.items (F.puts folders.old) (F.puts folders.new) (bytes.now ∷ [])) }
+    ensures put { OnOk result
+        (HoldsMore streams.old.stations.items (F.puts folders.old) (F.puts folders.new) (bytes.now ∷ [])) }
     ensures placed { result ≡ Ok InFile → IsPlaced streams.old.stations.items bytes.now }
     ensures unplaced { result ≡ Ok Unplaced → IsUnplaced streams.old.stations.items bytes.now }
     ensures refused { OnErr result (F.puts folders.new ≡ F.puts folders.old) }

@@ -2,8 +2,8 @@
 //!
 //! A record of the same stream and the same day goes into the same file, so its codes are not judged again, no text is
 //! made and no date is calculated. Of each stream the day is kept of which a record came last.
-ghost use Rattle.std.specs.Prelude.{◌≡◌, ◌≤ℤ◌, ◌+◌, ◌+ℤ◌, ◌≤◌, ◌<◌, All, IfErr, IfOk, IfSome, None, Ok, get_or, length, pos};
-ghost use Rattle.std.specs.Prelude.{true};
+ghost use Rattle.std.specs.Prelude.{◌≡◌, ◌≤ℤ◌, ◌+◌, ◌+ℤ◌, ◌≤◌, ◌<◌, All, IfErr, IfOk, IfSome, None, Ok, get_or, length};
+ghost use Rattle.std.specs.Prelude.{pos, true};
 ghost use Rattle.protocol.specs.Record.{header_of};
 ghost use Rattle.sl_time.specs.Days.{day_start, IsWithinDay};
 ghost use Rattle.record_archive.specs.Archives.{IsUnplaced};
@@ -187,7 +187,8 @@ pub(crate) fn place_after(place: usize, count: usize) -> usize {
 }
 
 impl Streams {
-    ghost use Rattle.std.specs.Prelude.{◌≡◌, ◌≤◌, ◌<◌, [], All, IfErr, IfOk, IfSome, None, Ok, List, get_or, length, true};
+    ghost use Rattle.std.specs.Prelude.{◌≡◌, ◌≤◌, ◌<◌, [], All, IfErr, IfOk, IfSome, None, Ok, List, get_or, length};
+    ghost use Rattle.std.specs.Prelude.{true};
     ghost use Rattle.protocol.specs.Record.{header_of};
     ghost use Rattle.record_archive.specs.Archives.{IsUnplaced};
     ghost use Rattle.record_archive.specs.Places.{HasPlace, IsKnown, StreamValue};

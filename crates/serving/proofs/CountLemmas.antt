@@ -59,7 +59,8 @@ module _ {F : Type 0} where
   reread-asks config (Ok None) = refl
   reread-asks config (Ok (Some new)) = by (is_same_but_for_access config new)
     where
-      by : (same : Bool) → asks {F = F} (Configuration (Ok (Some new)) ∷ (if same then [] else Refuses Different ∷ [])) ≡ 1
+      by : (same : Bool)
+          → asks {F = F} (Configuration (Ok (Some new)) ∷ (if same then [] else Refuses Different ∷ [])) ≡ 1
       by true = refl
       by false = refl
 

@@ -50,7 +50,8 @@ module _ {F : Type 0} (config : Config) (w : World) (v v' : LoopValue)
     (only : v' ≡ record v { server = v'.server }) (new : Config) (stands : StandsAt v.server config w)
     (goes : StandsAt v'.server (config_by config (Reload new)) (step config w (Reload new)))
     (a b : Option (List (Asked F))) where
-  given : (told : List (Asked F)) → refusals config (Ok (Some new)) ≡ told → Tells a b (Configuration (Ok (Some new)) ∷ told) →
+  given : (told : List (Asked F)) → refusals config (Ok (Some new)) ≡ told →
+      Tells a b (Configuration (Ok (Some new)) ∷ told) →
       SomeReread true config w v a v' b
   given told e tells = record {
     acts = Reloading new ∷ [];
@@ -68,7 +69,8 @@ module _ {F : Type 0} (config : Config) (w : World) (v v' : LoopValue)
       → is_same_but_for_access config new ≡ same
   in_place same e = ap (λ c. is_same_but_for_access c new) (sym stands.config_is) ∙ sym e
 
-  pub came-into-force : true ≡ is_same_but_for_access v.server.config new → Tells a b (Configuration (Ok (Some new)) ∷ []) →
+  pub came-into-force : true ≡ is_same_but_for_access v.server.config new →
+      Tells a b (Configuration (Ok (Some new)) ∷ []) →
       SomeReread true config w v a v' b
   came-into-force same tells = given [] (in-force config new (in_place true same)) tells
 

@@ -175,7 +175,8 @@ order-none order n none few =
 
 -- ---- one that alone may have a record ahead
 
-pub only-none : (es : List Entry) (i : ℕ) → TellsAhead (Only i) es → ahead_at es i ≡ None → (j : ℕ) → ahead_at es j ≡ None
+pub only-none :
+    (es : List Entry) (i : ℕ) → TellsAhead (Only i) es → ahead_at es i ≡ None → (j : ℕ) → ahead_at es j ≡ None
 only-none es i tells none j = both (j == i)
     (λ y. let same : j ≡ i = grind (arith, nat_tests) in ap (ahead_at es) same ∙ none)
     (λ n. quiet-but es i tells j (λ e. absurd (grind (arith, nat_tests))))

@@ -10,8 +10,8 @@ ghost use Rattle.session_state.specs.declared.choices.Entry.{Entry as EntryValue
 ghost use Rattle.std.specs.Vec.{vec_capacity};
 ghost use Rattle.session_state.specs.declared.choices.Ahead.TheVariants.{Only};
 ghost use Rattle.session_state.specs.Entries.{TellsAhead};
-ghost use Rattle.session_state.specs.Orders.{HasSorted, IsEarliest, IsLater, IsOrder, IsReady, IsSortedBut, IsSortedFrom};
-ghost use Rattle.session_state.specs.Orders.{ahead_at, is_sooner};
+ghost use Rattle.session_state.specs.Orders.{HasSorted, IsEarliest, IsLater, IsOrder, IsReady, IsSortedBut};
+ghost use Rattle.session_state.specs.Orders.{IsSortedFrom, ahead_at, is_sooner};
 
 use crate::choices::{Ahead, Entry, First};
 
@@ -87,7 +87,8 @@ fn place_of(order: &[u8], entries: &[Entry]) -> usize
     requires some { 0 < length order.now }
     requires sorted { IsSortedFrom 1 entries.now order.now }
     ensures within { result < length order.now }
-    ensures before { (k : ℕ) → 0 < k → k ≤ result → IsLater entries.now (slice_index order.now 0) (slice_index order.now k) }
+    ensures before { (k : ℕ) → 0 < k → k ≤ result
+        → IsLater entries.now (slice_index order.now 0) (slice_index order.now k) }
     ensures after { (k : ℕ) → result < k → k < length order.now
         → IsLater entries.now (slice_index order.now k) (slice_index order.now 0) }
 {
@@ -121,8 +122,8 @@ fn settle(order: &mut [u8], entries: &[Entry])
     lower(order, place);
 }
 
-/// Where one request alone might have a record ahead, it goes to the front, so that all stand in their order but the one
-/// whose record ahead is another one.
+/// Where one request alone might have a record ahead, it goes to the front, so that all stand in their order but the
+/// one whose record ahead is another one.
 fn bring_the_only(order: &mut [u8], entries: &[Entry], before: Ahead, i: usize)
     requires order { IsOrder order.old (length entries.now) }
     requires ready { IsReady before i entries.now order.old }

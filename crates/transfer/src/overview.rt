@@ -1,10 +1,10 @@
 //! Which request comes first.
 //!
-//! A request's cursor keeps the stamp of the record ahead of it, and the session keeps in which order those came. It also
-//! keeps how many records had arrived when all of its requests had last looked at their rings. If no record has arrived
-//! since, nothing was pushed to any ring, so the session tells which request comes first, and no ring is looked at
-//! (`look_ahead`). If all that arrived went to one of the rings, the request for that station alone looks again
-//! (`catch_up`). Else all requests are walked over, and those look again to whose rings something was pushed
+//! A request's cursor keeps the stamp of the record ahead of it, and the session keeps in which order those came. It
+//! also keeps how many records had arrived when all of its requests had last looked at their rings. If no record has
+//! arrived since, nothing was pushed to any ring, so the session tells which request comes first, and no ring is
+//! looked at (`look_ahead`). If all that arrived went to one of the rings, the request for that station alone looks
+//! again (`catch_up`). Else all requests are walked over, and those look again to whose rings something was pushed
 //! (`rest_all`).
 ghost use Rattle.std.specs.Prelude.{◌≡◌, ◌≢◌, ◌≤◌, ◌<◌, List, ℕ, length, map, slice_get, option_map};
 ghost use Rattle.std.specs.Prelude.{IfSome, Some, None, true};

@@ -22,7 +22,8 @@ put_of g c =
 
 -- where it is put
 has_place : (g : given.Over) (c : goal.In-Ok g)
-    → HasPlace c.at.result.now.year c.at.result.now.day c.args.streams.now.stations.items c.args.header.now c.place.result.now
+    → HasPlace c.at.result.now.year c.at.result.now.day c.args.streams.now.stations.items c.args.header.now
+    c.place.result.now
 has_place g c =
     let stream = c.at.result.now in
     let places = rw c.in-Ok-Some.field-0-is at c.in-Ok-Some.ensures.place in

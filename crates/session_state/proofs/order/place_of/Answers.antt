@@ -43,8 +43,8 @@ loop-low-preserved-then-is_sooner c =
       up,
       omega (arith, down, within),
       c.loop-low.invariant.2,
-      λ k late inside. all-sooner c.args.entries.now c.args.order.now middle k c.requires.sorted (omega arith) late inside
-          (sym c.is_sooner-in-loop-low.ensures ∙ c.if-is_sooner.true),
+      λ k late inside. all-sooner c.args.entries.now c.args.order.now middle k c.requires.sorted (omega arith) late
+          inside (sym c.is_sooner-in-loop-low.ensures ∙ c.if-is_sooner.true),
     )
 
 pub loop-low-preserved : goal.loop-low-preserved

@@ -24,7 +24,8 @@ follow-requires c =
     let f : Entry = record (c.index_mut.result.now) { cursor = c.args.cursor } in
     let is = sym c.as_slice.ensures.value in
     record {
-      order = subst (λ (l : List Entry). IsOrder order (length l)) is (order-set es c.args.i f order c.self.invariant.3);
+      order = subst (λ (l : List Entry). IsOrder order (length l)) is
+          (order-set es c.args.i f order c.self.invariant.3);
       index = subst (λ (l : List Entry). c.args.i < length l) is
           (subst (λ n. c.args.i < n) (sym (length-set es c.args.i f)) low);
       ready = subst (λ (l : List Entry). IsReady c.self.inside.ahead c.args.i l order) is
