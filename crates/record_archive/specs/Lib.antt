@@ -9,3 +9,4 @@ pub mod Puts
 pub mod MemoryRecords
 pub mod Walks
 pub mod Runs
+pub mod Opened

@@ -1,5 +1,5 @@
 -- Into which file a record of some stations is put, and streams of which that is known.
-use Rattle.std.specs.Prelude.{◌≡◌, ℕ, ℤ, ◌≤ℤ◌, ◌<ℤ◌, true, List, Ok, slice_range}
+use Rattle.std.specs.Prelude.{◌≡◌, ℕ, ℤ, ◌≤ℤ◌, ◌<ℤ◌, ◌∷◌, ◌++◌, true, List, Ok, slice_range}
 use Rattle.protocol.specs.Record.{Facts, header_of}
 use Rattle.protocol.specs.declared.record.Kind.{Kind}
 use Rattle.sl_time.specs.Days.{IsWithinDay}
@@ -10,6 +10,10 @@ use Rattle.record_archive.specs.Stations.{CodesValue, is_wanted}
 pub record PlaceValue : Type 0 where
   pub folder : List ℕ
   pub file : List ℕ
+
+-- its path: the folder, `/`, and the file
+abbrev pub path_text : PlaceValue → List ℕ
+path_text p = p.folder ++ 47 ∷ p.file
 
 -- A record that says this, which starts in that day, is put into the file.
 pub record HasPlace (year day : ℕ) (stations : List CodesValue) (x : Facts) (p : PlaceValue) : Type 0 where

@@ -1,5 +1,6 @@
 //! Files of records on the disk.
-ghost use Rattle.std.specs.Prelude.{◌<◌, IfOk, None, length};
+ghost use Rattle.std.specs.Prelude.{◌≡◌, ◌<◌, IfOk, None, Some, length};
+ghost use Rattle.record_archive.specs.Opened.{name_at};
 
 use crate::files::RecordFiles;
 use crate::folders::FolderFault;
@@ -32,8 +33,8 @@ pub struct FileFailure {
     pub reason: io::Error,
 }
 
-/// Files of records on the disk, which no others write to meanwhile. Those that were written last are kept open, by and
-/// large.
+/// Files of records on the disk, which no others write to meanwhile. Up to some number are kept open, and one that was
+/// not used for long is let go for another.
 #[derive(Drop)]
 pub struct DiskFiles<'a, R: Files<File = File>> {
     rt: &'a R,
@@ -255,7 +256,8 @@ impl<'a, R: Files<File = File> + Clock> DiskFiles<'a, R> {
 
     /// Has the file of a name open. Answers its place among those that are.
     fn have_open(&mut self, name: &str) -> io::Result<usize>
-        ensures { IfOk result (λ at. at < length self.new.opened.all.items) }
+        ensures within { IfOk result (λ at. at < length self.new.opened.all.items) }
+        ensures named { IfOk result (λ at. name_at self.new.opened.all.items at ≡ Some name.now) }
     {
         if let Some(at) = self.opened.find_again(name) {
             return Ok(at);

@@ -1,9 +1,11 @@
 //! The files of records that are open.
 //!
-//! Each is found by its name. The one that was opened after the one that was found last is looked at first, since
-//! records of several files come mostly by turns, and then that one, since a file is found more than once a record. If no more may be open, a file is let go that was not found
-//! since all others were asked for that: the hand goes round over them, and passes over those that were, once.
-ghost use Rattle.std.specs.Prelude.{◌≡◌, ◌<◌, IfSome, length, true};
+//! Each is found by its name. The file behind the one that was found last is tried first, since records of several
+//! files come mostly by turns, and then that one, since a file is found more than once a record. If no more may be
+//! open, one is let go that was not used for long. A hand goes round over them: it passes over each that was found
+//! since it came by last, and the first that was not is let go.
+ghost use Rattle.std.specs.Prelude.{◌≡◌, ◌<◌, IfSome, Some, length, string_bytes, true};
+ghost use Rattle.record_archive.specs.Opened.{name_at};
 
 use crate::open_file::OpenFile;
 use crate::streams::place_after;
@@ -50,7 +52,8 @@ impl OpenFiles {
 
     /// Whether the file of that name stands at a place.
     fn is_at(&self, place: usize, name: &str) -> bool
-        ensures { result ≡ true → place < length self.now.all.items }
+        ensures within { result ≡ true → place < length self.now.all.items }
+        ensures named { result ≡ true → name_at self.now.all.items place ≡ Some name.now }
     {
         match self.all.get(place) {
             Some(open) => open.name.as_str() == name,
@@ -60,7 +63,8 @@ impl OpenFiles {
 
     /// The place of the file of that name, if it is open.
     fn place_of(&self, name: &str) -> Option<usize>
-        ensures { IfSome result (λ at. at < length self.now.all.items) }
+        ensures within { IfSome result (λ at. at < length self.now.all.items) }
+        ensures named { IfSome result (λ at. name_at self.now.all.items at ≡ Some name.now) }
     {
         let next = place_after(self.last, self.all.len());
         if self.is_at(next, name) {
@@ -76,14 +80,17 @@ impl OpenFiles {
     }
 
     /// The file of that name, if it is open.
-    pub(crate) fn get(&self, name: &str) -> Option<&NamedFile> {
+    pub(crate) fn get(&self, name: &str) -> Option<&NamedFile>
+        ensures named { IfSome result (λ found. string_bytes found.now.name ≡ name.now) }
+    {
         let at = self.place_of(name)?;
         Some(&self.all[at])
     }
 
     /// The place of the file of that name, if it is open. It was found now.
     pub(crate) fn find(&mut self, name: &str) -> Option<usize>
-        ensures { IfSome result (λ at. at < length self.new.all.items) }
+        ensures within { IfSome result (λ at. at < length self.new.all.items) }
+        ensures named { IfSome result (λ at. name_at self.new.all.items at ≡ Some name.now) }
     {
         let at = self.place_of(name)?;
         self.last = at;
@@ -91,9 +98,10 @@ impl OpenFiles {
         Some(at)
     }
 
-    /// The same, if it is mostly the one that was found last.
+    /// The same, where the one that was found last is tried first.
     pub(crate) fn find_again(&mut self, name: &str) -> Option<usize>
-        ensures { IfSome result (λ at. at < length self.new.all.items) }
+        ensures within { IfSome result (λ at. at < length self.new.all.items) }
+        ensures named { IfSome result (λ at. name_at self.new.all.items at ≡ Some name.now) }
     {
         if self.is_at(self.last, name) {
             Some(self.last)
@@ -104,7 +112,8 @@ impl OpenFiles {
 
     /// A file is no more one of them.
     fn take_at(&mut self, at: usize) -> NamedFile
-        requires { at < length self.old.all.items }
+        requires within { at < length self.old.all.items }
+        ensures named { name_at self.old.all.items at ≡ Some (string_bytes result.name) }
     {
         let gone = self.all.swap_remove(at);
         self.places.remove(gone.name.as_str());
@@ -117,7 +126,9 @@ impl OpenFiles {
     }
 
     /// The file of that name is no more one of them.
-    pub(crate) fn take(&mut self, name: &str) -> Option<NamedFile> {
+    pub(crate) fn take(&mut self, name: &str) -> Option<NamedFile>
+        ensures named { IfSome result (λ gone. string_bytes gone.name ≡ name.now) }
+    {
         let at = self.place_of(name)?;
         Some(self.take_at(at))
     }

@@ -1,5 +1,5 @@
 //! The file in a folder into which records are put.
-ghost use Rattle.std.specs.Prelude.{◌≡◌, IfOk};
+ghost use Rattle.std.specs.Prelude.{◌≡◌, ◌∷◌, ◌++◌, IfOk, string_bytes};
 
 use std::alloc::{AllocError, Global};
 use std::marker::Model;
@@ -14,15 +14,20 @@ pub struct Place {
 }
 
 impl Model for Place {
+    ghost use Rattle.std.specs.Prelude.{◌≡◌, ◌∷◌, ◌++◌, string_bytes};
     ghost use Rattle.record_archive.specs.Places.{PlaceValue};
 
     ghost Value = { PlaceValue };
+
+    ghost invariant = { λ p. string_bytes p.path ≡ p.folder.items ++ 47 ∷ p.file.items };
 
     ghost view = { λ p. record { folder = p.folder.items; file = p.file.items } };
 }
 
 /// The path of a file in a folder. What is no text has none.
-fn path_of(alloc: Global, folder: &[u8], file: &[u8]) -> Result<String, AllocError> {
+fn path_of(alloc: Global, folder: &[u8], file: &[u8]) -> Result<String, AllocError>
+    ensures { IfOk result (λ path. string_bytes path ≡ folder.now ++ 47 ∷ file.now) }
+{
     let mut path = Vec::with_capacity(alloc, folder.len().saturating_add(file.len()))?;
     path.extend_from_slice(folder)?;
     path.push(b'/')?;
@@ -35,6 +40,7 @@ fn path_of(alloc: Global, folder: &[u8], file: &[u8]) -> Result<String, AllocErr
 
 impl Place {
     ghost use Rattle.std.specs.Prelude.{◌≡◌, IfOk};
+    ghost use Rattle.record_archive.specs.Places.{path_text};
 
     /// A file of that name in that folder, both of which are names of printable ASCII.
     pub fn new(alloc: Global, folder: Vec<u8>, file: Vec<u8>) -> Result<Place, AllocError>
@@ -59,7 +65,11 @@ impl Place {
     }
 
     /// The file's path: the folder, `/`, and the file.
-    pub fn path(&self) -> &str {
+    pub fn path(&self) -> &str
+        ensures { result.now ≡ path_text self.now }
+    {
+        let _ = &self.folder;
+        let _ = &self.file;
         self.path.as_str()
     }
 }
