@@ -1,5 +1,5 @@
 //! Packets: `SL`, six hexadecimal digits and a record of 512 bytes (SeedLink 3, data packets).
-ghost use Rattle.std.specs.Prelude.{◌≡◌, ◌<◌, ◌++◌, codes};
+ghost use Rattle.std.specs.Prelude.{◌≡◌, ◌<◌, ◌≤◌, ◌++◌, codes, length};
 ghost use Rattle.protocol.specs.Packet.{digits, packet};
 ghost use Rattle.protocol.specs.Streams.{may_stand, may_continue};
 
@@ -45,11 +45,28 @@ fn may_stand(place: usize, byte: u8) -> bool
     }
 }
 
-/// Whether the bytes may stand in a packet from that place on. Behind the header nothing needs a test.
+/// Whether a packet may begin with these bytes, which are eight or more.
+fn may_begin(bytes: &[u8]) -> bool
+    requires { 8 ≤ length bytes.now }
+    ensures { result ≡ may_continue 0 bytes.now }
+{
+    for index in 0..HEADER {
+        if !may_stand(index, bytes[index]) {
+            return false;
+        }
+    }
+    true
+}
+
+/// Whether the bytes may stand in a packet from that place on. Behind the header nothing needs a test. A whole header
+/// is tested at once.
 pub fn may_continue(place: usize, bytes: &[u8]) -> bool
     requires { place < 520 }
     ensures { result ≡ may_continue place bytes.now }
 {
+    if place == 0 && bytes.len() >= HEADER {
+        return may_begin(bytes);
+    }
     let tested = HEADER.saturating_sub(place).min(bytes.len());
     for index in 0..tested {
         if !may_stand(place + index, bytes[index]) {
