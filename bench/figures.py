@@ -294,8 +294,8 @@ ROWS = (
     Row(200, "a sequence number read, counted on and written", small("number")),
     Row(1_500, "sixteen selectors over a record", small("selectors")),
     Row(percent(small("selectors"), 120), "the same in a pool that holds 1,024", small("pool"), "at most 1.2 times the figure above"),
-    Row(1_650, "a packet read, cut out and listed by the reader", listed),
-    Row(2_400, "a packet of one station that is read into an archive", archived(1)),
+    Row(1_365, "a packet read, cut out and listed by the reader", listed),
+    Row(2_000, "a packet of one station that is read into an archive", archived(1)),
     Row(2_600, "the same of three stations by turns", archived(3)),
     # calls of a server whose rings are full
     Row(900, "arrive at one of 1,024 stations, a full ring of 4,096", small_ring),

@@ -1,6 +1,6 @@
 //! The texts of what a record says, put behind a text.
 ghost use Rattle.std.specs.Prelude.{◌≡◌, ◌∷◌, ◌++◌, [], OnOk, IfOk, map, decimal};
-ghost use Rattle.record_check.specs.Listing.{extent_text, header_text, partial_line, partial_text};
+ghost use Rattle.record_check.specs.Listing.{header_text, partial_line, partial_text};
 ghost use Rattle.record_check.specs.Listing.{record_line, record_text, refusal_text, refused_text, seam_text};
 ghost use Rattle.record_check.specs.Listing.{span_text, stranger_text};
 ghost use Rattle.record_check.specs.Listing.{stream_line, stream_lines, streams_text, summary_text};
@@ -54,8 +54,9 @@ pub fn kind_letter(kind: Kind) -> u8
 fn put_shown(text: &mut Vec<u8>, code: &[u8]) -> Result<(), AllocError>
     ensures { OnOk result (text.new.items ≡ text.old.items ++ map shown_byte code.now) }
 {
+    text.reserve(code.len())?;
     for byte in code {
-        text.push(shown_byte(*byte))?;
+        text.push_reserved(shown_byte(*byte));
     }
     Ok(())
 }
@@ -155,16 +156,6 @@ fn put_kind(text: &mut Vec<u8>, kind: Kind) -> Result<(), AllocError>
     text.extend_from_slice(&[kind_letter(kind), b' '])
 }
 
-fn put_extent(text: &mut Vec<u8>, times: Times, header: &Header<'_>) -> Result<(), AllocError>
-    ensures { OnOk result (text.new.items ≡ text.old.items ++ extent_text times header.now) }
-{
-    put_kind(text, header.kind())?;
-    put_time(text, times, header.start())?;
-    put_time(text, times, header.end())?;
-    put_number(text, header.samples())?;
-    Ok(())
-}
-
 fn put_refusal(text: &mut Vec<u8>, fault: FileFault) -> Result<(), AllocError>
     ensures { OnOk result (text.new.items ≡ text.old.items ++ refusal_text fault) }
 {
@@ -175,20 +166,38 @@ fn put_refusal(text: &mut Vec<u8>, fault: FileFault) -> Result<(), AllocError>
     Ok(())
 }
 
+/// A record's location, channel and type, each with a space behind it.
+fn put_places(text: &mut Vec<u8>, header: &Header<'_>) -> Result<(), AllocError>
+    ensures { OnOk result (text.new.items ≡ text.old.items ++ (word_text (map shown_place header.now.location)
+        ++ word_text (map shown_place header.now.channel) ++ word_text (kind_letter header.now.kind ∷ []))) }
+{
+    let [first, second] = *header.location();
+    let [third, fourth, fifth] = *header.channel();
+    text.extend_from_slice(&[
+        shown_place(first),
+        shown_place(second),
+        b' ',
+        shown_place(third),
+        shown_place(fourth),
+        shown_place(fifth),
+        b' ',
+        kind_letter(header.kind()),
+        b' ',
+    ])
+}
+
 /// What a header says: `NET STA LOC CHA TYPE START END SAMPLES`, with each space of the location or channel as `-`, and
 /// each other byte of a code that is not 33 to 126 as `?`.
-#[tactic(auto, using(crate::proofs::TextLemmas::joins_two))]
+#[tactic(auto, using(crate::proofs::TextLemmas::joins_header))]
 pub fn put_header(text: &mut Vec<u8>, times: Times, header: &Header<'_>) -> Result<(), AllocError>
     ensures { OnOk result (text.new.items ≡ text.old.items ++ header_text times header.now) }
 {
-    put_codes(
-        text,
-        header.network(),
-        header.station(),
-        header.location(),
-        header.channel(),
-    )?;
-    put_extent(text, times, header)?;
+    put_code(text, header.network())?;
+    put_code(text, header.station())?;
+    put_places(text, header)?;
+    put_time(text, times, header.start())?;
+    put_time(text, times, header.end())?;
+    put_number(text, header.samples())?;
     Ok(())
 }
 
