@@ -152,7 +152,7 @@ impl Stream {
     fn has(&self, bytes: &[u8; 512], header: &Header<'_>) -> bool
         ensures { result ≡ true → IsOfStream bytes.now header.now self.now }
     {
-        self.codes.as_slice() == codes_of(bytes).as_slice()
+        self.codes == *codes_of(bytes)
             && self.kind == header.kind()
             && self.span.from <= header.start()
             && header.start() < self.span.before
@@ -191,7 +191,7 @@ impl Streams {
     ghost use Rattle.std.specs.Prelude.{true};
     ghost use Rattle.protocol.specs.Record.{header_of};
     ghost use Rattle.record_archive.specs.Archives.{IsUnplaced};
-    ghost use Rattle.record_archive.specs.Places.{HasPlace, IsKnown, StreamValue};
+    ghost use Rattle.record_archive.specs.Places.{HasPlace, IsKnown, IsOfStream, StreamValue};
 
     /// None is known.
     pub(crate) fn new(alloc: Global, stations: Vec<StationCodes>) -> Streams
@@ -213,29 +213,40 @@ impl Streams {
         &self.all[place]
     }
 
-    /// Whether a stream with that number stands at a place.
-    fn is_at(&self, place: usize, number: u128) -> bool
-        ensures { result ≡ true → place < length self.now.all.items }
+    /// Whether a record, which says this, is one of the stream at a place.
+    fn has_at(&self, place: usize, bytes: &[u8; 512], header: &Header<'_>) -> bool
+        ensures within { result ≡ true → place < length self.now.all.items }
+        ensures stream { result ≡ true → ((s : StreamValue)
+            → s ≡ get_or self.now.all.items place s → IsOfStream bytes.now header.now s) }
     {
         match self.all.get(place) {
-            Some(stream) => stream.number == number,
+            Some(stream) => stream.has(bytes, header),
             None => false,
         }
     }
 
-    /// The place of the stream with that number, or the place where it belongs. The one after that of the last record is
-    /// looked at first, since records of several streams come mostly by turns, and then that one.
+    /// The place of the stream of a record that says this, if it is the one after that of the last record, or that one.
+    /// Records of several streams come mostly by turns.
+    fn near(&self, bytes: &[u8; 512], header: &Header<'_>) -> Option<usize>
+        ensures within { IfSome result (λ at. at < length self.now.all.items) }
+        ensures stream { IfSome result (λ at. (s : StreamValue)
+            → s ≡ get_or self.now.all.items at s → IsOfStream bytes.now header.now s) }
+    {
+        let next = place_after(self.last, self.all.len());
+        if self.has_at(next, bytes, header) {
+            return Some(next);
+        }
+        if self.has_at(self.last, bytes, header) {
+            return Some(self.last);
+        }
+        None
+    }
+
+    /// The place of the stream with that number, or the place where it belongs.
     fn place_of(&self, number: u128) -> Result<usize, usize>
         ensures found { IfOk result (λ at. at < length self.now.all.items) }
         ensures absent { IfErr result (λ at. at ≤ length self.now.all.items) }
     {
-        let next = place_after(self.last, self.all.len());
-        if self.is_at(next, number) {
-            return Ok(next);
-        }
-        if self.is_at(self.last, number) {
-            return Ok(self.last);
-        }
         self.all
             .binary_search_by_key(&number, |stream| stream.number)
     }
@@ -304,6 +315,10 @@ impl Streams {
             → s ≡ get_or self.new.all.items at s → HasPlace s.year s.day self.old.stations.items header.now s.place)) }
         ensures none { result ≡ Ok None → IsUnplaced self.old.stations.items bytes.now }
     {
+        if let Some(at) = self.near(bytes, header) {
+            self.last = at;
+            return Ok(Some(at));
+        }
         let place = self.place_of(number_of(codes_of(bytes), header.kind()));
         match place {
             Ok(at) if self.all[at].has(bytes, header) => {

@@ -17,3 +17,10 @@ returns-in-Ok-clause-place c = λ s e.
     subst (λ (t : StreamValue). IsKnown c.args.self.now.stations.items t) (sym e)
     (c.args.self.now.known at s c.in-Ok.ensures.found) in
     known c.args.bytes.now c.args.header.now c.requires.read of
+
+pub returns-in-Some-clause-place : goal.returns-in-Some-clause-place
+returns-in-Some-clause-place c = λ s e.
+    let known : IsKnown c.args.self.now.stations.items s =
+    subst (λ (t : StreamValue). IsKnown c.args.self.now.stations.items t) (sym e)
+    (c.args.self.now.known c.in-Some.at s c.in-Some.ensures.within) in
+    known c.args.bytes.now c.args.header.now c.requires.read (c.in-Some.ensures.stream s e)
