@@ -1,15 +1,15 @@
 -- An index of stations' codes, one station after the other.
 use Rattle.std.proofs.Common.{◌≡◌, ℕ, ◌+◌, ◌<◌, ◌≤◌, suc, inl, inr, Bool, ◌&&◌, true, false, List, [], ◌∷◌, ◌++◌}
 use Rattle.std.proofs.Common.{length, take, get_or, All, Option, Some, None, refl, sym, ap, ◌∙◌, subst, arith}
-use Rattle.std.specs.Prelude.{cond, IfSome}
-use Rattle.std.specs.List.{position, position_from}
+use Rattle.std.specs.Prelude.{cond, is_some, ◌||◌, IfSome}
+use Rattle.std.specs.List.{list_any, position, position_from}
 use Rattle.std.specs.Str.{bytes_eq}
 use Rattle.std.specs.HashMap.{IsEmpty, Updates}
 use Rattle.std.specs.Map.{lookup}
 use Rattle.std.proofs.Common.{ap₂}
 use Rattle.std.proofs.lemmas.Bool.{false≢true}
 use Rattle.std.proofs.lemmas.Bool.Decides.{leb_tells}
-use Rattle.std.proofs.lemmas.List.{get_or-take, length-take-le, take_more}
+use Rattle.std.proofs.lemmas.List.{get_or-take, length-take-le}
 use Rattle.std.proofs.lemmas.List.Elements.{All-get_or}
 use Rattle.std.proofs.lemmas.List.Quantifiers.{position-Some}
 use Rattle.std.proofs.lemmas.Iterator.Adapters.{position_from-zero}
@@ -20,6 +20,7 @@ use Rattle.code_numbers.proofs.SpellingLemmas.{equal_spelled}
 use Rattle.catalog.specs.Indexing.{Places, codes_eq, key, place_in, first_place}
 use Rattle.catalog.specs.Indexing.{AreCodes, AreShort, Finds, HasShortCodes}
 use Rattle.catalog.specs.Places.{station_at, HasDistinctCodes, SameCodes}
+use Rattle.catalog.specs.Reading.{is_repeated}
 use Rattle.catalog.specs.declared.codes.Codes.{Codes}
 use Rattle.catalog.proofs.DistinctLemmas.{at_place, nothing}
 
@@ -82,6 +83,17 @@ module _ (p : Entry → Bool) where
 
   first_of : (es : List Entry) → position p es ≡ position_from p 0 es
   first_of es = position_from-zero p es
+
+  -- one passes
+  somebody_here : (b : Bool) (n : ℕ) (o : Option ℕ) (any : Bool) → is_some o ≡ any
+      → is_some (cond b (Some n) o) ≡ (b || any)
+  somebody_here true n o any later = refl
+  somebody_here false n o any later = later
+
+  somebody_from : (n : ℕ) (es : List Entry) → is_some (position_from p n es) ≡ list_any p es
+  somebody_from n [] = refl
+  somebody_from n (x ∷ es) =
+      somebody_here (p x) n (position_from p (n + 1) es) (list_any p es) (somebody_from (n + 1) es)
 
 -- no station has codes that are too long
 pub nobody_with_long_codes : (es : List Entry) (network code : List ℕ) → All HasShortCodes es
@@ -154,17 +166,38 @@ indexed m n es e has finds none updates network code are =
         (ap {B = Option ℕ} Some (let same : length es ≡ 0 + length es = omega arith in same))
     by false is = finds network code are ∙ first_of p es ∙ sym (or_none (position_from p 0 es))
 
--- an index of the first stations of a list
-pub index_more : (m n : Places) (es : List Entry) (i : ℕ) (d : Entry) → HasDistinctCodes es → i < length es
-    → HasShortCodes (get_or es i d) → Finds m (take i es)
-    → Updates codes_eq m n (key (get_or es i d).station.network (get_or es i d).station.code) (Some i)
-    → Finds n (take (i + 1) es)
-index_more m n es i d distinct within has finds updates =
-    let here : length (take i es) ≡ i = length-take-le i es (omega (arith, within)) in
-    subst (Finds n) (sym (take_more es i d within))
-    (indexed m n (take i es) (get_or es i d) has finds (apart es i d distinct within)
-    (subst (λ k. Updates codes_eq m n (key (get_or es i d).station.network (get_or es i d).station.code) (Some k))
-    (sym here) updates))
+-- whether an index has a station's codes
+pub repeated_found : (m : Places) (es : List Entry) (e : Entry) → HasShortCodes e → Finds m es
+    → is_some (place_in m e.station.network e.station.code) ≡ is_repeated es e.station
+repeated_found m es e has finds =
+    ap is_some (finds e.station.network e.station.code has ∙ first_of p es) ∙ somebody_from p 0 es
+  where
+    p : Entry → Bool
+    p x = has_codes e.station.network e.station.code x.station
+
+is_none_of : (o : Option ℕ) → is_some o ≡ false → o ≡ None
+is_none_of None none = refl
+is_none_of (Some x) none = absurd cc
+
+-- a station whose codes are at none of them
+pub index_next : (m n : Places) (es : List Entry) (e : Entry) → HasShortCodes e → Finds m es
+    → Updates codes_eq m n (key e.station.network e.station.code) (Some (length es))
+    → is_some (place_in m e.station.network e.station.code) ≡ false → Finds n (es ++ e ∷ [])
+index_next m n es e has finds updates none =
+    indexed m n es e has finds
+    (sym (finds e.station.network e.station.code has)
+    ∙ is_none_of (place_in m e.station.network e.station.code) none)
+    updates
+
+-- no earlier station has the codes of a list's, if they are distinct
+pub not_repeated_at : (es : List Entry) (i : ℕ) (d e : Entry) → HasDistinctCodes es → i < length es
+    → e ≡ get_or es i d → is_repeated (take i es) e.station ≡ false
+not_repeated_at es i d e distinct within at =
+    subst (λ (x : Entry). is_repeated (take i es) x.station ≡ false) (sym at)
+    (sym (somebody_from p 0 (take i es)) ∙ ap is_some (sym (first_of p (take i es)) ∙ apart es i d distinct within))
+  where
+    p : Entry → Bool
+    p x = has_codes (get_or es i d).station.network (get_or es i d).station.code x.station
 
 -- nothing is found in an empty map
 pub found_nowhere : (m : Places) → IsEmpty m → Finds m []

@@ -132,20 +132,16 @@ impl Config {
             Ok(max_connections) => max_connections,
             Err(fault) => return Err(ConfigError::at(fault, Step::MaxConnections)),
         };
-        let stations = match stations_of(alloc, table) {
-            Ok(stations) => stations,
+        let listed = match stations_of(alloc, table) {
+            Ok(listed) => listed,
             Err(error) => return Err(error),
         };
-        let index = Index::of(alloc, stations.as_slice()).map_err(|_| ConfigError::at(
-            ConfigFault::OutOfMemory,
-            Step::Stations,
-        ))?;
         Ok(Config {
             title,
             max_connections,
             access,
-            stations,
-            index,
+            stations: listed.stations,
+            index: listed.index,
         })
     }
 

@@ -1,8 +1,10 @@
 //! The stations that a configuration lists.
-ghost use Rattle.std.specs.Prelude.{◌≡◌, ◌≢◌, ◌≤◌, [], length, map, IfOk, IfErr, Ok, Err, false, true};
+ghost use Rattle.std.specs.Prelude.{◌≡◌, ◌≢◌, ◌≤◌, ◌++◌, ◌∷◌, [], All, length, map};
+ghost use Rattle.std.specs.Prelude.{IfOk, IfErr, Ok, Err, false, true};
 ghost use Rattle.std.specs.List.{list_all};
 ghost use Rattle.toml.specs.View.{table_view, view};
 ghost use Rattle.catalog.specs.Failing.{FailsAmong, FailsInStations, FailsWithin};
+ghost use Rattle.catalog.specs.Indexing.{Finds, HasShortCodes};
 ghost use Rattle.catalog.specs.Keys.{table_in};
 ghost use Rattle.catalog.specs.Places.{HasDistinctCodes};
 ghost use Rattle.catalog.specs.Reading.{is_few, is_repeated, is_table, station_of, station_values, stations_of};
@@ -10,6 +12,7 @@ ghost use Rattle.catalog.specs.Reading.{stations_read};
 
 use crate::error::{ConfigError, Step};
 use crate::fault::ConfigFault;
+use crate::index::Index;
 use crate::keys::{elements_at, table_in};
 use crate::settings::StationStep;
 use crate::station::Station;
@@ -19,12 +22,21 @@ use toml::{Table, Value};
 /// How many stations there may be.
 const STATIONS: usize = 1024;
 
+/// Stations, and where each stands by its codes.
+#[derive(Drop)]
+pub(crate) struct IndexedStations {
+    pub stations: Vec<Station>,
+    pub index: Index,
+}
+
 /// The stations of `station`, an array of 1 to 1,024 tables, in order.
 #[tactic(auto, unfolding(crate::specs::Reading::stations_of))]
-pub fn stations_of(alloc: Global, table: &Table) -> Result<Vec<Station>, ConfigError>
-    ensures ok { IfOk result (λ stations. stations_of (table_view table.now) ≡ Ok stations.items) }
-    ensures distinct { IfOk result (λ stations. HasDistinctCodes stations.items) }
-    ensures few { IfOk result (λ stations. length stations.items ≤ 1024) }
+pub(crate) fn stations_of(alloc: Global, table: &Table) -> Result<IndexedStations, ConfigError>
+    ensures ok { IfOk result (λ listed. stations_of (table_view table.now) ≡ Ok listed.stations.items) }
+    ensures distinct { IfOk result (λ listed. HasDistinctCodes listed.stations.items) }
+    ensures few { IfOk result (λ listed. length listed.stations.items ≤ 1024) }
+    ensures finds { IfOk result (λ listed. Finds listed.index.places listed.stations.items) }
+    ensures short { IfOk result (λ listed. All HasShortCodes listed.stations.items) }
     ensures fault { IfErr result (λ e. e.fault ≢ ConfigFault.OutOfMemory
         → stations_of (table_view table.now) ≡ Err e.fault) }
     ensures step { IfErr result (λ e. e.fault ≢ ConfigFault.OutOfMemory
@@ -70,34 +82,44 @@ fn are_tables(values: &[Value]) -> bool
 
 /// The stations that values describe.
 #[tactic(auto, using(crate::proofs::DistinctLemmas::distinct_lemmas))]
-fn stations_read(alloc: Global, values: &[Value]) -> Result<Vec<Station>, ConfigError>
-    ensures ok { IfOk result (λ stations. stations_read [] (map view values.now) ≡ Ok stations.items) }
-    ensures distinct { IfOk result (λ stations. HasDistinctCodes stations.items) }
-    ensures count { IfOk result (λ stations. length stations.items ≡ length values.now) }
+fn stations_read(alloc: Global, values: &[Value]) -> Result<IndexedStations, ConfigError>
+    ensures ok { IfOk result (λ listed. stations_read [] (map view values.now) ≡ Ok listed.stations.items) }
+    ensures distinct { IfOk result (λ listed. HasDistinctCodes listed.stations.items) }
+    ensures count { IfOk result (λ listed. length listed.stations.items ≡ length values.now) }
+    ensures finds { IfOk result (λ listed. Finds listed.index.places listed.stations.items) }
+    ensures short { IfOk result (λ listed. All HasShortCodes listed.stations.items) }
     ensures fault { IfErr result (λ e. e.fault ≢ ConfigFault.OutOfMemory
         → stations_read [] (map view values.now) ≡ Err e.fault) }
     ensures step { IfErr result (λ e. e.fault ≢ ConfigFault.OutOfMemory → FailsAmong (map view values.now) e e.step) }
 {
     let mut stations = Vec::new(alloc);
+    let mut index = Index::new(alloc);
     for value in values {
-        let station = match station_of(alloc, stations.as_slice(), value) {
+        let station = match station_of(alloc, stations.as_slice(), &mut index, value) {
             Ok(station) => station,
             Err(error) => return Err(error),
         };
-        stations.push(station).map_err(|_| ConfigError::at(
-            ConfigFault::OutOfMemory,
-            Step::Stations,
-        ))?;
+        if let Err(_) = stations.push(station) {
+            return Err(ConfigError::at(ConfigFault::OutOfMemory, Step::Stations));
+        }
     }
-    Ok(stations)
+    Ok(IndexedStations { stations, index })
 }
 
-/// The station that a value describes, behind earlier ones.
+/// The station that a value describes, behind earlier ones, whose index it is put into.
 #[tactic(auto, unfolding(crate::specs::Reading::station_of))]
-fn station_of(alloc: Global, earlier: &[Station], value: &Value) -> Result<Station, ConfigError>
+fn station_of(
+    alloc: Global,
+    earlier: &[Station],
+    index: &mut Index,
+    value: &Value,
+) -> Result<Station, ConfigError>
+    requires { Finds index.old.places earlier.now }
     ensures ok { IfOk result (λ s. station_of earlier.now (view value.now) ≡ Ok s) }
     ensures apart { IfOk result (λ s. is_repeated earlier.now s.station ≡ false) }
     ensures some { IfOk result (λ s. 1 ≤ length s.station.network) }
+    ensures finds { IfOk result (λ s. Finds index.new.places (earlier.now ++ s ∷ [])) }
+    ensures short { IfOk result HasShortCodes }
     ensures fault { IfErr result (λ e. e.fault ≢ ConfigFault.OutOfMemory
         → station_of earlier.now (view value.now) ≡ Err e.fault) }
     ensures step { IfErr result (λ e. e.fault ≢ ConfigFault.OutOfMemory
@@ -112,17 +134,12 @@ fn station_of(alloc: Global, earlier: &[Station], value: &Value) -> Result<Stati
         Ok(station) => station,
         Err(error) => return Err(error),
     };
-    if is_repeated(earlier, &station) {
+    let is_repeated = index.add(earlier, &station).map_err(|_| ConfigError::at(
+        ConfigFault::OutOfMemory,
+        Step::Stations,
+    ))?;
+    if is_repeated {
         return Err(station.repeated(place));
     }
     Ok(station)
-}
-
-/// Whether an earlier station has the same network and code.
-fn is_repeated(earlier: &[Station], station: &Station) -> bool
-    ensures { result ≡ is_repeated earlier.now station.now.station }
-{
-    let network = station.network();
-    let code = station.code();
-    earlier.iter().any(|other| other.has_codes(network, code))
 }

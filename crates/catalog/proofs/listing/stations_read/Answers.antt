@@ -1,7 +1,9 @@
 use Rattle.std.proofs.Common.{rules, ◌≡◌, ◌∙◌, ◌+◌, false, [], ◌∷◌, ◌++◌, subst, sym, ap, length, length-append, map}
-use Rattle.std.proofs.Common.{Ok, Err}
+use Rattle.std.proofs.Common.{All, Ok, Err}
+use Rattle.std.proofs.lemmas.List.Elements.{All-push}
 use Rattle.toml.specs.View.{view}
 use Rattle.catalog.specs.Failing.{FailsWithin}
+use Rattle.catalog.specs.Indexing.{Finds, HasShortCodes}
 use Rattle.catalog.specs.Keys.{table_in}
 use Rattle.catalog.specs.Places.{HasDistinctCodes}
 use Rattle.catalog.specs.Reading.{is_repeated, station_of}
@@ -33,6 +35,10 @@ loop-value-preserved c =
           c.loop-value-test.true c.value-item.is more read ∙ c.loop-value.invariant.read;
       distinct = subst HasDistinctCodes (sym more)
           (distinct_more earlier station c.loop-value.invariant.distinct apart c.in-Ok.ensures.some);
+      finds = subst (Finds c.station_of.new.index.places) (sym more) (subst (λ es. Finds c.station_of.new.index.places
+          (es ++ station ∷ [])) c.as_slice.ensures.value c.in-Ok.ensures.finds);
+      short = subst (All HasShortCodes) (sym more)
+          (All-push HasShortCodes earlier station c.loop-value.invariant.short c.in-Ok.ensures.short);
     }
 
 pub returns-in-Err-clause-step : goal.returns-in-Err-clause-step

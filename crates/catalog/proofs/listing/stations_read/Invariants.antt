@@ -1,5 +1,6 @@
-use Rattle.std.proofs.Common.{◌≡◌, [], drop, length, map, take, Ok}
+use Rattle.std.proofs.Common.{◌≡◌, [], All, drop, length, map, take, Ok}
 use Rattle.toml.specs.View.{view}
+use Rattle.catalog.specs.Indexing.{Finds, HasShortCodes}
 use Rattle.catalog.specs.Places.{HasDistinctCodes}
 use Rattle.catalog.specs.Reading.{stations_read}
 use Rattle.catalog.proofs.listing.stations_read.Given as goal
@@ -10,4 +11,6 @@ invariant-loop-value l = record {
   before : stations_read [] (take l.value-index (map view l.values)) ≡ Ok l.stations.items;
   size : length l.stations.items ≡ l.value-index;
   distinct : HasDistinctCodes l.stations.items;
+  finds : Finds l.index.places l.stations.items;
+  short : All HasShortCodes l.stations.items;
 }

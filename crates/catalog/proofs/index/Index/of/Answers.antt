@@ -1,18 +1,10 @@
-use Rattle.std.proofs.Common.{◌≡◌, ◌∙◌, ◌<◌, length, get_or, All, Some, ap, subst, arith}
-use Rattle.std.specs.HashMap.{Updates}
-use Rattle.std.proofs.lemmas.List.{take_all}
+use Rattle.std.proofs.Common.{◌≡◌, ◌∙◌, ◌+◌, ◌<◌, ◌++◌, ◌∷◌, [], ap, false, get_or, length, take, All, subst, sym}
+use Rattle.std.proofs.lemmas.List.{take_all, take_more}
 use Rattle.std.proofs.lemmas.List.Elements.{All-more}
-use Rattle.protocol.specs.Catalog.{Entry}
-use Rattle.catalog.specs.Indexing.{key, codes_eq, Finds, HasShortCodes}
-use Rattle.catalog.specs.declared.codes.Codes.{Codes}
-use Rattle.catalog.proofs.IndexLemmas.{found_nowhere, index_more}
+use Rattle.catalog.specs.Indexing.{Finds, HasShortCodes}
+use Rattle.catalog.specs.Reading.{is_repeated}
+use Rattle.catalog.proofs.IndexLemmas.{not_repeated_at}
 use Rattle.catalog.proofs.index.Index.of.Goals as goal
-
-pub loop-place-init : goal.loop-place-init
-loop-place-init c = record {
-  finds = found_nowhere c.new-places.result c.new-places.ensures.empty;
-  short = λ k d h. absurd (omega (arith, h));
-}
 
 pub loop-place-preserved : goal.loop-place-preserved
 loop-place-preserved c =
@@ -21,21 +13,18 @@ loop-place-preserved c =
     let e = c.index-stations-place.result in
     let within : i < length es = c.loop-place-test.true in
     let at : e ≡ get_or es i e = c.index-stations-place.is in
-    let short : HasShortCodes (get_or es i e) = subst HasShortCodes at c.codes.ensures.short in
-    let the_key : c.codes.result ≡ key (get_or es i e).station.network (get_or es i e).station.code =
-    c.codes.ensures.value ∙ ap (λ (x : Entry). key x.station.network x.station.code) at in
-    let updates : Updates codes_eq c.loop-place.places c.insert.new.self
-    (key (get_or es i e).station.network (get_or es i e).station.code) (Some i) =
-    subst (λ (k : Codes). Updates codes_eq c.loop-place.places c.insert.new.self k (Some i)) the_key
-    c.in_ok-insert.ensures.updates in
+    let apart : is_repeated (take i es) e.station ≡ false = not_repeated_at es i e e c.requires within at in
+    let more : take i es ++ e ∷ [] ≡ take (i + 1) es =
+    ap (λ x. take i es ++ x ∷ []) at ∙ sym (take_more es i e within) in
     record {
-      finds = index_more c.loop-place.places c.insert.new.self es i e c.requires within short
-          c.loop-place.invariant.finds updates;
-      short = All-more HasShortCodes es i e within c.loop-place.invariant.short short;
+      finds = subst (Finds c.add.new.self.places) more
+          (c.in_ok-add.ensures.finds (c.in_ok-add.ensures.repeated ∙ apart));
+      short = All-more HasShortCodes es i e within c.loop-place.invariant.short
+          (subst HasShortCodes at c.in_ok-add.ensures.short);
     }
 
 pub returns-clause-finds : goal.returns-clause-finds
-returns-clause-finds c = subst (Finds c.loop-place.places)
+returns-clause-finds c = subst (Finds c.loop-place.index.places)
     (take_all c.loop-place.place c.args.stations.now c.loop-place-test.false) c.loop-place.invariant.finds
 
 pub returns-clause-short : goal.returns-clause-short

@@ -4,6 +4,6 @@ use Rattle.catalog.proofs.index.Index.of.Given as goal
 
 abbrev pub invariant-loop-place : goal.invariant-loop-place
 invariant-loop-place l = record {
-  finds : Finds l.places (take l.place l.stations);
+  finds : Finds l.index.places (take l.place l.stations);
   short : All HasShortCodes (take l.place l.stations);
 }
