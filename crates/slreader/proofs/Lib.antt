@@ -21,3 +21,4 @@ pub mod StreamLemmas
 pub mod PartLaws
 pub mod WordPartLemmas
 pub mod LastLemmas
+pub mod PlacingLemmas

@@ -16,3 +16,4 @@ pub mod Parts
 pub mod WordParts
 pub mod GoingOn
 pub mod Lasts
+pub mod Placing

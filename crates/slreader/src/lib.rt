@@ -15,6 +15,7 @@ mod outbox;
 mod packets;
 mod part;
 mod pieces;
+mod places;
 mod reader;
 mod spelling;
 mod stage;

@@ -1,13 +1,15 @@
 //! What is counted of the packets.
-ghost use Rattle.std.specs.Prelude.{◌≡◌, ◌++◌, map, option_map, IfOk, OnOk};
+ghost use Rattle.std.specs.Prelude.{◌≡◌, ◌++◌, map, option_map, IfOk, OnOk, Some};
+ghost use Rattle.std.specs.List.{list_any};
+ghost use Rattle.slreader.specs.Placing.{ArePlaces, HasPlaces};
 ghost use Rattle.slreader.specs.Tallies.{has_codes as spec_has_codes, packet_number, passed};
-ghost use Rattle.slreader.specs.Tallies.{reached_at};
 ghost use Rattle.slreader.specs.Tallies.{resume_of};
 ghost use Rattle.slreader.specs.Lasts.{resume_after};
 ghost use Rattle.slreader.specs.Tallies.{resumes_of as spec_resumes_of};
 
 use crate::given_packet::GivenPacket;
 use crate::last_packet::{LastPacket, last_at};
+use crate::places::WantPlaces;
 use crate::want::{Plan, Want};
 use mseed_header::Header;
 use sl_packet::Seq;
@@ -62,15 +64,21 @@ fn has_codes(network: &[u8], station: &[u8], header: &Option<Header<'_>>) -> boo
     }
 }
 
-/// The packet with that number and that record.
-fn reached_at(header: &Option<Header<'_>>, number: &Option<Seq>) -> Option<Reached>
-    ensures { result ≡ option_map (reached_at header.now) number.now }
+/// The end of a record, if it can be read.
+fn end_of(header: &Option<Header<'_>>) -> Option<Tick>
+    ensures { result ≡ option_map (λ x. x.stop) header.now }
 {
-    let number = (*number)?;
-    let end = match header {
+    match header {
         Some(header) => Some(header.end()),
         None => None,
-    };
+    }
+}
+
+/// The packet with that number, if it has one, and that end of its record.
+fn reached_at(end: Option<Tick>, number: &Option<Seq>) -> Option<Reached>
+    ensures { result ≡ option_map (λ number. record { number = number; end = end }) number.now }
+{
+    let number = (*number)?;
     Some(Reached { number, end })
 }
 
@@ -101,6 +109,20 @@ impl Resume {
         })
     }
 
+    /// The network's code.
+    pub(crate) fn network(&self) -> &[u8]
+        ensures { result.now ≡ self.now.network }
+    {
+        self.network.as_slice()
+    }
+
+    /// The station's code.
+    pub(crate) fn station(&self) -> &[u8]
+        ensures { result.now ≡ self.now.station }
+    {
+        self.station.as_slice()
+    }
+
     /// Another one that says the same.
     fn copy(&self, alloc: Global) -> Result<Resume, AllocError>
         ensures { IfOk result (λ r. r ≡ self.now) }
@@ -113,12 +135,20 @@ impl Resume {
         })
     }
 
+    /// Its last packet is another one.
+    fn put(&mut self, last: &Option<Reached>)
+        ensures { self.new ≡ record self.old { last = last.now } }
+    {
+        let own = &mut self.last;
+        *own = *last;
+    }
+
     /// A packet with that number and that record.
     fn pass(&mut self, number: &Option<Seq>, header: &Option<Header<'_>>)
         ensures { self.new ≡ passed number.now header.now self.old }
     {
         if self.is_any || has_codes(&self.network, &self.station, header) {
-            self.last = reached_at(header, number);
+            self.last = reached_at(end_of(header), number);
         }
     }
 }
@@ -138,6 +168,60 @@ fn pass_all(resumes: &mut Vec<Resume>, number: &Option<Seq>, header: &Option<Hea
         let resume = &mut resumes[index];
         resume.pass(number, header);
     }
+}
+
+/// A packet with that number and a record that can be read: the wants of its station are at it.
+fn pass_station(
+    resumes: &mut Vec<Resume>,
+    places: &WantPlaces,
+    number: &Option<Seq>,
+    facts: &Header<'_>,
+)
+    requires { ArePlaces places.now.firsts places.now.nexts.items resumes.old.items }
+    ensures { resumes.new.items ≡ map (passed number.now (Some facts.now)) resumes.old.items }
+{
+    let last = reached_at(Some(facts.end()), number);
+    let mut next = places.first(facts.network(), facts.station());
+    'places: while let Some(place) = next {
+        let resume = &mut resumes[place];
+        resume.put(&last);
+        next = places.after(place);
+    }
+}
+
+/// Each of the wants, whose places are known, is one that goes on with a packet, or is not.
+fn pass_found(
+    resumes: &mut Vec<Resume>,
+    places: &WantPlaces,
+    number: &Option<Seq>,
+    header: &Option<Header<'_>>,
+)
+    requires { ArePlaces places.now.firsts places.now.nexts.items resumes.old.items }
+    ensures { resumes.new.items ≡ map (passed number.now header.now) resumes.old.items }
+{
+    match header {
+        Some(facts) => pass_station(resumes, places, number, facts),
+        None => {}
+    }
+}
+
+/// Whether one of the wants is of any station.
+fn is_of_any(resumes: &[Resume]) -> bool
+    ensures { result ≡ list_any (λ r. r.is_any) resumes.now }
+{
+    resumes.iter().any(|resume| resume.is_any)
+}
+
+/// Where wants stand, if there are several, none of which is of any station.
+#[tactic(auto, using(crate::proofs::PlacingLemmas::has_places))]
+fn places_of(alloc: Global, resumes: &[Resume]) -> Result<Option<WantPlaces>, AllocError>
+    ensures { IfOk result (λ kept. HasPlaces kept resumes.now) }
+{
+    if resumes.len() < 2 || is_of_any(resumes) {
+        return Ok(None);
+    }
+    let places = WantPlaces::of(alloc, resumes)?;
+    Ok(Some(places))
 }
 
 /// Where wants go on before the first packet.
@@ -185,14 +269,18 @@ fn put_copies(alloc: Global, resumes: &mut Vec<Resume>, others: &[Resume]) -> Re
 pub struct Tally {
     records: u64,
     resumes: Vec<Resume>,
+    places: Option<WantPlaces>,
 }
 
 impl Model for Tally {
+    ghost use Rattle.slreader.specs.Placing.{HasPlaces};
     ghost use Rattle.slreader.specs.Tallies.{TallyValue};
 
     ghost Value = { TallyValue };
 
     ghost view = { λ t. record { records = t.records; resumes = t.resumes.items } };
+
+    ghost invariant = { λ t. HasPlaces t.places t.resumes.items };
 }
 
 impl Tally {
@@ -201,6 +289,18 @@ impl Tally {
     ghost use Rattle.slreader.specs.Lasts.{tally_after};
     ghost use Rattle.slreader.specs.Views.{plan_value};
     ghost use Rattle.slreader.specs.Wants.PlanValue.{Multi};
+
+    /// So many packets, and so far is each want.
+    fn of(alloc: Global, records: u64, resumes: Vec<Resume>) -> Result<Tally, AllocError>
+        ensures { IfOk result (λ t. t ≡ record { records = records; resumes = resumes.items }) }
+    {
+        let places = places_of(alloc, &resumes)?;
+        Ok(Tally {
+            records,
+            resumes,
+            places,
+        })
+    }
 
     /// Before the first packet.
     pub fn new(alloc: Global, plan: &Plan<'_>) -> Result<Tally, AllocError>
@@ -211,10 +311,7 @@ impl Tally {
             Plan::Uni(want) => resumes.push(Resume::new(alloc, true, want)?)?,
             Plan::Multi(wants) => put_resumes(alloc, &mut resumes, false, wants)?,
         }
-        Ok(Tally {
-            records: 0,
-            resumes,
-        })
+        Tally::of(alloc, 0, resumes)
     }
 
     /// Before the first packet of several wants.
@@ -223,10 +320,7 @@ impl Tally {
     {
         let mut resumes = Vec::new(alloc);
         put_resumes(alloc, &mut resumes, false, wants)?;
-        Ok(Tally {
-            records: 0,
-            resumes,
-        })
+        Tally::of(alloc, 0, resumes)
     }
 
     /// Before the first packet of several wants that comes after those of an earlier reader, by the last packets of
@@ -241,10 +335,7 @@ impl Tally {
     {
         let mut resumes = Vec::new(alloc);
         put_resumes_after(alloc, &mut resumes, wants, lasts)?;
-        Ok(Tally {
-            records: 0,
-            resumes,
-        })
+        Tally::of(alloc, 0, resumes)
     }
 
     /// Another one that says the same.
@@ -253,10 +344,7 @@ impl Tally {
     {
         let mut resumes = Vec::new(alloc);
         put_copies(alloc, &mut resumes, &self.resumes)?;
-        Ok(Tally {
-            records: self.records,
-            resumes,
-        })
+        Tally::of(alloc, self.records, resumes)
     }
 
     /// One packet more.
@@ -265,7 +353,11 @@ impl Tally {
     {
         self.records = self.records.saturating_add(1);
         let number = packet_number(packet.bytes());
-        pass_all(&mut self.resumes, &number, packet.header());
+        let header = packet.header();
+        match &self.places {
+            Some(places) => pass_found(&mut self.resumes, places, &number, header),
+            None => pass_all(&mut self.resumes, &number, header),
+        }
     }
 
     /// How many packets were given, at most 2^64 - 1.
