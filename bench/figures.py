@@ -127,9 +127,10 @@ def rounds(work, *numbers, last=ROUNDS):
     return lambda: per(bench(work, *numbers, ROUNDS + last), bench(work, *numbers, ROUNDS), last)
 
 
-def listed():
-    """A packet that is read and listed, less what its bytes take that stand in memory for those of a socket."""
-    return rounds("listing")() - rounds("drained", 1)()
+def listed(stations):
+    """A packet that is read and listed, of so many stations by turns, each of which has a WANT, less what its bytes take that stand
+    in memory for those of a socket."""
+    return lambda: rounds("listing", stations)() - rounds("drained", stations)()
 
 
 def archived(stations):
@@ -294,7 +295,8 @@ ROWS = (
     Row(200, "a sequence number read, counted on and written", small("number")),
     Row(1_500, "sixteen selectors over a record", small("selectors")),
     Row(percent(small("selectors"), 120), "the same in a pool that holds 1,024", small("pool"), "at most 1.2 times the figure above"),
-    Row(1_365, "a packet read, cut out and listed by the reader", listed),
+    Row(1_365, "a packet read, cut out and listed by the reader", listed(1)),
+    Row(percent(listed(1), 110), "the same with 255 WANTs, their stations by turns", listed(255)),
     Row(2_000, "a packet of one station that is read into an archive", archived(1)),
     Row(2_600, "the same of three stations by turns", archived(3)),
     # calls of a server whose rings are full

@@ -2,13 +2,13 @@
 ghost use Rattle.std.specs.Prelude.{None};
 
 use crate::centre::told;
-use crate::reading::{PIECE, sent};
+use crate::reading::{PIECE, sent, wants_of, words_of};
 use reader_run::{NothingKept, Nowhere, RecordSink, TakeFault, Times, read_further};
 use record_archive::{
     Archive, ArchiveFault, ContinuedFiles, DiskFiles, FilePlace, StationCodes, Unnamed,
 };
 use sl_io::{MemorySource, WriteFault};
-use slreader::{GivenPacket, Tally, Want, Window};
+use slreader::{GivenPacket, Tally, Want};
 use std::alloc::Global;
 use std::fs::File;
 use std::num::NonZeroUsize;
@@ -65,15 +65,6 @@ impl<'r, R: Files<File = File> + Clock> RecordSink for Archived<'r, R> {
     }
 }
 
-/// The words of wants of so many stations.
-fn words_of(alloc: Global, stations: u32) -> anyhow::Result<Vec<String>> {
-    let mut words = Vec::new(alloc);
-    for place in 0..stations {
-        words.push(format!(in alloc; "GE_{place:05}")?)?;
-    }
-    Ok(words)
-}
-
 /// The stations of wants.
 fn stations_of(alloc: Global, wants: &[Want<'_>]) -> anyhow::Result<Vec<StationCodes>> {
     let mut stations = Vec::new(alloc);
@@ -109,11 +100,7 @@ pub fn archive_packets<R: Files<File = File> + Clock>(
 ) -> anyhow::Result<u64> {
     let sent = sent(alloc, stations, packets)?;
     let words = words_of(alloc, stations)?;
-    let mut wants = Vec::new(alloc);
-    for word in &words {
-        let want = Want::parse(alloc, word.as_bytes(), Window::Held { begin: None });
-        wants.push(want.map_err(|fault| told(fault.reason()))?)?;
-    }
+    let wants = wants_of(alloc, &words)?;
     let mut tally = Tally::before(alloc, &wants)?;
     let mut records = archive_at(rt, alloc, top, stations_of(alloc, &wants)?)?;
     read_further(

@@ -4,9 +4,9 @@
 //! Works without a server: `command ROUNDS LINE` reads a line as a command, and `lines ROUNDS LINE` cuts it out of
 //! bytes first. `number ROUNDS` reads a sequence number and writes the one that follows. `header ROUNDS` reads the
 //! header of a record. `selectors ROUNDS` asks sixteen selectors whether a record passes, and `pool ROUNDS` asks the
-//! same sixteen in a pool that holds 1,024. `listing ROUNDS` reads packets and lists them, `archive STATIONS ROUNDS
-//! FOLDER` reads packets of so many stations by turns into an archive, and `drained STATIONS ROUNDS` reads the same
-//! bytes and does nothing with them.
+//! same sixteen in a pool that holds 1,024. `listing STATIONS ROUNDS` reads packets of so many stations by turns, each of
+//! which has a want, and lists them, `archive STATIONS ROUNDS FOLDER` puts the same into an archive, and `drained
+//! STATIONS ROUNDS` reads the same bytes and does nothing with them.
 //!
 //! Works with a server: `arrive CAPACITY ROUNDS`: a record arrives at one of 1,024 stations, whose ring holds so many
 //! and is full. `packets REQUESTS CAPACITY ROUNDS`: a client that asks by FETCH for so many stations, whose rings are
@@ -79,7 +79,7 @@ fn sum_of_reading(
         ("header", [rounds]) => headers::read_headers(alloc, *rounds),
         ("selectors", [rounds]) => pools::ask_alone(alloc, *rounds),
         ("pool", [rounds]) => pools::ask_full(alloc, *rounds),
-        ("listing", [rounds]) => reading::list_packets(alloc, *rounds),
+        ("listing", [stations, rounds]) => reading::list_packets(alloc, *stations, *rounds),
         ("drained", [stations, rounds]) => reading::drain_packets(alloc, *stations, *rounds),
         _ => return None,
     };

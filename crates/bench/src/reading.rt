@@ -55,16 +55,33 @@ pub fn drain_packets(alloc: Global, stations: u32, packets: u32) -> anyhow::Resu
     Ok(count)
 }
 
-/// Lists so many packets, with their records nowhere.
-pub fn list_packets(alloc: Global, packets: u32) -> anyhow::Result<u64> {
-    let sent = sent(alloc, 1, packets)?;
+/// The words of wants of so many stations.
+pub fn words_of(alloc: Global, stations: u32) -> anyhow::Result<Vec<String>> {
+    let mut words = Vec::new(alloc);
+    for place in 0..stations {
+        words.push(format!(in alloc; "GE_{place:05}")?)?;
+    }
+    Ok(words)
+}
+
+/// The wants that words spell.
+pub fn wants_of<'a>(alloc: Global, words: &'a [String]) -> anyhow::Result<Vec<Want<'a>>> {
     let mut wants = Vec::new(alloc);
-    let want = Want::parse(alloc, b"GE_00000", Window::Held { begin: None });
-    wants.push(want.map_err(|fault| told(fault.reason()))?)?;
+    for word in words {
+        let want = Want::parse(alloc, word.as_bytes(), Window::Held { begin: None });
+        wants.push(want.map_err(|fault| told(fault.reason()))?)?;
+    }
+    Ok(wants)
+}
+
+/// Lists so many packets of so many stations by turns, each of which has a want, with their records nowhere.
+pub fn list_packets(alloc: Global, stations: u32, packets: u32) -> anyhow::Result<u64> {
+    let sent = sent(alloc, stations, packets)?;
+    let words = words_of(alloc, stations)?;
     read_over(
         alloc,
         Times::Ticks,
-        Plan::Multi(wants),
+        Plan::Multi(wants_of(alloc, &words)?),
         &mut MemorySource::in_pieces(&sent, PIECE),
         &mut Nowhere::new(),
         &mut Nowhere::new(),
