@@ -13,6 +13,7 @@ ghost use Rattle.protocol.specs.History.{Arrival, next as next_position, is_over
 ghost use Rattle.protocol.specs.Client.{is_nothing, offered};
 ghost use Rattle.catalog.specs.Places.{station_at};
 ghost use Rattle.protocol.specs.Packet.{packet};
+ghost use Rattle.protocol.specs.Pattern.{passes};
 ghost use Rattle.station_ring.specs.Rings.{held_at, number_at};
 ghost use Rattle.station_ring.specs.HeldRecords.{RingsValue, holdings_of};
 ghost use Rattle.sl_lines.specs.declared.actions.Action.TheVariants.{Time};
@@ -21,16 +22,18 @@ ghost use Rattle.session_state.specs.Choices.{all_at_start, chosen_of, request_i
 ghost use Rattle.session_state.specs.Sessions.{client_in, but_for_cursors};
 ghost use Rattle.session_state.specs.declared.session.State.TheVariants.{Starting, Transfer, Ending};
 ghost use Rattle.transfer.specs.declared.choosing.Chosen.TheVariants.{Packet, Nothing, Complete};
-ghost use Rattle.transfer.specs.Cursors.{ArePassed, HasPassedAll, IsReached, OfAll, RestsIn};
+ghost use Rattle.transfer.specs.Cursors.{ArePassed, HasPassed, HasPassedAll, IsReached, OfAll, RestsAt, RestsIn};
+ghost use Rattle.transfer.specs.Searches.{at_place};
+ghost use Rattle.transfer.specs.Wanting.{facts_of};
 ghost use Rattle.transfer.specs.Firsts.{IsAhead};
 ghost use Rattle.transfer.specs.Sleeping.{HasNothing, MayCome, MoreMayCome, Sleeps, starts_after};
 ghost use Rattle.transfer.specs.Choosing.{answer_of, is_over_of, is_transfer, HoldsThere, IsAtCursor};
 
 use crate::overview::rest;
 use crate::searching::{Reached, search_from};
-use crate::wanting::{Candidate, has_passed_its_end};
+use crate::wanting::{Candidate, at_end, at_record, has_passed_its_end, wants_too};
 use catalog::Config;
-use session_state::{Action, Entry, First, Session, State};
+use session_state::{Action, Cursor, Entry, First, Session, State};
 use station_ring::{Rings, arrivals_by_place};
 
 /// What an offer in a transfer leads to.
@@ -164,6 +167,51 @@ fn is_complete(entries: &[Entry], rings: &Rings) -> bool
     true
 }
 
+/// How far a request comes from the record after the one that it wanted, as `search_from` says. It is kept out of its
+/// caller, which mostly finds that the next record is of the same stream.
+#[inline(never)]
+fn search_after(session: &Session, found: Candidate<'_>, next: u64) -> Cursor
+    requires there { held_at found.ring.now found.place ≡ Some found.held.now }
+    requires index { found.index < length (chosen_of session.now.mode) }
+    ensures { (c : Choice) → slice_get (chosen_of session.now.mode) found.entry.index ≡ Some c
+        → HasPassed found.entry.ring.now next c (at_place (found.entry.place + 1) c.cursor.ended)
+        → RestsAt found.entry.ring.now next c result }
+{
+    found.ring.holds_its_last();
+    let _end = found.ring.pushes();
+    let from = Reached {
+        place: found.place + 1,
+        ended: session.choice(found.index).cursor.ended,
+    };
+    search_from(found.ring, session, found.index, next, from)
+}
+
+/// How far a request comes from the record after one whose stream passes its patterns. Where the next record is of that
+/// stream too, the patterns are not asked again.
+fn cursor_after(session: &Session, found: Candidate<'_>, next: u64) -> Cursor
+    requires there { held_at found.ring.now found.place ≡ Some found.held.now }
+    requires index { found.index < length (chosen_of session.now.mode) }
+    ensures { (c : Choice) → slice_get (chosen_of session.now.mode) found.entry.index ≡ Some c
+        → passes c.selectors (facts_of found.entry.held.now.summary) ≡ true
+        → HasPassed found.entry.ring.now next c (at_place (found.entry.place + 1) c.cursor.ended)
+        → RestsAt found.entry.ring.now next c result }
+{
+    found.ring.holds_its_last();
+    let entry = session.choice(found.index);
+    let _end = found.ring.pushes();
+    let place = found.place + 1;
+    match found.ring.get(place) {
+        Some(held) if wants_too(entry, next, &found.held.summary, held) => at_record(
+            found.ring,
+            place,
+            entry.cursor.ended,
+            held.stamp,
+        ),
+        Some(_held) => search_after(session, found, next),
+        None => at_end(found.ring, entry.cursor.ended),
+    }
+}
+
 /// The request whose record ahead was sent passes that one, which is not looked at again, and what it doesn't want
 /// after it.
 fn pass_sent(session: &mut Session, found: Candidate<'_>, next: u64)
@@ -176,13 +224,7 @@ fn pass_sent(session: &mut Session, found: Candidate<'_>, next: u64)
         → OfAll (RestsIn rings from) (chosen_of session.old.mode)
         → HasPassedAll rings next session.old → HasPassedAll rings next session.new }
 {
-    found.ring.holds_its_last();
-    let _end = found.ring.pushes();
-    let from = Reached {
-        place: found.place + 1,
-        ended: session.choice(found.index).cursor.ended,
-    };
-    let cursor = search_from(found.ring, session, found.index, next, from);
+    let cursor = cursor_after(session, found, next);
     session.pass(found.index, cursor);
 }
 

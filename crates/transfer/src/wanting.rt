@@ -1,10 +1,13 @@
 //! Which held records a request wants.
 ghost use Rattle.std.specs.Prelude.{◌≡◌, ◌≤◌, ◌<◌, ℕ, find, length, option_map, slice_get, IfSome, Some, None, is_some};
+ghost use Rattle.std.specs.Prelude.{true};
 ghost use Rattle.std.specs.List.{list_any};
 ghost use Rattle.protocol.specs.History.{ends_from, starts_by};
+ghost use Rattle.protocol.specs.Pattern.{passes};
 ghost use Rattle.session_state.specs.Choices.{chosen_of};
 ghost use Rattle.session_state.specs.NamedValues.{Choice, ahead_of, entry_of};
 ghost use Rattle.station_ring.specs.declared.held.Held.{Held as HeldValue};
+ghost use Rattle.station_ring.specs.Briefs.{stream_of};
 ghost use Rattle.station_ring.specs.Rings.{held_at};
 ghost use Rattle.transfer.specs.Wanting.{facts_of, is_in_window_of, wants_held};
 ghost use Rattle.transfer.specs.Cursors.{is_after_end, HasPassed, RestsAt};
@@ -69,6 +72,25 @@ fn wants(session: &Session, i: usize, entry: &Entry, next: u64, held: &Held) -> 
         && entry.first <= held.stamp
         && session.passes(i, &summary.location, &summary.channel, summary.kind)
         && is_in_window(entry, summary)
+}
+
+/// Whether two records are of the same stream.
+fn is_same_stream(one: &Summary, other: &Summary) -> bool
+    ensures { result ≡ true → stream_of one.now ≡ stream_of other.now }
+{
+    one.location == other.location && one.channel == other.channel && one.kind == other.kind
+}
+
+/// Whether it is known without its patterns that a request wants a held record: it is of the stream of one that passes
+/// them. `next` is the first arrival that may still be sent.
+pub(crate) fn wants_too(entry: &Entry, next: u64, passed: &Summary, held: &Held) -> bool
+    ensures { (c : Choice) → entry_of c ≡ entry.now → passes c.selectors (facts_of passed.now) ≡ true → result ≡ true
+        → wants_held c next held.now ≡ true }
+{
+    next <= held.stamp
+        && entry.first <= held.stamp
+        && is_same_stream(passed, &held.summary)
+        && is_in_window(entry, &held.summary)
 }
 
 /// A held record that a request wants: the request's index among the named stations, the ring of its station, the
