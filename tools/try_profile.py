@@ -70,7 +70,7 @@ def keys_of_sources():
     with open(f"{TOP}/crates/config_explained/src/key.rt", encoding="utf-8") as file:
         text = file.read()
     lists = re.search(r'LIST_LIMITS: &str =\s*("[^"]*")', text).group(1)
-    row = r'(?:required|optional)\(\s*"(\w+)",\s*Kind::(\w+),\s*("[^"]*"|LIST_LIMITS),?\s*(?:"([^"]*)",?\s*)?\)'
+    row = r'(?:required|optional)\(\s*"(\w+)",\s*ValueKind::(\w+),\s*("[^"]*"|LIST_LIMITS),?\s*(?:"([^"]*)",?\s*)?\)'
     for name, kind, limits, missing in re.findall(row, text):
         yield name, KINDS[kind], limits.replace("LIST_LIMITS", lists).strip('"'), missing or "refused"
 

@@ -3,7 +3,7 @@ ghost use Rattle.std.specs.Prelude.{None};
 
 use crate::centre::told;
 use crate::reading::{PIECE, sent, wants_of, words_of};
-use reader_run::{NothingKept, Nowhere, RecordSink, TakeFault, Times, read_further};
+use reader_run::{NothingKept, Nowhere, RecordSink, SinkFault, Times, read_further};
 use record_archive::{
     Archive, ArchiveFault, ContinuedFiles, DiskFiles, FilePlace, StationCodes, Unnamed,
 };
@@ -49,13 +49,13 @@ impl<'r, R: Files<File = File> + Clock> RecordSink for Archived<'r, R> {
         self.archive.begin();
     }
 
-    fn take(&mut self, packet: &GivenPacket<'_>) -> Result<(), TakeFault> {
+    fn take(&mut self, packet: &GivenPacket<'_>) -> Result<(), SinkFault> {
         match put_to(&mut self.archive, packet) {
             Ok(()) => Ok(()),
-            Err(ArchiveFault::OutOfMemory) => Err(TakeFault::OutOfMemory),
+            Err(ArchiveFault::OutOfMemory) => Err(SinkFault::OutOfMemory),
             Err(ArchiveFault::Folder) => {
                 self.failures = self.failures.wrapping_add(1);
-                Err(TakeFault::Write)
+                Err(SinkFault::Write)
             }
         }
     }

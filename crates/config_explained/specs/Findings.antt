@@ -14,43 +14,44 @@ use Rattle.config_explained.specs.Kinds.{kind_of}
 use Rattle.config_explained.specs.Places.{IsPlaceAfter, is_line_end}
 use Rattle.config_explained.specs.SettingTexts.{wanted_of}
 use Rattle.config_explained.specs.Values.{value_at}
-use Rattle.config_explained.specs.declared.place.Place.{Place}
-use Rattle.config_explained.specs.declared.finding.Finding.{Finding}
-use Rattle.config_explained.specs.declared.finding.Finding.TheVariants.{Nothing, NotUtf8, NotToml, OtherKind, Entry}
+use Rattle.config_explained.specs.declared.place.TextPlace.{TextPlace}
+use Rattle.config_explained.specs.declared.finding.ConfigFinding.{ConfigFinding}
+use Rattle.config_explained.specs.declared.finding.ConfigFinding.TheVariants.{Nothing, NotUtf8, NotToml}
+use Rattle.config_explained.specs.declared.finding.ConfigFinding.TheVariants.{OtherKind, Entry}
 
 -- ---- a text that is not TOML
 
 -- A place of the text, and the line that it is on. Which place it is the reader of TOML decides.
-pub record IsOnLine (text : List ℕ) (place : Place) (line : List ℕ) : Type 0 where
+pub record IsOnLine (text : List ℕ) (place : TextPlace) (line : List ℕ) : Type 0 where
   pub offset : ℕ
   pub within : offset ≤ length text
   pub place_of : IsPlaceAfter (take offset text) place
   pub line_of : line ≡ before_first is_line_end (drop place.start text)
 
 -- a reason, with a place and its line
-abbrev pub IsReasoned : List ℕ → Finding → Type 0
+abbrev pub IsReasoned : List ℕ → ConfigFinding → Type 0
 IsReasoned text (NotToml reason place line) = IsOnLine text place line.items
 IsReasoned text _ = ⊥
 
 -- where a text of UTF-8 is not TOML
-abbrev pub FindsToml : Option Members → List ℕ → Finding → Type 0
+abbrev pub FindsToml : Option Members → List ℕ → ConfigFinding → Type 0
 FindsToml None text f = IsReasoned text f
 FindsToml (Some keys) text f = f ≡ Nothing
 
 -- the place at an offset
-abbrev pub IsNotUtf8 : List ℕ → ℕ → Finding → Type 0
+abbrev pub IsNotUtf8 : List ℕ → ℕ → ConfigFinding → Type 0
 IsNotUtf8 text offset (NotUtf8 at place) = (at ≡ offset) × IsPlaceAfter (take offset text) place
 IsNotUtf8 text offset _ = ⊥
 
 -- where a text is not UTF-8, or not TOML
-pub record FindsText (text : List ℕ) (f : Finding) : Type 0 where
+pub record FindsText (text : List ℕ) (f : ConfigFinding) : Type 0 where
   pub utf8 : IsUtf8 text → FindsToml (parse_document text) text f
   pub bytes : ¬ IsUtf8 text → IsNotUtf8 text (utf8_valid_len text) f
 
 -- ---- a value of another kind
 
 -- of a text's table
-abbrev pub FindsKind : Option Members → Step → Finding → Type 0
+abbrev pub FindsKind : Option Members → Step → ConfigFinding → Type 0
 FindsKind None s f = f ≡ Nothing
 FindsKind (Some keys) s f = f ≡ OtherKind (kind_of (value_at keys s)) (wanted_of s)
 
@@ -61,24 +62,24 @@ abbrev pub text_at : Members → Step → Option (List ℕ)
 text_at keys s = option_and_then as_str (value_at keys s)
 
 -- an entry, if there is one
-abbrev pub IsEntry : Option (List ℕ) → Finding → Type 0
+abbrev pub IsEntry : Option (List ℕ) → ConfigFinding → Type 0
 IsEntry (Some entry) (Entry text) = text.items ≡ entry
 IsEntry (Some entry) _ = ⊥
 IsEntry None f = f ≡ Nothing
 
 -- of a text's table: the first entry that is refused
-abbrev pub FindsEntry : Option Members → Step → Finding → Type 0
+abbrev pub FindsEntry : Option Members → Step → ConfigFinding → Type 0
 FindsEntry None s f = f ≡ Nothing
 FindsEntry (Some keys) s f = IsEntry (option_and_then first_refused (text_at keys s)) f
 
 -- ---- by the fault
 
-abbrev pub FindsBy : ConfigFault → List ℕ → Step → Finding → Type 0
+abbrev pub FindsBy : ConfigFault → List ℕ → Step → ConfigFinding → Type 0
 FindsBy fault.Toml text s f = FindsText text f
 FindsBy fault.Missing text s f = IsUtf8 text → FindsKind (parse_document text) s f
 FindsBy (fault.Access cause) text s f = IsUtf8 text → FindsEntry (parse_document text) s f
 FindsBy _ text s f = f ≡ Nothing
 
 -- what is found in a text that is refused with an error
-abbrev pub Finds : List ℕ → ConfigError → Finding → Type 0
+abbrev pub Finds : List ℕ → ConfigError → ConfigFinding → Type 0
 Finds text e f = FindsBy e.fault text e.step f

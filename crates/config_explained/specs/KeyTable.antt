@@ -13,8 +13,8 @@ use Rattle.config_explained.specs.declared.key.Key.{Key}
 use Rattle.config_explained.specs.declared.key.Key.TheVariants as key
 use Rattle.config_explained.specs.SettingValues.{SettingValue}
 use Rattle.config_explained.specs.SettingValues.SettingValue.{nothing, text, number, sequence}
-use Rattle.config_explained.specs.declared.kind.Kind.{Kind}
-use Rattle.config_explained.specs.declared.kind.Kind.TheVariants as kind
+use Rattle.config_explained.specs.declared.kind.ValueKind.{ValueKind}
+use Rattle.config_explained.specs.declared.kind.ValueKind.TheVariants as kind
 
 -- ---- the table
 
@@ -25,7 +25,7 @@ list_limits = codes "addresses and masks, separated by spaces and commas, as 10.
 -- A key's name, the kind of its value, what is allowed, and what holds without it. Without the last it is required.
 pub record KeyRow : Type 0 where
   pub name : List ℕ
-  pub kind : Kind
+  pub kind : ValueKind
   pub limits : List ℕ
   pub missing : Option (List ℕ)
 

@@ -5,8 +5,8 @@ use Rattle.config_explained.specs.declared.key.Key.{Key}
 use Rattle.catalog.specs.declared.error.Step.{Step}
 use Rattle.catalog.specs.declared.error.Step.TheVariants as step
 use Rattle.catalog.specs.declared.settings.StationStep.TheVariants as station
-use Rattle.config_explained.specs.declared.kind.Kind.{Kind}
-use Rattle.config_explained.specs.declared.kind.Kind.TheVariants as kind
+use Rattle.config_explained.specs.declared.kind.ValueKind.{ValueKind}
+use Rattle.config_explained.specs.declared.kind.ValueKind.TheVariants as kind
 
 -- the words for a step that takes no key
 abbrev pub words_of : Step → Option (List ℕ)
@@ -21,7 +21,7 @@ allowed_at (step.Station place station.Codes) = codes "not those of an earlier s
 allowed_at _ = codes "TOML in UTF-8"
 
 -- the kind of value that it wants
-abbrev pub kind_at : Step → Kind
+abbrev pub kind_at : Step → ValueKind
 kind_at (step.Station place station.Table) = kind.Table
 kind_at _ = kind.Nothing
 
@@ -42,9 +42,9 @@ abbrev pub limit_of : Step → List ℕ
 limit_of s = limits_or (allowed_at s) (key_at s)
 
 -- the kind of value that a step wants
-abbrev pub kind_or : Kind → Option Key → Kind
+abbrev pub kind_or : ValueKind → Option Key → ValueKind
 kind_or other None = other
 kind_or other (Some k) = (row_of k).kind
 
-abbrev pub wanted_of : Step → Kind
+abbrev pub wanted_of : Step → ValueKind
 wanted_of s = kind_or (kind_at s) (key_at s)

@@ -7,8 +7,8 @@ ghost use Rattle.access_list.specs.Tokens.{first_refused};
 ghost use Rattle.config_explained.specs.Findings.{Finds, FindsEntry, FindsKind, FindsText, FindsToml, IsEntry};
 ghost use Rattle.config_explained.specs.Findings.{IsNotUtf8, text_at};
 
-use crate::kind::Kind;
-use crate::place::{Place, line_from, place_of};
+use crate::kind::ValueKind;
+use crate::place::{TextPlace, line_from, place_of};
 use crate::setting_texts::wanted_of;
 use crate::values::value_at;
 use access_list::AccessList;
@@ -21,24 +21,24 @@ use toml::Table;
 
 /// What is found where a configuration is refused, beside its fault and its step.
 #[derive(Drop)]
-pub enum Finding {
+pub enum ConfigFinding {
     /// Nothing that the fault and the step don't say.
     Nothing,
     /// The text is not UTF-8: after so many bytes, at that place, it can't go on.
     NotUtf8 {
         offset: usize,
-        place: Place,
+        place: TextPlace,
     },
     /// The text is not TOML: the reason, the place, and the line of that place.
     NotToml {
         reason: String,
-        place: Place,
+        place: TextPlace,
         line: Vec<u8>,
     },
     /// A value of one kind where another is wanted, or none where one has to be.
     OtherKind {
-        found: Kind,
-        wanted: Kind,
+        found: ValueKind,
+        wanted: ValueKind,
     },
     /// An entry of an access list that is not an address, alone or with a mask.
     Entry {
@@ -49,19 +49,23 @@ pub enum Finding {
 /// What is found where the text of a configuration is refused with an error, which `Config::read_by_steps` gave for it:
 /// where it is not TOML the place of the reader's choice, at a key that is missing or of another kind that kind, and at
 /// an access list its first entry that is refused. Only memory can lack.
-pub fn finding_of(alloc: Global, text: &[u8], error: &ConfigError) -> Result<Finding, AllocError>
+pub fn finding_of(
+    alloc: Global,
+    text: &[u8],
+    error: &ConfigError,
+) -> Result<ConfigFinding, AllocError>
     ensures { IfOk result (Finds text.now error.now) }
 {
     match error.fault {
         ConfigFault::Toml => text_finding(alloc, text),
         ConfigFault::Missing => kind_finding(alloc, text, error.step),
         ConfigFault::Access(_) => entry_finding(alloc, text, error.step),
-        _ => Ok(Finding::Nothing),
+        _ => Ok(ConfigFinding::Nothing),
     }
 }
 
 /// What is found in a text that is not UTF-8, or not TOML.
-fn text_finding(alloc: Global, text: &[u8]) -> Result<Finding, AllocError>
+fn text_finding(alloc: Global, text: &[u8]) -> Result<ConfigFinding, AllocError>
     ensures { IfOk result (FindsText text.now) }
 {
     match str::from_utf8(text) {
@@ -71,24 +75,24 @@ fn text_finding(alloc: Global, text: &[u8]) -> Result<Finding, AllocError>
 }
 
 /// What is found in a text that is UTF-8 up to an offset.
-fn bytes_finding(text: &[u8], offset: usize) -> Finding
+fn bytes_finding(text: &[u8], offset: usize) -> ConfigFinding
     requires { offset ≤ length text.now }
     ensures { IsNotUtf8 text.now offset result }
 {
     let place = place_of(text, offset);
-    Finding::NotUtf8 { offset, place }
+    ConfigFinding::NotUtf8 { offset, place }
 }
 
 /// What is found in a text that is not TOML.
-fn toml_finding(alloc: Global, text: &str) -> Result<Finding, AllocError>
+fn toml_finding(alloc: Global, text: &str) -> Result<ConfigFinding, AllocError>
     ensures { IfOk result (FindsToml (parse_document text.now) text.now) }
 {
     match toml::table_from_str(alloc, text) {
-        Ok(_) => Ok(Finding::Nothing),
+        Ok(_) => Ok(ConfigFinding::Nothing),
         Err(error) => match error.span() {
             Some(span) => {
                 let place = place_of(text.as_bytes(), span.start);
-                Ok(Finding::NotToml {
+                Ok(ConfigFinding::NotToml {
                     reason: String::from_str(alloc, error.message())?,
                     place,
                     line: line_from(text.as_bytes(), place.start).to_vec(alloc)?,
@@ -111,25 +115,25 @@ fn table_if_any(alloc: Global, text: &[u8]) -> Result<Option<Table>, AllocError>
 }
 
 /// The kind of the value at a step, and the one that is wanted.
-fn kind_finding(alloc: Global, text: &[u8], step: Step) -> Result<Finding, AllocError>
+fn kind_finding(alloc: Global, text: &[u8], step: Step) -> Result<ConfigFinding, AllocError>
     ensures { IfOk result (λ f. IsUtf8 text.now → FindsKind (parse_document text.now) step f) }
 {
     match table_if_any(alloc, text)? {
-        Some(table) => Ok(Finding::OtherKind {
-            found: Kind::of(value_at(&table, step)),
+        Some(table) => Ok(ConfigFinding::OtherKind {
+            found: ValueKind::of(value_at(&table, step)),
             wanted: wanted_of(step),
         }),
-        None => Ok(Finding::Nothing),
+        None => Ok(ConfigFinding::Nothing),
     }
 }
 
 /// The first entry of the access list at a step that is refused.
-fn entry_finding(alloc: Global, text: &[u8], step: Step) -> Result<Finding, AllocError>
+fn entry_finding(alloc: Global, text: &[u8], step: Step) -> Result<ConfigFinding, AllocError>
     ensures { IfOk result (λ f. IsUtf8 text.now → FindsEntry (parse_document text.now) step f) }
 {
     match table_if_any(alloc, text)? {
         Some(table) => entry_in(alloc, &table, step),
-        None => Ok(Finding::Nothing),
+        None => Ok(ConfigFinding::Nothing),
     }
 }
 
@@ -147,7 +151,7 @@ pub fn text_at<'a>(table: &'a Table, step: Step) -> Option<&'a [u8]>
 }
 
 /// The first entry of the access list at a step of a table that is refused.
-fn entry_in(alloc: Global, table: &Table, step: Step) -> Result<Finding, AllocError>
+fn entry_in(alloc: Global, table: &Table, step: Step) -> Result<ConfigFinding, AllocError>
     ensures { IfOk result (IsEntry (option_and_then first_refused (text_at (table_view table.now) step))) }
 {
     let entry = match text_at(table, step) {
@@ -155,23 +159,23 @@ fn entry_in(alloc: Global, table: &Table, step: Step) -> Result<Finding, AllocEr
         None => None,
     };
     match entry {
-        Some(entry) => Ok(Finding::Entry {
+        Some(entry) => Ok(ConfigFinding::Entry {
             text: entry.to_vec(alloc)?,
         }),
-        None => Ok(Finding::Nothing),
+        None => Ok(ConfigFinding::Nothing),
     }
 }
 
-impl Display for Finding {
+impl Display for ConfigFinding {
     /// The lines that say it, each with two spaces before it.
     fn fmt<W: Write>(&self, f: &mut Formatter<W>) -> fmt::Result {
         match self {
-            Finding::Nothing => Ok(()),
-            Finding::NotUtf8 { offset, place } => {
+            ConfigFinding::Nothing => Ok(()),
+            ConfigFinding::NotUtf8 { offset, place } => {
                 put_place(f, place)?;
                 writeln!(f, "  offset: {offset}\n  found: bytes that are not UTF-8")
             }
-            Finding::NotToml {
+            ConfigFinding::NotToml {
                 reason,
                 place,
                 line,
@@ -180,17 +184,17 @@ impl Display for Finding {
                 put_line(f, "reason", reason)?;
                 put_text(f, "text", line)
             }
-            Finding::OtherKind { found, wanted } => {
+            ConfigFinding::OtherKind { found, wanted } => {
                 writeln!(f, "  found: {found}\n  wanted: {wanted}")
             }
-            Finding::Entry { text } => put_text(f, "entry", text),
+            ConfigFinding::Entry { text } => put_text(f, "entry", text),
         }
     }
 }
 
 /// The lines of a place.
-fn put_place<W: Write>(f: &mut Formatter<W>, place: &Place) -> fmt::Result {
-    let Place { line, column, .. } = *place;
+fn put_place<W: Write>(f: &mut Formatter<W>, place: &TextPlace) -> fmt::Result {
+    let TextPlace { line, column, .. } = *place;
     writeln!(f, "  line: {line}\n  column: {column}")
 }
 

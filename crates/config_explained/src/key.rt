@@ -4,7 +4,7 @@ ghost use Rattle.std.specs.Prelude.{◌≡◌, IfOk, None, Some, option_map};
 ghost use Rattle.config_explained.specs.KeyTable.{ReadsTheTable, key_at, name_of, row_of, setting_of, station_key_at};
 ghost use Rattle.config_explained.specs.SettingValues.{is_same_value, setting_value};
 
-use crate::kind::Kind;
+use crate::kind::ValueKind;
 use crate::setting::Setting;
 use catalog::{Station, StationStep, Step};
 use std::alloc::{AllocError, Global};
@@ -58,9 +58,9 @@ const LIST_LIMITS: &str =
 
 /// A row of the table.
 #[derive(Clone, Copy, Drop)]
-pub struct Row {
+pub struct TableRow {
     pub name: &'static str,
-    pub kind: Kind,
+    pub kind: ValueKind,
     /// What is allowed.
     pub limits: &'static str,
     /// What holds without the key. None if it has to be there.
@@ -68,13 +68,13 @@ pub struct Row {
 }
 
 /// The row of a key that has to be there.
-fn required(name: &'static str, kind: Kind, limits: &'static str) -> Row
+fn required(name: &'static str, kind: ValueKind, limits: &'static str) -> TableRow
     ensures name { result.name.now ≡ name.now }
     ensures kind { result.kind ≡ kind }
     ensures limits { result.limits.now ≡ limits.now }
     ensures missing { result.missing ≡ None }
 {
-    Row {
+    TableRow {
         name,
         kind,
         limits,
@@ -83,13 +83,18 @@ fn required(name: &'static str, kind: Kind, limits: &'static str) -> Row
 }
 
 /// The row of a key that may be missing, with what holds then.
-fn optional(name: &'static str, kind: Kind, limits: &'static str, missing: &'static str) -> Row
+fn optional(
+    name: &'static str,
+    kind: ValueKind,
+    limits: &'static str,
+    missing: &'static str,
+) -> TableRow
     ensures name { result.name.now ≡ name.now }
     ensures kind { result.kind ≡ kind }
     ensures limits { result.limits.now ≡ limits.now }
     ensures missing { option_map (λ t. t.now) result.missing ≡ Some missing.now }
 {
-    Row {
+    TableRow {
         name,
         kind,
         limits,
@@ -99,45 +104,49 @@ fn optional(name: &'static str, kind: Kind, limits: &'static str, missing: &'sta
 
 impl Key {
     /// Its row of the table.
-    pub fn row(self) -> Row
+    pub fn row(self) -> TableRow
         ensures name { result.name.now ≡ name_of self }
         ensures kind { result.kind ≡ (row_of self).kind }
         ensures limits { result.limits.now ≡ (row_of self).limits }
         ensures missing { option_map (λ t. t.now) result.missing ≡ (row_of self).missing }
     {
         match self {
-            Key::Title => required("title", Kind::Text, "1 to 100 bytes of printable ASCII"),
+            Key::Title => required(
+                "title",
+                ValueKind::Text,
+                "1 to 100 bytes of printable ASCII",
+            ),
             Key::ServerAccess => optional(
                 "access",
-                Kind::Text,
+                ValueKind::Text,
                 LIST_LIMITS,
                 "everybody may use a station without a list of its own",
             ),
             Key::MaxConnections => optional(
                 "max_connections",
-                Kind::WholeNumber,
+                ValueKind::WholeNumber,
                 "a whole number from 1 to 10000",
                 "100",
             ),
-            Key::Station => required("station", Kind::Tables, "1 to 1024 tables"),
-            Key::Network => required("network", Kind::Text, "1 to 2 of A to Z and 0 to 9"),
-            Key::Code => required("code", Kind::Text, "1 to 5 of A to Z and 0 to 9"),
+            Key::Station => required("station", ValueKind::Tables, "1 to 1024 tables"),
+            Key::Network => required("network", ValueKind::Text, "1 to 2 of A to Z and 0 to 9"),
+            Key::Code => required("code", ValueKind::Text, "1 to 5 of A to Z and 0 to 9"),
             Key::Description => {
                 required(
                     "description",
-                    Kind::Text,
+                    ValueKind::Text,
                     "at most 60 bytes of printable ASCII",
                 )
             }
             Key::Capacity => required(
                 "capacity",
-                Kind::WholeNumber,
+                ValueKind::WholeNumber,
                 "a whole number from 1 to 65536",
             ),
-            Key::First => optional("first", Kind::Text, "1 to 6 hexadecimal digits", "0"),
+            Key::First => optional("first", ValueKind::Text, "1 to 6 hexadecimal digits", "0"),
             Key::Access => optional(
                 "access",
-                Kind::Text,
+                ValueKind::Text,
                 LIST_LIMITS,
                 "the list of the whole server holds",
             ),

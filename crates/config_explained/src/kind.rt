@@ -8,7 +8,7 @@ use toml::Value;
 
 /// What a value of TOML is, or that none is there.
 #[derive(Clone, Copy, Drop)]
-pub enum Kind {
+pub enum ValueKind {
     Nothing,
     Text,
     WholeNumber,
@@ -21,51 +21,51 @@ pub enum Kind {
     Table,
 }
 
-impl Kind {
+impl ValueKind {
     /// The kind of a value.
-    fn in_value(value: &Value) -> Kind
+    fn in_value(value: &Value) -> ValueKind
         ensures { result ≡ kind_in (view value.now) }
     {
         if value.is_str() {
-            Kind::Text
+            ValueKind::Text
         } else if value.is_integer() {
-            Kind::WholeNumber
+            ValueKind::WholeNumber
         } else if value.is_float() {
-            Kind::Fraction
+            ValueKind::Fraction
         } else if value.is_bool() {
-            Kind::Truth
+            ValueKind::Truth
         } else if value.is_datetime() {
-            Kind::Moment
+            ValueKind::Moment
         } else if value.is_array() {
-            Kind::Array
+            ValueKind::Array
         } else {
-            Kind::Table
+            ValueKind::Table
         }
     }
 
     /// The kind of a value, if one is there.
-    pub(crate) fn of(value: Option<&Value>) -> Kind
+    pub(crate) fn of(value: Option<&Value>) -> ValueKind
         ensures { result ≡ kind_of (option_map (λ v. view v.now) value.entry) }
     {
         match value {
-            Some(value) => Kind::in_value(value),
-            None => Kind::Nothing,
+            Some(value) => ValueKind::in_value(value),
+            None => ValueKind::Nothing,
         }
     }
 }
 
-impl Display for Kind {
+impl Display for ValueKind {
     fn fmt<W: Write>(&self, f: &mut Formatter<W>) -> fmt::Result {
         f.write_str(match self {
-            Kind::Nothing => "nothing",
-            Kind::Text => "a text",
-            Kind::WholeNumber => "a whole number",
-            Kind::Fraction => "a number with a fraction",
-            Kind::Truth => "true or false",
-            Kind::Moment => "a date or a time",
-            Kind::Array => "an array",
-            Kind::Tables => "an array of tables, each under [[station]]",
-            Kind::Table => "a table",
+            ValueKind::Nothing => "nothing",
+            ValueKind::Text => "a text",
+            ValueKind::WholeNumber => "a whole number",
+            ValueKind::Fraction => "a number with a fraction",
+            ValueKind::Truth => "true or false",
+            ValueKind::Moment => "a date or a time",
+            ValueKind::Array => "an array",
+            ValueKind::Tables => "an array of tables, each under [[station]]",
+            ValueKind::Table => "a table",
         })
     }
 }

@@ -36,14 +36,14 @@ mod users;
 
 pub use changes::changes_of;
 pub use difference::{Difference, first_difference};
-pub use finding::{Finding, finding_of, text_at};
+pub use finding::{ConfigFinding, finding_of, text_at};
 pub use holders::{holder_of, holders_of};
-pub use key::{Key, Row, reads_the_table};
-pub use kind::Kind;
+pub use key::{Key, TableRow, reads_the_table};
+pub use kind::ValueKind;
 pub use network::Network;
 pub use opened::open_to_everybody;
 pub use parts::parts_of;
-pub use place::{Place, line_from, place_of};
+pub use place::{TextPlace, line_from, place_of};
 pub use remark::{Remark, remarks};
 pub use seen::seen_by;
 pub use setting::Setting;

@@ -8,20 +8,20 @@ use text_parts::separators::cut_at;
 /// A place in a text: its line and its column, both from 1 on, and the offset at which its line begins. LF ends a line,
 /// and a column is a character.
 #[derive(Clone, Copy)]
-pub struct Place {
+pub struct TextPlace {
     pub line: u128,
     pub column: u128,
     pub start: usize,
 }
 
 /// The place that so many bytes of a text are before.
-pub fn place_of(text: &[u8], offset: usize) -> Place
+pub fn place_of(text: &[u8], offset: usize) -> TextPlace
     requires { offset ≤ length text.now }
     ensures { IsPlaceAfter (take offset text.now) result }
 {
     let before = &text[..offset];
     let start = start_of_line(before);
-    Place {
+    TextPlace {
         line: line_ends(before) as u128 + 1,
         column: characters(&before[start..]) as u128 + 1,
         start,

@@ -3,7 +3,7 @@ ghost use Rattle.std.specs.Prelude.{◌≡◌, option_map};
 ghost use Rattle.config_explained.specs.SettingTexts.{allowed_at, key_of, kind_at, limit_of, wanted_of, words_of};
 
 use crate::key::key_at;
-use crate::kind::Kind;
+use crate::kind::ValueKind;
 use catalog::{StationStep, Step};
 
 /// The words for a step that takes no key.
@@ -29,12 +29,12 @@ fn allowed_at(step: Step) -> &'static str
 }
 
 /// The kind of value that such a step wants.
-fn kind_at(step: Step) -> Kind
+fn kind_at(step: Step) -> ValueKind
     ensures { result ≡ kind_at step }
 {
     match step {
-        Step::Station(_, StationStep::Table) => Kind::Table,
-        _ => Kind::Nothing,
+        Step::Station(_, StationStep::Table) => ValueKind::Table,
+        _ => ValueKind::Nothing,
     }
 }
 
@@ -59,7 +59,7 @@ pub fn limit_of(step: Step) -> &'static str
 }
 
 /// The kind of value that a step wants.
-pub fn wanted_of(step: Step) -> Kind
+pub fn wanted_of(step: Step) -> ValueKind
     ensures { result ≡ wanted_of step }
 {
     match key_at(step) {

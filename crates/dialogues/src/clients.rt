@@ -1,6 +1,6 @@
 //! Clients of a dialogue: what they send, and what they are handed.
 use crate::fault::Fault;
-use crate::line::{Line, number_and_rest, number_of};
+use crate::line::{DialogueLine, number_and_rest, number_of};
 use crate::records::{Arrived, packet_line, told_packet};
 use crate::spelling::{shown, spelled};
 use server_core::{Client, Offer, ReceiveRefusal, Server};
@@ -16,7 +16,7 @@ pub struct Caller {
 }
 
 /// What came in place of what a line wants; None if it is as wanted.
-pub type Answer = Result<Option<String>, Fault>;
+pub type DialogueAnswer = Result<Option<String>, Fault>;
 
 /// Copies and takes the first bytes that wait for a client, at most so many.
 fn take_waiting(
@@ -42,7 +42,12 @@ fn take(server: &mut Server, caller: &mut Caller, most: usize) -> Result<bool, F
 }
 
 /// A client takes so many bytes so many times: `2080x1`.
-fn take_times(alloc: Global, server: &mut Server, caller: &mut Caller, text: &str) -> Answer {
+fn take_times(
+    alloc: Global,
+    server: &mut Server,
+    caller: &mut Caller,
+    text: &str,
+) -> DialogueAnswer {
     let Some((times, most)) = text.split_once('x') else {
         return Err(Fault::Step);
     };
@@ -64,7 +69,7 @@ fn compare(
     caller: &mut Caller,
     wanted: &[u8],
     ends: bool,
-) -> Answer {
+) -> DialogueAnswer {
     let mut is_over = false;
     if caller.hand.len() < wanted.len() || wanted.is_empty() {
         is_over = take(server, caller, 520)?;
@@ -99,7 +104,7 @@ fn got_instead(
 }
 
 /// Compares a number with the one that is wanted.
-pub fn compare_numbers(alloc: Global, wanted: usize, got: usize) -> Answer {
+pub fn compare_numbers(alloc: Global, wanted: usize, got: usize) -> DialogueAnswer {
     if wanted == got {
         return Ok(None);
     }
@@ -107,7 +112,7 @@ pub fn compare_numbers(alloc: Global, wanted: usize, got: usize) -> Answer {
 }
 
 /// Compares a word with what is so: `yes` or `no`.
-pub fn compare_words(alloc: Global, wanted: &str, is_so: bool) -> Answer {
+pub fn compare_words(alloc: Global, wanted: &str, is_so: bool) -> DialogueAnswer {
     let got = if is_so { "yes" } else { "no" };
     if wanted == got {
         return Ok(None);
@@ -130,19 +135,19 @@ fn send(
     caller: &Caller,
     bytes: &[u8],
     wanted: usize,
-) -> Answer {
+) -> DialogueAnswer {
     let got = refusal(server, &caller.client, bytes);
     compare_numbers(alloc, wanted, got)
 }
 
 /// A client sends bytes that are to be refused: `31 \1025*A`.
-fn send_refused(alloc: Global, server: &mut Server, caller: &Caller, text: &str) -> Answer {
+fn send_refused(alloc: Global, server: &mut Server, caller: &Caller, text: &str) -> DialogueAnswer {
     let (number, rest) = number_and_rest(text)?;
     let bytes = spelled(alloc, rest, b"")?;
     send(alloc, server, caller, bytes.as_slice(), number as usize)
 }
 
-fn close(server: &mut Server, caller: &mut Caller) -> Answer {
+fn close(server: &mut Server, caller: &mut Caller) -> DialogueAnswer {
     server.close(&caller.client)?;
     caller.is_closed = true;
     Ok(None)
@@ -160,7 +165,12 @@ fn is_gone(server: &mut Server, client: &Client) -> bool {
 }
 
 /// What a client sends or does.
-fn act(alloc: Global, server: &mut Server, caller: &mut Caller, line: &Line) -> Answer {
+fn act(
+    alloc: Global,
+    server: &mut Server,
+    caller: &mut Caller,
+    line: &DialogueLine,
+) -> DialogueAnswer {
     match line.verb {
         ">" => {
             let bytes = spelled(alloc, line.rest, b"\r")?;
@@ -178,7 +188,11 @@ fn act(alloc: Global, server: &mut Server, caller: &mut Caller, line: &Line) -> 
 }
 
 /// What a client is to be handed; None if the line is about something else.
-fn wanted_by(alloc: Global, records: &[Arrived], line: &Line) -> Result<Option<Vec<u8>>, Fault> {
+fn wanted_by(
+    alloc: Global,
+    records: &[Arrived],
+    line: &DialogueLine,
+) -> Result<Option<Vec<u8>>, Fault> {
     let bytes = match line.verb {
         "<" => spelled(alloc, line.rest, b"\r\n")?,
         "<<" => spelled(alloc, line.rest, b"")?,
@@ -190,7 +204,7 @@ fn wanted_by(alloc: Global, records: &[Arrived], line: &Line) -> Result<Option<V
     Ok(Some(bytes))
 }
 
-fn compare_room(alloc: Global, server: &Server, client: &Client, text: &str) -> Answer {
+fn compare_room(alloc: Global, server: &Server, client: &Client, text: &str) -> DialogueAnswer {
     let room = server.room(client)?;
     compare_numbers(alloc, number_of(text)?, room)
 }
@@ -200,8 +214,8 @@ fn look(
     alloc: Global,
     server: &mut Server,
     client: &Client,
-    line: &Line,
-) -> Result<Option<Answer>, Fault> {
+    line: &DialogueLine,
+) -> Result<Option<DialogueAnswer>, Fault> {
     let answer = match line.verb {
         "room" => compare_room(alloc, server, client, line.rest),
         "marked" => compare_words(alloc, line.rest, server.marked(client)?),
@@ -218,8 +232,8 @@ fn hand_or_act(
     server: &mut Server,
     records: &[Arrived],
     caller: &mut Caller,
-    line: &Line,
-) -> Answer {
+    line: &DialogueLine,
+) -> DialogueAnswer {
     match wanted_by(alloc, records, line)? {
         Some(wanted) => compare(
             alloc,
@@ -239,8 +253,8 @@ pub fn play_client(
     server: &mut Server,
     records: &[Arrived],
     caller: &mut Caller,
-    line: &Line,
-) -> Answer {
+    line: &DialogueLine,
+) -> DialogueAnswer {
     match look(alloc, server, &caller.client, line)? {
         Some(answer) => answer,
         None => hand_or_act(alloc, server, records, caller, line),

@@ -3,7 +3,7 @@ use crate::fault::Fault;
 
 /// A line: whom or what it is about, what is done, and the rest.
 #[derive(Clone, Copy)]
-pub struct Line<'a> {
+pub struct DialogueLine<'a> {
     pub subject: &'a str,
     /// What stands behind the subject.
     pub tail: &'a str,
@@ -37,13 +37,13 @@ pub fn number_of(text: &str) -> Result<usize, Fault> {
 }
 
 /// A line, where it is not empty and no remark.
-pub fn line_of(text: &str) -> Option<Line<'_>> {
+pub fn line_of(text: &str) -> Option<DialogueLine<'_>> {
     if text.is_empty() || text.starts_with('#') {
         return None;
     }
     let (subject, tail) = word_and_rest(text);
     let (verb, rest) = word_and_rest(tail);
-    Some(Line {
+    Some(DialogueLine {
         subject,
         tail,
         verb,

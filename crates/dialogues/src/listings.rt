@@ -1,7 +1,7 @@
 //! Files of records, and what a check says of them.
-use crate::clients::Answer;
+use crate::clients::DialogueAnswer;
 use crate::fault::Fault;
-use crate::line::{Line, word_and_rest};
+use crate::line::{DialogueLine, word_and_rest};
 use crate::spelling::shown;
 use record_check::{AllStations, Finding, ListingOptions, RecordCheck, Times, check_records};
 use sl_io::{MemorySink, MemorySource};
@@ -62,7 +62,7 @@ fn compare_listing(
     options: ListingOptions,
     files: &[Vec<u8>],
     wanted: &[u8],
-) -> Answer {
+) -> DialogueAnswer {
     for most in PIECES {
         let text = listed(alloc, options, files, most)?;
         if text.as_slice() != wanted {
@@ -74,7 +74,7 @@ fn compare_listing(
 
 /// Compares the first fault of records with the one that is wanted: its number, and the record's number and offset, as
 /// `4 2 512`, or `none`.
-fn compare_fault(alloc: Global, bytes: &[u8], wanted: &str) -> Answer {
+fn compare_fault(alloc: Global, bytes: &[u8], wanted: &str) -> DialogueAnswer {
     let got = match first_fault(alloc, bytes, 700)? {
         Some(
             Finding {
@@ -120,7 +120,7 @@ fn files_of<R: Files + AllocGlobal>(rt: &R, names: &str) -> Result<Vec<Vec<u8>>,
 }
 
 /// Plays a line that is about files of records: `records FILE,FILE lines LISTING` or `records FILE fault 4 2 512`.
-pub fn play_records<R: Files + AllocGlobal>(rt: &R, line: &Line) -> Answer {
+pub fn play_records<R: Files + AllocGlobal>(rt: &R, line: &DialogueLine) -> DialogueAnswer {
     let (what, rest) = word_and_rest(line.rest);
     if what == "fault" {
         let bytes = fs::read(rt, line.verb)?;

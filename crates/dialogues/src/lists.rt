@@ -1,7 +1,7 @@
 //! Access lists and configurations by themselves.
-use crate::clients::{Answer, compare_numbers, compare_words};
+use crate::clients::{DialogueAnswer, compare_numbers, compare_words};
 use crate::fault::Fault;
-use crate::line::{Line, number_and_rest, word_and_rest};
+use crate::line::{DialogueLine, number_and_rest, word_and_rest};
 use access_list::{AccessList, address};
 use catalog::Config;
 use std::alloc::Global;
@@ -9,7 +9,7 @@ use std::fs;
 use std::rt::Files;
 
 /// Compares whether a list admits an address: `yes 10.0.0.7 10.0.0.0/8`, with the word, the address and the list.
-fn compare_admission(alloc: Global, text: &str) -> Answer {
+fn compare_admission(alloc: Global, text: &str) -> DialogueAnswer {
     let (wanted, rest) = word_and_rest(text);
     let (word, entries) = word_and_rest(rest);
     let Some(address) = address(word.as_bytes()) else {
@@ -22,7 +22,7 @@ fn compare_admission(alloc: Global, text: &str) -> Answer {
 }
 
 /// Compares the number with which a list is refused: `12 10.0.0.0/33`.
-fn compare_refusal(alloc: Global, text: &str) -> Answer {
+fn compare_refusal(alloc: Global, text: &str) -> DialogueAnswer {
     let (wanted, entries) = number_and_rest(text)?;
     let got = match AccessList::parse(alloc, entries.as_bytes()) {
         Ok(_) => 0,
@@ -32,7 +32,7 @@ fn compare_refusal(alloc: Global, text: &str) -> Answer {
 }
 
 /// Plays a line that is about an access list.
-pub fn play_list(alloc: Global, line: &Line) -> Answer {
+pub fn play_list(alloc: Global, line: &DialogueLine) -> DialogueAnswer {
     match line.verb {
         "admits" => compare_admission(alloc, line.rest),
         "refuse" => compare_refusal(alloc, line.rest),
@@ -41,7 +41,7 @@ pub fn play_list(alloc: Global, line: &Line) -> Answer {
 }
 
 /// Plays a line that is about the configuration of a file: `refuse 23 FILE`.
-pub fn play_config<R: Files + AllocGlobal>(rt: &R, line: &Line) -> Answer {
+pub fn play_config<R: Files + AllocGlobal>(rt: &R, line: &DialogueLine) -> DialogueAnswer {
     if line.verb != "refuse" {
         return Err(Fault::Step);
     }

@@ -1,30 +1,34 @@
 //! A whole dialogue.
-use crate::clients::Answer;
+use crate::clients::DialogueAnswer;
 use crate::fault::Fault;
-use crate::line::{Line, line_of, number_of};
+use crate::line::{DialogueLine, line_of, number_of};
 use crate::listings::play_records;
 use crate::lists::{play_config, play_list};
-use crate::readers::Reading;
-use crate::stage::Stage;
+use crate::readers::DialogueReading;
+use crate::stage::DialogueStage;
 use std::fs;
 use std::rt::Files;
 
 /// The server and the reader of a dialogue, once a line has made them.
 #[derive(Drop)]
 struct Scene {
-    stage: Option<Box<Stage>>,
-    reading: Option<Box<Reading>>,
+    stage: Option<Box<DialogueStage>>,
+    reading: Option<Box<DialogueReading>>,
 }
 
 /// A new server with the configuration of a file.
-fn set_stage<R: Files + AllocGlobal>(rt: &R, scene: &mut Scene, path: &str) -> Answer {
-    let new = Box::new(rt.alloc(), Stage::new(rt, path)?)?;
+fn set_stage<R: Files + AllocGlobal>(rt: &R, scene: &mut Scene, path: &str) -> DialogueAnswer {
+    let new = Box::new(rt.alloc(), DialogueStage::new(rt, path)?)?;
     scene.stage = Some(new);
     Ok(None)
 }
 
 /// Plays a line at the server that the last `server config FILE` made.
-fn play_at_server<R: Files + AllocGlobal>(rt: &R, scene: &mut Scene, line: &Line) -> Answer {
+fn play_at_server<R: Files + AllocGlobal>(
+    rt: &R,
+    scene: &mut Scene,
+    line: &DialogueLine,
+) -> DialogueAnswer {
     if line.subject == "server" && line.verb == "config" {
         return set_stage(rt, scene, line.rest);
     }
@@ -35,9 +39,9 @@ fn play_at_server<R: Files + AllocGlobal>(rt: &R, scene: &mut Scene, line: &Line
 }
 
 /// Plays a line that is about the reader, which `wants` makes.
-fn play_reader<R: AllocGlobal>(rt: &R, scene: &mut Scene, line: &Line) -> Answer {
+fn play_reader<R: AllocGlobal>(rt: &R, scene: &mut Scene, line: &DialogueLine) -> DialogueAnswer {
     if line.verb == "wants" {
-        let new = Box::new(rt.alloc(), Reading::new(rt.alloc(), line.rest)?)?;
+        let new = Box::new(rt.alloc(), DialogueReading::new(rt.alloc(), line.rest)?)?;
         scene.reading = Some(new);
         return Ok(None);
     }
@@ -47,7 +51,11 @@ fn play_reader<R: AllocGlobal>(rt: &R, scene: &mut Scene, line: &Line) -> Answer
     }
 }
 
-fn play_line<R: Files + AllocGlobal>(rt: &R, scene: &mut Scene, line: &Line) -> Answer {
+fn play_line<R: Files + AllocGlobal>(
+    rt: &R,
+    scene: &mut Scene,
+    line: &DialogueLine,
+) -> DialogueAnswer {
     match line.subject {
         "reader" => play_reader(rt, scene, line),
         "records" => play_records(rt, line),
@@ -58,7 +66,7 @@ fn play_line<R: Files + AllocGlobal>(rt: &R, scene: &mut Scene, line: &Line) -> 
 }
 
 /// Plays a text that is a line, unless it is empty or a remark.
-fn play_text<R: Files + AllocGlobal>(rt: &R, scene: &mut Scene, text: &str) -> Answer {
+fn play_text<R: Files + AllocGlobal>(rt: &R, scene: &mut Scene, text: &str) -> DialogueAnswer {
     match line_of(text) {
         Some(line) => play_line(rt, scene, &line),
         None => Ok(None),
@@ -66,7 +74,7 @@ fn play_text<R: Files + AllocGlobal>(rt: &R, scene: &mut Scene, text: &str) -> A
 }
 
 /// Plays a text that is to be answered otherwise than it wants.
-fn play_not<R: Files + AllocGlobal>(rt: &R, scene: &mut Scene, text: &str) -> Answer {
+fn play_not<R: Files + AllocGlobal>(rt: &R, scene: &mut Scene, text: &str) -> DialogueAnswer {
     match play_text(rt, scene, text)? {
         Some(_) => Ok(None),
         None => Ok(Some(String::from_str(rt.alloc(), "just that")?)),
@@ -74,7 +82,7 @@ fn play_not<R: Files + AllocGlobal>(rt: &R, scene: &mut Scene, text: &str) -> An
 }
 
 /// Plays texts that ` ; ` separates, up to the first answer that is not as its text wants.
-fn play_all_of<R: Files + AllocGlobal>(rt: &R, scene: &mut Scene, texts: &str) -> Answer {
+fn play_all_of<R: Files + AllocGlobal>(rt: &R, scene: &mut Scene, texts: &str) -> DialogueAnswer {
     for text in texts.split(';') {
         if let Some(got) = play_text(rt, scene, text.trim())? {
             return Ok(Some(got));
@@ -89,7 +97,7 @@ fn play_times<R: Files + AllocGlobal>(
     scene: &mut Scene,
     texts: &str,
     times: usize,
-) -> Answer {
+) -> DialogueAnswer {
     for _ in 0..times {
         if let Some(got) = play_all_of(rt, scene, texts)? {
             return Ok(Some(got));
@@ -99,7 +107,7 @@ fn play_times<R: Files + AllocGlobal>(
 }
 
 /// Plays a text, which may begin with `not` or with a number and `times`.
-fn play_any<R: Files + AllocGlobal>(rt: &R, scene: &mut Scene, text: &str) -> Answer {
+fn play_any<R: Files + AllocGlobal>(rt: &R, scene: &mut Scene, text: &str) -> DialogueAnswer {
     if let Some(rest) = text.strip_prefix("not ") {
         return play_not(rt, scene, rest);
     }
@@ -115,7 +123,7 @@ fn report<R: Print + AllocGlobal>(
     name: &str,
     number: usize,
     line: &str,
-    answer: Answer,
+    answer: DialogueAnswer,
 ) -> Result<bool, Fault> {
     match answer {
         Ok(None) => return Ok(true),

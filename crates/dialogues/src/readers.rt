@@ -1,7 +1,7 @@
 //! A reader of a server that sends what it was told to send, whatever it is asked.
-use crate::clients::{Answer, compare_numbers};
+use crate::clients::{DialogueAnswer, compare_numbers};
 use crate::fault::Fault;
-use crate::line::{Line, number_of};
+use crate::line::{DialogueLine, number_of};
 use crate::spelling::{shown, spelled};
 use reader_run::{Nowhere, Times, read_over};
 use sl_io::{MemorySink, MemorySource};
@@ -10,7 +10,7 @@ use std::alloc::Global;
 
 /// What a reader is to ask for, and what came of it.
 #[derive(Drop)]
-pub struct Reading {
+pub struct DialogueReading {
     wants: String,
     asked: Vec<u8>,
     told: Vec<u8>,
@@ -31,7 +31,7 @@ fn plan_of<'a>(alloc: Global, words: &'a str) -> Result<Plan<'a>, Fault> {
 }
 
 /// What comes of it if the server sends these bytes, so many at a time.
-fn read_in(alloc: Global, wants: &str, sent: &[u8], most: usize) -> Result<Reading, Fault> {
+fn read_in(alloc: Global, wants: &str, sent: &[u8], most: usize) -> Result<DialogueReading, Fault> {
     let mut reader = MemorySource::in_pieces(sent, most.max(1));
     let mut writer = MemorySink::new(alloc);
     let mut out = MemorySink::new(alloc);
@@ -48,7 +48,7 @@ fn read_in(alloc: Global, wants: &str, sent: &[u8], most: usize) -> Result<Readi
         Ok(()) => 0,
         Err(fault) => fault.reason().number(),
     };
-    Ok(Reading {
+    Ok(DialogueReading {
         wants: String::from_str(alloc, wants)?,
         asked: writer.into_bytes(),
         told: out.into_bytes(),
@@ -57,7 +57,7 @@ fn read_in(alloc: Global, wants: &str, sent: &[u8], most: usize) -> Result<Readi
 }
 
 /// Compares bytes with those that are wanted.
-fn compare_bytes(alloc: Global, wanted: &[u8], got: &[u8]) -> Answer {
+fn compare_bytes(alloc: Global, wanted: &[u8], got: &[u8]) -> DialogueAnswer {
     if wanted == got {
         return Ok(None);
     }
@@ -65,7 +65,7 @@ fn compare_bytes(alloc: Global, wanted: &[u8], got: &[u8]) -> Answer {
 }
 
 /// Whether the same is told, and the same fault comes, if the server's bytes come in other pieces.
-fn is_same_in_pieces(alloc: Global, reading: &Reading, sent: &[u8]) -> Result<bool, Fault> {
+fn is_same_in_pieces(alloc: Global, reading: &DialogueReading, sent: &[u8]) -> Result<bool, Fault> {
     for most in [1, 7] {
         let other = read_in(alloc, reading.wants.as_str(), sent, most)?;
         if other.fault != reading.fault || other.told.as_slice() != reading.told.as_slice() {
@@ -75,10 +75,10 @@ fn is_same_in_pieces(alloc: Global, reading: &Reading, sent: &[u8]) -> Result<bo
     Ok(true)
 }
 
-impl Reading {
+impl DialogueReading {
     /// A reader that is to ask for these wants, and has not begun.
-    pub fn new(alloc: Global, wants: &str) -> Result<Reading, Fault> {
-        Ok(Reading {
+    pub fn new(alloc: Global, wants: &str) -> Result<DialogueReading, Fault> {
+        Ok(DialogueReading {
             wants: String::from_str(alloc, wants)?,
             asked: Vec::new(alloc),
             told: Vec::new(alloc),
@@ -87,7 +87,7 @@ impl Reading {
     }
 
     /// The server sends bytes.
-    fn send(&mut self, alloc: Global, text: &str) -> Answer {
+    fn send(&mut self, alloc: Global, text: &str) -> DialogueAnswer {
         let sent = spelled(alloc, text, b"")?;
         let read = read_in(alloc, self.wants.as_str(), sent.as_slice(), 520)?;
         *self = read;
@@ -98,7 +98,7 @@ impl Reading {
     }
 
     /// Compares what the reader asked. After a fault some of it may not have been sent.
-    fn compare_asked(&self, alloc: Global, text: &str) -> Answer {
+    fn compare_asked(&self, alloc: Global, text: &str) -> DialogueAnswer {
         let wanted = spelled(alloc, text, b"")?;
         if self.fault != 0 && wanted.as_slice().starts_with(self.asked.as_slice()) {
             return Ok(None);
@@ -107,7 +107,7 @@ impl Reading {
     }
 
     /// Plays a line that is about the reader.
-    pub fn play(&mut self, alloc: Global, line: &Line) -> Answer {
+    pub fn play(&mut self, alloc: Global, line: &DialogueLine) -> DialogueAnswer {
         match line.verb {
             "sent" => self.send(alloc, line.rest),
             "asks" => self.compare_asked(alloc, line.rest),

@@ -1,7 +1,7 @@
 //! A server, and who and what has come to it.
-use crate::clients::{Answer, Caller, compare_numbers, play_client};
+use crate::clients::{Caller, DialogueAnswer, compare_numbers, play_client};
 use crate::fault::Fault;
-use crate::line::{Line, number_and_rest};
+use crate::line::{DialogueLine, number_and_rest};
 use crate::records::{Arrived, record_of, told_record};
 use access_list::address;
 use catalog::Config;
@@ -13,7 +13,7 @@ use std::rt::Files;
 
 /// A server, and who and what has come to it, by their names.
 #[derive(Drop)]
-pub struct Stage {
+pub struct DialogueStage {
     alloc: Global,
     server: Server,
     callers: Vec<Caller>,
@@ -27,12 +27,12 @@ fn config_in<R: Files + AllocGlobal>(rt: &R, path: &str) -> Result<Config, Fault
     Ok(config)
 }
 
-impl Stage {
+impl DialogueStage {
     /// A new server with the configuration of a file.
-    pub fn new<R: Files + AllocGlobal>(rt: &R, path: &str) -> Result<Stage, Fault> {
+    pub fn new<R: Files + AllocGlobal>(rt: &R, path: &str) -> Result<DialogueStage, Fault> {
         let config = config_in(rt, path)?;
         let server = Server::new(rt.alloc(), config)?;
-        Ok(Stage {
+        Ok(DialogueStage {
             alloc: rt.alloc(),
             server,
             callers: Vec::new(rt.alloc()),
@@ -41,7 +41,7 @@ impl Stage {
     }
 
     /// The configuration of a file is read again, and refused with a number; 0 where it is taken.
-    fn reload<R: Files + AllocGlobal>(&mut self, rt: &R, path: &str, wanted: u8) -> Answer {
+    fn reload<R: Files + AllocGlobal>(&mut self, rt: &R, path: &str, wanted: u8) -> DialogueAnswer {
         let config = config_in(rt, path)?;
         let got = match self.server.reload(config) {
             Ok(()) => 0,
@@ -51,7 +51,11 @@ impl Stage {
     }
 
     /// What is done to the server.
-    fn play_server<R: Files + AllocGlobal>(&mut self, rt: &R, line: &Line) -> Answer {
+    fn play_server<R: Files + AllocGlobal>(
+        &mut self,
+        rt: &R,
+        line: &DialogueLine,
+    ) -> DialogueAnswer {
         match line.verb {
             "reload" => self.reload(rt, line.rest, 0),
             "refuse" => {
@@ -85,7 +89,7 @@ impl Stage {
     }
 
     /// A client comes from an address.
-    fn open(&mut self, name: &str, text: &str) -> Answer {
+    fn open(&mut self, name: &str, text: &str) -> DialogueAnswer {
         let Some(address) = address(text.as_bytes()) else {
             return Err(Fault::Step);
         };
@@ -95,7 +99,7 @@ impl Stage {
     }
 
     /// A record arrives, and is taken.
-    fn arrive(&mut self, name: &str, bytes: [u8; 512]) -> Answer {
+    fn arrive(&mut self, name: &str, bytes: [u8; 512]) -> DialogueAnswer {
         match self.server.arrive(&bytes) {
             Ok(number) => {
                 let name = String::from_str(self.alloc, name)?;
@@ -111,7 +115,7 @@ impl Stage {
     }
 
     /// A record arrives, and is refused with a number: `32 arrive GE NONE -- BHZ 2024,60,0,0,0,0 100`.
-    fn refuse(&mut self, text: &str) -> Answer {
+    fn refuse(&mut self, text: &str) -> DialogueAnswer {
         let (wanted, line) = number_and_rest(text)?;
         let bytes = told_record(self.alloc, line)?;
         let got = match self.server.arrive(&bytes) {
@@ -122,7 +126,7 @@ impl Stage {
     }
 
     /// The number that a record was given.
-    fn compare_number(&self, name: &str, text: &str) -> Answer {
+    fn compare_number(&self, name: &str, text: &str) -> DialogueAnswer {
         let record = record_of(self.records.as_slice(), name)?;
         let Some(wanted) = Seq::parse(text.as_bytes()) else {
             return Err(Fault::Step);
@@ -135,7 +139,7 @@ impl Stage {
     }
 
     /// What a client does or is handed.
-    fn play_caller(&mut self, line: &Line) -> Answer {
+    fn play_caller(&mut self, line: &DialogueLine) -> DialogueAnswer {
         for caller in self.callers.iter_mut() {
             if caller.name.as_str() == line.subject {
                 return play_client(
@@ -151,7 +155,7 @@ impl Stage {
     }
 
     /// What comes, or what is asked of what came.
-    fn play_name(&mut self, line: &Line) -> Answer {
+    fn play_name(&mut self, line: &DialogueLine) -> DialogueAnswer {
         match line.verb {
             "open" => self.open(line.subject, line.rest),
             "arrive" | "arrive-hex" => {
@@ -165,7 +169,7 @@ impl Stage {
     }
 
     /// Plays a line.
-    pub fn play<R: Files + AllocGlobal>(&mut self, rt: &R, line: &Line) -> Answer {
+    pub fn play<R: Files + AllocGlobal>(&mut self, rt: &R, line: &DialogueLine) -> DialogueAnswer {
         if line.subject == "server" {
             self.play_server(rt, line)
         } else {

@@ -12,7 +12,7 @@ mod lines;
 mod memory_device;
 mod standard_error;
 
-pub use lines::{ErrorLines, Line};
+pub use lines::{ErrorLine, ErrorLines};
 pub use memory_device::MemoryDevice;
 pub use standard_error::StandardError;
 

@@ -13,7 +13,7 @@ use arrayvec::ArrayString;
 use itoa::Buffer;
 
 /// A line without its end, in room that is there already. A write that doesn't fit fails and appends nothing.
-pub type Line = ArrayString<2048>;
+pub type ErrorLine = ArrayString<2048>;
 
 /// All that is written at once: a pipe takes so many bytes whole or not at all.
 type Text = ArrayString<4096>;
@@ -104,7 +104,7 @@ impl<D: Device> ErrorLines<D> {
     /// Writes a line, with its end after it, and before it how many were dropped, if any were: in one piece, without
     /// waiting. If the device takes less than all of that, the line is dropped, and `false` is answered. What it took
     /// stays, and the next line begins with the end of that one.
-    pub fn write_line(&mut self, line: &Line) -> bool
+    pub fn write_line(&mut self, line: &ErrorLine) -> bool
         ensures { WritesLine (lines_value self.old) (lines_value self.new) (D.taken self.old.device)
             (D.taken self.new.device) line.now.bytes result }
     {

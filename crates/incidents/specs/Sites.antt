@@ -21,7 +21,7 @@ use Rattle.catalog.specs.declared.error.ConfigError.{ConfigError}
 use Rattle.catalog.specs.declared.fault.ConfigFault.{ConfigFault}
 use Rattle.catalog.specs.declared.fault.ConfigFault.TheVariants as config
 use Rattle.config_explained.specs.declared.difference.Difference.{Difference}
-use Rattle.config_explained.specs.declared.finding.Finding.{Finding}
+use Rattle.config_explained.specs.declared.finding.ConfigFinding.{ConfigFinding}
 
 -- of a job that reads a file
 abbrev pub file_site : Failure → Bor (List ℕ) → Site
@@ -76,12 +76,12 @@ listening_site clients feeds (error.Clients reason) = Socket clients reason
 listening_site clients feeds (error.Feeds reason) = Socket feeds reason
 
 -- of a configuration that is refused with that fault
-abbrev pub setting_site : Bor (List ℕ) → ConfigError → Finding → ConfigFault → Site
+abbrev pub setting_site : Bor (List ℕ) → ConfigError → ConfigFinding → ConfigFault → Site
 setting_site path error finding config.OutOfMemory = Unnamed
 setting_site path error finding _ = Setting path error finding
 
 -- of a configuration that is refused
-abbrev pub config_site : Bor (List ℕ) → ConfigError → Finding → Site
+abbrev pub config_site : Bor (List ℕ) → ConfigError → ConfigFinding → Site
 config_site path error finding = setting_site path error finding error.fault
 
 -- of a configuration that differs: in what first, if that is known

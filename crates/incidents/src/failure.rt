@@ -2,7 +2,7 @@
 ghost use Rattle.std.specs.Prelude.{◌≡◌};
 ghost use Rattle.incidents.specs.Faults.{failure_reason};
 
-use crate::faults::{NumbersFault, ReplayFault, StateFault, StatusFault, WantsFault};
+use crate::faults::{NumbersFault, ReplayFault, StateRefusal, StatusFault, WantsFault};
 use catalog::ConfigFault;
 use feeder::SendFault;
 use ports_socket::ListenFault;
@@ -70,7 +70,7 @@ pub enum Failure {
     /// The numbers of an earlier run were not read.
     Numbers(NumbersFault),
     /// The state of an earlier reader was not read.
-    State(StateFault),
+    State(StateRefusal),
     /// What the sentence of its reason says, and no more, as that a file could not be opened.
     Of(Reason),
     /// What a status port answered was not taken.
@@ -157,8 +157,8 @@ fn own_cause(failure: Failure) -> Option<&'static str> {
         Failure::Numbers(NumbersFault::Locked) =>
             "another server keeps its numbers in the file of numbers",
         Failure::Numbers(NumbersFault::Special) => "the file of numbers is no plain file",
-        Failure::State(StateFault::Unread) => "the file with the state can't be read",
-        Failure::State(StateFault::Invalid) => {
+        Failure::State(StateRefusal::Unread) => "the file with the state can't be read",
+        Failure::State(StateRefusal::Invalid) => {
             "the file with the state is not in lines of a network, a station, a number and an end"
         }
         Failure::Status(StatusFault::Ended) => {

@@ -52,14 +52,14 @@ impl NumbersFault {
 
 /// Why the state of an earlier reader was not read.
 #[derive(Clone, Copy, Drop)]
-pub enum StateFault {
+pub enum StateRefusal {
     /// The file can't be opened, or not be read to its end.
     Unread,
     /// Its text is not as it has to be.
     Invalid,
 }
 
-impl StateFault {
+impl StateRefusal {
     /// The reason by which the program reports it: 53 State.
     pub fn reason(self) -> Reason
         ensures { result ≡ Reason.State }

@@ -21,7 +21,7 @@ use crate::part_texts::allowed_together;
 use crate::site::{Site, WantPlace};
 use access_list::{AccessFault, AccessList};
 use catalog::{ConfigError, ConfigFault};
-use config_explained::{Difference, Finding as ConfigFinding};
+use config_explained::{ConfigFinding, Difference};
 use ports_socket::ListenError;
 use record_check::Finding;
 use server_core::ReloadFault;
@@ -267,12 +267,12 @@ impl<'a> From<Failure> for Incident<'a> {
 
 /// What standard error is told of an incident: the line `seedlinkd: N Name`, and on request the lines that explain it.
 #[derive(Clone, Copy)]
-pub struct Told<'t, 'a> {
+pub struct ToldIncident<'t, 'a> {
     pub incident: &'t Incident<'a>,
     pub is_verbose: bool,
 }
 
-impl Display for Told<'_, '_> {
+impl Display for ToldIncident<'_, '_> {
     fn fmt<W: Write>(&self, f: &mut Formatter<W>) -> fmt::Result {
         let reason = self.incident.failure.reason();
         writeln!(f, "seedlinkd: {} {}", reason.number(), reason.name())?;

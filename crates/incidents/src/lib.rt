@@ -10,7 +10,7 @@ mod part_texts;
 mod site;
 
 pub use failure::Failure;
-pub use faults::{NumbersFault, ReplayFault, StateFault, StatusFault, WantsFault};
-pub use incident::{Incident, Told};
+pub use faults::{NumbersFault, ReplayFault, StateRefusal, StatusFault, WantsFault};
+pub use incident::{Incident, ToldIncident};
 pub use kinds::{FileKind, kind_of};
 pub use site::{FoundFault, FoundFile, Site, WantPlace};

@@ -2,7 +2,7 @@
 use crate::kinds::FileKind;
 use crate::part_texts::{allowed_in, name_of};
 use catalog::{ConfigError, Step};
-use config_explained::{Difference, Finding as ConfigFinding, key_of, limit_of};
+use config_explained::{ConfigFinding, Difference, key_of, limit_of};
 use record_check::Finding;
 use shown_lines::put_line;
 use slreader::WantPart;

@@ -20,15 +20,15 @@ fn keep(first: &mut FirstBytes, bytes: &[u8])
 
 /// Passes on what is read of a file, and keeps its first bytes.
 #[derive(Drop)]
-pub struct Begun<T> {
+pub struct BegunFile<T> {
     inner: T,
     first: FirstBytes,
 }
 
-impl<T> Begun<T> {
+impl<T> BegunFile<T> {
     /// What is read of `inner`, before its first byte.
-    pub fn new(inner: T) -> Begun<T> {
-        Begun {
+    pub fn new(inner: T) -> BegunFile<T> {
+        BegunFile {
             inner,
             first: ArrayVec::new(),
         }
@@ -36,7 +36,7 @@ impl<T> Begun<T> {
 
     /// What was read, and its first bytes.
     pub fn into_parts(self) -> (T, FirstBytes) {
-        let Begun { inner, first } = self;
+        let BegunFile { inner, first } = self;
         (inner, first)
     }
 
@@ -46,7 +46,7 @@ impl<T> Begun<T> {
     }
 }
 
-impl<T: Read> Read for Begun<T> {
+impl<T: Read> Read for BegunFile<T> {
     fn read(&mut self, block: &mut [u8]) -> io::Result<usize> {
         let count = self.inner.read(block)?;
         keep(&mut self.first, &block[..count]);

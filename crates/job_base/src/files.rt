@@ -1,7 +1,7 @@
 //! Files that are read whole, configurations among them, and files that are replaced whole.
 use crate::reasons::ReasonKeeper;
 use catalog::{Config, ConfigError};
-use config_explained::{Finding, finding_of};
+use config_explained::{ConfigFinding, finding_of};
 use incidents::{Failure, Incident, Site};
 use protocol::reason::Reason;
 use sl_io::{Outer, ReadFault, read_all};
@@ -45,7 +45,7 @@ pub fn config_in<'a>(alloc: Global, path: &'a str, text: &[u8]) -> Result<Config
 fn refused<'a>(alloc: Global, path: &'a str, text: &[u8], error: ConfigError) -> Incident<'a> {
     let finding = match finding_of(alloc, text, &error) {
         Ok(finding) => finding,
-        Err(_) => Finding::Nothing,
+        Err(_) => ConfigFinding::Nothing,
     };
     Incident::of_config(path, error, finding)
 }

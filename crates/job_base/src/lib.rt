@@ -16,7 +16,7 @@ mod standard_error;
 mod telling;
 mod times;
 
-pub use begun::{Begun, FirstBytes};
+pub use begun::{BegunFile, FirstBytes};
 pub use configured::ConfiguredStations;
 pub use descriptors::descriptor_limit;
 pub use endpoint::Endpoint;
@@ -26,6 +26,6 @@ pub use plain_files::{place_of, plain_at, plain_text_at};
 pub use progress::{Watched, is_output_terminal, is_terminal, size_of};
 pub use reasons::ReasonKeeper;
 pub use servers::{ServerAddress, connect, connection, server_of, unconnected};
-pub use standard_error::StandardError;
+pub use standard_error::ErrorOutput;
 pub use telling::tell_incident;
 pub use times::times_of;

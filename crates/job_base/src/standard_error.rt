@@ -4,17 +4,17 @@ use std::io::Write;
 
 /// Writes text to the standard error.
 #[derive(Drop)]
-pub struct StandardError<'a, R> {
+pub struct ErrorOutput<'a, R> {
     rt: &'a R,
 }
 
-impl<'a, R> StandardError<'a, R> {
-    pub fn new(rt: &'a R) -> StandardError<'a, R> {
-        StandardError { rt }
+impl<'a, R> ErrorOutput<'a, R> {
+    pub fn new(rt: &'a R) -> ErrorOutput<'a, R> {
+        ErrorOutput { rt }
     }
 }
 
-impl<'a, R: Eprint> Write for StandardError<'a, R> {
+impl<'a, R: Eprint> Write for ErrorOutput<'a, R> {
     fn write(&mut self, bytes: &[u8]) -> io::Result<usize> {
         match str::from_utf8(bytes) {
             Ok(text) => {

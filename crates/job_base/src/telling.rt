@@ -1,9 +1,9 @@
 //! Lines on the standard error.
-use incidents::{Incident, Told};
+use incidents::{Incident, ToldIncident};
 
 /// Tells a failure in the line `seedlinkd: N Name`, and on request explains it in the lines after that.
 pub fn tell_incident<R: Eprint>(rt: &R, incident: Incident<'_>, is_verbose: bool) {
-    let told = Told {
+    let told = ToldIncident {
         incident: &incident,
         is_verbose,
     };

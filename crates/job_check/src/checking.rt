@@ -7,8 +7,8 @@ use crate::names::{FileLine, FileName, files_of};
 use command_line::CheckOptions;
 use incidents::{Failure, FileKind, Incident, kind_of};
 use job_base::{
-    Begun, ConfiguredStations, FirstBytes, ReasonKeeper, Watched, config_at, is_output_terminal,
-    is_terminal, size_of, times_of,
+    BegunFile, ConfiguredStations, FirstBytes, ReasonKeeper, Watched, config_at,
+    is_output_terminal, is_terminal, size_of, times_of,
 };
 use record_check::{AllStations, Finding, ListingOptions, RecordCheck, Stations};
 use sl_io::{Outer, StreamFault};
@@ -166,7 +166,7 @@ fn check_open<R: Print + Eprint + Clock + AllocGlobal, S: Stations>(
     let size = size_of(&file);
     let is_shown = is_terminal() && (options.is_quiet || !is_output_terminal());
     let watched = Watched::new(rt, ReasonKeeper::new(file), size, is_shown);
-    let mut begun = Begun::new(watched);
+    let mut begun = BegunFile::new(watched);
     let finding = list_file(rt, listing_options(options), stations, check, &mut begun);
     let (watched, first) = begun.into_parts();
     Checked {

@@ -6,14 +6,14 @@ use std::{fs, io};
 
 /// Folders that are not looked into yet, and files that were found.
 #[derive(Drop)]
-struct Walk {
+struct FolderWalk {
     folders: Vec<String>,
     files: Vec<String>,
 }
 
 /// Why a folder can't be looked into, and which.
 #[derive(Drop)]
-pub struct FolderFault {
+pub struct UnlistedFolder {
     pub path: String,
     pub reason: io::Error,
 }
@@ -41,7 +41,7 @@ fn is_file<R: Files>(rt: &R, path: &str) -> bool {
 fn note<R: Files>(
     rt: &R,
     alloc: Global,
-    walk: &mut Walk,
+    walk: &mut FolderWalk,
     path: &str,
     kind: FileType,
 ) -> io::Result<()> {
@@ -54,7 +54,11 @@ fn note<R: Files>(
 }
 
 /// Notes all that stands in a folder and is not passed over.
-fn look_into<R: Files + AllocGlobal>(rt: &R, walk: &mut Walk, folder: &str) -> io::Result<()> {
+fn look_into<R: Files + AllocGlobal>(
+    rt: &R,
+    walk: &mut FolderWalk,
+    folder: &str,
+) -> io::Result<()> {
     for entry in fs::read_dir(&rt, folder)? {
         let entry = entry?;
         if !is_passed_over(entry.file_name()) {
@@ -66,14 +70,17 @@ fn look_into<R: Files + AllocGlobal>(rt: &R, walk: &mut Walk, folder: &str) -> i
 }
 
 /// Looks into one folder after the other until there is no other one.
-fn look_into_all<R: Files + AllocGlobal>(rt: &R, walk: &mut Walk) -> Result<(), FolderFault> {
+fn look_into_all<R: Files + AllocGlobal>(
+    rt: &R,
+    walk: &mut FolderWalk,
+) -> Result<(), UnlistedFolder> {
     'folders: for _ in 0..u64::MAX {
         let Some(path) = walk.folders.pop() else {
             return Ok(());
         };
         match look_into(rt, walk, path.as_str()) {
             Ok(()) => {}
-            Err(reason) => return Err(FolderFault { path, reason }),
+            Err(reason) => return Err(UnlistedFolder { path, reason }),
         }
     }
     Ok(())
@@ -83,9 +90,9 @@ fn look_into_all<R: Files + AllocGlobal>(rt: &R, walk: &mut Walk) -> Result<(), 
 pub fn files_below<R: Files + AllocGlobal>(
     rt: &R,
     folder: String,
-) -> Result<Vec<String>, FolderFault> {
+) -> Result<Vec<String>, UnlistedFolder> {
     let alloc = rt.alloc();
-    let mut walk = Walk {
+    let mut walk = FolderWalk {
         folders: Vec::new(alloc),
         files: Vec::new(alloc),
     };
@@ -93,7 +100,7 @@ pub fn files_below<R: Files + AllocGlobal>(
         return Err(no_memory(alloc));
     }
     look_into_all(rt, &mut walk)?;
-    let Walk { mut files, .. } = walk;
+    let FolderWalk { mut files, .. } = walk;
     match files.sort() {
         Ok(()) => Ok(files),
         Err(_) => Err(no_memory(alloc)),
@@ -101,8 +108,8 @@ pub fn files_below<R: Files + AllocGlobal>(
 }
 
 /// There is no memory for the paths.
-fn no_memory(alloc: Global) -> FolderFault {
-    FolderFault {
+fn no_memory(alloc: Global) -> UnlistedFolder {
+    UnlistedFolder {
         path: String::new(alloc),
         reason: io::Error::from(io::ErrorKind::OutOfMemory),
     }

@@ -1,5 +1,5 @@
 //! The files of records that the words of the command line name.
-use crate::folders::{FolderFault, files_below};
+use crate::folders::{UnlistedFolder, files_below};
 use incidents::{Failure, FileKind, FoundFault, FoundFile, Incident, Site};
 use job_base::unopened;
 use protocol::reason::Reason;
@@ -122,7 +122,7 @@ impl Display for FileLine<'_, '_> {
 }
 
 /// A folder whose files can't be listed.
-fn unlisted<'a>(fault: FolderFault) -> Incident<'a> {
+fn unlisted<'a>(fault: UnlistedFolder) -> Incident<'a> {
     found_unopened(fault.path, fault.reason)
 }
 

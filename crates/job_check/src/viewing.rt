@@ -116,7 +116,7 @@ pub fn list_parts<W: Sink>(
 
 /// What is written of a configuration.
 #[derive(Clone, Copy)]
-enum Asked<'a> {
+enum ViewAsked<'a> {
     /// All stations, with whom they are open to.
     Everything,
     /// What an address sees.
@@ -130,22 +130,22 @@ enum Asked<'a> {
 }
 
 /// The address or the network that a word is; any other word is a file.
-fn who_in<'a>(word: &'a str) -> Asked<'a> {
+fn who_in<'a>(word: &'a str) -> ViewAsked<'a> {
     match address(word.as_bytes()) {
-        Some(address) => Asked::Address(address),
+        Some(address) => ViewAsked::Address(address),
         None => match Network::parse(word.as_bytes()) {
-            Some(network) => Asked::Network(network),
-            None => Asked::Other(word),
+            Some(network) => ViewAsked::Network(network),
+            None => ViewAsked::Other(word),
         },
     }
 }
 
 /// What the words ask for.
-fn asked_in<'a>(options: &ViewOptions<'a>) -> Asked<'a> {
+fn asked_in<'a>(options: &ViewOptions<'a>) -> ViewAsked<'a> {
     match (options.station, options.who) {
-        (Some(word), _) => Asked::Station(word),
+        (Some(word), _) => ViewAsked::Station(word),
         (None, Some(word)) => who_in(word),
-        (None, None) => Asked::Everything,
+        (None, None) => ViewAsked::Everything,
     }
 }
 
@@ -237,11 +237,11 @@ fn write_view<'a, R: Files + Print + Eprint + AllocGlobal>(
     text: &[u8],
 ) -> Result<(), Incident<'a>> {
     let (written, word) = match asked_in(options) {
-        Asked::Everything => (write_all_stations(rt, config, text), None),
-        Asked::Address(address) => (write_seen(rt, config, address), None),
-        Asked::Network(network) => (write_parts(rt, config, text, network), None),
-        Asked::Station(word) => (write_station(rt, config, text, word), Some(word)),
-        Asked::Other(path) => return write_changes(rt, config, text, path, options.is_strict),
+        ViewAsked::Everything => (write_all_stations(rt, config, text), None),
+        ViewAsked::Address(address) => (write_seen(rt, config, address), None),
+        ViewAsked::Network(network) => (write_parts(rt, config, text, network), None),
+        ViewAsked::Station(word) => (write_station(rt, config, text, word), Some(word)),
+        ViewAsked::Other(path) => return write_changes(rt, config, text, path, options.is_strict),
     };
     match (written, word) {
         (Ok(()), _) => Ok(()),
@@ -258,7 +258,7 @@ fn view_config<'a, R: Files + Print + Eprint + AllocGlobal>(
     config: &Config,
     text: &[u8],
 ) -> Result<(), Incident<'a>> {
-    if matches!(asked_in(options), Asked::Other(_)) {
+    if matches!(asked_in(options), ViewAsked::Other(_)) {
         return write_view(rt, options, config, text);
     }
     tell_unknown_keys(rt, options.config, config, text, options.is_strict)?;

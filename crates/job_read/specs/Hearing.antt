@@ -10,8 +10,8 @@ use Rattle.protocol.specs.Pieces.{split}
 use Rattle.slreader.specs.Wants.{Action, WantValue}
 use Rattle.slreader.specs.Wants.Action.{Data, Fetch, Time}
 use Rattle.slreader.specs.Tallies.{TallyValue, ReachedValue, reached_of}
-use Rattle.job_read.specs.declared.line.Line.{Line}
-use Rattle.job_read.specs.declared.line.Line.TheVariants as line
+use Rattle.job_read.specs.declared.line.ListedLine.{ListedLine}
+use Rattle.job_read.specs.declared.line.ListedLine.TheVariants as line
 use Rattle.job_read.specs.Notices.{NoticeValue}
 use Rattle.job_read.specs.Notices.NoticeValue.{Refused, Gap}
 
@@ -77,7 +77,7 @@ pub data LineValue : Type 0 where
   PacketLine : (number : ℕ) → (network station : List ℕ) → LineValue
   OtherLine : LineValue
 
-abbrev pub line_value : Line → LineValue
+abbrev pub line_value : ListedLine → LineValue
 line_value (line.Refused network station) = RefusedLine network.now station.now
 line_value (line.Packet number network station) = PacketLine number network.now station.now
 line_value line.Other = OtherLine

@@ -3,8 +3,8 @@
 -- command in more than one line, of which the last one counts.
 use Rattle.std.specs.Prelude.{◌≡◌, ℕ, ◌+◌, ◌-◌, ◌*◌, ◌%◌, Bool, true, false, ◌&&◌, ◌||◌, not, ◌==◌, nat_lt, min}
 use Rattle.std.specs.Prelude.{if◌then◌else◌, List, [], ◌∷◌, Option, Some, None, option_map, is_some}
-use Rattle.job_read.specs.declared.course.Command.{Command}
-use Rattle.job_read.specs.declared.course.Command.TheVariants.{Begun, E, En, End, Other}
+use Rattle.job_read.specs.declared.course.SentCommand.{SentCommand}
+use Rattle.job_read.specs.declared.course.SentCommand.TheVariants.{Begun, E, En, End, Other}
 use Rattle.job_read.specs.declared.patience.Silence.{Silence}
 use Rattle.job_read.specs.declared.patience.Silence.TheVariants.{Usual, Fault, Over}
 
@@ -12,7 +12,7 @@ use Rattle.job_read.specs.declared.patience.Silence.TheVariants.{Usual, Fault, O
 
 -- the command that is being sent, whether the transfer was asked for, and how many bytes of the packet under way came
 pub record CourseValue : Type 0 where
-  pub command : Command
+  pub command : SentCommand
   pub is_transfer : Bool
   pub packet : ℕ
 
@@ -21,7 +21,7 @@ abbrev pub started : CourseValue
 started = record { command = Begun; is_transfer = false; packet = 0 }
 
 -- a byte more of a command: `E` is 69, `N` is 78, `D` is 68
-abbrev pub lengthened : Command → ℕ → Command
+abbrev pub lengthened : SentCommand → ℕ → SentCommand
 lengthened Begun byte = if byte == 69 then E else Other
 lengthened E byte = if byte == 78 then En else Other
 lengthened En byte = if byte == 68 then End else Other
@@ -29,7 +29,7 @@ lengthened End byte = Other
 lengthened Other byte = Other
 
 -- the command asks for the transfer
-abbrev pub is_end : Command → Bool
+abbrev pub is_end : SentCommand → Bool
 is_end End = true
 is_end command = false
 

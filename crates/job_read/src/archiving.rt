@@ -7,7 +7,7 @@ use crate::torn::tell_torn;
 use crate::unplaced::UnplacedCount;
 use incidents::{Failure, FoundFault, FoundFile, Incident, Site};
 use job_base::{descriptor_limit, unopened};
-use reader_run::{Gathered, Nowhere, RecordSink, TakeFault};
+use reader_run::{Gathered, Nowhere, RecordSink, SinkFault};
 use record_archive::{
     Archive, ArchiveFault, ContinuedFiles, ContinuedOutput, DiskFiles, FileFailure, FileLength,
     FilePlace, FolderFault, ONE_FILE, RecordFiles, StationCodes, StationLocks, TopFault, Unnamed,
@@ -212,15 +212,15 @@ impl<'r, R: Files<File = File> + Eprint + Clock> RecordSink for ToldArchive<'r, 
         self.archive.get_mut().begin();
     }
 
-    fn take(&mut self, packet: &GivenPacket<'_>) -> Result<(), TakeFault> {
+    fn take(&mut self, packet: &GivenPacket<'_>) -> Result<(), SinkFault> {
         let (put, unplaced, torn) = put_to(self.archive.get_mut(), packet);
         self.tell(unplaced, torn);
         match put {
             Ok(()) => Ok(()),
-            Err(ArchiveFault::OutOfMemory) => Err(TakeFault::OutOfMemory),
+            Err(ArchiveFault::OutOfMemory) => Err(SinkFault::OutOfMemory),
             Err(ArchiveFault::Folder) => {
                 self.failures = self.failures.wrapping_add(1);
-                Err(TakeFault::Write)
+                Err(SinkFault::Write)
             }
         }
     }
@@ -339,7 +339,7 @@ impl<'r, R: Files<File = File> + Eprint + Clock> RecordSink for ToldOutput<'r, R
         self.output.get_mut().begin();
     }
 
-    fn take(&mut self, packet: &GivenPacket<'_>) -> Result<(), TakeFault> {
+    fn take(&mut self, packet: &GivenPacket<'_>) -> Result<(), SinkFault> {
         let (put, torn) = put_one(self.output.get_mut(), packet);
         if let Some(path) = torn {
             tell_torn(self.rt, path.as_str());
@@ -348,7 +348,7 @@ impl<'r, R: Files<File = File> + Eprint + Clock> RecordSink for ToldOutput<'r, R
             Ok(()) => Ok(()),
             Err(FolderFault) => {
                 self.failures = self.failures.wrapping_add(1);
-                Err(TakeFault::Write)
+                Err(SinkFault::Write)
             }
         }
     }

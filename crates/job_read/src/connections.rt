@@ -26,7 +26,7 @@ use std::time::Duration;
 
 /// The servers of a reading, and whose turn it is.
 #[derive(Drop)]
-pub struct Connections<'r, 'a, 'w, R: Net> {
+pub struct ServersInTurn<'r, 'a, 'w, R: Net> {
     rt: &'r R,
     reading: &'r Reading<'a, 'w>,
     places: Places,
@@ -34,14 +34,14 @@ pub struct Connections<'r, 'a, 'w, R: Net> {
     present: &'r RefCell<Option<R::Stream>>,
 }
 
-impl<'r, 'a, 'w, R: Eprint + Clock + Net> Connections<'r, 'a, 'w, R> {
+impl<'r, 'a, 'w, R: Eprint + Clock + Net> ServersInTurn<'r, 'a, 'w, R> {
     /// No connection was made yet.
     pub fn new(
         rt: &'r R,
         reading: &'r Reading<'a, 'w>,
         present: &'r RefCell<Option<R::Stream>>,
-    ) -> Connections<'r, 'a, 'w, R> {
-        Connections {
+    ) -> ServersInTurn<'r, 'a, 'w, R> {
+        ServersInTurn {
             rt,
             reading,
             places: Places::new(reading.servers.len()),
@@ -137,7 +137,7 @@ fn connected<'r, 'a, R: Net>(
     }
 }
 
-impl<'r, 'a, 'w, R: Eprint + Clock + Net> Servers for Connections<'r, 'a, 'w, R> {
+impl<'r, 'a, 'w, R: Eprint + Clock + Net> Servers for ServersInTurn<'r, 'a, 'w, R> {
     type Reader = ConnectionReader<'r, R, R::Stream>;
 
     type Writer = Outer<CommandWriter<'r, R::Stream>>;

@@ -9,7 +9,7 @@ const PACKET: usize = 520;
 
 /// The command that is being sent, as far as it may be END.
 #[derive(Clone, Copy, PartialEq, Eq, Drop)]
-pub enum Command {
+pub enum SentCommand {
     /// No byte of it yet.
     Begun,
     /// `E`.
@@ -22,16 +22,16 @@ pub enum Command {
     Other,
 }
 
-impl Command {
+impl SentCommand {
     /// A byte more.
-    fn lengthened(self, byte: u8) -> Command
+    fn lengthened(self, byte: u8) -> SentCommand
         ensures { result ≡ lengthened self byte }
     {
         match self {
-            Command::Begun if byte == b'E' => Command::E,
-            Command::E if byte == b'N' => Command::En,
-            Command::En if byte == b'D' => Command::End,
-            _ => Command::Other,
+            SentCommand::Begun if byte == b'E' => SentCommand::E,
+            SentCommand::E if byte == b'N' => SentCommand::En,
+            SentCommand::En if byte == b'D' => SentCommand::End,
+            _ => SentCommand::Other,
         }
     }
 
@@ -40,7 +40,7 @@ impl Command {
         ensures { result ≡ is_end self }
     {
         match self {
-            Command::End => true,
+            SentCommand::End => true,
             _ => false,
         }
     }
@@ -49,7 +49,7 @@ impl Command {
 /// How far a connection is.
 #[derive(Clone, Copy, Drop)]
 pub struct Course {
-    command: Command,
+    command: SentCommand,
     is_transfer: bool,
     packet: usize,
 }
@@ -73,7 +73,7 @@ impl Course {
         ensures { result ≡ started }
     {
         Course {
-            command: Command::Begun,
+            command: SentCommand::Begun,
             is_transfer: false,
             packet: 0,
         }
@@ -85,7 +85,7 @@ impl Course {
     {
         if byte == b'\r' {
             self.is_transfer = self.is_transfer || self.command.is_end();
-            self.command = Command::Begun;
+            self.command = SentCommand::Begun;
         } else {
             self.command = self.command.lengthened(byte);
         }

@@ -5,7 +5,7 @@ ghost use Rattle.reader_run.specs.Following.{Follows};
 ghost use Rattle.reader_run.specs.Keeping.{KeepsBehind};
 ghost use Rattle.reader_run.specs.Visits.{EndsVisits, asking, progress};
 
-use crate::hearing::{HeardLines, Listener};
+use crate::hearing::{HeardLines, LineListener};
 use crate::notices::{ErrorTeller, RefusalTeller};
 use crate::reading::Reading;
 use reader_run::{Break, Keeper, ListingFault, RecordSink, Servers, follow};
@@ -100,7 +100,7 @@ fn follow_told<
     records: &mut P,
     keeper: &mut K,
 ) -> Result<(), Break<S::Fault>> {
-    let Ok(listener) = Listener::new(rt.alloc(), &reading.wants, tally) else {
+    let Ok(listener) = LineListener::new(rt.alloc(), &reading.wants, tally) else {
         return Err(Break::Listing(ListingFault::Reader(ReaderFault::OutOfMemory)));
     };
     let teller = RefusalTeller::new(ErrorTeller::new(rt), rt, &reading.renewal);

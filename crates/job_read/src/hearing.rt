@@ -20,12 +20,12 @@ ghost use Rattle.job_read.specs.Hearing.{is_open, is_station, is_whole, jump_tol
 ghost use Rattle.job_read.specs.Hearing.{spares, station_before, station_of, stations_from};
 ghost use Rattle.job_read.specs.Notices.{Tells};
 
-use crate::line::{Line, line_of};
+use crate::line::{ListedLine, line_of};
 use crate::notices::{Notice, Teller};
 use arrayvec::ArrayVec;
 use sl_io::{DeviceFault, Sink};
 use sl_packet::Seq;
-use slreader::{Action, Reached, Tally, Want};
+use slreader::{Reached, Tally, Want, WantedAction};
 use std::alloc::{AllocError, Global};
 use std::marker::Model;
 
@@ -78,13 +78,13 @@ impl Followed {
 }
 
 /// Whether no moment is asked for.
-fn is_open(action: &Action<'_>) -> bool
+fn is_open(action: &WantedAction<'_>) -> bool
     ensures { result ≡ is_open (action_value action.now) }
 {
     match action {
-        Action::Data { begin, .. } => begin.is_none(),
-        Action::Fetch { begin, .. } => begin.is_none(),
-        Action::Time { .. } => false,
+        WantedAction::Data { begin, .. } => begin.is_none(),
+        WantedAction::Fetch { begin, .. } => begin.is_none(),
+        WantedAction::Time { .. } => false,
     }
 }
 
@@ -217,24 +217,27 @@ fn hear_line<T: Teller>(stations: &mut Vec<Followed>, text: &[u8], teller: &mut 
     ensures told { Tells (T.told teller.old) (T.told teller.new) (line_told stations.old.items (line_of text.now)) }
 {
     match line_of(text) {
-        Line::Refused { network, station } => teller.tell(&Notice::Refused { network, station }),
-        Line::Packet {
+        ListedLine::Refused { network, station } => teller.tell(&Notice::Refused {
+            network,
+            station,
+        }),
+        ListedLine::Packet {
             number,
             network,
             station,
         } => hear_packet(stations, number, network, station, teller),
-        Line::Other => {}
+        ListedLine::Other => {}
     }
 }
 
 /// Hears the lines that a reader lists, in whatever pieces.
 #[derive(Drop)]
-pub struct Listener {
+pub struct LineListener {
     stations: Vec<Followed>,
     head: ArrayVec<u8, HEAD>,
 }
 
-impl Model for Listener {
+impl Model for LineListener {
     ghost use Rattle.job_read.specs.Hearing.{HearingValue};
 
     ghost Value = { HearingValue };
@@ -242,15 +245,15 @@ impl Model for Listener {
     ghost view = { λ l. record { stations = l.stations.items; head = l.head.items } };
 }
 
-impl Listener {
+impl LineListener {
     /// Before the first line, after what was counted.
-    pub fn new(alloc: Global, wants: &[Want<'_>], tally: &Tally) -> Result<Listener, AllocError>
+    pub fn new(alloc: Global, wants: &[Want<'_>], tally: &Tally) -> Result<LineListener, AllocError>
         ensures { IfOk result (λ l. l ≡ record {
           stations = stations_from tally.now wants.now 0 wants.now;
           head = [];
         }) }
     {
-        Ok(Listener {
+        Ok(LineListener {
             stations: stations_of(alloc, wants, tally)?,
             head: ArrayVec::new(),
         })
@@ -285,13 +288,13 @@ impl Listener {
 #[derive(Drop)]
 pub struct HeardLines<O, T> {
     out: O,
-    listener: Listener,
+    listener: LineListener,
     teller: T,
 }
 
 impl<O, T> HeardLines<O, T> {
     /// What is written to `out`.
-    pub fn new(out: O, listener: Listener, teller: T) -> HeardLines<O, T>
+    pub fn new(out: O, listener: LineListener, teller: T) -> HeardLines<O, T>
         ensures { (result.out ≡ out) × (result.listener ≡ listener) × (result.teller ≡ teller) }
     {
         HeardLines {

@@ -9,7 +9,7 @@ use text_parts::separators::cut_at;
 
 /// What a line says.
 #[derive(Clone, Copy)]
-pub enum Line<'a> {
+pub enum ListedLine<'a> {
     /// A want of that station is refused.
     Refused {
         network: &'a [u8],
@@ -26,16 +26,16 @@ pub enum Line<'a> {
 }
 
 /// A packet with these digits.
-fn packet_line<'a>(digits: &[u8], network: &'a [u8], station: &'a [u8]) -> Line<'a>
+fn packet_line<'a>(digits: &[u8], network: &'a [u8], station: &'a [u8]) -> ListedLine<'a>
     ensures { line_value result ≡ packet_line (number_of digits.now) network.now station.now }
 {
     match Seq::parse(digits) {
-        Some(number) => Line::Packet {
+        Some(number) => ListedLine::Packet {
             number,
             network,
             station,
         },
-        None => Line::Other,
+        None => ListedLine::Other,
     }
 }
 
@@ -50,26 +50,26 @@ fn first_word(text: &[u8]) -> &[u8]
 }
 
 /// What a line says whose first word is that one.
-fn line_behind<'a>(first: &[u8], rest: &'a [u8]) -> Line<'a>
+fn line_behind<'a>(first: &[u8], rest: &'a [u8]) -> ListedLine<'a>
     ensures { line_value result ≡ line_of_words (first.now ∷ split (λ b. b == 32) rest.now) }
 {
     let Some((network, rest)) = cut_at(rest, b' ') else {
-        return Line::Other;
+        return ListedLine::Other;
     };
     let station = first_word(rest);
     if first == b"refused".as_slice() {
-        Line::Refused { network, station }
+        ListedLine::Refused { network, station }
     } else {
         packet_line(first, network, station)
     }
 }
 
 /// What the text of a line says.
-pub fn line_of(text: &[u8]) -> Line<'_>
+pub fn line_of(text: &[u8]) -> ListedLine<'_>
     ensures { line_value result ≡ line_of text.now }
 {
     match cut_at(text, b' ') {
         Some((first, rest)) => line_behind(first, rest),
-        None => Line::Other,
+        None => ListedLine::Other,
     }
 }

@@ -4,7 +4,7 @@ ghost use Rattle.job_read.specs.Asking.{is_told};
 
 use crate::archiving::{Lasting, WholeFile, archive_at, at_archive, mend_end, output_at};
 use crate::asking::Renewal;
-use crate::connections::Connections;
+use crate::connections::ServersInTurn;
 use crate::endings::goes_on;
 use crate::following::follow_any;
 use crate::patience::{Patience, pause, silence_between, time_limit};
@@ -15,8 +15,7 @@ use crate::windows::Moments;
 use command_line::ReadOptions;
 use incidents::{Failure, Incident, Site};
 use job_base::{
-    ReasonKeeper, ServerAddress, StandardError as Eprinted, server_of, tell_incident, times_of,
-    unopened,
+    ErrorOutput, ReasonKeeper, ServerAddress, server_of, tell_incident, times_of, unopened,
 };
 use protocol::reason::Reason;
 use reader_run::{Break, Gathered, Nowhere, RecordSink};
@@ -150,7 +149,7 @@ where
     R: Files + Eprint + Clock + Net + AllocGlobal,
 {
     let present = RefCell::new(None);
-    let mut servers = Connections::new(rt, reading, &present);
+    let mut servers = ServersInTurn::new(rt, reading, &present);
     let mut keeper = StateKeeper::new(rt, state, &reading.wants, output, &present);
     let read = follow_any(rt, reading, tally, &mut servers, out, records, &mut keeper);
     match read {
@@ -206,7 +205,7 @@ fn list_records<'a, R: Files + Print + Eprint + Clock + Net + AllocGlobal>(
     reading: &Reading<'a, '_>,
     state: Option<StateFile<'a>>,
 ) -> Result<(), Incident<'a>> {
-    let lines = Outer::new(Eprinted::new(rt));
+    let lines = Outer::new(ErrorOutput::new(rt));
     let mut records = Gathered::new(rt.alloc(), Outer::new(io::writer(rt)));
     list_on(rt, reading, state, None, lines, &mut records)
 }

@@ -5,10 +5,10 @@ ghost use Rattle.sl_io.specs.Counts.{CountsFailure};
 use crate::archiving::{Lasting, site_of};
 use crate::clock::milliseconds;
 use crate::silence::is_silent;
-use incidents::{Failure, Incident, Site, StateFault};
+use incidents::{Failure, Incident, Site, StateRefusal};
 use job_base::{place_of, replace};
 use reader_run::{KeepFault, Keeper, ListingFault, RecordSink};
-use reader_state::{State, read_state, write_state};
+use reader_state::{KeptState, read_state, write_state};
 use record_archive::{FileFailure, FileLength, ONE_FILE};
 use sl_io::{Outer, ReadFault, read_all};
 use slreader::{LastPacket, Tally, Want};
@@ -38,7 +38,7 @@ pub struct StateFile<'a> {
     /// Locked until the end, so that no other reader goes on after packets that this one is about to pass.
     _lock: File,
     /// What it said when the reader began.
-    before: State,
+    before: KeptState,
     text: Vec<u8>,
 }
 
@@ -67,7 +67,7 @@ impl<'a> StateFile<'a> {
         path: &'a str,
         place: String,
         lock: File,
-        before: State,
+        before: KeptState,
     ) -> Result<StateFile<'a>, AllocError> {
         let new_path = format!(in alloc; "{place}.new")?;
         Ok(StateFile {
@@ -204,10 +204,12 @@ fn no_state() -> io::Error {
 }
 
 /// What a state says that a reader has begun to keep; nothing if it is not there.
-fn others_at<R: Files + AllocGlobal>(rt: &R, place: &str) -> io::Result<State> {
+fn others_at<R: Files + AllocGlobal>(rt: &R, place: &str) -> io::Result<KeptState> {
     let text = match fs::read(rt, place) {
         Ok(text) => text,
-        Err(reason) if reason.kind() == ErrorKind::NotFound => return Ok(State::new(rt.alloc())),
+        Err(reason) if reason.kind() == ErrorKind::NotFound => return Ok(KeptState::new(
+            rt.alloc(),
+        )),
         Err(reason) => return Err(reason),
     };
     match read_state(rt.alloc(), text.as_slice()) {
@@ -223,7 +225,7 @@ fn unopened<'a>(path: &'a str, reason: io::Error) -> Incident<'a> {
         return Incident::from(Failure::OutOfMemory);
     }
     Incident {
-        failure: Failure::State(StateFault::Unread),
+        failure: Failure::State(StateRefusal::Unread),
         site: Site::Unopened(path, reason),
     }
 }
@@ -233,10 +235,10 @@ fn state_at<'a, R: Files + AllocGlobal>(
     rt: &R,
     place: &str,
     path: &'a str,
-) -> Result<State, Incident<'a>> {
+) -> Result<KeptState, Incident<'a>> {
     match fs::open(rt, place) {
         Ok(file) => state_in(rt.alloc(), file, path),
-        Err(reason) if reason.kind() == ErrorKind::NotFound => Ok(State::new(rt.alloc())),
+        Err(reason) if reason.kind() == ErrorKind::NotFound => Ok(KeptState::new(rt.alloc())),
         Err(reason) => Err(unopened(path, reason)),
     }
 }
@@ -246,18 +248,18 @@ fn state_in<'a, F: io::Read + Drop>(
     alloc: Global,
     file: F,
     path: &'a str,
-) -> Result<State, Incident<'a>> {
+) -> Result<KeptState, Incident<'a>> {
     let mut file = Outer::new(file);
     let text = match read_all(alloc, &mut file) {
         Ok(text) => text,
         Err(ReadFault::OutOfMemory) => return Err(Failure::OutOfMemory.in_file(path)),
-        Err(ReadFault::Read) => return Err(Failure::State(StateFault::Unread).in_file(path)),
+        Err(ReadFault::Read) => return Err(Failure::State(StateRefusal::Unread).in_file(path)),
     };
     match read_state(alloc, text.as_slice()) {
         Ok(state) => Ok(state),
         Err(reader_state::StateFault::OutOfMemory) => Err(Failure::OutOfMemory.in_file(path)),
         Err(reader_state::StateFault::Invalid) => {
-            Err(Failure::State(StateFault::Invalid).in_file(path))
+            Err(Failure::State(StateRefusal::Invalid).in_file(path))
         }
     }
 }

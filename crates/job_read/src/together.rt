@@ -7,7 +7,7 @@ ghost use Rattle.job_read.specs.Together.{has_positive, is_among, is_positive, i
 ghost use Rattle.job_read.specs.Together.{misfit_of, number_in};
 
 use sl_packet::Seq;
-use slreader::{Action, Want};
+use slreader::{Want, WantedAction};
 
 /// How many wants one reader can ask for (SeedLink 3, STATION).
 const WANTS: usize = 255;
@@ -84,13 +84,13 @@ fn add_up(these: &[&[u8]], those: &[&[u8]]) -> bool
 }
 
 /// The number that is asked for.
-fn number_in(action: &Action<'_>) -> Option<Seq>
+fn number_in(action: &WantedAction<'_>) -> Option<Seq>
     ensures { result ≡ number_in (action_value action.now) }
 {
     match action {
-        Action::Data { number, .. } => *number,
-        Action::Fetch { number, .. } => *number,
-        Action::Time { .. } => None,
+        WantedAction::Data { number, .. } => *number,
+        WantedAction::Fetch { number, .. } => *number,
+        WantedAction::Time { .. } => None,
     }
 }
 

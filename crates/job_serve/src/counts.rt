@@ -7,7 +7,7 @@ ghost use Rattle.job_serve.specs.Turning.{begun_at, with_end};
 use ports::{AwayReason, RecordRefusal};
 use ports_logged::{Sent, Visit};
 use protocol::reason::Reason;
-use server_watch::{Turns, Visitor, Visitors};
+use server_watch::{PresentClient, PresentClients, Turns};
 use status_page::NamedCount;
 use std::alloc::{AllocError, Global};
 use std::cell::{Ref, RefCell};
@@ -17,9 +17,9 @@ const REASONS: usize = 64;
 
 /// What was counted.
 #[derive(Drop)]
-pub struct Counts {
+pub struct JournalCounts {
     /// The clients that are here.
-    pub visitors: Visitors,
+    pub visitors: PresentClients,
     /// How many records were refused, by reason.
     pub refusals: Vec<NamedCount<'static>>,
     /// How many connections were turned away, by reason.
@@ -58,11 +58,11 @@ fn count(counts: &mut Vec<NamedCount<'static>>, name: &'static str) {
     }
 }
 
-impl Counts {
+impl JournalCounts {
     /// Nothing was counted; there is room for so many clients. Only memory can lack.
-    fn new(alloc: Global, clients: usize) -> Result<Counts, AllocError> {
-        Ok(Counts {
-            visitors: Visitors::new(alloc, clients)?,
+    fn new(alloc: Global, clients: usize) -> Result<JournalCounts, AllocError> {
+        Ok(JournalCounts {
+            visitors: PresentClients::new(alloc, clients)?,
             refusals: Vec::with_capacity(alloc, REASONS)?,
             away: Vec::with_capacity(alloc, REASONS)?,
             sent: 0,
@@ -74,7 +74,7 @@ impl Counts {
     /// What happened of a visit, at a time in milliseconds since the server began.
     fn note(&mut self, visit: &Visit, now: u64) {
         match visit {
-            Visit::Open { port, address } => self.visitors.add(Visitor {
+            Visit::Open { port, address } => self.visitors.add(PresentClient {
                 port: *port,
                 address: *address,
                 since: now,
@@ -138,14 +138,14 @@ fn name_of_refusal(refusal: &RecordRefusal) -> &'static str {
 /// Counts that a journal and a status port share.
 #[derive(Drop)]
 pub struct SharedCounts {
-    counts: RefCell<Counts>,
+    counts: RefCell<JournalCounts>,
 }
 
 impl SharedCounts {
     /// Nothing was counted; there is room for so many clients. Only memory can lack.
     pub fn new(alloc: Global, clients: usize) -> Result<SharedCounts, AllocError> {
         Ok(SharedCounts {
-            counts: RefCell::new(Counts::new(alloc, clients)?),
+            counts: RefCell::new(JournalCounts::new(alloc, clients)?),
         })
     }
 
@@ -186,7 +186,7 @@ impl SharedCounts {
     }
 
     /// What was counted, if nobody counts at the moment.
-    pub fn counts(&self) -> Option<Ref<'_, Counts>> {
+    pub fn counts(&self) -> Option<Ref<'_, JournalCounts>> {
         self.counts.try_borrow().ok()
     }
 }

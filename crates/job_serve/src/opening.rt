@@ -18,7 +18,7 @@ use std::rt::Files;
 
 /// Where a server is to be, and whom it takes.
 #[derive(Drop)]
-pub struct Doors<'a> {
+pub struct ServerDoors<'a> {
     pub clients: ServerAddress<'a>,
     pub feeds: ServerAddress<'a>,
     pub admission: Admission,
@@ -26,7 +26,10 @@ pub struct Doors<'a> {
 }
 
 /// What the words say of that.
-pub fn doors_of<'a>(alloc: Global, options: &ServeOptions<'a>) -> Result<Doors<'a>, Incident<'a>>
+pub fn doors_of<'a>(
+    alloc: Global,
+    options: &ServeOptions<'a>,
+) -> Result<ServerDoors<'a>, Incident<'a>>
     ensures feeds { IfOk result (λ doors. FeedsFrom options.now.feed_from doors.admission.feed_from) }
     ensures clients { IfOk result (λ doors. doors.admission.per_address ≡ options.now.per_address) }
 {
@@ -34,7 +37,7 @@ pub fn doors_of<'a>(alloc: Global, options: &ServeOptions<'a>) -> Result<Doors<'
     let feeds = server_of(options.feed)?;
     let admission = admission_of(alloc, options)?;
     let status = status_door(alloc, options)?;
-    Ok(Doors {
+    Ok(ServerDoors {
         clients,
         feeds,
         admission,

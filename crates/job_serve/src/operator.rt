@@ -19,9 +19,9 @@ use crate::visits::{SharedLines, micros_of};
 use catalog::Config;
 use command_line::ServeOptions;
 use config_explained::{Difference, first_difference};
-use error_lines::{Device, Line};
+use error_lines::{Device, ErrorLine};
 use event_loop::Loop;
-use incidents::{Failure, Incident, Site, Told};
+use incidents::{Failure, Incident, Site, ToldIncident};
 use job_base::{config_in, plain_text_at, refuse_unknown, unknown_lines};
 use ports::Ports;
 use serving::{
@@ -102,7 +102,7 @@ impl<'r, 'a, 'l, R, D: Device> Operator<'r, 'a, 'l, R, D> {
 
     /// Tells a line that was made already, if it is one.
     fn tell_text(&mut self, text: &[u8]) {
-        let mut line = Line::new();
+        let mut line = ErrorLine::new();
         if let Ok(text) = str::from_utf8(text) {
             if !text.is_empty() && line.try_push_str(text).is_ok() {
                 self.errors.write_line(&line);
@@ -222,12 +222,12 @@ impl<'r, 'a, 'l, R: Clock, D> Operator<'r, 'a, 'l, R, D> {
 }
 
 /// What is told of an incident, without its last line's end. What is too long is left out.
-fn line_of(incident: &Incident<'_>, is_verbose: bool) -> Line {
-    let mut line = Line::new();
+fn line_of(incident: &Incident<'_>, is_verbose: bool) -> ErrorLine {
+    let mut line = ErrorLine::new();
     let _ = write!(
         line,
         "{}",
-        Told {
+        ToldIncident {
             incident,
             is_verbose
         }
@@ -329,7 +329,7 @@ impl<'r, 'a, 'l, R: Files<File = File> + Clock + AllocGlobal, D: Device> Between
 
     /// In the line `seedlinkd: clients 3, feeds 1, records 1200, refused 2`.
     fn report(&mut self, activity: Activity) {
-        let mut line = Line::new();
+        let mut line = ErrorLine::new();
         let _ = write!(line, "seedlinkd: {activity}");
         self.errors.write_line(&line);
     }

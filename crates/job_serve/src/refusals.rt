@@ -19,17 +19,17 @@ const CAUSES: usize = 128;
 
 /// How many records were refused since the last line on them, and when that was, in milliseconds.
 #[derive(Clone, Copy, Drop)]
-pub struct RefusedCount {
+pub struct RefusalsSince {
     count: u64,
     told: Option<u64>,
 }
 
-impl RefusedCount {
+impl RefusalsSince {
     /// None yet.
-    fn new() -> RefusedCount
+    fn new() -> RefusalsSince
         ensures count { result.count ≡ 0 }
     {
-        RefusedCount {
+        RefusalsSince {
             count: 0,
             told: None,
         }
@@ -52,7 +52,7 @@ impl RefusedCount {
     {
         let count = self.count.saturating_add(1);
         if self.is_due(now) {
-            *self = RefusedCount {
+            *self = RefusalsSince {
                 count: 0,
                 told: Some(now),
             };
@@ -68,7 +68,7 @@ impl RefusedCount {
 #[derive(Clone, Copy, Drop)]
 struct UnknownStation {
     codes: RecordCodes,
-    refused: RefusedCount,
+    refused: RefusalsSince,
 }
 
 /// A cause for which a record of a feed was refused.
@@ -132,7 +132,7 @@ fn is_known(causes: &[Cause], port: u64, reason: Reason) -> bool {
 #[derive(Drop)]
 pub struct RefusalLog {
     stations: Vec<UnknownStation>,
-    others: RefusedCount,
+    others: RefusalsSince,
     causes: Vec<Cause>,
 }
 
@@ -143,7 +143,7 @@ impl RefusalLog {
         let causes = Vec::with_capacity(alloc, CAUSES)?;
         Ok(RefusalLog {
             stations,
-            others: RefusedCount::new(),
+            others: RefusalsSince::new(),
             causes,
         })
     }
@@ -163,7 +163,7 @@ impl RefusalLog {
             return Some(RefusedLine::Station(codes, count));
         }
         if self.stations.len() < self.stations.capacity() {
-            let mut refused = RefusedCount::new();
+            let mut refused = RefusalsSince::new();
             let _first = refused.see(now);
             self.stations
                 .push_reserved(UnknownStation { codes, refused });

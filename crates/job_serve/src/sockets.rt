@@ -2,7 +2,7 @@
 ghost use Rattle.std.specs.Prelude.{◌≡◌, ◌≤◌, ◌+◌, [], IfOk};
 
 use crate::counts::SharedCounts;
-use crate::opening::{Doors, Served, doors_of, served_by};
+use crate::opening::{Served, ServerDoors, doors_of, served_by};
 use crate::operator::{ServeRequest, no_memory, serve_by};
 use crate::starting::StartLine;
 use crate::status::{StatusDesk, listen_for_status};
@@ -28,11 +28,14 @@ struct Listening<'a> {
 }
 
 /// Listens for clients and for feeds, of which those are taken that are admitted, and for whoever asks for the status.
-fn listen<'a, R: Net + AllocGlobal>(rt: &R, doors: Doors<'a>) -> Result<Listening<'a>, Incident<'a>>
+fn listen<'a, R: Net + AllocGlobal>(
+    rt: &R,
+    doors: ServerDoors<'a>,
+) -> Result<Listening<'a>, Incident<'a>>
     ensures { IfOk result (λ listening. listening.ports.sockets.peers
         ≡ record { admission = doors.entry.admission; joined = 0; opened = [] }) }
 {
-    let Doors {
+    let ServerDoors {
         clients,
         feeds,
         admission,

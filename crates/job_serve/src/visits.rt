@@ -6,7 +6,7 @@ use crate::counts::SharedCounts;
 use crate::cuts::OpenClients;
 use crate::refusals::{RefusalLog, RefusedLine, RefusedText};
 use catalog::Config;
-use error_lines::{Device, ErrorLines, Line};
+use error_lines::{Device, ErrorLine, ErrorLines};
 use ports::RecordRefusal;
 use ports_logged::{Journal, Sent, Visit};
 use std::alloc::{AllocError, Global};
@@ -37,7 +37,7 @@ impl<D: Device + Drop> SharedLines<D> {
 
 impl<D: Device> SharedLines<D> {
     /// Writes a line, or drops it if the device doesn't take it at once.
-    pub fn write_line(&self, line: &Line) {
+    pub fn write_line(&self, line: &ErrorLine) {
         if let Ok(mut lines) = self.lines.try_borrow_mut() {
             let _is_written = lines.write_line(line);
         }
@@ -124,8 +124,8 @@ pub fn micros_of(rt: &impl Clock) -> u64 {
 }
 
 /// A line of the server's log.
-fn line_of(text: impl Display + Drop) -> Line {
-    let mut line = Line::new();
+fn line_of(text: impl Display + Drop) -> ErrorLine {
+    let mut line = ErrorLine::new();
     let _ = write!(line, "seedlinkd: {text}");
     line
 }

@@ -2,8 +2,8 @@
 use Rattle.std.specs.Prelude.{◌≡◌, ℕ, ◌≤◌, List, [], length}
 use Rattle.ports_socket.specs.declared.socket_io.Receipt.{Receipt}
 use Rattle.ports_socket.specs.declared.socket_io.Receipt.TheVariants.{Bytes}
-use Rattle.ports_socket.specs.declared.socket_io.Sent.{Sent}
-use Rattle.ports_socket.specs.declared.socket_io.Sent.TheVariants.{Took}
+use Rattle.ports_socket.specs.declared.socket_io.SendOutcome.{SendOutcome}
+use Rattle.ports_socket.specs.declared.socket_io.SendOutcome.TheVariants.{Took}
 
 -- 1 to so many bytes, or none
 abbrev pub IsReceived : Receipt → ℕ → Type 0
@@ -16,6 +16,6 @@ IsFilled (Bytes count) bytes = length bytes ≡ count
 IsFilled _ bytes = bytes ≡ []
 
 -- at most so many bytes, or none
-abbrev pub IsSent : Sent → ℕ → Type 0
+abbrev pub IsSent : SendOutcome → ℕ → Type 0
 IsSent (Took count) most = count ≤ most
 IsSent _ most = Unit {0}

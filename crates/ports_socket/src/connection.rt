@@ -11,7 +11,7 @@ use crate::ahead::{AheadPool, BLOCK, ReadAhead};
 use crate::inflow::{PeerEnd, Ration};
 use crate::peer::PeerKind;
 use crate::pool::{BufferPool, ROOM, remove_front};
-use crate::socket_io::{Receipt, Sent, is_short, receive, send};
+use crate::socket_io::{Receipt, SendOutcome, is_short, receive, send};
 use mio::net::TcpStream;
 use ports::{Got, PortFault, Put};
 
@@ -348,15 +348,15 @@ impl Connection {
         ensures ahead { self.new.ahead ≡ self.old.ahead }
     {
         match send(&self.stream, bytes) {
-            Sent::Took(count) => {
+            SendOutcome::Took(count) => {
                 self.is_full = count < bytes.len();
                 count
             }
-            Sent::WouldBlock => {
+            SendOutcome::WouldBlock => {
                 self.is_full = true;
                 0
             }
-            Sent::Failed => {
+            SendOutcome::Failed => {
                 self.has_failed = true;
                 0
             }

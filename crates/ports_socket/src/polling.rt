@@ -130,15 +130,15 @@ impl Polling {
 
 /// Ports that are told after the next poll, in the order in which they were added.
 #[derive(Drop)]
-pub struct Listing {
+pub struct ToldPorts {
     places: VecDeque<ConnectionPlace>,
     /// How many of the first are told before the next poll: they were added before the last one.
     due: usize,
 }
 
-impl Listing {
-    pub fn new(alloc: Global) -> Listing {
-        Listing {
+impl ToldPorts {
+    pub fn new(alloc: Global) -> ToldPorts {
+        ToldPorts {
             places: VecDeque::new(alloc),
             due: 0,
         }

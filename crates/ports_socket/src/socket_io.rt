@@ -19,7 +19,7 @@ pub enum Receipt {
 
 /// What the system took.
 #[derive(Clone, Copy, Drop)]
-pub enum Sent {
+pub enum SendOutcome {
     Took(usize),
     WouldBlock,
     Failed,
@@ -46,21 +46,21 @@ pub fn receive(stream: &TcpStream, buffer: &mut [u8]) -> Receipt
 }
 
 /// Writes once.
-pub fn send(stream: &TcpStream, bytes: &[u8]) -> Sent
+pub fn send(stream: &TcpStream, bytes: &[u8]) -> SendOutcome
     ensures { IsSent result (length bytes.now) }
 {
     for _ in 0..TRIES {
         let mut to = stream;
         match to.write(bytes) {
-            Ok(count) => return Sent::Took(count),
+            Ok(count) => return SendOutcome::Took(count),
             Err(error) => match error.kind() {
-                ErrorKind::WouldBlock => return Sent::WouldBlock,
+                ErrorKind::WouldBlock => return SendOutcome::WouldBlock,
                 ErrorKind::Interrupted => {}
-                _ => return Sent::Failed,
+                _ => return SendOutcome::Failed,
             },
         }
     }
-    Sent::WouldBlock
+    SendOutcome::WouldBlock
 }
 
 /// Whether a read shows that the system has no more bytes for now.

@@ -21,7 +21,7 @@ use crate::fault::ListenError;
 use crate::joins::Joins;
 use crate::listeners::Listeners;
 use crate::peers::Peers;
-use crate::polling::{EVENTS, Listing, Origin, Polling, origin_of};
+use crate::polling::{EVENTS, Origin, Polling, ToldPorts, origin_of};
 use crate::pool::BufferPool;
 use mio::event::Event;
 use ports::{Got, Happening, PortFault, Put};
@@ -57,7 +57,7 @@ pub struct Sockets {
     /// It was given bytes that are sent when the next one has its turn.
     is_gathering: bool,
     /// The ports that are told readable though no event comes of them.
-    listing: Listing,
+    listing: ToldPorts,
     /// A port that is to be told writable next.
     writable: Option<ConnectionPlace>,
 }
@@ -100,7 +100,7 @@ impl Sockets {
             aheads,
             turn: None,
             is_gathering: false,
-            listing: Listing::new(alloc),
+            listing: ToldPorts::new(alloc),
             writable: None,
         })
     }

@@ -3,8 +3,8 @@ use Rattle.std.proofs.Common.{◌≡◌, ◌-◌, ℕ, List, take, drop, length,
 use Rattle.std.specs.Prelude.{Bool, Option, Result, IfErr, IfOk}
 use Rattle.slreader.specs.declared.fault.ReaderFault.{ReaderFault}
 use Rattle.slreader.specs.declared.fault.ReaderFault.TheVariants as code
-use Rattle.reader_run.specs.declared.record_sink.TakeFault.{TakeFault}
-use Rattle.reader_run.specs.declared.record_sink.TakeFault.TheVariants.{OutOfMemory, Write}
+use Rattle.reader_run.specs.declared.record_sink.SinkFault.{SinkFault}
+use Rattle.reader_run.specs.declared.record_sink.SinkFault.TheVariants.{OutOfMemory, Write}
 use Rattle.std.specs.Io.KnownBytes.{Appends}
 use Rattle.sl_io.specs.Counts.{StopsWriting}
 use Rattle.sl_io.specs.Known.{AppendsBeginning}
@@ -42,13 +42,13 @@ records-told o records g = ap (λ (x : OutputValue). x.records) (sym (told-besid
 -- ---- a packet, and what was given
 
 -- what stopped the taking of a record stopped the giving of its packet
-given-as : (fault : TakeFault) (waits waits' : List ℕ → Type 0) (packet : List ℕ) (written written' : Option (List ℕ))
+given-as : (fault : SinkFault) (waits waits' : List ℕ → Type 0) (packet : List ℕ) (written written' : Option (List ℕ))
     (f f' e e' : ℕ) → StopsTake fault waits waits' (record_of packet) written written' f f' e e'
     → StopsGiven fault waits waits' (Some (Packet packet)) written written' f f' e e'
 given-as OutOfMemory waits waits' packet written written' f f' e e' h = h
 given-as Write waits waits' packet written written' f f' e e' h = record { begun = h.begun; stopped = h.stopped }
 
-pub given-taken : (fault : TakeFault) (waits waits' : List ℕ → Type 0) (packet : List ℕ) (g : Option Given)
+pub given-taken : (fault : SinkFault) (waits waits' : List ℕ → Type 0) (packet : List ℕ) (g : Option Given)
     (written written' : Option (List ℕ)) (f f' e e' : ℕ) → g ≡ Some (Packet packet)
     → StopsTake fault waits waits' (record_of packet) written written' f f' e e'
     → StopsGiven fault waits waits' g written written' f f' e e'
@@ -74,7 +74,7 @@ beside-on r r1 r2 o o1 o2 piece left used g waits waits' t gave reader lines mor
 
 -- something was given, and not all records could be written
 pub stops-given : (r r1 r2 : ReaderValue) (o o1 : OutputValue) (piece left : List ℕ) (used : ℕ) (g : Option Given)
-    (fault : TakeFault) (waits waits' : List ℕ → Type 0) (w0 w w' : Option (List ℕ)) (f0 f f' e0 e e' : ℕ) →
+    (fault : SinkFault) (waits waits' : List ℕ → Type 0) (w0 w w' : Option (List ℕ)) (f0 f f' e0 e e' : ℕ) →
     TakenBeside r r1 o o1 piece left waits → Gave used g ≡ outcome_of (read_first r1 left)
     → r2 ≡ (read_first r1 left).reader → fault ≡ Write → StopsGiven fault waits waits' g w w' f f' e e' →
     w ≡ w0 → f ≡ f0 → e ≡ e0 → StopsPiece r o piece w0 w' f0 f' e0 e'
@@ -92,7 +92,7 @@ stops-given r r1 r2 o o1 piece left used g fault waits waits' w0 w w' f0 f f' e0
     }
 
 -- there was no memory for what was given
-pub none-given : (r r1 r2 : ReaderValue) (o o1 o2 : OutputValue) (piece left : List ℕ) (fault : TakeFault)
+pub none-given : (r r1 r2 : ReaderValue) (o o1 o2 : OutputValue) (piece left : List ℕ) (fault : SinkFault)
     (waits waits' : List ℕ → Type 0) (g : Option Given) (w w' : Option (List ℕ)) (f f' e e' : ℕ) →
     TakenBeside r r1 o o1 piece left waits → o2 ≡ o1 → fault ≡ OutOfMemory →
     StopsGiven fault waits waits' g w w' f f' e e' →

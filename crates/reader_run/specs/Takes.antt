@@ -5,8 +5,8 @@ use Rattle.sl_io.specs.Known.{AppendsBeginning}
 use Rattle.slreader.specs.Dialogue.{Given}
 use Rattle.reader_run.specs.Lines.{with_records}
 use Rattle.reader_run.specs.Stops.{IsQuiet}
-use Rattle.reader_run.specs.declared.record_sink.TakeFault.{TakeFault}
-use Rattle.reader_run.specs.declared.record_sink.TakeFault.TheVariants.{OutOfMemory, Write}
+use Rattle.reader_run.specs.declared.record_sink.SinkFault.{SinkFault}
+use Rattle.reader_run.specs.declared.record_sink.SinkFault.TheVariants.{OutOfMemory, Write}
 
 -- There was no memory for it: nothing was written, and what waited waits.
 pub record TakesNone (waits waits' : List ℕ → Type 0) (written written' : Option (List ℕ))
@@ -22,7 +22,7 @@ pub record TakesPart (waits : List ℕ → Type 0) (taken : List ℕ) (written w
   pub stopped : StopsWriting failures failures' empty empty'
 
 -- Why it was not taken.
-abbrev pub StopsTake : TakeFault → (waits waits' : List ℕ → Type 0) → (taken : List ℕ)
+abbrev pub StopsTake : SinkFault → (waits waits' : List ℕ → Type 0) → (taken : List ℕ)
     → (written written' : Option (List ℕ)) → (failures failures' empty empty' : ℕ) → Type 0
 StopsTake OutOfMemory waits waits' taken written written' failures failures' empty empty' =
     TakesNone waits waits' written written' failures failures' empty empty'
@@ -36,7 +36,7 @@ pub record GivesPart (waits : List ℕ → Type 0) (given : Option Given) (writt
   pub stopped : StopsWriting failures failures' empty empty'
 
 -- The same of what was given.
-abbrev pub StopsGiven : TakeFault → (waits waits' : List ℕ → Type 0) → (given : Option Given)
+abbrev pub StopsGiven : SinkFault → (waits waits' : List ℕ → Type 0) → (given : Option Given)
     → (written written' : Option (List ℕ)) → (failures failures' empty empty' : ℕ) → Type 0
 StopsGiven OutOfMemory waits waits' given written written' failures failures' empty empty' =
     TakesNone waits waits' written written' failures failures' empty empty'

@@ -1,7 +1,7 @@
 //! Records that wait in one block of memory.
 ghost use Rattle.std.specs.Prelude.{◌≡◌, []};
 
-use crate::record_sink::{RecordSink, TakeFault};
+use crate::record_sink::{RecordSink, SinkFault};
 use sl_io::{Sink, WriteFault, write_all};
 use slreader::GivenPacket;
 use std::alloc::Global;
@@ -52,10 +52,10 @@ impl<S: Sink> RecordSink for Gathered<S> {
         self.records.clear();
     }
 
-    fn take(&mut self, packet: &GivenPacket<'_>) -> Result<(), TakeFault> {
+    fn take(&mut self, packet: &GivenPacket<'_>) -> Result<(), SinkFault> {
         match self.records.extend_from_slice(packet.record()) {
             Ok(()) => Ok(()),
-            Err(_) => Err(TakeFault::OutOfMemory),
+            Err(_) => Err(SinkFault::OutOfMemory),
         }
     }
 

@@ -24,5 +24,5 @@ pub use memory_servers::{Called, MemoryServers, NoServer};
 pub use nowhere::Nowhere;
 pub use reading::{read_further, read_over};
 pub use record_check::Times;
-pub use record_sink::{RecordSink, TakeFault};
+pub use record_sink::{RecordSink, SinkFault};
 pub use servers::Servers;

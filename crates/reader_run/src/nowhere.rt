@@ -1,7 +1,7 @@
 //! A writer of nothing.
 ghost use Rattle.std.specs.Prelude.{None};
 
-use crate::record_sink::{RecordSink, TakeFault};
+use crate::record_sink::{RecordSink, SinkFault};
 use sl_io::{DeviceFault, Sink, WriteFault};
 use slreader::GivenPacket;
 
@@ -45,7 +45,7 @@ impl RecordSink for Nowhere {
 
     fn begin(&mut self) {}
 
-    fn take(&mut self, _packet: &GivenPacket<'_>) -> Result<(), TakeFault> {
+    fn take(&mut self, _packet: &GivenPacket<'_>) -> Result<(), SinkFault> {
         Ok(())
     }
 

@@ -15,7 +15,7 @@ ghost use Rattle.reader_run.specs.Stops.{AreBothQuiet, EndsReading, IsQuiet, One
 
 use crate::fault::ListingFault;
 use crate::output::Output;
-use crate::record_sink::{RecordSink, TakeFault};
+use crate::record_sink::{RecordSink, SinkFault};
 use sl_io::{Sink, Source, WriteFault, write_all};
 use slreader::{GivenPacket, ReaderCore, ReaderFault, What};
 
@@ -83,7 +83,7 @@ fn put_packet<P: RecordSink>(
     output: &mut Output,
     packet: &GivenPacket<'_>,
     records: &mut P,
-) -> Result<(), TakeFault>
+) -> Result<(), SinkFault>
     ensures lines { OnOk result (output.new ≡ record output.old {
       lines = output.old.lines ++ packet_line output.old.style.times packet.now;
     }) }
@@ -101,7 +101,7 @@ fn put_packet<P: RecordSink>(
     let before = output.lines().len();
     match output.put_packet(packet) {
         Ok(()) => {}
-        Err(_) => return Err(TakeFault::OutOfMemory),
+        Err(_) => return Err(SinkFault::OutOfMemory),
     }
     match records.take(packet) {
         Ok(()) => Ok(()),
@@ -113,7 +113,7 @@ fn put_packet<P: RecordSink>(
 }
 
 /// Tells what was given, and hands the record of a packet on; or neither.
-fn put<P: RecordSink>(output: &mut Output, what: What<'_>, records: &mut P) -> Result<(), TakeFault>
+fn put<P: RecordSink>(output: &mut Output, what: What<'_>, records: &mut P) -> Result<(), SinkFault>
     ensures lines { OnOk result (output.new ≡ with_lines output.old (what_value what.entry)) }
     ensures waits { OnOk result ((waiting : List ℕ) → P.Waits records.old waiting
         → P.Waits records.new (with_records waiting (what_value what.entry))) }
@@ -131,7 +131,7 @@ fn put<P: RecordSink>(output: &mut Output, what: What<'_>, records: &mut P) -> R
         What::Hello => Ok(()),
         What::Refused(want) => match output.put_refused(want) {
             Ok(()) => Ok(()),
-            Err(_) => Err(TakeFault::OutOfMemory),
+            Err(_) => Err(SinkFault::OutOfMemory),
         },
         What::Packet(packet) => match put_packet(output, &packet, records) {
             Ok(()) => Ok(()),
@@ -175,8 +175,8 @@ fn take_piece<P: RecordSink>(
             What::End => return Ok(Ok(true)),
             what => match put(output, what, records) {
                 Ok(()) => {}
-                Err(TakeFault::OutOfMemory) => return Ok(Err(ReaderFault::OutOfMemory)),
-                Err(TakeFault::Write) => return Err(WriteFault),
+                Err(SinkFault::OutOfMemory) => return Ok(Err(ReaderFault::OutOfMemory)),
+                Err(SinkFault::Write) => return Err(WriteFault),
             },
         }
         left = &left[came.used..];

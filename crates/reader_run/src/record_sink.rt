@@ -13,7 +13,7 @@ use slreader::GivenPacket;
 
 /// Why a record was not taken.
 #[derive(Clone, Copy, Drop)]
-pub enum TakeFault {
+pub enum SinkFault {
     /// There was no memory for it. Those that were taken before wait as they did.
     OutOfMemory,
     /// Not all of it, and of those that waited, could be written.
@@ -43,7 +43,7 @@ pub trait RecordSink {
         ensures empty { empty_writes self.new ≡ empty_writes self.old };
 
     /// Takes the record of a packet.
-    fn take(&mut self, packet: &GivenPacket<'_>) -> Result<(), TakeFault>
+    fn take(&mut self, packet: &GivenPacket<'_>) -> Result<(), SinkFault>
         ensures waits { OnOk result ((records : List ℕ) → Waits self.old records
             → Waits self.new (records ++ record_of packet.now)) }
         ensures written { OnOk result (written self.new ≡ written self.old) }

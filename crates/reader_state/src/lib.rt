@@ -10,5 +10,5 @@ mod state;
 mod writing;
 
 pub use reading::{StateFault, read_state};
-pub use state::State;
+pub use state::KeptState;
 pub use writing::write_state;

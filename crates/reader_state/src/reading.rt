@@ -14,7 +14,7 @@ ghost use Rattle.reader_state.specs.States.{state_text, text_of, words_of};
 ghost use Rattle.reader_state.specs.declared.reading.StateFault.TheVariants.{OutOfMemory};
 
 use crate::files::files_in;
-use crate::state::State;
+use crate::state::KeptState;
 use crate::writing::put_state;
 use sl_packet::Seq;
 use sl_time::Tick;
@@ -219,7 +219,7 @@ fn parts_of(bytes: &[u8]) -> Halves<'_>
 }
 
 /// What a text says, in whatever form it may be.
-fn state_in(alloc: Global, bytes: &[u8]) -> Result<State, StateFault>
+fn state_in(alloc: Global, bytes: &[u8]) -> Result<KeptState, StateFault>
     ensures apart { IfOk result (λ state. are_apart state.lasts ≡ true) }
     ensures back { (s : StateValue) → IsState s → bytes.now ≡ state_text s
         → MatchResult result (λ state. state ≡ s) (λ fault. fault ≡ OutOfMemory) }
@@ -230,7 +230,7 @@ fn state_in(alloc: Global, bytes: &[u8]) -> Result<State, StateFault>
         Err(fault) => return Err(fault),
     };
     match files_in(alloc, parts.rest) {
-        Ok(files) => Ok(State { lasts, files }),
+        Ok(files) => Ok(KeptState { lasts, files }),
         Err(fault) => Err(fault),
     }
 }
@@ -242,7 +242,7 @@ fn state_in(alloc: Global, bytes: &[u8]) -> Result<State, StateFault>
 ///
 /// It fails with Invalid where the text is none that is written, and with OutOfMemory only where memory lacks. What was
 /// written is read back.
-pub fn read_state(alloc: Global, bytes: &[u8]) -> Result<State, StateFault>
+pub fn read_state(alloc: Global, bytes: &[u8]) -> Result<KeptState, StateFault>
     ensures text { IfOk result (λ state. bytes.now ≡ state_text state) }
     ensures apart { IfOk result (λ state. are_apart state.lasts ≡ true) }
     ensures back { (s : StateValue) → IsState s → bytes.now ≡ state_text s

@@ -7,12 +7,12 @@ use std::marker::Model;
 
 /// What a state says: how far each station is, and how many records of each file these numbers count.
 #[derive(Drop)]
-pub struct State {
+pub struct KeptState {
     pub(crate) lasts: Vec<LastPacket>,
     pub(crate) files: Vec<FileLength>,
 }
 
-impl Model for State {
+impl Model for KeptState {
     ghost use Rattle.reader_state.specs.States.{StateValue};
 
     ghost Value = { StateValue };
@@ -20,15 +20,15 @@ impl Model for State {
     ghost view = { λ s. record { lasts = s.lasts.items; files = s.files.items } };
 }
 
-impl State {
+impl KeptState {
     ghost use Rattle.std.specs.Prelude.{◌≡◌, ◌++◌, ◌∷◌, [], OnOk};
     ghost use Rattle.reader_state.specs.States.{state_text};
 
     /// Nothing.
-    pub fn new(alloc: Global) -> State
+    pub fn new(alloc: Global) -> KeptState
         ensures { result ≡ record { lasts = []; files = [] } }
     {
-        State {
+        KeptState {
             lasts: Vec::new(alloc),
             files: Vec::new(alloc),
         }

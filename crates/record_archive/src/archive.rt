@@ -16,7 +16,7 @@ use crate::folders::{FolderFault, Folders};
 use crate::lengths::FileLength;
 use crate::placing::{ArchiveFault, Placed, put_record};
 use crate::stations::StationCodes;
-use crate::streams::Streams;
+use crate::streams::KnownStreams;
 use mseed_header::Header;
 use std::alloc::Global;
 use std::fs::File;
@@ -27,7 +27,7 @@ use std::rt::{Clock, Files};
 #[derive(Drop)]
 pub struct Archive<F: Folders> {
     folders: F,
-    streams: Streams,
+    streams: KnownStreams,
     unplaced: u64,
 }
 
@@ -39,7 +39,7 @@ impl<F: Folders> Archive<F> {
     {
         Archive {
             folders,
-            streams: Streams::new(alloc, stations),
+            streams: KnownStreams::new(alloc, stations),
             unplaced: 0,
         }
     }

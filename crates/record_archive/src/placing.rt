@@ -6,7 +6,7 @@ ghost use Rattle.record_archive.specs.Archives.{Fails, HoldsMore, IsPlaced, IsUn
 ghost use Rattle.record_archive.specs.declared.placing.Placed.TheVariants.{InFile, Unplaced};
 
 use crate::folders::Folders;
-use crate::streams::Streams;
+use crate::streams::KnownStreams;
 use mseed_header::Header;
 
 /// What became of a record.
@@ -31,7 +31,7 @@ pub enum ArchiveFault {
 /// name a place and it is of one of the stations.
 fn put_read<F: Folders>(
     folders: &mut F,
-    streams: &mut Streams,
+    streams: &mut KnownStreams,
     bytes: &[u8; 512],
     header: &Header<'_>,
 ) -> Result<Placed, ArchiveFault>
@@ -59,7 +59,7 @@ fn put_read<F: Folders>(
 /// a place, and it is of one of the stations. It is told what the record says, if it is valid.
 pub(crate) fn put_record<F: Folders>(
     folders: &mut F,
-    streams: &mut Streams,
+    streams: &mut KnownStreams,
     bytes: &[u8; 512],
     header: &Option<Header<'_>>,
 ) -> Result<Placed, ArchiveFault>

@@ -31,7 +31,7 @@ struct Span {
 
 /// Records with the same codes and the same type that start within some time, and the file into which they are put.
 #[derive(Drop)]
-pub(crate) struct Stream {
+pub(crate) struct KnownStream {
     codes: [u8; 12],
     /// The codes and the type as a number.
     number: u128,
@@ -41,7 +41,7 @@ pub(crate) struct Stream {
     place: Place,
 }
 
-impl Model for Stream {
+impl Model for KnownStream {
     ghost use Rattle.record_archive.specs.Places.{StreamValue};
 
     ghost Value = { StreamValue };
@@ -118,7 +118,7 @@ fn stream_of(
     stations: &[StationCodes],
     bytes: &[u8; 512],
     header: &Header<'_>,
-) -> Result<Option<Stream>, AllocError>
+) -> Result<Option<KnownStream>, AllocError>
     requires { header_of bytes.now ≡ Ok header.now }
     ensures place { IfOk result (λ made. IfSome made (λ s. HasPlace s.year s.day stations.now header.now s.place)) }
     ensures known { IfOk result (λ made. IfSome made (IsKnown stations.now)) }
@@ -134,7 +134,7 @@ fn stream_of(
         return Ok(None);
     };
     let codes = codes_of(bytes);
-    Ok(Some(Stream {
+    Ok(Some(KnownStream {
         codes: *codes,
         number: number_of(codes, header.kind()),
         kind: header.kind(),
@@ -144,7 +144,7 @@ fn stream_of(
     }))
 }
 
-impl Stream {
+impl KnownStream {
     ghost use Rattle.std.specs.Prelude.{◌≡◌, true};
     ghost use Rattle.record_archive.specs.Places.{IsOfStream};
 
@@ -168,11 +168,11 @@ impl Stream {
 
 /// The streams of some stations that are known. One is found by its codes and its type.
 #[derive(Drop)]
-pub(crate) struct Streams {
+pub(crate) struct KnownStreams {
     alloc: Global,
     stations: Vec<StationCodes>,
     /// By their numbers, rising.
-    all: Vec<Stream>,
+    all: Vec<KnownStream>,
     /// The place of that of the last record.
     last: usize,
     ghost known: { All (IsKnown stations.items) all.items },
@@ -186,7 +186,7 @@ pub(crate) fn place_after(place: usize, count: usize) -> usize {
     }
 }
 
-impl Streams {
+impl KnownStreams {
     ghost use Rattle.std.specs.Prelude.{◌≡◌, ◌≤◌, ◌<◌, [], All, IfErr, IfOk, IfSome, None, Ok, List, get_or, length};
     ghost use Rattle.std.specs.Prelude.{true};
     ghost use Rattle.protocol.specs.Record.{header_of};
@@ -194,10 +194,10 @@ impl Streams {
     ghost use Rattle.record_archive.specs.Places.{HasPlace, IsKnown, IsOfStream, StreamValue};
 
     /// None is known.
-    pub(crate) fn new(alloc: Global, stations: Vec<StationCodes>) -> Streams
+    pub(crate) fn new(alloc: Global, stations: Vec<StationCodes>) -> KnownStreams
         ensures { result.stations ≡ stations }
     {
-        Streams {
+        KnownStreams {
             alloc,
             stations,
             all: Vec::new(alloc),
@@ -206,7 +206,7 @@ impl Streams {
     }
 
     /// The stream at a place.
-    pub(crate) fn at(&self, place: usize) -> &Stream
+    pub(crate) fn at(&self, place: usize) -> &KnownStream
         requires { place < length self.now.all.items }
         ensures { result.now ≡ get_or self.now.all.items place result.now }
     {
@@ -252,7 +252,7 @@ impl Streams {
     }
 
     /// A stream stands at its place from now on, or is put where it belongs.
-    fn set(&mut self, place: Result<usize, usize>, stream: Stream) -> Result<usize, AllocError>
+    fn set(&mut self, place: Result<usize, usize>, stream: KnownStream) -> Result<usize, AllocError>
         requires found { IfOk place (λ at. at < length self.old.all.items) }
         requires absent { IfErr place (λ at. at ≤ length self.old.all.items) }
         requires known { IsKnown self.old.stations.items stream }

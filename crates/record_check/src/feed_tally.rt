@@ -23,15 +23,15 @@ const ROW: u64 = 16;
 
 /// The codes of a record's station, as they stand in its header: with spaces after them up to two and five bytes.
 #[derive(Clone, Copy, Drop)]
-pub struct StationCodes {
+pub struct PaddedCodes {
     network: [u8; 2],
     station: [u8; 5],
 }
 
-impl StationCodes {
+impl PaddedCodes {
     /// Those of a record (SEED Reference Manual 2.4, chapter 8, fixed header, fields 7 and 4).
-    fn of(bytes: &[u8; 512]) -> StationCodes {
-        StationCodes {
+    fn of(bytes: &[u8; 512]) -> PaddedCodes {
+        PaddedCodes {
             network: [bytes[18], bytes[19]],
             station: [bytes[8], bytes[9], bytes[10], bytes[11], bytes[12]],
         }
@@ -50,7 +50,7 @@ fn put_code<W: Write>(f: &mut Formatter<W>, code: &[u8]) -> fmt::Result {
     Ok(())
 }
 
-impl Display for StationCodes {
+impl Display for PaddedCodes {
     /// `GE WLF`.
     fn fmt<W: Write>(&self, f: &mut Formatter<W>) -> fmt::Result {
         put_code(f, &self.network)?;
@@ -66,7 +66,7 @@ pub enum Detail {
     /// The power of two that it gives as its length, if that is why no server takes it.
     Power(u8),
     /// Its station, if that is one that is not expected.
-    Station(StationCodes),
+    Station(PaddedCodes),
 }
 
 /// A record that no server takes.
@@ -90,7 +90,7 @@ impl RefusedRecord {
             fault: refused.fault(),
             detail: match refused {
                 Refused::Unread(fault) => detail_of(*fault, bytes),
-                Refused::Stranger(_) => Detail::Station(StationCodes::of(bytes)),
+                Refused::Stranger(_) => Detail::Station(PaddedCodes::of(bytes)),
             },
         }
     }

@@ -16,7 +16,7 @@ mod texts;
 
 pub use check::{RecordCheck, check_records};
 pub use fault::FileFault;
-pub use feed_tally::{Detail, FeedTally, RefusedRecord, StationCodes};
+pub use feed_tally::{Detail, FeedTally, PaddedCodes, RefusedRecord};
 pub use finding::Finding;
 pub use options::{ListingOptions, Times};
 pub use stations::{AllStations, Stations};

@@ -10,7 +10,7 @@ ghost use Rattle.record_check.specs.Index.{name_of, place_in, AreCodes, Finds};
 ghost use Rattle.record_check.specs.Streams.{begun};
 
 use crate::stream_name::StreamName;
-use crate::streams::{Seam, Stream};
+use crate::streams::{CheckedStream, Seam};
 use mseed_header::Header;
 use std::alloc::{AllocError, Global};
 use std::collections::HashMap;
@@ -20,7 +20,7 @@ use std::marker::Model;
 #[derive(Drop)]
 pub(crate) struct StreamList {
     alloc: Global,
-    streams: Vec<Stream>,
+    streams: Vec<CheckedStream>,
     places: HashMap<StreamName, usize>,
 }
 
@@ -40,7 +40,7 @@ impl Model for StreamList {
 /// nothing changes.
 fn begin(
     alloc: Global,
-    streams: &mut Vec<Stream>,
+    streams: &mut Vec<CheckedStream>,
     places: &mut HashMap<StreamName, usize>,
     name: StreamName,
     header: &Header<'_>,
@@ -53,7 +53,7 @@ fn begin(
     ensures same { OnErr result (streams.new.items ≡ streams.old.items) }
     ensures finds { Finds places.new streams.new.items }
 {
-    let stream = Stream::new(alloc, header)?;
+    let stream = CheckedStream::new(alloc, header)?;
     streams.reserve(1)?;
     places.insert(name, streams.len())?;
     streams.push(stream)?;
@@ -76,7 +76,7 @@ impl StreamList {
     }
 
     /// The streams.
-    pub(crate) fn as_slice(&self) -> &[Stream]
+    pub(crate) fn as_slice(&self) -> &[CheckedStream]
         ensures { result.now ≡ self.now }
     {
         self.streams.as_slice()

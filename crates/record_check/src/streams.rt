@@ -116,7 +116,7 @@ fn more_if(is_so: bool, count: u64) -> u64
 
 /// What is known of a stream: the records of one type of a channel.
 #[derive(Drop)]
-pub(crate) struct Stream {
+pub(crate) struct CheckedStream {
     network: Vec<u8>,
     station: Vec<u8>,
     location: [u8; 2],
@@ -131,7 +131,7 @@ pub(crate) struct Stream {
     latest: Extent,
 }
 
-impl Model for Stream {
+impl Model for CheckedStream {
     ghost use Rattle.record_check.specs.Streams.{StreamValue};
 
     ghost Value = { StreamValue };
@@ -151,15 +151,15 @@ impl Model for Stream {
     } };
 }
 
-impl Stream {
+impl CheckedStream {
     ghost use Rattle.std.specs.Prelude.{◌≡◌, IfOk};
     ghost use Rattle.record_check.specs.Streams.{begun, gone_on, has_gap_at, has_overlap_at, is_data, seam_of};
 
     /// That of a record which is its first.
-    pub(crate) fn new(alloc: Global, header: &Header<'_>) -> Result<Stream, AllocError>
+    pub(crate) fn new(alloc: Global, header: &Header<'_>) -> Result<CheckedStream, AllocError>
         ensures { IfOk result (λ s. s ≡ begun header.now) }
     {
-        Ok(Stream {
+        Ok(CheckedStream {
             network: Vec::from_slice(alloc, header.network())?,
             station: Vec::from_slice(alloc, header.station())?,
             location: *header.location(),

@@ -10,7 +10,7 @@ ghost use Rattle.record_check.specs.Words.{time_text, word_text};
 use crate::fault::FileFault;
 use crate::listing::{Refused, Said};
 use crate::options::{ListingOptions, Times};
-use crate::streams::{Seam, Stream, ticks_after};
+use crate::streams::{CheckedStream, Seam, ticks_after};
 use itoa::{Buffer, Integer};
 use mseed_header::{Header, Kind};
 use sl_time::{Tick, put_moment, put_seconds};
@@ -279,7 +279,7 @@ pub(crate) fn put_rest(
 }
 
 /// A stream's type, how many records it has, its earliest start and latest end, and its gaps and overlaps.
-fn put_summary(text: &mut Vec<u8>, times: Times, stream: &Stream) -> Result<(), AllocError>
+fn put_summary(text: &mut Vec<u8>, times: Times, stream: &CheckedStream) -> Result<(), AllocError>
     ensures { OnOk result (text.new.items ≡ text.old.items ++ summary_text times stream.now) }
 {
     put_kind(text, stream.kind())?;
@@ -292,7 +292,7 @@ fn put_summary(text: &mut Vec<u8>, times: Times, stream: &Stream) -> Result<(), 
 }
 
 /// The line of a stream.
-fn put_stream(text: &mut Vec<u8>, times: Times, stream: &Stream) -> Result<(), AllocError>
+fn put_stream(text: &mut Vec<u8>, times: Times, stream: &CheckedStream) -> Result<(), AllocError>
     ensures { OnOk result (text.new.items ≡ text.old.items ++ stream_line times stream.now) }
 {
     put_codes(
@@ -308,7 +308,11 @@ fn put_stream(text: &mut Vec<u8>, times: Times, stream: &Stream) -> Result<(), A
 }
 
 /// The lines of streams.
-fn put_streams(text: &mut Vec<u8>, times: Times, streams: &[Stream]) -> Result<(), AllocError>
+fn put_streams(
+    text: &mut Vec<u8>,
+    times: Times,
+    streams: &[CheckedStream],
+) -> Result<(), AllocError>
     ensures { OnOk result (text.new.items ≡ text.old.items ++ stream_lines times streams.now) }
 {
     for stream in streams {
@@ -321,7 +325,7 @@ fn put_streams(text: &mut Vec<u8>, times: Times, streams: &[Stream]) -> Result<(
 pub(crate) fn put_summaries(
     text: &mut Vec<u8>,
     options: ListingOptions,
-    streams: &[Stream],
+    streams: &[CheckedStream],
 ) -> Result<(), AllocError>
     ensures { OnOk result (text.new.items ≡ text.old.items ++ streams_text options streams.now) }
 {

@@ -9,7 +9,7 @@ use Rattle.station_ring.specs.Rings.{RingValue}
 use Rattle.status_page.specs.declared.value.ClientStatus.{ClientStatus}
 use Rattle.status_page.specs.declared.value.StationStatus.{StationStatus}
 use Rattle.server_watch.specs.declared.arrivals.Arrivals.{Arrivals}
-use Rattle.server_watch.specs.declared.visitors.Visitor.{Visitor}
+use Rattle.server_watch.specs.declared.visitors.PresentClient.{PresentClient}
 
 -- what is known of a station's records once so many have come, at a time in milliseconds
 abbrev pub noted : (pushes now : ℕ) → Arrivals → Arrivals
@@ -48,7 +48,7 @@ pub record TellsOf (now place : ℕ) (entry : ConfigEntry) (rings : RingsValue) 
   pub users : s.users.now ≡ listed
 
 -- what is told of a client, by its port and by who is there: nothing counts for one that is not in the table
-abbrev pub with_visitor_of : (now port named behind : ℕ) → Option Visitor → ClientStatus
+abbrev pub with_visitor_of : (now port named behind : ℕ) → Option PresentClient → ClientStatus
 with_visitor_of now port named behind (Some v) =
     record {
       number = port;

@@ -13,5 +13,5 @@ mod watch;
 pub use arrivals::Arrivals;
 pub use behind::behind_of;
 pub use turns::Turns;
-pub use visitors::{Visitor, Visitors};
+pub use visitors::{PresentClient, PresentClients};
 pub use watch::{Told, Watch};

@@ -12,7 +12,7 @@ use std::net::Ipv4Addr;
 
 /// A client that is here.
 #[derive(Clone, Copy, Drop)]
-pub struct Visitor {
+pub struct PresentClient {
     /// The number of its port.
     pub port: u64,
     /// From where it came.
@@ -26,12 +26,12 @@ pub struct Visitor {
 /// The clients that are here, by rising number of their ports. In a contract it is for how many there is room, the last
 /// port that was added, and who is there. There is room for so many when it is made, and no call allocates.
 #[derive(Drop)]
-pub struct Visitors {
+pub struct PresentClients {
     last: Option<u64>,
-    present: Vec<Visitor>,
+    present: Vec<PresentClient>,
 }
 
-impl Model for Visitors {
+impl Model for PresentClients {
     ghost use Rattle.std.specs.Vec.{vec_capacity};
     ghost use Rattle.server_watch.specs.Visitors.{AreUpTo, Rise, VisitorsValue};
 
@@ -53,7 +53,7 @@ fn is_next(last: Option<u64>, port: u64) -> bool
 }
 
 /// The place of a port, or the place where it belongs.
-fn place_of(present: &[Visitor], port: u64) -> Result<usize, usize>
+fn place_of(present: &[PresentClient], port: u64) -> Result<usize, usize>
     requires { Rise present.now }
     ensures found { IfOk result (λ at. IsVisitorAt present.now port at) }
     ensures absent { IfErr result (λ at. IsGapFor present.now port at) }
@@ -62,7 +62,7 @@ fn place_of(present: &[Visitor], port: u64) -> Result<usize, usize>
 }
 
 /// A port took more bytes.
-fn count(present: &mut [Visitor], port: u64, more: u64)
+fn count(present: &mut [PresentClient], port: u64, more: u64)
     requires { Rise present.old }
     ensures { present.new ≡ map (with_bytes port more) present.old }
 {
@@ -72,20 +72,20 @@ fn count(present: &mut [Visitor], port: u64, more: u64)
     }
 }
 
-impl Visitors {
+impl PresentClients {
     /// Nobody, with room for so many. It fails only for want of memory.
-    pub fn new(alloc: Global, room: usize) -> Result<Visitors, AllocError>
+    pub fn new(alloc: Global, room: usize) -> Result<PresentClients, AllocError>
         ensures { IfOk result (λ made. made ≡ record { room = room; last = None; present = [] }) }
     {
         let present = Vec::with_capacity(alloc, room)?;
-        Ok(Visitors {
+        Ok(PresentClients {
             last: None,
             present,
         })
     }
 
     /// One more is there, if its port is above all that were added and there is room for it.
-    pub fn add(&mut self, visitor: Visitor)
+    pub fn add(&mut self, visitor: PresentClient)
         ensures { self.new ≡ with_visitor visitor self.old }
     {
         if is_next(self.last, visitor.port) && self.present.len() < self.present.capacity() {
@@ -102,7 +102,7 @@ impl Visitors {
     }
 
     /// Who is at a port, if somebody is.
-    pub fn find(&self, port: u64) -> Option<Visitor>
+    pub fn find(&self, port: u64) -> Option<PresentClient>
         ensures { result ≡ find (is_at port) self.now.present }
     {
         match place_of(self.present.as_slice(), port) {
@@ -112,7 +112,7 @@ impl Visitors {
     }
 
     /// Who was at a port, if somebody was. Nobody is there any more.
-    pub fn remove(&mut self, port: u64) -> Option<Visitor>
+    pub fn remove(&mut self, port: u64) -> Option<PresentClient>
         ensures visitor { result ≡ find (is_at port) self.old.present }
         ensures left { self.new ≡ record self.old { present = without port self.old.present } }
     {

@@ -10,7 +10,7 @@ ghost use Rattle.server_watch.specs.Watching.{TellsOf, with_visitor_of};
 use crate::arrivals::Arrivals;
 use crate::behind::behind_of;
 use crate::minutes::Minutes;
-use crate::visitors::{Visitor, Visitors};
+use crate::visitors::{PresentClient, PresentClients};
 use catalog::{Config, Station};
 use event_loop::{Loop, Role, Seat};
 use ports::Ports;
@@ -109,7 +109,7 @@ impl Watch {
     }
 
     /// Tells of a client, if not as many are told of already as are at most.
-    fn tell(&mut self, server: &Server, seat: &Seat, now: u64, visitors: &Visitors) {
+    fn tell(&mut self, server: &Server, seat: &Seat, now: u64, visitors: &PresentClients) {
         let Role::Client(client) = &seat.role else {
             return;
         };
@@ -125,7 +125,7 @@ impl Watch {
     }
 
     /// Looks at the clients, once a second at most.
-    pub fn gather<P: Ports>(&mut self, now: u64, server: &Loop<P>, visitors: &Visitors) {
+    pub fn gather<P: Ports>(&mut self, now: u64, server: &Loop<P>, visitors: &PresentClients) {
         let second = now / 1_000;
         if self.gathered == Some(second) {
             return;
@@ -275,7 +275,7 @@ fn with_visitor(
     port: u64,
     named: u64,
     behind: u64,
-    visitor: Option<Visitor>,
+    visitor: Option<PresentClient>,
 ) -> ClientStatus
     ensures { result ≡ with_visitor_of now port named behind visitor }
 {
@@ -305,7 +305,7 @@ fn client_status(
     session: &Session,
     port: u64,
     now: u64,
-    visitor: Option<Visitor>,
+    visitor: Option<PresentClient>,
 ) -> ClientStatus {
     let named = session.choices().len() as u64;
     with_visitor(now, port, named, behind_in(rings, session), visitor)

@@ -2,7 +2,7 @@
 use Rattle.std.proofs.Common.{◌≡◌, ℕ, ◌+◌, ◌<◌, List, [], length, drop, get_or, Some, None, refl, sym, ap, ◌∙◌, arith}
 use Rattle.std.proofs.Common.{drop-cons, add-one, add_assoc}
 use Rattle.std.specs.Prelude.{Option, is_some, true, false}
-use Rattle.slreader.specs.declared.stage.Event.{Event}
+use Rattle.slreader.specs.declared.stage.StageEvent.{StageEvent}
 use Rattle.slreader.specs.Dialogue.{ReaderValue, FirstGiven, behind, goes_on, read_first, after_byte, given_by}
 use Rattle.slreader.specs.ReaderViews.{given_list, given_value}
 use Rattle.slreader.specs.Reads.{TalkedOf}
@@ -33,7 +33,7 @@ talk_on f r r' piece k b so_far inside at to none =
     ∙ ap (λ q. behind (k + 1) (read_first q (drop (k + 1) piece))) (sym to)
 
 -- It gave something.
-pub talk_gave : (f : FirstGiven) (r r' : ReaderValue) (piece : List ℕ) (k b : ℕ) (e : Event)
+pub talk_gave : (f : FirstGiven) (r r' : ReaderValue) (piece : List ℕ) (k b : ℕ) (e : StageEvent)
     → f ≡ behind k (read_first r (drop k piece)) → k < length piece → b ≡ get_or piece k 0 → r' ≡ after_byte r b
     → ((packet : List ℕ) → given_list (Some e) packet ≡ given_by r b) → (packet : List ℕ)
     → f ≡ record { used = k + 1; given = Some (given_value e packet); reader = r' }
@@ -45,7 +45,7 @@ talk_gave f r r' piece k b e so_far inside at to some packet =
     ∙ ap (λ q. record { used = k + 1; given = Some (given_value e packet); reader = q }) (sym to)
 
 -- The same of what a call gave.
-pub talked_some : (r₀ r r' : ReaderValue) (piece : List ℕ) (k b : ℕ) (o : Option Event)
+pub talked_some : (r₀ r r' : ReaderValue) (piece : List ℕ) (k b : ℕ) (o : Option StageEvent)
     → read_first r₀ piece ≡ behind k (read_first r (drop k piece)) → k < length piece → b ≡ get_or piece k 0
     → r' ≡ after_byte r b → ((packet : List ℕ) → given_list o packet ≡ given_by r b) → is_some o ≡ true
     → TalkedOf r₀ piece (k + 1) o r'
@@ -53,7 +53,7 @@ talked_some r₀ r r' piece k b None so_far inside at to given some = absurd cc
 talked_some r₀ r r' piece k b (Some e) so_far inside at to given some =
     λ packet. talk_gave (read_first r₀ piece) r r' piece k b e so_far inside at to given packet
 
-pub talked_none : (f : FirstGiven) (r r' : ReaderValue) (piece : List ℕ) (k b : ℕ) (o : Option Event)
+pub talked_none : (f : FirstGiven) (r r' : ReaderValue) (piece : List ℕ) (k b : ℕ) (o : Option StageEvent)
     → f ≡ behind k (read_first r (drop k piece)) → k < length piece → b ≡ get_or piece k 0 → r' ≡ after_byte r b
     → ((packet : List ℕ) → given_list o packet ≡ given_by r b) → is_some o ≡ false
     → f ≡ behind (k + 1) (read_first r' (drop (k + 1) piece))

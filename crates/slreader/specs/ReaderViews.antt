@@ -5,11 +5,11 @@ use Rattle.sl_packet.specs.Progress.{Progress}
 use Rattle.sl_packet.specs.Progress.Progress.{Amid, Finished, Faulty}
 use Rattle.slreader.specs.declared.fault.ReaderFault.{ReaderFault}
 use Rattle.slreader.specs.declared.fault.ReaderFault.TheVariants.{NotAPacket}
-use Rattle.slreader.specs.declared.stage.Stage.{Stage as CodeStage}
-use Rattle.slreader.specs.declared.stage.Stage.TheVariants as code
-use Rattle.slreader.specs.declared.stage.Event.{Event}
-use Rattle.slreader.specs.declared.stage.Event.TheVariants as event
-use Rattle.slreader.specs.declared.stage.Step.{Step}
+use Rattle.slreader.specs.declared.stage.ReaderStage.{ReaderStage}
+use Rattle.slreader.specs.declared.stage.ReaderStage.TheVariants as code
+use Rattle.slreader.specs.declared.stage.StageEvent.{StageEvent}
+use Rattle.slreader.specs.declared.stage.StageEvent.TheVariants as event
+use Rattle.slreader.specs.declared.stage.PieceStep.{PieceStep}
 use Rattle.slreader.specs.Wants.{Command}
 use Rattle.slreader.specs.Tallies.{TallyValue}
 use Rattle.slreader.specs.OutboxValue.{OutboxValue}
@@ -25,7 +25,7 @@ transfer_stage Finished = Over
 transfer_stage Faulty = Failed NotAPacket
 
 -- what a reader is sent next
-abbrev pub stage_value : CodeStage → Progress → Stage
+abbrev pub stage_value : ReaderStage → Progress → Stage
 stage_value (code.FirstLine count after_cr) progress = FirstLine count after_cr
 stage_value (code.SecondLine count after_cr) progress = SecondLine count after_cr
 stage_value (code.Answer want count is_error) progress = Answer want count is_error
@@ -33,7 +33,7 @@ stage_value code.Transfer progress = transfer_stage progress
 stage_value (code.Failed fault) progress = Failed fault
 
 -- the reader, part by part
-abbrev pub reader_value : CodeStage → Progress → List Command → ℕ → OutboxValue → TallyValue → ReaderValue
+abbrev pub reader_value : ReaderStage → Progress → List Command → ℕ → OutboxValue → TallyValue → ReaderValue
 reader_value stage progress ahead kept outbox tally =
     record {
       stage = stage_value stage progress;
@@ -45,23 +45,23 @@ reader_value stage progress ahead kept outbox tally =
     }
 
 -- what was given; the packet lies in a buffer
-abbrev pub given_value : Event → (packet : List ℕ) → Given
+abbrev pub given_value : StageEvent → (packet : List ℕ) → Given
 given_value event.Hello packet = Hello
 given_value (event.Refused want) packet = Refused want
 given_value event.Packet packet = Packet packet
 given_value event.End packet = End
 
 -- one thing that was given, or nothing
-abbrev pub given_list : Option Event → (packet : List ℕ) → List Given
+abbrev pub given_list : Option StageEvent → (packet : List ℕ) → List Given
 given_list None packet = []
 given_list (Some e) packet = given_value e packet ∷ []
 
-abbrev pub given_option : Option Event → (packet : List ℕ) → Option Given
+abbrev pub given_option : Option StageEvent → (packet : List ℕ) → Option Given
 given_option None packet = None
 given_option (Some e) packet = Some (given_value e packet)
 
 -- what a call answered
-abbrev pub step_outcome : Result Step ReaderFault → (packet : List ℕ) → Outcome
+abbrev pub step_outcome : Result PieceStep ReaderFault → (packet : List ℕ) → Outcome
 step_outcome (Ok step) packet = Gave step.used (given_option step.event packet)
 step_outcome (Err fault) packet = Stopped fault
 

@@ -5,9 +5,9 @@ use Rattle.sl_packet.specs.Progress.{Progress}
 use Rattle.sl_packet.specs.declared.cutter.NotAPacket.{NotAPacket}
 use Rattle.slreader.specs.declared.fault.ReaderFault.{ReaderFault}
 use Rattle.slreader.specs.declared.fault.ReaderFault.TheVariants as fault
-use Rattle.slreader.specs.declared.stage.Event.{Event}
-use Rattle.slreader.specs.declared.stage.Event.TheVariants as event
-use Rattle.slreader.specs.declared.stage.Step.{Step}
+use Rattle.slreader.specs.declared.stage.StageEvent.{StageEvent}
+use Rattle.slreader.specs.declared.stage.StageEvent.TheVariants as event
+use Rattle.slreader.specs.declared.stage.PieceStep.{PieceStep}
 use Rattle.slreader.specs.Tallies.{TallyValue, counted}
 use Rattle.slreader.specs.Dialogue.{Given, ReaderValue, FirstGiven, behind, fails, read_first}
 use Rattle.slreader.specs.Dialogue.Given.{Hello, Refused, Packet, End}
@@ -15,7 +15,7 @@ use Rattle.slreader.specs.ReaderViews.{given_value, given_option, transfer_stage
 
 -- Either an answer gave something at its last byte, or nothing was given: then all bytes were read, or packets come
 -- next.
-abbrev pub TalkedOf : ReaderValue → List ℕ → (used : ℕ) → Option Event → ReaderValue → Type 0
+abbrev pub TalkedOf : ReaderValue → List ℕ → (used : ℕ) → Option StageEvent → ReaderValue → Type 0
 TalkedOf r piece used (Some e) r' =
     (packet : List ℕ) → read_first r piece ≡ record { used = used; given = Some (given_value e packet); reader = r' }
 TalkedOf r piece used None r' =
@@ -23,7 +23,7 @@ TalkedOf r piece used None r' =
     × (is_talk r'.stage ≡ true → used ≡ length piece)
 
 -- what was counted, where that was given
-abbrev pub tally_after : TallyValue → Option Event → (packet : List ℕ) → TallyValue
+abbrev pub tally_after : TallyValue → Option StageEvent → (packet : List ℕ) → TallyValue
 tally_after t None packet = t
 tally_after t (Some event.Hello) packet = t
 tally_after t (Some (event.Refused want)) packet = t
@@ -39,12 +39,13 @@ tally_given t (Some (Packet packet)) = counted t packet
 tally_given t (Some End) = t
 
 -- the reader, once it counts what a call gave
-abbrev pub with_given : ReaderValue → Result Step ReaderFault → (packet : List ℕ) → ReaderValue
+abbrev pub with_given : ReaderValue → Result PieceStep ReaderFault → (packet : List ℕ) → ReaderValue
 with_given r (Ok step) packet = record r { tally = tally_after r.tally step.event packet }
 with_given r (Err fault) packet = r
 
 -- what a cutter that began with `before` read of a piece, where it stands at `after`
-abbrev pub cut_first : ReaderValue → (piece : List ℕ) → Result Step NotAPacket → (after : Progress) → (packet : List ℕ)
+abbrev pub cut_first : ReaderValue → (piece : List ℕ) → Result PieceStep NotAPacket → (after : Progress)
+    → (packet : List ℕ)
     → FirstGiven
 cut_first r piece (Ok step) after packet =
     record {

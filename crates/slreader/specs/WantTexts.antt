@@ -4,8 +4,8 @@ use Rattle.std.specs.Option.{option_copied}
 use Rattle.std.specs.Borrow.{Bor}
 use Rattle.slreader.specs.Wants.{Action, WantValue}
 use Rattle.slreader.specs.Wants.Action.{Data, Fetch, Time}
-use Rattle.slreader.specs.declared.want.Action.{Action as CodeAction}
-use Rattle.slreader.specs.declared.want.Action.TheVariants as code
+use Rattle.slreader.specs.declared.want.WantedAction.{WantedAction}
+use Rattle.slreader.specs.declared.want.WantedAction.TheVariants as code
 use Rattle.slreader.specs.declared.window.Window.{Window}
 use Rattle.slreader.specs.declared.window.Window.TheVariants as window
 use Rattle.slreader.specs.Words.{WindowValue}
@@ -16,7 +16,7 @@ abbrev pub texts : List (Bor (List ℕ)) → List (List ℕ)
 texts [] = []
 texts (t ∷ ts) = t.now ∷ texts ts
 
-abbrev pub action_value : CodeAction → Action
+abbrev pub action_value : WantedAction → Action
 action_value (code.Data number begin) = Data number (option_copied begin)
 action_value (code.Fetch number begin) = Fetch number (option_copied begin)
 action_value (code.Time begin last) = Time (option_copied begin) (option_copied last)
@@ -26,6 +26,6 @@ window_value (window.Following begin) = Following (option_copied begin)
 window_value (window.Held begin) = Held (option_copied begin)
 window_value (window.Between begin last) = Between begin.now last.now
 
-abbrev pub want_value : (network station : List ℕ) → List (Bor (List ℕ)) → CodeAction → WantValue
+abbrev pub want_value : (network station : List ℕ) → List (Bor (List ℕ)) → WantedAction → WantValue
 want_value network station patterns action =
     record { network = network; station = station; patterns = texts patterns; action = action_value action }

@@ -4,7 +4,7 @@ ghost use Rattle.slreader.specs.ReaderViews.{given_option};
 ghost use Rattle.slreader.specs.Whats.{what_value};
 
 use crate::given_packet::GivenPacket;
-use crate::stage::Event;
+use crate::stage::StageEvent;
 
 /// What a reader is given.
 #[derive(Drop)]
@@ -32,14 +32,14 @@ pub struct Came<'a> {
 }
 
 /// What became whole; a packet lies in the buffer.
-pub(crate) fn what_of(event: Option<Event>, packet: &[u8; 520]) -> What<'_>
+pub(crate) fn what_of(event: Option<StageEvent>, packet: &[u8; 520]) -> What<'_>
     ensures { what_value result ≡ given_option event packet.now }
 {
     match event {
         None => What::Nothing,
-        Some(Event::Hello) => What::Hello,
-        Some(Event::Refused(want)) => What::Refused(want),
-        Some(Event::Packet) => What::Packet(GivenPacket::new(packet)),
-        Some(Event::End) => What::End,
+        Some(StageEvent::Hello) => What::Hello,
+        Some(StageEvent::Refused(want)) => What::Refused(want),
+        Some(StageEvent::Packet) => What::Packet(GivenPacket::new(packet)),
+        Some(StageEvent::End) => What::End,
     }
 }

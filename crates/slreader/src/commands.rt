@@ -11,7 +11,7 @@ ghost use Rattle.slreader.specs.Wants.{station_line as spec_station_line};
 ghost use Rattle.slreader.specs.WantTexts.{action_value, texts};
 ghost use Rattle.slreader.specs.Views.{plan_value};
 
-use crate::want::{Action, Plan, Want};
+use crate::want::{Plan, Want, WantedAction};
 use sl_packet::Seq;
 use std::alloc::{AllocError, Global};
 use std::marker::Model;
@@ -102,13 +102,13 @@ fn timed_line(
 }
 
 /// DATA, FETCH or TIME with its arguments.
-fn action_line(alloc: Global, action: &Action<'_>) -> Result<Vec<u8>, AllocError>
+fn action_line(alloc: Global, action: &WantedAction<'_>) -> Result<Vec<u8>, AllocError>
     ensures { IfOk result (λ line. line.items ≡ spec_action_line (action_value action.now)) }
 {
     match action {
-        Action::Data { number, begin } => numbered_line(alloc, b"DATA", *number, *begin),
-        Action::Fetch { number, begin } => numbered_line(alloc, b"FETCH", *number, *begin),
-        Action::Time { begin, last } => timed_line(alloc, *begin, *last),
+        WantedAction::Data { number, begin } => numbered_line(alloc, b"DATA", *number, *begin),
+        WantedAction::Fetch { number, begin } => numbered_line(alloc, b"FETCH", *number, *begin),
+        WantedAction::Time { begin, last } => timed_line(alloc, *begin, *last),
     }
 }
 

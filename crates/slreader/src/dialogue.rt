@@ -6,7 +6,7 @@ use crate::fault::ReaderFault;
 use crate::outbox::Outbox;
 use crate::packets::read_packet;
 use crate::pieces::{LinePiece, ReplyPiece, line_piece, reply_piece};
-use crate::stage::{Event, Stage, Step};
+use crate::stage::{PieceStep, ReaderStage, StageEvent};
 use crate::tally::Tally;
 use crate::want::Plan;
 use sl_packet::{PacketCutter, Seq};
@@ -22,7 +22,7 @@ const GREETING: &[u8] = b"SeedLink v";
 /// A reader but for the buffer of the packet that it lends.
 #[derive(Drop)]
 pub(crate) struct Dialogue {
-    stage: Stage,
+    stage: ReaderStage,
     cutter: PacketCutter,
     agenda: Agenda,
     kept: usize,
@@ -61,7 +61,7 @@ impl Dialogue {
         let mut outbox = Outbox::new(alloc, room)?;
         outbox.ask(HELLO);
         Ok(Dialogue {
-            stage: Stage::FirstLine {
+            stage: ReaderStage::FirstLine {
                 count: 0,
                 after_cr: false,
             },
@@ -132,15 +132,15 @@ impl Dialogue {
             Some(command) => {
                 self.outbox.ask(&command.line);
                 self.stage = match command.want {
-                    Some(want) => Stage::Answer {
+                    Some(want) => ReaderStage::Answer {
                         want,
                         count: 0,
                         is_error: false,
                     },
-                    None => Stage::Transfer,
+                    None => ReaderStage::Transfer,
                 };
             }
-            None => self.stage = Stage::Transfer,
+            None => self.stage = ReaderStage::Transfer,
         }
         self.agenda.pass();
         self.cutter = PacketCutter::new();
@@ -150,7 +150,7 @@ impl Dialogue {
     fn fail(&mut self, fault: ReaderFault)
         ensures { self.new ≡ fails self.old fault }
     {
-        self.stage = Stage::Failed(fault);
+        self.stage = ReaderStage::Failed(fault);
     }
 
     /// A command of the want was answered ERROR.
@@ -174,13 +174,13 @@ impl Dialogue {
     {
         match piece {
             LinePiece::Whole => {
-                self.stage = Stage::SecondLine {
+                self.stage = ReaderStage::SecondLine {
                     count: 0,
                     after_cr: false,
                 };
             }
             LinePiece::Open => {
-                self.stage = Stage::FirstLine {
+                self.stage = ReaderStage::FirstLine {
                     count: count + 1,
                     after_cr: byte == b'\r',
                 };
@@ -190,7 +190,7 @@ impl Dialogue {
     }
 
     /// One more byte of the second line.
-    fn second_line(&mut self, count: usize, byte: u8, piece: LinePiece) -> Option<Event>
+    fn second_line(&mut self, count: usize, byte: u8, piece: LinePiece) -> Option<StageEvent>
         requires { piece ≡ LinePiece.Open → count ≤ 256 }
         ensures read { self.new ≡ second_line self.old count byte piece }
         ensures given { (packet : List ℕ) → given_list result packet ≡ hello_given piece }
@@ -198,10 +198,10 @@ impl Dialogue {
         match piece {
             LinePiece::Whole => {
                 self.ask_next();
-                Some(Event::Hello)
+                Some(StageEvent::Hello)
             }
             LinePiece::Open => {
-                self.stage = Stage::SecondLine {
+                self.stage = ReaderStage::SecondLine {
                     count: count + 1,
                     after_cr: byte == b'\r',
                 };
@@ -215,7 +215,7 @@ impl Dialogue {
     }
 
     /// One more byte of an answer.
-    fn answer(&mut self, want: usize, count: usize, piece: ReplyPiece) -> Option<Event>
+    fn answer(&mut self, want: usize, count: usize, piece: ReplyPiece) -> Option<StageEvent>
         requires { (e : Bool) → piece ≡ ReplyPiece.Open e → count ≤ 256 }
         ensures read { self.new ≡ answered self.old want count piece }
         ensures given { (packet : List ℕ) → given_list result packet ≡ refusal_given want piece }
@@ -223,14 +223,14 @@ impl Dialogue {
         match piece {
             ReplyPiece::Whole { is_error: true } => {
                 self.refuse(want);
-                Some(Event::Refused(want))
+                Some(StageEvent::Refused(want))
             }
             ReplyPiece::Whole { is_error: false } => {
                 self.ask_next();
                 None
             }
             ReplyPiece::Open { is_error } => {
-                self.stage = Stage::Answer {
+                self.stage = ReaderStage::Answer {
                     want,
                     count: count + 1,
                     is_error,
@@ -246,25 +246,25 @@ impl Dialogue {
 
     /// One more byte of a line or of an answer.
     #[tactic(auto, unfolding(crate::specs::Dialogue::after_byte, crate::specs::Dialogue::given_by))]
-    fn read_byte(&mut self, byte: u8) -> Option<Event>
+    fn read_byte(&mut self, byte: u8) -> Option<StageEvent>
         requires { is_talk self.old.stage ≡ true }
         ensures read { self.new ≡ after_byte self.old byte }
         ensures given { (packet : List ℕ) → given_list result packet ≡ given_by self.old byte }
     {
         match self.stage {
-            Stage::FirstLine { count, after_cr } => {
+            ReaderStage::FirstLine { count, after_cr } => {
                 self.first_line(count, byte, line_piece(GREETING, count, after_cr, byte));
                 None
             }
-            Stage::SecondLine { count, after_cr } => {
+            ReaderStage::SecondLine { count, after_cr } => {
                 self.second_line(count, byte, line_piece(b"", count, after_cr, byte))
             }
-            Stage::Answer {
+            ReaderStage::Answer {
                 want,
                 count,
                 is_error,
             } => self.answer(want, count, reply_piece(count, is_error, byte)),
-            Stage::Transfer | Stage::Failed(_) => unreachable!(),
+            ReaderStage::Transfer | ReaderStage::Failed(_) => unreachable!(),
         }
     }
 
@@ -273,8 +273,10 @@ impl Dialogue {
         ensures { result ≡ is_talk self.now.stage }
     {
         match self.stage {
-            Stage::FirstLine { .. } | Stage::SecondLine { .. } | Stage::Answer { .. } => true,
-            Stage::Transfer | Stage::Failed(_) => false,
+            ReaderStage::FirstLine { .. }
+            | ReaderStage::SecondLine { .. }
+            | ReaderStage::Answer { .. } => true,
+            ReaderStage::Transfer | ReaderStage::Failed(_) => false,
         }
     }
 }
@@ -288,26 +290,26 @@ impl Dialogue {
     ghost use Rattle.slreader.specs.Whats.{what_value};
 
     /// Reads lines and answers, up to the first that gives something.
-    fn talk(&mut self, piece: &[u8]) -> Step
+    fn talk(&mut self, piece: &[u8]) -> PieceStep
         ensures talked { TalkedOf self.old piece.now result.used result.event self.new }
         ensures within { result.used ≤ length piece.now }
     {
         for (index, byte) in piece.iter().enumerate() {
             if !self.is_talking() {
-                return Step {
+                return PieceStep {
                     used: index,
                     event: None,
                 };
             }
             let event = self.read_byte(*byte);
             if event.is_some() {
-                return Step {
+                return PieceStep {
                     used: index + 1,
                     event,
                 };
             }
         }
-        Step {
+        PieceStep {
             used: piece.len(),
             event: None,
         }
@@ -329,19 +331,21 @@ impl Dialogue {
         before: usize,
         piece: &[u8],
         packet: &mut [u8; 520],
-    ) -> Result<Step, ReaderFault>
+    ) -> Result<PieceStep, ReaderFault>
         requires fits { before + length piece.now < 2 ^ 64 }
         requires talked { is_talk self.old.stage ≡ true → length piece.now ≡ 0 }
         ensures outcome { step_outcome result packet.new ≡ outcome_of (behind before (read_first self.old piece.now)) }
         ensures read { with_given self.new result packet.new ≡ (read_first self.old piece.now).reader }
     {
         match self.stage {
-            Stage::FirstLine { .. } | Stage::SecondLine { .. } | Stage::Answer { .. } => Ok(Step {
+            ReaderStage::FirstLine { .. }
+            | ReaderStage::SecondLine { .. }
+            | ReaderStage::Answer { .. } => Ok(PieceStep {
                 used: before,
                 event: None,
             }),
-            Stage::Transfer => match read_packet(&mut self.cutter, piece, packet) {
-                Ok(step) => Ok(Step {
+            ReaderStage::Transfer => match read_packet(&mut self.cutter, piece, packet) {
+                Ok(step) => Ok(PieceStep {
                     used: before + step.used,
                     event: step.event,
                 }),
@@ -350,13 +354,17 @@ impl Dialogue {
                     Err(ReaderFault::NotAPacket)
                 }
             },
-            Stage::Failed(fault) => Err(fault),
+            ReaderStage::Failed(fault) => Err(fault),
         }
     }
 
     /// Reads the piece up to the first thing that it gives, else to its end. A packet that is given is copied to
     /// `packet`. What is given is not counted yet.
-    pub(crate) fn read(&mut self, piece: &[u8], packet: &mut [u8; 520]) -> Result<Step, ReaderFault>
+    pub(crate) fn read(
+        &mut self,
+        piece: &[u8],
+        packet: &mut [u8; 520],
+    ) -> Result<PieceStep, ReaderFault>
         ensures outcome { step_outcome result packet.new ≡ outcome_of (read_first self.old piece.now) }
         ensures read { with_given self.new result packet.new ≡ (read_first self.old piece.now).reader }
     {

@@ -8,7 +8,7 @@ ghost use Rattle.slreader.specs.Views.{plan_value};
 ghost use Rattle.slreader.specs.WantTexts.{action_value};
 
 use crate::tally::Tally;
-use crate::want::{Action, Plan, Want};
+use crate::want::{Plan, Want, WantedAction};
 use sl_packet::Seq;
 use std::alloc::{AllocError, Global};
 
@@ -24,23 +24,23 @@ fn number_after(next: Option<Seq>, number: Option<Seq>) -> Option<Seq>
 
 /// The action that asks for the same records, from a number on if there is one. TIME with an end takes no number, and
 /// stays as it is.
-fn action_after<'a>(action: &Action<'a>, next: Option<Seq>) -> Action<'a>
+fn action_after<'a>(action: &WantedAction<'a>, next: Option<Seq>) -> WantedAction<'a>
     ensures { action_value result ≡ action_after (action_value action.now) next }
 {
     match *action {
-        Action::Data { number, begin } => Action::Data {
+        WantedAction::Data { number, begin } => WantedAction::Data {
             number: number_after(next, number),
             begin,
         },
-        Action::Fetch { number, begin } => Action::Fetch {
+        WantedAction::Fetch { number, begin } => WantedAction::Fetch {
             number: number_after(next, number),
             begin,
         },
-        Action::Time { begin, last: None } if next.is_some() => Action::Data {
+        WantedAction::Time { begin, last: None } if next.is_some() => WantedAction::Data {
             number: next,
             begin,
         },
-        Action::Time { begin, last } => Action::Time { begin, last },
+        WantedAction::Time { begin, last } => WantedAction::Time { begin, last },
     }
 }
 

@@ -32,5 +32,5 @@ pub use laws::{dialogue_decided, dialogue_in_pieces, first_of_a_piece, state_goe
 pub use part::WantPart;
 pub use reader::ReaderCore;
 pub use tally::{Reached, Tally};
-pub use want::{Action, Plan, Want};
+pub use want::{Plan, Want, WantedAction};
 pub use window::Window;

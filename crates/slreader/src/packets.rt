@@ -8,7 +8,7 @@ ghost use Rattle.slreader.specs.Dialogue.{ReaderValue, at_stage, read_first};
 ghost use Rattle.slreader.specs.ReaderViews.{transfer_stage};
 ghost use Rattle.slreader.specs.Reads.{cut_first};
 
-use crate::stage::{Event, Step};
+use crate::stage::{PieceStep, StageEvent};
 use sl_packet::{Cut, NotAPacket, PacketCutter};
 
 /// Reads packets and the end, and copies the packet that becomes whole.
@@ -16,7 +16,7 @@ pub(crate) fn read_packet(
     cutter: &mut PacketCutter,
     piece: &[u8],
     packet: &mut [u8; 520],
-) -> Result<Step, NotAPacket>
+) -> Result<PieceStep, NotAPacket>
     ensures first { (r : ReaderValue) → read_first (at_stage r (transfer_stage cutter.old)) piece.now
         ≡ cut_first r piece.now result cutter.new packet.new }
     ensures sound { OnOk result (cutter.new ≢ Faulty) }
@@ -24,20 +24,20 @@ pub(crate) fn read_packet(
 {
     match cutter.feed(piece) {
         Ok(fed) => match fed.cut {
-            Cut::Nothing => Ok(Step {
+            Cut::Nothing => Ok(PieceStep {
                 used: fed.used,
                 event: None,
             }),
             Cut::Packet(whole) => {
                 packet.copy_from_slice(whole);
-                Ok(Step {
+                Ok(PieceStep {
                     used: fed.used,
-                    event: Some(Event::Packet),
+                    event: Some(StageEvent::Packet),
                 })
             }
-            Cut::End => Ok(Step {
+            Cut::End => Ok(PieceStep {
                 used: fed.used,
-                event: Some(Event::End),
+                event: Some(StageEvent::End),
             }),
         },
         Err(fault) => Err(fault),

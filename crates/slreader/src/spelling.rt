@@ -9,7 +9,7 @@ ghost use Rattle.slreader.specs.Wants.{is_want, patterns_together, wants_of};
 ghost use Rattle.slreader.specs.WantTexts.{action_value, texts};
 ghost use Rattle.slreader.specs.Views.{plan_value};
 
-use crate::want::{Action, Plan, Want};
+use crate::want::{Plan, Want, WantedAction};
 use selector::Selector;
 
 /// How many bytes a network's code has at most.
@@ -93,17 +93,17 @@ fn is_led(has_first: bool, has_second: bool) -> bool
 }
 
 /// The arguments are texts of moments, and each has the one before it.
-pub(crate) fn is_action(action: &Action<'_>) -> bool
+pub(crate) fn is_action(action: &WantedAction<'_>) -> bool
     ensures { result ≡ spec_is_action (action_value action.now) }
 {
     match action {
-        Action::Data { number, begin } => {
+        WantedAction::Data { number, begin } => {
             is_led(number.is_some(), begin.is_some()) && is_moment(*begin)
         }
-        Action::Fetch { number, begin } => {
+        WantedAction::Fetch { number, begin } => {
             is_led(number.is_some(), begin.is_some()) && is_moment(*begin)
         }
-        Action::Time { begin, last } => {
+        WantedAction::Time { begin, last } => {
             is_led(begin.is_some(), last.is_some()) && is_moment(*begin) && is_moment(*last)
         }
     }

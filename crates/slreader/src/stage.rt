@@ -3,7 +3,7 @@ use crate::fault::ReaderFault;
 
 /// What a reader is sent next.
 #[derive(Clone, Copy)]
-pub(crate) enum Stage {
+pub(crate) enum ReaderStage {
     /// The first line that answers HELLO, of which so many bytes came, the last of them CR or not.
     FirstLine {
         count: usize,
@@ -28,7 +28,7 @@ pub(crate) enum Stage {
 
 /// What became whole. A packet lies in the reader's buffer.
 #[derive(Clone, Copy)]
-pub(crate) enum Event {
+pub(crate) enum StageEvent {
     /// The two lines that answer HELLO.
     Hello,
     /// An ERROR to a command of that want.
@@ -41,9 +41,9 @@ pub(crate) enum Event {
 
 /// What a piece gives.
 #[derive(Clone, Copy)]
-pub(crate) struct Step {
+pub(crate) struct PieceStep {
     /// How many bytes of it were read.
     pub(crate) used: usize,
     /// What became whole, if anything did.
-    pub(crate) event: Option<Event>,
+    pub(crate) event: Option<StageEvent>,
 }

@@ -6,7 +6,7 @@ use std::marker::Model;
 /// Which records of a station are wanted (SeedLink 3: DATA, FETCH and TIME). Moments are texts that `sl_time::parse`
 /// accepts; they are sent as they stand.
 #[derive(Clone, Copy)]
-pub enum Action<'a> {
+pub enum WantedAction<'a> {
     /// Records as they come, from that number on, and none that ended before that moment.
     Data {
         number: Option<Seq>,
@@ -34,7 +34,7 @@ pub struct Want<'a> {
     /// At most 64 patterns over location, channel and type (SeedLink 3, SELECT), as `BH?` and `!E`.
     pub patterns: Vec<&'a [u8]>,
     /// From where on, and until when.
-    pub action: Action<'a>,
+    pub action: WantedAction<'a>,
 }
 
 impl<'a> Model for Want<'a> {

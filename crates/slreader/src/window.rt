@@ -3,7 +3,7 @@ ghost use Rattle.std.specs.Prelude.{◌≡◌, option_map};
 ghost use Rattle.slreader.specs.WantTexts.{action_value, window_value};
 ghost use Rattle.slreader.specs.Words.{action_of};
 
-use crate::want::Action;
+use crate::want::WantedAction;
 use sl_packet::Seq;
 
 /// Which records are wanted (SeedLink 3: DATA, FETCH and TIME). Moments are texts that `sl_time::parse` accepts.
@@ -19,18 +19,21 @@ pub enum Window<'a> {
 }
 
 /// The action that asks for them, with or without a number; None where SeedLink 3 has none.
-pub(crate) fn action_of<'a>(window: Window<'a>, number: Option<Seq>) -> Option<Action<'a>>
+pub(crate) fn action_of<'a>(window: Window<'a>, number: Option<Seq>) -> Option<WantedAction<'a>>
     ensures { option_map action_value result ≡ action_of (window_value window.entry) number }
 {
     match window {
-        Window::Following { begin: None } => Some(Action::Data {
+        Window::Following { begin: None } => Some(WantedAction::Data {
             number,
             begin: None,
         }),
-        Window::Following { begin } if number.is_none() => Some(Action::Time { begin, last: None }),
-        Window::Following { begin } => Some(Action::Data { number, begin }),
-        Window::Held { begin } => Some(Action::Fetch { number, begin }),
-        Window::Between { begin, last } if number.is_none() => Some(Action::Time {
+        Window::Following { begin } if number.is_none() => Some(WantedAction::Time {
+            begin,
+            last: None,
+        }),
+        Window::Following { begin } => Some(WantedAction::Data { number, begin }),
+        Window::Held { begin } => Some(WantedAction::Fetch { number, begin }),
+        Window::Between { begin, last } if number.is_none() => Some(WantedAction::Time {
             begin: Some(begin),
             last: Some(last),
         }),

@@ -15,22 +15,22 @@ use text_parts::separators::cut_at;
 
 /// A text cut at its first separator.
 #[derive(Clone, Copy)]
-pub(crate) struct Cut<'a> {
+pub(crate) struct CutText<'a> {
     pub(crate) front: &'a [u8],
     pub(crate) rest: Option<&'a [u8]>,
 }
 
 /// A text cut at its first separator; all of it where it has none.
-pub(crate) fn front_and_rest(separator: u8, text: &[u8]) -> Cut<'_>
+pub(crate) fn front_and_rest(separator: u8, text: &[u8]) -> CutText<'_>
     ensures front { result.front.now ≡ front_of separator text.now }
     ensures rest { option_copied result.rest ≡ rest_of separator text.now }
 {
     match cut_at(text, separator) {
-        Some((front, rest)) => Cut {
+        Some((front, rest)) => CutText {
             front,
             rest: Some(rest),
         },
-        None => Cut {
+        None => CutText {
             front: text,
             rest: None,
         },

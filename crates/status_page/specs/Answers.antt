@@ -1,6 +1,6 @@
 -- Answers: a head and a body. HTTP/1.1: a status line, fields, an empty line, and a body of a told length.
 use Rattle.std.specs.Prelude.{ℕ, Bool, if◌then◌else◌, List, [], ◌∷◌, ◌++◌, length, codes, decimal}
-use Rattle.status_page.specs.declared.request.Request.{Request}
+use Rattle.status_page.specs.declared.request.StatusRequest.{StatusRequest}
 use Rattle.status_page.specs.declared.request.Target.{Target}
 use Rattle.status_page.specs.declared.request.Target.TheVariants.{Page, PageByAge, Metrics, Health, Plain, Missing}
 use Rattle.status_page.specs.declared.request.Target.TheVariants.{NotAllowed, TooLong, Invalid}
@@ -20,8 +20,8 @@ code_of is_silent Health = if is_silent then codes "503 Service Unavailable" els
 code_of is_silent Plain = if is_silent then codes "503 Service Unavailable" else codes "200 OK"
 code_of is_silent Missing = codes "404 Not Found"
 code_of is_silent NotAllowed = codes "405 Method Not Allowed"
-code_of is_silent TooLong = codes "431 Request Header Fields Too Large"
-code_of is_silent Invalid = codes "400 Bad Request"
+code_of is_silent TooLong = codes "431 StatusRequest Header Fields Too Large"
+code_of is_silent Invalid = codes "400 Bad StatusRequest"
 
 -- what its body is
 abbrev pub kind_of : Target → List ℕ
@@ -62,9 +62,9 @@ with_head is_head code kind body =
     head_text code kind (length body) ++ (if is_head then [] else body)
 
 -- the code of the answer to a request
-abbrev pub code_for : Request → StatusValue → List ℕ
+abbrev pub code_for : StatusRequest → StatusValue → List ℕ
 code_for r v = code_of (any_silent v.silent_after v.stations.now) r.target
 
-unfoldable pub answer_text : (style : List ℕ) → Request → StatusValue → List ℕ
+unfoldable pub answer_text : (style : List ℕ) → StatusRequest → StatusValue → List ℕ
 answer_text style r v =
     with_head r.is_head (code_for r v) (kind_of r.target) (body_text style r.target (code_for r v) v)

@@ -1,7 +1,7 @@
 -- What is asked of the status port. HTTP/1.1: GET and HEAD. The paths are this project's own.
 use Rattle.std.specs.Prelude.{ℕ, if◌then◌else◌, List, true, false, codes}
 use Rattle.std.specs.Str.{bytes_eq}
-use Rattle.status_page.specs.declared.request.Request.{Request}
+use Rattle.status_page.specs.declared.request.StatusRequest.{StatusRequest}
 use Rattle.status_page.specs.declared.request.Target.{Target}
 use Rattle.status_page.specs.declared.request.Target.TheVariants.{Page, PageByAge, Metrics, Health, Plain, Missing}
 use Rattle.status_page.specs.declared.request.Target.TheVariants.{NotAllowed}
@@ -21,7 +21,7 @@ target_of path =
     else Missing
 
 -- what is asked by a method and a path
-abbrev pub request_of : (method path : List ℕ) → Request
+abbrev pub request_of : (method path : List ℕ) → StatusRequest
 request_of method path =
     if bytes_eq method (codes "GET") then record { target = target_of path; is_head = false }
     else if bytes_eq method (codes "HEAD") then record { target = target_of path; is_head = true }

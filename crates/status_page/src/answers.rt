@@ -7,7 +7,7 @@ use crate::metrics::put_metrics;
 use crate::page::{STYLE, put_page};
 use crate::parts::{Part, put_parts};
 use crate::plain::{put_health, put_plain};
-use crate::request::{Request, Target};
+use crate::request::{StatusRequest, Target};
 use crate::value::{StatusValue, is_any_silent};
 use std::alloc::AllocError;
 
@@ -24,8 +24,8 @@ fn code_of(target: Target, is_silent: bool) -> &'static [u8]
         },
         Target::Missing => b"404 Not Found",
         Target::NotAllowed => b"405 Method Not Allowed",
-        Target::TooLong => b"431 Request Header Fields Too Large",
-        Target::Invalid => b"400 Bad Request",
+        Target::TooLong => b"431 StatusRequest Header Fields Too Large",
+        Target::Invalid => b"400 Bad StatusRequest",
     }
 }
 
@@ -112,7 +112,7 @@ fn put_body(
 pub fn write_answer(
     text: &mut Vec<u8>,
     body: &mut Vec<u8>,
-    request: Request,
+    request: StatusRequest,
     status: &StatusValue<'_>,
 ) -> Result<(), AllocError>
     ensures { OnOk result (text.new.items ≡ answer_text STYLE.now request status.now) }

@@ -12,7 +12,7 @@ mod request;
 mod value;
 
 pub use answers::write_answer;
-pub use request::{Request, Target, request_in};
+pub use request::{StatusRequest, Target, request_in};
 pub use value::{
     ClientStatus, LastRecord, NamedCount, StationStatus, StatusValue, TurnBucket, TurnTimes,
 };

@@ -34,7 +34,7 @@ pub enum Target {
 
 /// What is asked.
 #[derive(Clone, Copy, Drop)]
-pub struct Request {
+pub struct StatusRequest {
     pub target: Target,
     /// Only the head of the answer is wanted.
     pub is_head: bool,
@@ -60,21 +60,21 @@ fn target_of(path: &[u8]) -> Target
 }
 
 /// What is asked by a method and a path.
-fn request_of(method: &[u8], path: &[u8]) -> Request
+fn request_of(method: &[u8], path: &[u8]) -> StatusRequest
     ensures { result ≡ request_of method.now path.now }
 {
     if method == b"GET".as_slice() {
-        Request {
+        StatusRequest {
             target: target_of(path),
             is_head: false,
         }
     } else if method == b"HEAD".as_slice() {
-        Request {
+        StatusRequest {
             target: target_of(path),
             is_head: true,
         }
     } else {
-        Request {
+        StatusRequest {
             target: Target::NotAllowed,
             is_head: false,
         }
@@ -82,8 +82,8 @@ fn request_of(method: &[u8], path: &[u8]) -> Request
 }
 
 /// An answer that is for no path.
-fn refusal(target: Target) -> Request {
-    Request {
+fn refusal(target: Target) -> StatusRequest {
+    StatusRequest {
         target,
         is_head: false,
     }
@@ -91,7 +91,7 @@ fn refusal(target: Target) -> Request {
 
 /// What the bytes that came ask, if they hold the head of a request with at most 64 fields. Else what is wrong with
 /// them; None if more bytes may complete a head and more are taken.
-pub fn request_in(bytes: &[u8], is_full: bool) -> Option<Request>
+pub fn request_in(bytes: &[u8], is_full: bool) -> Option<StatusRequest>
     ensures asked { (head : RequestHead) (rest : List ℕ) → ReadsRequest bytes.now head rest →
         length head.fields ≤ MAX_FIELDS → result ≡ Some (request_of head.method head.target) }
     ensures unfinished { result ≡ None → HasNoRequest bytes.now }

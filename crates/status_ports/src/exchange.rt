@@ -2,7 +2,7 @@
 ghost use Rattle.std.specs.Prelude.{◌≡◌, ◌≤◌, [], IfOk, OnOk, drop, length};
 ghost use Rattle.status_ports.specs.Exchanges.{begun, is_late, with_bytes};
 
-use status_page::{Request, StatusValue, request_in, write_answer};
+use status_page::{StatusRequest, StatusValue, request_in, write_answer};
 use std::alloc::{AllocError, Global};
 use std::marker::Model;
 
@@ -68,7 +68,7 @@ impl Exchange {
     }
 
     /// What is asked, if that is known: more bytes are waited for while a head may have more.
-    pub fn asked(&self) -> Option<Request> {
+    pub fn asked(&self) -> Option<StatusRequest> {
         request_in(self.head.as_slice(), self.head.len() >= HEAD)
     }
 
@@ -76,7 +76,7 @@ impl Exchange {
     pub fn answer(
         &mut self,
         body: &mut Vec<u8>,
-        request: Request,
+        request: StatusRequest,
         status: &StatusValue<'_>,
     ) -> Result<(), AllocError> {
         self.sent = 0;

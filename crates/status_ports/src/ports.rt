@@ -3,7 +3,7 @@ use crate::exchange::{Exchange, HEAD};
 use crate::visit::may_ask;
 use access_list::AccessList;
 use mio::net::{TcpListener, TcpStream};
-use status_page::{Request, StatusValue};
+use status_page::{StatusRequest, StatusValue};
 use std::alloc::{AllocError, Global};
 use std::io::{self, ErrorKind, Read, Write};
 use std::net::{Net, Shutdown, SocketAddr, SocketAddrV4};
@@ -21,7 +21,7 @@ const READ: usize = 1_024;
 #[derive(Clone, Copy, Drop)]
 pub struct Asked {
     pub place: usize,
-    pub request: Request,
+    pub request: StatusRequest,
 }
 
 /// What a connection is in the middle of.
@@ -137,7 +137,7 @@ impl Slot {
     }
 
     /// What it asks, if that is known and not answered.
-    fn asked(&self) -> Option<Request> {
+    fn asked(&self) -> Option<StatusRequest> {
         match (&self.stream, self.stage) {
             (Some(_), Stage::Reading) => self.exchange.asked(),
             _ => None,

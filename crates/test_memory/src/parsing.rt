@@ -3,7 +3,7 @@ use crate::centre::{inside, outside};
 use crate::trial::{Fault, Trial};
 use access_list::{AccessFault, AccessList};
 use catalog::{Config, ConfigFault};
-use slreader::{Action, Plan, ReaderCore, ReaderFault, Want};
+use slreader::{Plan, ReaderCore, ReaderFault, Want, WantedAction};
 use std::alloc::Global;
 use test_centre::CENTRE;
 
@@ -49,7 +49,7 @@ fn want<'a>(alloc: Global, station: &'a [u8], patterns: &[&'a [u8]]) -> Result<W
         network: b"GE",
         station,
         patterns: patterns.to_vec(alloc)?,
-        action: Action::Fetch {
+        action: WantedAction::Fetch {
             number: None,
             begin: None,
         },

@@ -4,7 +4,7 @@ ghost use Rattle.std.specs.Prelude.{◌<◌};
 use catalog::Config;
 use server_core::{Event, run};
 use sl_packet::Seq;
-use slreader::{Action, Plan, ReaderCore, ReaderFault, Want, What};
+use slreader::{Plan, ReaderCore, ReaderFault, Want, WantedAction, What};
 use std::alloc::Global;
 use std::net::Ipv4Addr;
 use std::test::Fail;
@@ -41,7 +41,7 @@ fn want<'a>(alloc: Global, station: &'a [u8], patterns: &[&'a [u8]]) -> Result<W
         network: b"GE",
         station,
         patterns: patterns.to_vec(alloc)?,
-        action: Action::Fetch {
+        action: WantedAction::Fetch {
             number: None,
             begin: None,
         },

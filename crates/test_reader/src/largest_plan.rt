@@ -2,7 +2,7 @@
 //! refused.
 use catalog::Config;
 use server_core::{Client, Offer, Server};
-use slreader::{Action, Plan, ReaderCore, Want, What};
+use slreader::{Plan, ReaderCore, Want, WantedAction, What};
 use std::alloc::Global;
 use std::net::Ipv4Addr;
 use std::test::Fail;
@@ -37,7 +37,7 @@ fn want<'a>(alloc: Global, station: &'a [u8], count: usize) -> Result<Want<'a>, 
         network: b"GE",
         station,
         patterns,
-        action: Action::Fetch {
+        action: WantedAction::Fetch {
             number: None,
             begin: None,
         },

@@ -1,5 +1,5 @@
 //! A standard error that takes nothing for a while: whoever reads it is slow, or gone.
-use error_lines::{Device, ErrorLines, Line, MemoryDevice, StandardError};
+use error_lines::{Device, ErrorLine, ErrorLines, MemoryDevice, StandardError};
 use std::fmt::Write as _;
 use std::io;
 use std::io::Read;
@@ -18,8 +18,8 @@ static SAID: &str = "seedlinkd: clients 3, feeds 1, records 1200, refused 2";
 /// The same as it is written.
 static WRITTEN: [u8; 55] = *b"seedlinkd: clients 3, feeds 1, records 1200, refused 2\n";
 
-fn line_of(text: &str) -> Result<Line, Fail> {
-    Ok(Line::from(text).map_err(|_| "too long")?)
+fn line_of(text: &str) -> Result<ErrorLine, Fail> {
+    Ok(ErrorLine::from(text).map_err(|_| "too long")?)
 }
 
 /// Many lines to somebody who reads none. How many were written.
@@ -53,7 +53,7 @@ fn are_told<D: Device, S: Read>(
     dropped: u64,
 ) -> Result<bool, Fail> {
     let is_written = errors.write_line(&line_of("seedlinkd: 44 File")?);
-    let mut wanted = Line::new();
+    let mut wanted = ErrorLine::new();
     write!(
         wanted,
         "seedlinkd: lines dropped: {dropped}\nseedlinkd: 44 File\n"

@@ -11,7 +11,7 @@ use Rattle.station_ring.specs.Briefs.{Tells, stream_of}
 use Rattle.station_ring.specs.Rings.{RingValue, held_at}
 use Rattle.sl_lines.specs.declared.actions.Action.{Action}
 use Rattle.session_state.specs.NamedValues.{Choice}
-use Rattle.transfer.specs.declared.filters.Window.{Window}
+use Rattle.transfer.specs.declared.filters.TimeWindow.{TimeWindow}
 use Rattle.transfer.specs.declared.filters.Filter.{Filter}
 use Rattle.transfer.specs.declared.filters.Sight.{Sight}
 use Rattle.transfer.specs.declared.filters.Sight.TheVariants.{AfterEnd as SeenAfterEnd, Unwanted as SeenUnwanted}
@@ -31,7 +31,7 @@ is_early None stop = false
 is_early (Some begin) stop = int_lt stop begin
 
 -- What lies outside the window is not within what is asked, and what starts after it starts after the end of TIME.
-pub record IsWindow (w : Window) (action : Option Action) : Type 0 where
+pub record IsWindow (w : TimeWindow) (action : Option Action) : Type 0 where
   pub after : (x : Held) → is_after_end action x ≡ is_late w.last x.summary.start
   pub late : (x : Held) → is_late w.last x.summary.start ≡ true → is_in_window_of action (facts_of x.summary) ≡ false
   pub early : (x : Held) → is_early w.begin x.summary.stop ≡ true

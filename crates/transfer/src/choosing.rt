@@ -30,7 +30,7 @@ ghost use Rattle.transfer.specs.Sleeping.{HasNothing, MayCome, MoreMayCome, Slee
 ghost use Rattle.transfer.specs.Choosing.{answer_of, is_over_of, is_transfer, HoldsThere, IsAtCursor};
 
 use crate::overview::rest;
-use crate::searching::{Reached, search_from};
+use crate::searching::{SearchReached, search_from};
 use crate::wanting::{Candidate, at_end, at_record, has_passed_its_end, wants_too};
 use catalog::Config;
 use session_state::{Action, Cursor, Entry, First, Session, State};
@@ -179,7 +179,7 @@ fn search_after(session: &Session, found: Candidate<'_>, next: u64) -> Cursor
 {
     found.ring.holds_its_last();
     let _end = found.ring.pushes();
-    let from = Reached {
+    let from = SearchReached {
         place: found.place + 1,
         ended: session.choice(found.index).cursor.ended,
     };

@@ -21,7 +21,7 @@ const NUMBERED: usize = 64;
 
 /// When a record has to lie to be wanted.
 #[derive(Clone, Copy)]
-pub(crate) struct Window {
+pub(crate) struct TimeWindow {
     /// It must not end before this moment.
     begin: Option<Tick>,
     /// For TIME with an end: it must not start after this moment.
@@ -30,11 +30,11 @@ pub(crate) struct Window {
 
 /// The window of a named station.
 #[tactic(auto, using(crate::proofs::FilterLemmas::window_lemmas))]
-fn window_of(entry: &Entry) -> Window
+fn window_of(entry: &Entry) -> TimeWindow
     ensures { IsWindow result entry.now.action }
 {
     match entry.action.to_option() {
-        None => Window {
+        None => TimeWindow {
             begin: None,
             last: None,
         },
@@ -43,14 +43,14 @@ fn window_of(entry: &Entry) -> Window
                 number: _number,
                 begin,
             },
-        ) => Window { begin, last: None },
+        ) => TimeWindow { begin, last: None },
         Some(
             Action::Fetch {
                 number: _number,
                 begin,
             },
-        ) => Window { begin, last: None },
-        Some(Action::Time { begin, last }) => Window { begin, last },
+        ) => TimeWindow { begin, last: None },
+        Some(Action::Time { begin, last }) => TimeWindow { begin, last },
     }
 }
 
@@ -89,7 +89,7 @@ fn is_early(begin: Option<Tick>, stop: Tick) -> bool
 /// refuse them. So the patterns are asked once a stream, and not once a record.
 #[derive(Drop)]
 pub(crate) struct Filter {
-    window: Window,
+    window: TimeWindow,
     /// By the stream's number.
     refused: [bool; 256],
 }

@@ -81,7 +81,7 @@ fn found_by(
 
 /// How far a search has come.
 #[derive(Clone, Copy)]
-pub(crate) struct Reached {
+pub(crate) struct SearchReached {
     /// The place before which nothing is wanted.
     pub place: u64,
     /// As in a cursor.
@@ -105,7 +105,7 @@ fn pass_briefs(
     session: &Session,
     i: usize,
     next: u64,
-    from: Reached,
+    from: SearchReached,
     filter: &mut Filter,
 ) -> Passed
     requires index { i < length (chosen_of session.now.mode) }
@@ -136,7 +136,13 @@ fn pass_briefs(
 /// How far the request for the i-th named station comes from a place on: to the first record that it wants, else to the
 /// end.
 #[inline(never)]
-pub(crate) fn search(ring: &Ring, session: &Session, i: usize, next: u64, from: Reached) -> Cursor
+pub(crate) fn search(
+    ring: &Ring,
+    session: &Session,
+    i: usize,
+    next: u64,
+    from: SearchReached,
+) -> Cursor
     requires index { i < length (chosen_of session.now.mode) }
     requires low { first_place ring.now ≤ from.place }
     requires high { from.place ≤ ring.now.pushes }
@@ -153,7 +159,7 @@ pub(crate) fn search(ring: &Ring, session: &Session, i: usize, next: u64, from: 
     match pass_briefs(ring, briefs.older, session, i, next, from, &mut filter) {
         Passed::Found(cursor) => cursor,
         Passed::All(ended) => {
-            let reached = Reached {
+            let reached = SearchReached {
                 place: from.place + briefs.older.len() as u64,
                 ended,
             };
@@ -172,7 +178,7 @@ pub(crate) fn search_from(
     session: &Session,
     i: usize,
     next: u64,
-    from: Reached,
+    from: SearchReached,
 ) -> Cursor
     requires index { i < length (chosen_of session.now.mode) }
     requires low { first_place ring.now ≤ from.place }
@@ -192,7 +198,7 @@ pub(crate) fn search_from(
             session,
             i,
             next,
-            Reached {
+            SearchReached {
                 place: place + 1,
                 ended: place + 1,
             },
@@ -202,7 +208,7 @@ pub(crate) fn search_from(
             session,
             i,
             next,
-            Reached {
+            SearchReached {
                 place: place + 1,
                 ended: from.ended,
             },

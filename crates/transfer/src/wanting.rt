@@ -13,7 +13,7 @@ ghost use Rattle.transfer.specs.Wanting.{facts_of, is_in_window_of, wants_held};
 ghost use Rattle.transfer.specs.Cursors.{is_after_end, HasPassed, RestsAt};
 ghost use Rattle.transfer.specs.Founds.{found_of};
 
-use crate::searching::{Reached, search_from};
+use crate::searching::{SearchReached, search_from};
 use session_state::{Action, Cursor, Entry, Session};
 use sl_time::Tick;
 use station_ring::{Held, Ring, Summary};
@@ -198,7 +198,7 @@ pub fn cursor_in(ring: &Ring, session: &Session, i: usize, next: u64) -> Cursor
             session,
             i,
             next,
-            Reached {
+            SearchReached {
                 place: start + 1,
                 ended: start + 1,
             },
@@ -208,7 +208,7 @@ pub fn cursor_in(ring: &Ring, session: &Session, i: usize, next: u64) -> Cursor
             session,
             i,
             next,
-            Reached {
+            SearchReached {
                 place: start + 1,
                 ended,
             },

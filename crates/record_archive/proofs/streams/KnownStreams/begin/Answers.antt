@@ -2,7 +2,7 @@ use Rattle.std.proofs.Common.{◌∙◌, List, Ok, ap, sym, subst}
 use Rattle.record_archive.specs.Archives.{IsUnplaced}
 use Rattle.record_archive.specs.Places.{HasPlace, IsKnown, StreamValue}
 use Rattle.record_archive.specs.Stations.{CodesValue}
-use Rattle.record_archive.proofs.streams.Streams.begin.Goals as goal
+use Rattle.record_archive.proofs.streams.KnownStreams.begin.Goals as goal
 
 pub set-requires-clause-known : goal.set-requires-clause-known
 set-requires-clause-known c =

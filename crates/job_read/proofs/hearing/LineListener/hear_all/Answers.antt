@@ -1,7 +1,7 @@
 -- One byte more is heard.
 use Rattle.std.proofs.Common.{arith}
 use Rattle.job_read.proofs.HearingLemmas.{hears-more}
-use Rattle.job_read.proofs.hearing.Listener.hear_all.Goals as goal
+use Rattle.job_read.proofs.hearing.LineListener.hear_all.Goals as goal
 
 pub loop-byte-preserved : goal.loop-byte-preserved
 loop-byte-preserved g c =

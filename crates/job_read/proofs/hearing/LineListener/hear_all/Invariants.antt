@@ -1,7 +1,7 @@
 use Rattle.std.proofs.Common.{◌≡◌, take}
 use Rattle.job_read.specs.Hearing.{after_bytes, bytes_told}
 use Rattle.job_read.specs.Notices.{Tells}
-use Rattle.job_read.proofs.hearing.Listener.hear_all.Given as goal
+use Rattle.job_read.proofs.hearing.LineListener.hear_all.Given as goal
 
 abbrev pub invariant-loop-byte : goal.invariant-loop-byte
 invariant-loop-byte g l =

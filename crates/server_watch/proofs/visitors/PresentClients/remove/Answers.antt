@@ -3,19 +3,19 @@ use Rattle.std.specs.Vec.{vec_capacity}
 use Rattle.std.proofs.lemmas.List.{get_or_default}
 use Rattle.std.specs.List.{remove}
 use Rattle.server_watch.specs.Visitors.{AreUpTo, IsGapFor, IsVisitorAt, Rise, VisitorsValue, nobody, without}
-use Rattle.server_watch.specs.declared.visitors.Visitor.{Visitor}
+use Rattle.server_watch.specs.declared.visitors.PresentClient.{PresentClient}
 use Rattle.server_watch.proofs.VisitorLemmas.{find-absent, find-found, rise-remove, up-to-remove, without-absent}
 use Rattle.server_watch.proofs.VisitorLemmas.{without-found}
-use Rattle.server_watch.proofs.visitors.Visitors.remove.Goals as goal
+use Rattle.server_watch.proofs.visitors.PresentClients.remove.Goals as goal
 
-abbrev with_present : ℕ → Option ℕ → List Visitor → VisitorsValue
+abbrev with_present : ℕ → Option ℕ → List PresentClient → VisitorsValue
 with_present room last present = record { room = room; last = last; present = present }
 
 pub invariant_of-self : goal.invariant_of-self
 invariant_of-self c =
     let items : c.remove.new.self.items ≡ remove c.self.inside.present.items c.in-Ok.at = search rules in (
-      subst (λ (l : List Visitor). Rise l) (sym items) (rise-remove _ c.in-Ok.at c.self.invariant.0),
-      subst (λ (l : List Visitor). AreUpTo c.self.inside.last l) (sym items)
+      subst (λ (l : List PresentClient). Rise l) (sym items) (rise-remove _ c.in-Ok.at c.self.invariant.0),
+      subst (λ (l : List PresentClient). AreUpTo c.self.inside.last l) (sym items)
           (up-to-remove c.self.inside.last _ c.in-Ok.at c.self.invariant.1),
     )
 
@@ -26,7 +26,7 @@ returns-in-Ok-clause-visitor c =
     let is : c.remove.result ≡ get_or vs c.in-Ok.at nobody =
     c.remove.ensures.value ∙ get_or_default vs c.in-Ok.at c.remove.result nobody found.inside in
     rw (← c.self.view_is)
-    (ap (λ (v : Visitor). Some v) is ∙ sym (find-found c.args.port vs c.in-Ok.at c.self.invariant.0 found))
+    (ap (λ (v : PresentClient). Some v) is ∙ sym (find-found c.args.port vs c.in-Ok.at c.self.invariant.0 found))
 
 pub returns-in-Ok-clause-left : goal.returns-in-Ok-clause-left
 returns-in-Ok-clause-left c =

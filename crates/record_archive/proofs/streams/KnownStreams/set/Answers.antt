@@ -3,7 +3,7 @@ use Rattle.std.specs.Prelude.{All, if◌then◌else◌, insert, is_ok}
 use Rattle.std.proofs.lemmas.List.Elements.{All-set}
 use Rattle.record_archive.specs.Places.{IsKnown, StreamValue}
 use Rattle.record_archive.proofs.PlaceLemmas.{all-insert}
-use Rattle.record_archive.proofs.streams.Streams.set.Goals as goal
+use Rattle.record_archive.proofs.streams.KnownStreams.set.Goals as goal
 
 -- one is put between the others, or none
 all-insert-if : (b : Bool) (P : StreamValue → Type 0) (xs : List StreamValue) (i : ℕ) (y : StreamValue) → P y → All P xs

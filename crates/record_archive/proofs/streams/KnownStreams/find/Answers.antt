@@ -1,7 +1,7 @@
 use Rattle.std.proofs.Common.{◌≡◌, ◌∙◌, sym, subst}
 use Rattle.std.proofs.lemmas.List.{get_or_default}
 use Rattle.record_archive.specs.Places.{IsKnown, IsOfStream, StreamValue}
-use Rattle.record_archive.proofs.streams.Streams.find.Goals as goal
+use Rattle.record_archive.proofs.streams.KnownStreams.find.Goals as goal
 
 pub returns-in-Ok-clause-place : goal.returns-in-Ok-clause-place
 returns-in-Ok-clause-place c = λ s e.
