@@ -72,7 +72,7 @@ CHANNELS = ("BHZ", "BHN", "BHE")
 
 def opening(client):
     """The lines with which a client opens: every second asks for all records of one station, the others for those of three that
-    pass a selector."""
+    pass a pattern."""
     yield f"open 10.0.0.{client + 1}"
     if client % 2:
         yield f"line {client} DATA"
@@ -143,13 +143,13 @@ def archived(stations):
 
 
 def passed(more):
-    """An offer of so many that the client asks for after 1,000 records that its selector does not let pass."""
+    """An offer of so many that the client asks for after 1,000 records that its pattern does not let pass."""
     return lambda: per(bench("passed", more, 10), bench("passed", more - 1, 10), 10)
 
 
-def unwanted(selectors):
+def unwanted(patterns):
     """A record of a full ring of 65,536 in ten searches in which none is wanted."""
-    return lambda: per(bench("unwanted", selectors, 65_536, 12), bench("unwanted", selectors, 65_536, 2), 10 * 65_536)
+    return lambda: per(bench("unwanted", patterns, 65_536, 12), bench("unwanted", patterns, 65_536, 2), 10 * 65_536)
 
 
 def named():
@@ -209,7 +209,7 @@ def open_client():
 
 
 def largest_client():
-    """The bytes of a client with 255 requests and 1,024 selectors."""
+    """The bytes of a client with 255 requests and 1,024 patterns."""
     return per(peak("largest", 2_001) * 1_024, peak("largest", 1_001) * 1_024, 1_000)
 
 
@@ -293,8 +293,8 @@ ROWS = (
     Row(6_000, "the same of TIME, cut out of bytes first", small("lines", TIMES)),
     Row(700, "mseed_header::read, of a record with one blockette", small("header"), "libmseed, with a line printed: about 5,800"),
     Row(200, "a sequence number read, counted on and written", small("number")),
-    Row(1_500, "sixteen selectors over a record", small("selectors")),
-    Row(percent(small("selectors"), 120), "the same in a pool that holds 1,024", small("pool"), "at most 1.2 times the figure above"),
+    Row(1_500, "sixteen patterns over a record", small("patterns")),
+    Row(percent(small("patterns"), 120), "the same in a pool that holds 1,024", small("pool"), "at most 1.2 times the figure above"),
     Row(1_365, "a packet read, cut out and listed by the reader", listed(1)),
     Row(percent(listed(1), 110), "the same with 255 WANTs, their stations by turns", listed(255)),
     Row(2_000, "a packet of one station that is read into an archive", archived(1)),
@@ -306,10 +306,10 @@ ROWS = (
     Row(750, "the same with 64 requests, records coming round, full rings of 4,096", rounds("packets", 64, 4_096)),
     Row(900, "the same with 255 requests, full rings of 256", rounds("packets", 255, 256)),
     Row(900, "an offer that is Idle, 32 requests, full rings of 65,536", rounds("idle", 32, 65_536)),
-    Row(20_000, "an offer after 1,000 records that its selector does not let pass", passed(1)),
+    Row(20_000, "an offer after 1,000 records that its pattern does not let pass", passed(1)),
     Row(300, "the offer after that", passed(2)),
     # what strangers send and ask for, and how a station is found
-    Row(20, "a record of a full ring that none of 64 selectors lets pass", unwanted(64)),
+    Row(20, "a record of a full ring that none of 64 patterns lets pass", unwanted(64)),
     Row(20, "the same, of a TIME that is still to come", unwanted(0)),
     Row(2_048, "a piece of 1,024 bytes without an end of line that a client sends", rounds("garbage")),
     Row(200, "Config::place_of of the last two of 1,024 stations", rounds("found")),
@@ -335,7 +335,7 @@ ROWS = (
     Row(30_000, "the same, 257 of 1,024 lists: all stations are looked at", reload_each(257)),
     # what clients keep, in bytes and KiB
     Row(12_288, "bytes of a client that is open, by the peak of 10,000", open_client),
-    Row(36_864, "the same, each with 255 requests and 1,024 selectors", largest_client),
+    Row(36_864, "the same, each with 255 requests and 1,024 patterns", largest_client),
     Row(256, "KiB more after a million clients, one after the other", kept_of_visits, "after a thousand of them"),
     # the program
     Row(4_000, "seedlinkd check, a record read out of the file and its line written", checked, "libmseed, the same: about 5,800"),

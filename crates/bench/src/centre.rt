@@ -153,7 +153,7 @@ pub fn say(server: &mut Server, client: &Client, line: &[u8]) {
     take_one(server, client);
 }
 
-/// A client that asks for the first stations by an action, and has a selector for each.
+/// A client that asks for the first stations by an action, and has a pattern for each.
 pub fn asking(
     alloc: Global,
     server: &mut Server,
@@ -171,16 +171,16 @@ pub fn asking(
     Ok(client)
 }
 
-/// A client that asks for the first station by an action, with so many selectors that no record passes.
+/// A client that asks for the first station by an action, with so many patterns that no record passes.
 pub fn asking_in_vain(
     alloc: Global,
     server: &mut Server,
-    selectors: u32,
+    patterns: u32,
     action: &[u8],
 ) -> anyhow::Result<Client> {
     let client = server.open(alloc, Ipv4Addr::LOCALHOST)?;
     say(server, &client, b"STATION 00000 GE\r");
-    for _ in 0..selectors {
+    for _ in 0..patterns {
         say(server, &client, b"SELECT LH?\r");
     }
     say(server, &client, action);
@@ -188,14 +188,14 @@ pub fn asking_in_vain(
     Ok(client)
 }
 
-/// A client that asks for 255 stations, with 1,024 selectors together.
+/// A client that asks for 255 stations, with 1,024 patterns together.
 pub fn asking_all(alloc: Global, server: &mut Server) -> anyhow::Result<Client> {
     let client = server.open(alloc, Ipv4Addr::LOCALHOST)?;
     for place in 0..255 {
         let station = format!(in alloc; "STATION {place:05} GE\r")?;
         say(server, &client, station.as_bytes());
-        let selectors = if place < 4 { 5 } else { 4 };
-        for _ in 0..selectors {
+        let patterns = if place < 4 { 5 } else { 4 };
+        for _ in 0..patterns {
             say(server, &client, b"SELECT BHZ\r");
         }
         say(server, &client, b"DATA\r");

@@ -3,7 +3,7 @@
 //!
 //! Works without a server: `command ROUNDS LINE` reads a line as a command, and `lines ROUNDS LINE` cuts it out of
 //! bytes first. `number ROUNDS` reads a sequence number and writes the one that follows. `header ROUNDS` reads the
-//! header of a record. `selectors ROUNDS` asks sixteen selectors whether a record passes, and `pool ROUNDS` asks the
+//! header of a record. `patterns ROUNDS` asks sixteen patterns whether a record passes, and `pool ROUNDS` asks the
 //! same sixteen in a pool that holds 1,024. `listing STATIONS ROUNDS` reads packets of so many stations by turns, each of
 //! which has a want, and lists them, `archive STATIONS ROUNDS FOLDER` puts the same into an archive, and `drained
 //! STATIONS ROUNDS` reads the same bytes and does nothing with them.
@@ -12,11 +12,11 @@
 //! and is full. `packets REQUESTS CAPACITY ROUNDS`: a client that asks by FETCH for so many stations, whose rings are
 //! full, is offered a packet and takes it. `idle REQUESTS CAPACITY ROUNDS`: a client that asks for them by DATA is
 //! offered something, and nothing arrived. `passed OFFERS ROUNDS`: 1,000 records arrive that no pattern of a client
-//! lets pass, and the client is offered something so many times. `unwanted SELECTORS CAPACITY ROUNDS`: a client asks
-//! for a full ring of three channels with so many selectors that no record passes, or for a time to come if there are
+//! lets pass, and the client is offered something so many times. `unwanted PATTERNS CAPACITY ROUNDS`: a client asks
+//! for a full ring of three channels with so many patterns that no record passes, or for a time to come if there are
 //! none. `garbage ROUNDS`: a client sends 1,024 bytes without an end of line. `found ROUNDS`: a station of 1,024 is
 //! found by its codes. `visits ROUNDS`: clients come and go, one after the other. `crowd CLIENTS`: so many are open
-//! at the end. `largest CLIENTS`: the same, each of which asks for 255 stations with 1,024 selectors together. `ready
+//! at the end. `largest CLIENTS`: the same, each of which asks for 255 stations with 1,024 patterns together. `ready
 //! ROUNDS`: a client that waits is asked whether it is ready. `apart CLIENTS ROUNDS`: a record arrives while so many
 //! clients wait at another station. `reload CLIENTS CHANGED ROUNDS`: a new configuration comes into force, in which
 //! so many of 1,024 stations have lists that differ for no client's address. `named STATIONS CLIENTS`: so many
@@ -77,7 +77,7 @@ fn sum_of_reading(
         ("lines", [rounds]) => Ok(lines::cut_lines(line, *rounds)),
         ("number", [rounds]) => Ok(lines::count_on(*rounds)),
         ("header", [rounds]) => headers::read_headers(alloc, *rounds),
-        ("selectors", [rounds]) => pools::ask_alone(alloc, *rounds),
+        ("patterns", [rounds]) => pools::ask_alone(alloc, *rounds),
         ("pool", [rounds]) => pools::ask_full(alloc, *rounds),
         ("listing", [stations, rounds]) => reading::list_packets(alloc, *stations, *rounds),
         ("drained", [stations, rounds]) => reading::drain_packets(alloc, *stations, *rounds),
@@ -102,8 +102,8 @@ fn sum_of_serving(
             alloc, *requests, *capacity, *rounds,
         ),
         ("passed", [offers, rounds]) => serving::passed(alloc, *offers, *rounds),
-        ("unwanted", [selectors, capacity, rounds]) => serving::unwanted(
-            alloc, *selectors, *capacity, *rounds,
+        ("unwanted", [patterns, capacity, rounds]) => serving::unwanted(
+            alloc, *patterns, *capacity, *rounds,
         ),
         ("garbage", [rounds]) => serving::garbage(alloc, *rounds),
         ("found", [rounds]) => serving::found(alloc, *rounds),

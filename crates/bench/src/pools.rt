@@ -1,22 +1,22 @@
-//! Selectors in a pool of many lists.
+//! Patterns in a pool of many lists.
 ghost use Rattle.std.specs.Prelude.{◌<◌};
 
 use mseed_header::Kind;
-use selector::{Pool, Selector};
+use selector::{Pattern, Pool};
 use std::alloc::{AllocError, Global};
 
-/// The list whose selectors are asked.
+/// The list whose patterns are asked.
 const ASKED: usize = 8;
 
 fn add(pool: &mut Pool, list: usize, text: &[u8])
     requires { list < 255 }
 {
-    if let Some(selector) = Selector::parse(text) {
-        let _ = pool.add(list, selector);
+    if let Some(pattern) = Pattern::parse(text) {
+        let _ = pool.add(list, pattern);
     }
 }
 
-/// A pool of sixteen selectors: fifteen of other channels, and one that a channel BH with any last letter matches.
+/// A pool of sixteen patterns: fifteen of other channels, and one that a channel BH with any last letter matches.
 fn small_pool(alloc: Global) -> Result<Pool, AllocError> {
     let mut pool = Pool::new(alloc)?;
     for letter in b'A'..=b'O' {
@@ -26,7 +26,7 @@ fn small_pool(alloc: Global) -> Result<Pool, AllocError> {
     Ok(pool)
 }
 
-/// A pool that holds 1,024 selectors: the same sixteen, and 63 in each of sixteen other lists.
+/// A pool that holds 1,024 patterns: the same sixteen, and 63 in each of sixteen other lists.
 fn full_pool(alloc: Global) -> Result<Pool, AllocError> {
     let mut pool = small_pool(alloc)?;
     for list in 0..17 {

@@ -77,7 +77,7 @@ fn offer_between(
     sum
 }
 
-/// Again and again 1,000 records arrive that the client's selector does not let pass, and then it is offered something.
+/// Again and again 1,000 records arrive that the client's pattern does not let pass, and then it is offered something.
 pub fn passed(alloc: Global, each: u32, rounds: u32) -> anyhow::Result<u64> {
     let record = record_of(alloc, 0, b"BHN")?;
     at_full_server(alloc, 0, 1, 4096, |server| {
@@ -86,27 +86,27 @@ pub fn passed(alloc: Global, each: u32, rounds: u32) -> anyhow::Result<u64> {
     })
 }
 
-/// So many clients come one after the other, ask for the first station by an action, with selectors that no record
+/// So many clients come one after the other, ask for the first station by an action, with patterns that no record
 /// passes, are offered what there is, and go. Answers how many bytes they took.
 fn ask_in_vain(
     alloc: Global,
     server: &mut Server,
-    selectors: u32,
+    patterns: u32,
     action: &[u8],
     rounds: u32,
 ) -> anyhow::Result<u64> {
     let mut sum: u64 = 0;
     for _ in 0..rounds {
-        let client = asking_in_vain(alloc, server, selectors, action)?;
+        let client = asking_in_vain(alloc, server, patterns, action)?;
         sum = sum.wrapping_add(take_one(server, &client));
         let _ = server.close(&client);
     }
     Ok(sum)
 }
 
-/// Clients ask for a full ring of a station with three channels, of which nothing is wanted: by 64 selectors that no
+/// Clients ask for a full ring of a station with three channels, of which nothing is wanted: by 64 patterns that no
 /// record passes, or by a time that is still to come.
-pub fn unwanted(alloc: Global, selectors: u32, capacity: u32, rounds: u32) -> anyhow::Result<u64> {
+pub fn unwanted(alloc: Global, patterns: u32, capacity: u32, rounds: u32) -> anyhow::Result<u64> {
     let records = [
         record_of(alloc, 0, b"BHE")?,
         record_of(alloc, 0, b"BHN")?,
@@ -114,12 +114,12 @@ pub fn unwanted(alloc: Global, selectors: u32, capacity: u32, rounds: u32) -> an
     ];
     at_full_server(alloc, 0, 1, capacity, |server| {
         arrive_by_turns(server, &records, capacity);
-        let action: &[u8] = if selectors == 0 {
+        let action: &[u8] = if patterns == 0 {
             b"TIME 2030,1,1,0,0,0 2031,1,1,0,0,0\r"
         } else {
             b"FETCH\r"
         };
-        ask_in_vain(alloc, server, selectors, action, rounds)
+        ask_in_vain(alloc, server, patterns, action, rounds)
     })
 }
 
@@ -186,7 +186,7 @@ fn open_asking(alloc: Global, server: &mut Server, clients: u32) -> anyhow::Resu
     Ok(last as u64)
 }
 
-/// So many clients are open, each of which asks for 255 stations with 1,024 selectors together.
+/// So many clients are open, each of which asks for 255 stations with 1,024 patterns together.
 pub fn largest(alloc: Global, clients: u32) -> anyhow::Result<u64> {
     at_full_server(
         alloc,

@@ -277,7 +277,7 @@ fn write_last<P: Ports>(
 }
 
 /// Whether an offer to a client is known to find nothing, so that it may be spared. A client that is marked is offered
-/// something even if its selectors refuse what came: that offer finds nothing and takes the mark away.
+/// something even if its patterns refuse what came: that offer finds nothing and takes the mark away.
 fn finds_nothing(server: &Server, client: &Client) -> bool
     ensures idle { result ≡ true → (config : Config) (w : World) → StandsAt server.now config w →
         Some Idle ≡ option_map (λ c. offer_of (offered w.history c)) (client_at w client.now) }

@@ -213,11 +213,11 @@ pub not_open_then_pieces_then_bye : handed three_stations
 not_open_then_pieces_then_bye = refl
 
 -- patterns
-pub selectors_are_judged : handed three_stations
+pub patterns_are_judged : handed three_stations
     (Open insider ∷ asks 0 (codes "SELECT BH?" ∷ codes "SELECT !E" ∷ codes "SELECT 00BHZ.D" ∷ codes "SELECT --LCQ"
     ∷ codes "SELECT BH" ∷ codes "SELECT .Q" ∷ [])) ≡
     (ok ∷ ok ∷ ok ∷ ok ∷ error ∷ error ∷ [])
-selectors_are_judged = refl
+patterns_are_judged = refl
 
 -- a day that doesn't exist, and a window that has been passed: the record starts 0.0001 s after it
 abbrev pub after_window : List ℕ

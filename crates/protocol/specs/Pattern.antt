@@ -1,4 +1,4 @@
--- Selectors: patterns over a record's location, channel and type.
+-- Patterns over a record's location, channel and type.
 -- SeedLink 3, SELECT. Left out: several patterns in one command.
 use Rattle.std.specs.Prelude.{◌≡◌, ◌≤◌, ◌⊎◌, ◌++◌, length, All, Any, ℕ, Bool, true, false, ◌&&◌, ◌||◌, not, nat_le}
 use Rattle.std.specs.Prelude.{◌==◌, if◌then◌else◌, List, [], ◌∷◌, Option, Some, None, option_and_then}

@@ -203,7 +203,7 @@ impl Reason {
                 "Range",
                 "a number of the time is out of range, or there is no such date",
             ),
-            Reason::Full => row_of(62, "Full", "no selector more has room"),
+            Reason::Full => row_of(62, "Full", "no pattern more has room"),
         }
     }
 

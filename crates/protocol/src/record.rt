@@ -4,7 +4,7 @@ ghost use Rattle.protocol.specs.Record.{record_reason};
 
 use crate::reason::Reason;
 
-/// The type of a record, by the letter that a selector names it with (SeedLink 3, SELECT).
+/// The type of a record, by the letter that a pattern names it with (SeedLink 3, SELECT).
 #[derive(Clone, Copy, PartialEq, Eq, Drop)]
 pub enum Kind {
     /// Data.

@@ -1,4 +1,4 @@
--- What matches a selector, by the three parts of a record that selectors speak of.
+-- What matches a pattern, by the three parts of a record that patterns speak of.
 use Rattle.std.specs.Prelude.{ℕ, Bool, not, ◌&&◌, ◌||◌, List}
 use Rattle.std.specs.List.{list_any}
 use Rattle.protocol.specs.declared.record.Kind.{Kind}

@@ -1,4 +1,4 @@
--- The location and the channel that a selector gives, as they are kept: a location stands only beside a channel.
+-- The location and the channel that a pattern gives, as they are kept: a location stands only beside a channel.
 -- SeedLink 3, SELECT.
 use Rattle.std.specs.Prelude.{◌≡◌, ℕ, refl, List, Option, Some, None}
 use Rattle.selector.specs.declared.pattern.Codes.{Codes}
@@ -16,7 +16,7 @@ channel_of Nothing = None
 channel_of (Channel channel) = Some channel
 channel_of (Both location channel) = Some channel
 
--- the codes with that location and channel; no selector has a location alone
+-- the codes with that location and channel; no pattern has a location alone
 abbrev pub codes_of : (location channel : Option (List ℕ)) → Codes
 codes_of location None = Nothing
 codes_of None (Some channel) = Channel channel

@@ -1,4 +1,4 @@
-//! Selectors: patterns over the location, the channel and the type of records (SeedLink 3, SELECT).
+//! Patterns over the location, the channel and the type of records (SeedLink 3, SELECT).
 #![tactic(auto)]
 
 pub mod list;
@@ -6,5 +6,5 @@ pub mod pattern;
 pub mod pool;
 
 pub use list::Full;
-pub use pattern::Selector;
+pub use pattern::Pattern;
 pub use pool::Pool;

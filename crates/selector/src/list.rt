@@ -1,12 +1,12 @@
-//! What a list of selectors lets pass.
+//! What a list of patterns lets pass.
 ghost use Rattle.std.specs.Prelude.{◌≡◌, codes};
 ghost use Rattle.selector.specs.Matching.{passes_parts};
 
-use crate::pattern::Selector;
+use crate::pattern::Pattern;
 use protocol::reason::Reason;
 use protocol::record::Kind;
 
-/// There is no room for a selector more.
+/// There is no room for a pattern more.
 #[derive(Clone, Copy, Drop)]
 pub struct Full;
 
@@ -19,29 +19,29 @@ impl Full {
     }
 }
 
-/// Whether a record with that location, channel and type passes selectors: there is none that isn't negated, or one
+/// Whether a record with that location, channel and type passes patterns: there is none that isn't negated, or one
 /// matches, and no negated one matches.
 pub(crate) fn passes_among(
-    selectors: &[Selector],
+    patterns: &[Pattern],
     location: &[u8; 2],
     channel: &[u8; 3],
     kind: Kind,
 ) -> bool
-    ensures { result ≡ passes_parts location.now channel.now kind selectors.now }
+    ensures { result ≡ passes_parts location.now channel.now kind patterns.now }
 {
-    if selectors.is_empty() {
+    if patterns.is_empty() {
         return true;
     }
     let mut is_chosen = false;
     let mut chooses = false;
-    for selector in selectors {
-        if selector.negated() {
-            if selector.matches(location, channel, kind) {
+    for pattern in patterns {
+        if pattern.negated() {
+            if pattern.matches(location, channel, kind) {
                 return false;
             }
         } else {
             chooses = true;
-            is_chosen = is_chosen || selector.matches(location, channel, kind);
+            is_chosen = is_chosen || pattern.matches(location, channel, kind);
         }
     }
     is_chosen || !chooses

@@ -1,4 +1,4 @@
-//! One selector.
+//! One pattern.
 ghost use Rattle.std.specs.Prelude.{◌≡◌};
 ghost use Rattle.std.specs.List.{list_all};
 ghost use Rattle.protocol.specs.Pattern.{body_of, byte_matches, bytes_match, channel_pattern};
@@ -28,13 +28,13 @@ enum Codes {
 ///
 /// In the location and the channel `?` matches any byte, `-` a space, and every other character itself.
 #[derive(Clone, Copy)]
-pub struct Selector {
+pub struct Pattern {
     negated: bool,
     codes: Codes,
     kind: Option<Kind>,
 }
 
-impl Model for Selector {
+impl Model for Pattern {
     ghost use Rattle.std.specs.Prelude.{refl};
     ghost use Rattle.protocol.specs.Pattern.{Pattern};
     ghost use Rattle.selector.specs.PatternCodes.{channel_of, codes_of, codes-again, location_of};
@@ -57,14 +57,14 @@ impl Model for Selector {
     ghost inverse_ok = { λ s h. rw (codes-again s.codes) refl };
 }
 
-impl Default for Selector {
+impl Default for Pattern {
     ghost use Rattle.std.specs.Prelude.{None, false};
 
     /// The pattern that leaves off everything.
-    fn default() -> Selector
+    fn default() -> Pattern
         ensures { result ≡ record { negated = false; location = None; channel = None; kind = None } }
     {
-        Selector {
+        Pattern {
             negated: false,
             codes: Codes::Nothing,
             kind: None,
@@ -72,36 +72,36 @@ impl Default for Selector {
     }
 }
 
-impl Selector {
-    /// The selector that a text is: an optional `!`, which negates, and one of a location and a channel (5 characters),
+impl Pattern {
+    /// The pattern that a text is: an optional `!`, which negates, and one of a location and a channel (5 characters),
     /// a channel (3 characters), either of these with `.` and a type, a type alone, and `.` and a type. A type is one
     /// of `D`, `E`, `C`, `O`, `T` and `L`. A channel's characters are letters, digits and `?`, a location's these and
     /// `-`.
     ///
     /// None where the text is anything else.
-    pub fn parse(text: &[u8]) -> Option<Selector>
+    pub fn parse(text: &[u8]) -> Option<Pattern>
         ensures { result ≡ pattern_of text.now }
     {
         match text {
-            [b'!', body @ ..] => Selector::of_body(true, body),
-            body => Selector::of_body(false, body),
+            [b'!', body @ ..] => Pattern::of_body(true, body),
+            body => Pattern::of_body(false, body),
         }
     }
 
-    fn of_body(negated: bool, body: &[u8]) -> Option<Selector>
+    fn of_body(negated: bool, body: &[u8]) -> Option<Pattern>
         ensures { result ≡ body_of negated body.now }
     {
         match *body {
-            [letter] => Selector::of_kind(negated, kind_of_letter(letter)?),
-            [b'.', letter] => Selector::of_kind(negated, kind_of_letter(letter)?),
-            [a, b, c] => Selector::of_channel(negated, [a, b, c], None),
-            [a, b, c, b'.', letter] => Selector::of_channel(
+            [letter] => Pattern::of_kind(negated, kind_of_letter(letter)?),
+            [b'.', letter] => Pattern::of_kind(negated, kind_of_letter(letter)?),
+            [a, b, c] => Pattern::of_channel(negated, [a, b, c], None),
+            [a, b, c, b'.', letter] => Pattern::of_channel(
                 negated,
                 [a, b, c],
                 Some(kind_of_letter(letter)?),
             ),
-            [a, b, c, d, e] => Selector::of_place(negated, [a, b], [c, d, e], None),
-            [a, b, c, d, e, b'.', letter] => Selector::of_place(
+            [a, b, c, d, e] => Pattern::of_place(negated, [a, b], [c, d, e], None),
+            [a, b, c, d, e, b'.', letter] => Pattern::of_place(
                 negated,
                 [a, b],
                 [c, d, e],
@@ -111,23 +111,23 @@ impl Selector {
         }
     }
 
-    fn of_kind(negated: bool, kind: Kind) -> Option<Selector>
+    fn of_kind(negated: bool, kind: Kind) -> Option<Pattern>
         ensures { result ≡ kind_pattern negated (Some kind) }
     {
-        Some(Selector {
+        Some(Pattern {
             negated,
             codes: Codes::Nothing,
             kind: Some(kind),
         })
     }
 
-    fn of_channel(negated: bool, channel: [u8; 3], kind: Option<Kind>) -> Option<Selector>
+    fn of_channel(negated: bool, channel: [u8; 3], kind: Option<Kind>) -> Option<Pattern>
         ensures { result ≡ channel_pattern negated channel kind }
     {
         if !is_channel(&channel) {
             return None;
         }
-        Some(Selector {
+        Some(Pattern {
             negated,
             codes: Codes::Channel(channel),
             kind,
@@ -139,13 +139,13 @@ impl Selector {
         location: [u8; 2],
         channel: [u8; 3],
         kind: Option<Kind>,
-    ) -> Option<Selector>
+    ) -> Option<Pattern>
         ensures { result ≡ place_pattern negated location channel kind }
     {
         if !is_location(&location) || !is_channel(&channel) {
             return None;
         }
-        Some(Selector {
+        Some(Pattern {
             negated,
             codes: Codes::Both(location, channel),
             kind,

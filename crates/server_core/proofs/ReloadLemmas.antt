@@ -78,14 +78,14 @@ module _ (g new : Config) (same : is_same_but_for_access g new ≡ true) where
   same-negotiated (Multi n) =
       ap
       (λ (st : ℕ → Station). MultiNegotiated
-      (map (λ c. record { station = st c.station; patterns = c.selectors; action = option_map action_value c.action })
+      (map (λ c. record { station = st c.station; patterns = c.patterns; action = option_map action_value c.action })
       n.choices) n.current) stations-at
 
   same-request-with : (c : Choice) (o : Option Action) → request_with new c o ≡ request_with g c o
   same-request-with c None = refl
   same-request-with c (Some action) =
       ap (λ (st : ℕ → Station). let r : Option Request =
-      Some (record { station = st c.station; patterns = c.selectors; action = action_value action; from = c.first })
+      Some (record { station = st c.station; patterns = c.patterns; action = action_value action; from = c.first })
       in r) stations-at
 
   same-requests : (cs : List Choice) → filter_map (request_in new) cs ≡ filter_map (request_in g) cs

@@ -20,7 +20,7 @@ use Rattle.selector.specs.Pools.{list_at}
 use Rattle.session_state.specs.NamedValues.{Choice, NamedValue, begun, choice_of, choices_with}
 use Rattle.session_state.specs.Choices.{action_value, choice_in, choices_in, has_action, is_of_station}
 use Rattle.protocol.proofs.FoundLemmas.{both}
-use Rattle.session_state.specs.Changes.{all_selectors, has_room, outcome_after, selecting_in, widened, widening}
+use Rattle.session_state.specs.Changes.{all_patterns, has_room, outcome_after, selecting_in, widened, widening}
 use Rattle.session_state.proofs.NamedLemmas.{there, with-length, with-push}
 use Rattle.session_state.specs.declared.negotiation.Change.{Change}
 
@@ -32,7 +32,7 @@ current-there config cs i c e = slice_get-map (choice_in config) cs i ∙ ap (op
 
 pub cleared : (config : Config) (a new : NamedValue) (i : ℕ) → a.current ≡ Some i → i < length a.choices
     → ((c : Choice) → slice_get a.choices i ≡ Some c
-    → new ≡ record a { choices = slice_set a.choices i (record c { selectors = [] }) })
+    → new ≡ record a { choices = slice_set a.choices i (record c { patterns = [] }) })
     → Stays ok_line (Multi (choices_in config new.choices) new.current)
     ≡ select_multi (choices_in config a.choices) a.current None (current_choice (choices_in config a.choices) a.current)
 cleared config a new i is_i within made =
@@ -40,7 +40,7 @@ cleared config a new i is_i within made =
     ap (λ (x : NamedValue). Stays ok_line (Multi (choices_in config x.choices) x.current)) (made c.0 c.1)
     ∙ rw (is_i, current-there config a.choices i c.0 c.1)
     (ap (λ xs. Stays ok_line (Multi xs (Some i)))
-    (map-set (choice_in config) a.choices i (record c.0 { selectors = [] })))
+    (map-set (choice_in config) a.choices i (record c.0 { patterns = [] })))
 
 pub acted : (config : Config) (a new : NamedValue) (i : ℕ) (action : Action) → a.current ≡ Some i → i < length a.choices
     → ((c : Choice) → slice_get a.choices i ≡ Some c
@@ -60,13 +60,13 @@ set-there [] i x e = refl
 set-there (y ∷ xs) zero x e = ap (λ o. unwrap_or o x ∷ xs) (sym e)
 set-there (y ∷ xs) (suc i) x e = ap (λ zs. y ∷ zs) (set-there xs i x e)
 
--- the selectors of all stations are the patterns of their settings
-pub all-in : (config : Config) (cs : List Choice) → together (choices_in config cs) ≡ all_selectors cs
+-- the patterns of all stations are the patterns of their settings
+pub all-in : (config : Config) (cs : List Choice) → together (choices_in config cs) ≡ all_patterns cs
 all-in config [] = refl
 all-in config (c ∷ cs) =
     sum_by-cons (λ x. length x.patterns) (choice_in config c) (choices_in config cs)
-    ∙ ap (λ n. length c.selectors + n) (all-in config cs)
-    ∙ sym (sum_by-cons (λ x. length x.selectors) c cs)
+    ∙ ap (λ n. length c.patterns + n) (all-in config cs)
+    ∙ sym (sum_by-cons (λ x. length x.patterns) c cs)
 
 pub added : (config : Config) (a new : NamedValue) (i : ℕ) (p : Pattern) (change : Change) → a.current ≡ Some i
     → i < length a.choices
@@ -74,9 +74,9 @@ pub added : (config : Config) (a new : NamedValue) (i : ℕ) (p : Pattern) (chan
     → new
     ≡ record a {
       choices =
-          slice_set a.choices i (record c { selectors = widened (all_selectors a.choices) c.selectors p });
+          slice_set a.choices i (record c { patterns = widened (all_patterns a.choices) c.patterns p });
     })
-    → ((c : Choice) → slice_get a.choices i ≡ Some c → change ≡ widening (all_selectors a.choices) c.selectors)
+    → ((c : Choice) → slice_get a.choices i ≡ Some c → change ≡ widening (all_patterns a.choices) c.patterns)
     → outcome_after change (Multi (choices_in config new.choices) new.current)
     ≡ selecting_in (choices_in config a.choices) a.current (Some p)
     (current_choice (choices_in config a.choices) a.current)
@@ -86,10 +86,10 @@ added config a new i p change is_i within made led =
     ≡ Some (choice_in config c.0) = current-there config a.choices i c.0 c.1 in
     ap (λ (x : NamedValue). outcome_after change (Multi (choices_in config x.choices) x.current)) (made c.0 c.1)
     ∙ rw (is_i, current-there config a.choices i c.0 c.1, led c.0 c.1, all-in config a.choices)
-    (both (has_room (all_selectors a.choices) (c.0).selectors)
+    (both (has_room (all_patterns a.choices) (c.0).patterns)
     (λ y. rw y
     (ap (λ xs. Stays ok_line (Multi xs (Some i)))
-    (map-set (choice_in config) a.choices i (record c.0 { selectors = (c.0).selectors ++ p ∷ [] }))))
+    (map-set (choice_in config) a.choices i (record c.0 { patterns = (c.0).patterns ++ p ∷ [] }))))
     (λ n. rw n
     (ap (λ xs. Stays error_line (Multi xs (Some i))) (map-set (choice_in config) a.choices i c.0
     ∙ set-there (choices_in config a.choices) i (choice_in config c.0) here))))

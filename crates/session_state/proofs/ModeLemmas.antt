@@ -1,4 +1,4 @@
--- Uni-station mode, in which one station keeps the selectors.
+-- Uni-station mode, in which one station keeps the patterns.
 use Rattle.std.proofs.Common.{◌≡◌, ℕ, Bool, false, List, [], ◌∷◌, slice_get, slice_set, filter_map, Some, None}
 use Rattle.std.proofs.Common.{unwrap_or, refl, ap, ◌∙◌}
 use Rattle.protocol.specs.Catalog.{Config}
@@ -25,18 +25,18 @@ alone-changed n new f is made = record { choice = f is.choice; alone = changed n
 -- SELECT without a pattern
 pub alone-cleared : (config : Config) (b : Bool) (n new : NamedValue) → b ≡ false → IsAlone n
     → ((c : Choice) → slice_get n.choices 0 ≡ Some c
-    → new ≡ record n { choices = slice_set n.choices 0 (record c { selectors = [] }) })
+    → new ≡ record n { choices = slice_set n.choices 0 (record c { patterns = [] }) })
     → Stays ok_line (negotiated_in config (mode_of b new)) ≡ select (negotiated_in config (mode_of b n)) None
 alone-cleared config b n new uni is made =
-    let none : new.choices ≡ record is.choice { selectors = [] }
-    ∷ [] = changed n new (λ c. record c { selectors = [] }) is made in
+    let none : new.choices ≡ record is.choice { patterns = [] }
+    ∷ [] = changed n new (λ c. record c { patterns = [] }) is made in
     rw (uni, none) refl
 
 -- DATA, FETCH and TIME
 alone-among : (config : Config) (b : Bool) (n new : NamedValue) (places order : List ℕ) (place : ℕ) (action : Action)
     → b ≡ false → IsAlone n → slice_get places 0 ≡ Some place
     → ((c : Choice) → slice_get n.choices 0 ≡ Some c
-    → new ≡ record { choices = choice_of (begun place (Some action)) c.selectors ∷ []; current = None })
+    → new ≡ record { choices = choice_of (begun place (Some action)) c.patterns ∷ []; current = None })
     → Starts (filter_map wish_of (choices_in config new.choices))
     ≡ act (view_in config (record { places = places; by_codes = order })) (negotiated_in config (mode_of b n))
     (action_value action)
@@ -54,7 +54,7 @@ alone-among config b n new (p ∷ places) order place action uni is first made =
 pub alone-acted : (config : Config) (b : Bool) (n new : NamedValue) (seen : Seen) (place : ℕ) (action : Action)
     → b ≡ false → IsAlone n → slice_get seen.places 0 ≡ Some place
     → ((c : Choice) → slice_get n.choices 0 ≡ Some c
-    → new ≡ record { choices = choice_of (begun place (Some action)) c.selectors ∷ []; current = None })
+    → new ≡ record { choices = choice_of (begun place (Some action)) c.patterns ∷ []; current = None })
     → Starts (filter_map wish_of (choices_in config new.choices))
     ≡ act (view_in config seen) (negotiated_in config (mode_of b n)) (action_value action)
 alone-acted config b n new seen = alone-among config b n new seen.places seen.by_codes

@@ -1,4 +1,4 @@
--- Entries and the lists of selectors beside them: what a change of one or the other is to the named stations.
+-- Entries and the lists of patterns beside them: what a change of one or the other is to the named stations.
 use Rattle.std.proofs.Common.{◌≡◌, ◌≢◌, ◌<◌, ◌≤◌, ◌+◌, ℕ, zero, suc, true, false, nat_lt, List, [], ◌∷◌, ◌++◌, length}
 use Rattle.std.proofs.Common.{map, drop, take, replicate, slice_get, slice_set, Option, Some, None, IfSome, option_map}
 use Rattle.std.proofs.Common.{unwrap_or, is_some, get_or, Bool, refl, sym, ap, ap₂, subst, ◌∙◌, arith, length-set}
@@ -21,7 +21,7 @@ use Rattle.session_state.specs.declared.negotiation.Change.TheVariants.{Done, Re
 use Rattle.session_state.specs.declared.choices.Entry.{Entry}
 use Rattle.session_state.specs.NamedValues.{Choice, NamedValue, IsNamed, choice_of, choices_with, entry_of}
 use Rattle.session_state.specs.Choices.{has_action, is_entry_of_station, is_of_station, kept_at, passed_at}
-use Rattle.session_state.specs.Changes.{all_selectors, has_room, widened, widening}
+use Rattle.session_state.specs.Changes.{all_patterns, has_room, widened, widening}
 use Rattle.session_state.proofs.SameLemmas.{has-own}
 
 -- a list and those after the first
@@ -71,7 +71,7 @@ less (x ∷ lists) i h = omega arith
 
 pub with-list : (es : List Entry) (lists : List (List Pattern)) (i : ℕ) (l : List Pattern) (c : Choice)
     → i < length lists → slice_get (choices_with es lists) i ≡ Some c
-    → choices_with es (slice_set lists i l) ≡ slice_set (choices_with es lists) i (record c { selectors = l })
+    → choices_with es (slice_set lists i l) ≡ slice_set (choices_with es lists) i (record c { patterns = l })
 with-list [] lists i l c h e = absurd cc
 with-list (x ∷ es) [] zero l c h e = absurd (omega arith)
 with-list (x ∷ es) (y ∷ lists) zero l c h e = ap (λ o. choice_of (entry_of (unwrap_or o c)) l ∷ choices_with es lists) e
@@ -87,7 +87,7 @@ with-push (x ∷ es) lists e =
     ap (λ cs. choice_of x (list_at lists 0) ∷ cs) (with-push es (drop 1 lists) e
     ∙ ap (λ l. choices_with es (drop 1 lists) ++ choice_of e l ∷ []) (list-after lists (length es)))
 
--- ---- how many selectors there are
+-- ---- how many patterns there are
 
 empty-sum : (lists : List (List Pattern)) → ((i : ℕ) → list_at lists i ≡ []) → together lists ≡ 0
 empty-sum [] none = refl
@@ -96,17 +96,17 @@ empty-sum (l ∷ lists) none = let here : l ≡ [] = none 0 in let rest : togeth
 
 -- those of all lists are those of the named stations, where the other lists are empty
 pub with-all : (es : List Entry) (lists : List (List Pattern)) → ((i : ℕ) → length es ≤ i → list_at lists i ≡ [])
-    → together lists ≡ all_selectors (choices_with es lists)
+    → together lists ≡ all_patterns (choices_with es lists)
 with-all [] lists rest = empty-sum lists (λ i. rest i (omega arith))
 with-all (e ∷ es) [] rest = nothing (e ∷ es)
   where
-    nothing : (xs : List Entry) → 0 ≡ all_selectors (choices_with xs [])
+    nothing : (xs : List Entry) → 0 ≡ all_patterns (choices_with xs [])
     nothing [] = refl
     nothing (x ∷ xs) = nothing xs
 with-all (e ∷ es) (l ∷ lists) rest =
     sum_by-cons length l lists
     ∙ ap (λ n. length l + n) (with-all es lists (λ i h. rest (suc i) (omega (arith, h))))
-    ∙ sym (sum_by-cons (λ c. length c.selectors) (choice_of e l) (choices_with es lists))
+    ∙ sym (sum_by-cons (λ c. length c.patterns) (choice_of e l) (choices_with es lists))
 
 -- ---- what is found among them
 
@@ -179,16 +179,16 @@ current-below es current lists room i n is e at =
     let b : i < length es = subst (λ o. IfSome o (λ j. j < length es)) at is.within in
     subst (λ k. i < k) (sym (with-length es lists) ∙ ap (λ (x : NamedValue). length x.choices) e) b
 
--- the selectors of a named station
-some-selectors : (o : Option Entry) (l : List Pattern) (c : Choice) → option_map (λ e. choice_of e l) o ≡ Some c
-    → c.selectors ≡ l
-some-selectors None l c e = absurd cc
-some-selectors (Some x) l c e = sym (ap (λ o. (unwrap_or o c).selectors) e)
+-- the patterns of a named station
+some-patterns : (o : Option Entry) (l : List Pattern) (c : Choice) → option_map (λ e. choice_of e l) o ≡ Some c
+    → c.patterns ≡ l
+some-patterns None l c e = absurd cc
+some-patterns (Some x) l c e = sym (ap (λ o. (unwrap_or o c).patterns) e)
 
-pub selectors-at : (es : List Entry) (current : Option ℕ) (lists : List (List Pattern)) (i : ℕ) (n : NamedValue)
-    (c : Choice) → naming es current lists ≡ n → slice_get n.choices i ≡ Some c → c.selectors ≡ list_at lists i
-selectors-at es current lists i n c e there =
-    some-selectors (slice_get es i) (list_at lists i) c
+pub patterns-at : (es : List Entry) (current : Option ℕ) (lists : List (List Pattern)) (i : ℕ) (n : NamedValue)
+    (c : Choice) → naming es current lists ≡ n → slice_get n.choices i ≡ Some c → c.patterns ≡ list_at lists i
+patterns-at es current lists i n c e there =
+    some-patterns (slice_get es i) (list_at lists i) c
     (sym (with-get es lists i) ∙ ap (λ (x : NamedValue). slice_get x.choices i) e ∙ there)
 
 -- what stands at a place of a list, and the station of an entry
@@ -279,20 +279,20 @@ alone-asked (x ∷ y ∷ es) lists e one = absurd (omega (arith, one))
 
 pub asked-alone : (es new : List Entry) (current : Option ℕ) (lists : List (List Pattern)) (n : NamedValue) (e : Entry)
     (c : Choice) → naming es current lists ≡ n → length n.choices ≡ 1 → slice_get n.choices 0 ≡ Some c
-    → new ≡ slice_set es 0 e → naming new None lists ≡ record { choices = choice_of e c.selectors ∷ []; current = None }
+    → new ≡ slice_set es 0 e → naming new None lists ≡ record { choices = choice_of e c.patterns ∷ []; current = None }
 asked-alone es new current lists n e c view one first made =
     let one' : length es ≡ 1 = sym (with-length es lists) ∙ ap (λ (x : NamedValue). length x.choices) view ∙ one in
     ap (λ xs. naming xs None lists) made
     ∙ ap (λ cs. record { choices = cs; current = None })
     (alone-asked es lists e one'
-    ∙ ap (λ l. choice_of e l ∷ []) (sym (selectors-at es current lists 0 n c view first)))
+    ∙ ap (λ l. choice_of e l ∷ []) (sym (patterns-at es current lists 0 n c view first)))
 
 -- ---- the changes of one station
 
 pub list-changed : (es : List Entry) (current : Option ℕ) (lists new : List (List Pattern)) (room i : ℕ)
     (l : List Pattern) (n : NamedValue) (c : Choice) → IsNamed es current lists room → naming es current lists ≡ n
     → i < length n.choices → slice_get n.choices i ≡ Some c → new ≡ slice_set lists i l
-    → naming es current new ≡ record n { choices = slice_set n.choices i (record c { selectors = l }) }
+    → naming es current new ≡ record n { choices = slice_set n.choices i (record c { patterns = l }) }
 list-changed es current lists new room i l n c is view h at made =
     let b : i < 255 = below-all es current lists room i n is view h in
     let all : length lists ≡ 255 = is.count in
@@ -300,7 +300,7 @@ list-changed es current lists new room i l n c is view h at made =
     ∙ at in
     ap (naming es current) made
     ∙ ap (λ cs. record { choices = cs; current = current }) (with-list es lists i l c (omega (arith, b, all)) here)
-    ∙ ap (λ (x : NamedValue). record x { choices = slice_set x.choices i (record c { selectors = l }) }) view
+    ∙ ap (λ (x : NamedValue). record x { choices = slice_set x.choices i (record c { patterns = l }) }) view
 
 pub kept-there : (es new : List Entry) (current : Option ℕ) (lists : List (List Pattern)) (i first : ℕ) (n : NamedValue)
     → naming es current lists ≡ n → i < length n.choices
@@ -343,7 +343,7 @@ acted-there es new current lists i action n c view h at made =
     ∙ ap (λ (x : Choice). slice_set (choices_with es lists) i (record x { action = Some action })) here)
     ∙ ap (λ (x : NamedValue). record x { choices = slice_set x.choices i (record c { action = Some action }) }) view
 
--- ---- a selector more
+-- ---- a pattern more
 
 room-has : (lists : List (List Pattern)) (i : ℕ) → HasRoom lists i → has_room (together lists) (list_at lists i) ≡ true
 room-has lists i room =
@@ -399,9 +399,9 @@ widening-ok (Err u) lists i iff =
 
 -- the same of the named stations
 pub all-named : (es : List Entry) (current : Option ℕ) (lists : List (List Pattern)) (room : ℕ) (n : NamedValue)
-    → IsNamed es current lists room → naming es current lists ≡ n → together lists ≡ all_selectors n.choices
+    → IsNamed es current lists room → naming es current lists ≡ n → together lists ≡ all_patterns n.choices
 all-named es current lists room n is view = with-all es lists is.rest
-    ∙ ap (λ (x : NamedValue). all_selectors x.choices) view
+    ∙ ap (λ (x : NamedValue). all_patterns x.choices) view
 
 pub list-widened : {A B : Type 0} (r : Result A B) (es : List Entry) (current : Option ℕ)
     (lists new : List (List Pattern)) (room i : ℕ) (p : Pattern) (n : NamedValue) (c : Choice)
@@ -410,21 +410,21 @@ pub list-widened : {A B : Type 0} (r : Result A B) (es : List Entry) (current : 
     → slice_get n.choices i ≡ Some c
     → naming es current new ≡ record n {
       choices =
-          slice_set n.choices i (record c { selectors = widened (all_selectors n.choices) c.selectors p });
+          slice_set n.choices i (record c { patterns = widened (all_patterns n.choices) c.patterns p });
     }
 list-widened r es current lists new room i p n c iff ok err is view h at =
     list-changed es current lists new room i (widened (together lists) (list_at lists i) p) n c is view h at
     (widened-ok r lists new i p iff ok err)
-    ∙ ap₂ (λ a ps. record n { choices = slice_set n.choices i (record c { selectors = widened a ps p }) })
-    (all-named es current lists room n is view) (sym (selectors-at es current lists i n c view at))
+    ∙ ap₂ (λ a ps. record n { choices = slice_set n.choices i (record c { patterns = widened a ps p }) })
+    (all-named es current lists room n is view) (sym (patterns-at es current lists i n c view at))
 
 pub list-widening : {A B : Type 0} (r : Result A B) (es : List Entry) (current : Option ℕ) (lists : List (List Pattern))
     (room i : ℕ) (n : NamedValue) (c : Choice) → (IsOk r ↔ HasRoom lists i) → IsNamed es current lists room
     → naming es current lists ≡ n → slice_get n.choices i ≡ Some c
-    → change_of r ≡ widening (all_selectors n.choices) c.selectors
+    → change_of r ≡ widening (all_patterns n.choices) c.patterns
 list-widening r es current lists room i n c iff is view at =
     widening-ok r lists i iff
-    ∙ ap₂ widening (all-named es current lists room n is view) (sym (selectors-at es current lists i n c view at))
+    ∙ ap₂ widening (all-named es current lists room n is view) (sym (patterns-at es current lists i n c view at))
 
 -- ---- which are there
 

@@ -28,9 +28,9 @@ outcome_after Done n = Stays ok_line n
 outcome_after Refused n = Stays error_line n
 outcome_after Starts n = StartsOutcome (filter_map wish_of (choices_of n))
 
--- how many selectors named stations have together
-abbrev pub all_selectors : List Named → ℕ
-all_selectors cs = sum_by (λ c. length c.selectors) cs
+-- how many patterns named stations have together
+abbrev pub all_patterns : List Named → ℕ
+all_patterns cs = sum_by (λ c. length c.patterns) cs
 
 -- Where there are so many in all, there is room for one more.
 abbrev pub has_room : (all : ℕ) → List Pattern → Bool

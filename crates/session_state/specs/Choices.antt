@@ -24,7 +24,7 @@ action_value (Time begin last) = TimeAction begin last
 abbrev pub choice_in : Config → Choice → ProtocolChoice
 choice_in config c = record {
   station = station_at config.entries c.station;
-  patterns = c.selectors;
+  patterns = c.patterns;
   action = option_map action_value c.action;
 }
 
@@ -49,7 +49,7 @@ request_with config c (Some action) =
     Some
     (record {
       station = station_at config.entries c.station;
-      patterns = c.selectors;
+      patterns = c.patterns;
       action = action_value action;
       from = c.first;
     })

@@ -12,7 +12,7 @@ use Rattle.session_state.specs.declared.choices.Entry.{Entry}
 -- arrival on, and how far the transfer has come
 pub record Choice : Type 0 where
   pub station : ℕ
-  pub selectors : List Pattern
+  pub patterns : List Pattern
   pub action : Option Action
   pub first : ℕ
   pub cursor : Cursor
@@ -30,19 +30,19 @@ ahead_of k = if nat_lt k.ring_place k.seen then Some k.stamp else None
 abbrev pub begun : ℕ → Option Action → Entry
 begun station action = record { station = station; action = action; first = 0; cursor = start }
 
--- an entry with its selectors
+-- an entry with its patterns
 abbrev pub choice_of : Entry → List Pattern → Choice
-choice_of e ps = record { station = e.station; selectors = ps; action = e.action; first = e.first; cursor = e.cursor }
+choice_of e ps = record { station = e.station; patterns = ps; action = e.action; first = e.first; cursor = e.cursor }
 
 -- a named station without them
 abbrev pub entry_of : Choice → Entry
 entry_of c = record { station = c.station; action = c.action; first = c.first; cursor = c.cursor }
 
--- a station without a place, selectors and an action
+-- a station without a place, patterns and an action
 abbrev pub blank : Choice
 blank = choice_of (begun 0 None) []
 
--- entries with the list of selectors that stands at each one's place
+-- entries with the list of patterns that stands at each one's place
 abbrev pub choices_with : List Entry → List (List Pattern) → List Choice
 choices_with [] lists = []
 choices_with (e ∷ es) lists = choice_of e (list_at lists 0) ∷ choices_with es (drop 1 lists)
@@ -67,17 +67,17 @@ pub record IsAlone (n : NamedValue) : Type 0 where
 
 -- what was negotiated
 pub data ModeValue : Type 0 where
-  -- one station, the first that the client sees, with these selectors
+  -- one station, the first that the client sees, with these patterns
   Uni : (patterns : List Pattern) → ModeValue
   -- the stations that the client named
   Multi : NamedValue → ModeValue
 
--- the selectors of the first station, where there is one
-abbrev pub first_selectors : List Choice → List Pattern
-first_selectors [] = []
-first_selectors (c ∷ cs) = c.selectors
+-- the patterns of the first station, where there is one
+abbrev pub first_patterns : List Choice → List Pattern
+first_patterns [] = []
+first_patterns (c ∷ cs) = c.patterns
 
--- the mode, whether in multi-station mode or in uni-station mode, where one station keeps the selectors
+-- the mode, whether in multi-station mode or in uni-station mode, where one station keeps the patterns
 abbrev pub mode_of : (is_multi : Bool) → NamedValue → ModeValue
 mode_of true n = Multi n
-mode_of false n = Uni (first_selectors n.choices)
+mode_of false n = Uni (first_patterns n.choices)

@@ -39,7 +39,7 @@ impl Cursor {
     }
 }
 
-/// A station that a client named, but for its selectors. It is a request of a transfer where it has an action.
+/// A station that a client named, but for its patterns. It is a request of a transfer where it has an action.
 #[derive(Clone, Copy)]
 pub struct Entry {
     /// The station's place in the configuration.

@@ -1,4 +1,4 @@
-//! The stations that a client named, with the selectors of each.
+//! The stations that a client named, with the patterns of each.
 //!
 //! A session takes all of its memory when it is made: room for 255 stations and one pool of 1,024 patterns, so that no
 //! command of a client can fail for want of memory. The stations of a transfer are lent without their patterns, which
@@ -20,7 +20,7 @@ ghost use Rattle.session_state.specs.Choices.{kept_at, passed_at};
 ghost use Rattle.session_state.specs.Entries.{IsIndexed, IsOnlyAt, TellsAhead};
 ghost use Rattle.session_state.specs.Orders.{IsEarliest};
 ghost use Rattle.session_state.specs.declared.choices.Ahead.TheVariants.{Nobody};
-ghost use Rattle.session_state.specs.Changes.{all_selectors, outcome_after, selecting_in, widened, widening};
+ghost use Rattle.session_state.specs.Changes.{all_patterns, outcome_after, selecting_in, widened, widening};
 
 use crate::choices::{Ahead, Cursor, Entry, First, after_pass, put};
 use crate::kept_action::KeptAction;
@@ -28,7 +28,7 @@ use crate::negotiation::Change;
 use crate::order::{earliest, follow};
 use catalog::Config;
 use protocol::record::Kind;
-use selector::{Pool, Selector};
+use selector::{Pattern, Pool};
 use sl_lines::Action;
 use std::alloc::{AllocError, Global};
 use std::marker::Model;
@@ -117,8 +117,8 @@ fn are_asked(entries: &[Entry]) -> bool
 /// How many stations a client may name.
 const CAPACITY: usize = 255;
 
-/// The stations that a client named, each with its selectors, and which of them is the current one. There are at most
-/// 255, with 64 selectors each and 1,024 together. Memory for all of them is taken when it is made, and not later.
+/// The stations that a client named, each with its patterns, and which of them is the current one. There are at most
+/// 255, with 64 patterns each and 1,024 together. Memory for all of them is taken when it is made, and not later.
 #[derive(Drop)]
 pub struct Named {
     entries: Vec<Entry>,
@@ -172,19 +172,19 @@ impl Named {
         })
     }
 
-    /// The stations without their selectors, in the order in which they were named.
+    /// The stations without their patterns, in the order in which they were named.
     pub fn choices(&self) -> &[Entry]
         ensures { result.now ≡ map entry_of self.now.choices }
     {
         self.entries.as_slice()
     }
 
-    /// Whether a record with that location, channel and type passes the selectors of the i-th station.
+    /// Whether a record with that location, channel and type passes the patterns of the i-th station.
     pub fn passes(&self, i: usize, location: &[u8; 2], channel: &[u8; 3], kind: Kind) -> bool
         requires { i < length self.now.choices }
         ensures { (c : Choice) (x : Facts) → slice_get self.now.choices i ≡ Some c → x.location ≡ location.now
             → x.channel ≡ channel.now → x.kind ≡ kind →
-            result ≡ passes c.selectors x }
+            result ≡ passes c.patterns x }
     {
         let _ = &self.entries;
         self.pool.passes(i, location, channel, kind)
@@ -206,7 +206,7 @@ impl Named {
     pub fn ask_alone(&mut self, place: usize, action: Action)
         requires { length self.old.choices ≡ 1 }
         ensures { (c : Choice) → slice_get self.old.choices 0 ≡ Some c →
-            self.new ≡ record { choices = choice_of (begun place (Some action)) c.selectors ∷ []; current = None } }
+            self.new ≡ record { choices = choice_of (begun place (Some action)) c.patterns ∷ []; current = None } }
     {
         let _ = &self.pool;
         self.entries[0] = Entry::new(place, Some(action));
@@ -215,30 +215,30 @@ impl Named {
         self.current = None;
     }
 
-    /// The selectors of the i-th station are taken away.
+    /// The patterns of the i-th station are taken away.
     pub fn clear_at(&mut self, i: usize)
         requires { i < length self.old.choices }
         ensures { (c : Choice) → slice_get self.old.choices i ≡ Some c →
-            self.new ≡ record self.old { choices = slice_set self.old.choices i (record c { selectors = [] }) } }
+            self.new ≡ record self.old { choices = slice_set self.old.choices i (record c { patterns = [] }) } }
     {
         let _ = &self.entries;
         self.pool.clear(i);
     }
 
-    /// The i-th station has a selector more, where there is room.
-    pub fn add_at(&mut self, i: usize, selector: Selector) -> Change
+    /// The i-th station has a pattern more, where there is room.
+    pub fn add_at(&mut self, i: usize, pattern: Pattern) -> Change
         requires { i < length self.old.choices }
         ensures new { (c : Choice) → slice_get self.old.choices i ≡ Some c →
             self.new ≡ record self.old {
               choices =
                   slice_set self.old.choices i
-                  (record c { selectors = widened (all_selectors self.old.choices) c.selectors selector });
+                  (record c { patterns = widened (all_patterns self.old.choices) c.patterns pattern });
             } }
         ensures change { (c : Choice) → slice_get self.old.choices i ≡ Some c
-            → result ≡ widening (all_selectors self.old.choices) c.selectors }
+            → result ≡ widening (all_patterns self.old.choices) c.patterns }
     {
         let _ = &self.entries;
-        match self.pool.add(i, selector) {
+        match self.pool.add(i, pattern) {
             Ok(()) => Change::Done,
             Err(_) => Change::Refused,
         }
@@ -304,7 +304,7 @@ impl Named {
         }
     }
 
-    /// The current station's selectors are taken away.
+    /// The current station's patterns are taken away.
     pub fn clear(&mut self) -> Change
         ensures { (config : ProtocolConfig)
             → outcome_after result (NegotiatedMulti (choices_in config self.new.choices) self.new.current)
@@ -320,15 +320,15 @@ impl Named {
         }
     }
 
-    /// The current station has a selector more, where there is room.
-    pub fn add_selector(&mut self, selector: Selector) -> Change
+    /// The current station has a pattern more, where there is room.
+    pub fn add_pattern(&mut self, pattern: Pattern) -> Change
         ensures { (config : ProtocolConfig)
             → outcome_after result (NegotiatedMulti (choices_in config self.new.choices) self.new.current)
-            ≡ selecting_in (choices_in config self.old.choices) self.old.current (Some selector)
+            ≡ selecting_in (choices_in config self.old.choices) self.old.current (Some pattern)
             (current_choice (choices_in config self.old.choices) self.old.current) }
     {
         match self.current {
-            Some(i) => self.add_at(i, selector),
+            Some(i) => self.add_at(i, pattern),
             None => Change::Refused,
         }
     }

@@ -4,7 +4,7 @@
 //! does it. `Command` is what a line says, and stays apart from it: it names a station by its codes and a pattern by
 //! its text. What DATA, FETCH and TIME ask is an `Action` in both. Whether the client sees that station, and whether
 //! the pattern is valid, is decided when the `Command` becomes an `Instruction`. `Change` is a second enum, since an
-//! instruction says what to do and carries the station or the selector, while a change says what came of it (done,
+//! instruction says what to do and carries the station or the pattern, while a change says what came of it (done,
 //! refused, or a transfer starts), which depends on what was negotiated.
 ghost use Rattle.std.specs.Prelude.{◌≡◌, ◌<◌, [], IfOk, IfSome, None, Some, length, map, option_map, slice_get};
 ghost use Rattle.protocol.specs.Catalog.{Config as ProtocolConfig};
@@ -20,7 +20,7 @@ use crate::choices::{Cursor, Entry, First};
 use crate::named::Named;
 use catalog::{Config, View};
 use protocol::record::Kind;
-use selector::Selector;
+use selector::Pattern;
 use sl_lines::Action;
 use std::alloc::{AllocError, Global};
 use std::marker::Model;
@@ -36,7 +36,7 @@ pub enum Change {
     Starts,
 }
 
-/// What was negotiated: in uni-station mode the selectors of one station, the first that the client sees; in
+/// What was negotiated: in uni-station mode the patterns of one station, the first that the client sees; in
 /// multi-station mode the stations that the client named.
 #[derive(Drop)]
 pub struct Negotiation {
@@ -62,7 +62,7 @@ impl Negotiation {
     ghost use Rattle.session_state.specs.NamedValues.ModeValue.{Uni};
     ghost use Rattle.session_state.specs.Choices.{chosen_of, kept_in, passed_in};
 
-    /// Uni-station mode without selectors. Memory is taken here alone, and only for want of it this fails.
+    /// Uni-station mode without patterns. Memory is taken here alone, and only for want of it this fails.
     /// Stations at places below `places` are found at once when they were named.
     pub fn new(alloc: Global, places: usize) -> Result<Negotiation, AllocError>
         ensures { IfOk result (λ m. m ≡ Uni []) }
@@ -73,7 +73,7 @@ impl Negotiation {
         })
     }
 
-    /// The stations that were named, in that order, without their selectors.
+    /// The stations that were named, in that order, without their patterns.
     pub fn choices(&self) -> &[Entry]
         ensures { result.now ≡ map entry_of (chosen_of self.now) }
     {
@@ -84,12 +84,12 @@ impl Negotiation {
         }
     }
 
-    /// Whether a record with that location, channel and type passes the selectors of the i-th of them.
+    /// Whether a record with that location, channel and type passes the patterns of the i-th of them.
     pub fn passes(&self, i: usize, location: &[u8; 2], channel: &[u8; 3], kind: Kind) -> bool
         requires { i < length (chosen_of self.now) }
         ensures { (c : ChoiceValue) (x : Facts) → slice_get (chosen_of self.now) i ≡ Some c → x.location ≡ location.now
             → x.channel ≡ channel.now → x.kind ≡ kind →
-            result ≡ passes c.selectors x }
+            result ≡ passes c.patterns x }
     {
         self.is_multi && self.named.passes(i, location, channel, kind)
     }
@@ -176,15 +176,15 @@ impl Negotiation {
     }
 
     /// SELECT with a pattern.
-    pub fn add(&mut self, selector: Selector) -> Change
+    pub fn add(&mut self, pattern: Pattern) -> Change
         ensures { (config : ProtocolConfig)
             → outcome_after result (negotiated_in config self.new)
-            ≡ selecting (negotiated_in config self.old) (Some selector) }
+            ≡ selecting (negotiated_in config self.old) (Some pattern) }
     {
         if self.is_multi {
-            self.named.add_selector(selector)
+            self.named.add_pattern(pattern)
         } else {
-            self.named.add_at(0, selector)
+            self.named.add_at(0, pattern)
         }
     }
 

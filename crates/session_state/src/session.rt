@@ -153,7 +153,7 @@ impl Session {
         self.state
     }
 
-    /// The stations that were named, in that order, without their selectors. Those with an action are the requests of a
+    /// The stations that were named, in that order, without their patterns. Those with an action are the requests of a
     /// transfer.
     pub fn choices(&self) -> &[Entry]
         ensures { result.now ≡ map entry_of (chosen_of self.now.mode) }
@@ -169,12 +169,12 @@ impl Session {
         &self.mode.choices()[i]
     }
 
-    /// Whether a record with that location, channel and type passes the selectors of the i-th named station.
+    /// Whether a record with that location, channel and type passes the patterns of the i-th named station.
     pub fn passes(&self, i: usize, location: &[u8; 2], channel: &[u8; 3], kind: Kind) -> bool
         requires { i < length (chosen_of self.now.mode) }
         ensures { (c : ChoiceValue) (x : Facts) → slice_get (chosen_of self.now.mode) i ≡ Some c
             → x.location ≡ location.now → x.channel ≡ channel.now → x.kind ≡ kind →
-            result ≡ passes c.selectors x }
+            result ≡ passes c.patterns x }
     {
         self.mode.passes(i, location, channel, kind)
     }

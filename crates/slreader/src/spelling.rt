@@ -10,7 +10,7 @@ ghost use Rattle.slreader.specs.WantTexts.{action_value, texts};
 ghost use Rattle.slreader.specs.Views.{plan_value};
 
 use crate::want::{Plan, Want, WantedAction};
-use selector::Selector;
+use selector::Pattern;
 
 /// How many bytes a network's code has at most.
 pub(crate) const NETWORK: usize = 2;
@@ -52,7 +52,7 @@ pub(crate) fn is_code(most: usize, code: &[u8]) -> bool
 pub(crate) fn is_pattern(text: &[u8]) -> bool
     ensures { result ≡ spec_is_pattern text.now }
 {
-    Selector::parse(text).is_some()
+    Pattern::parse(text).is_some()
 }
 
 /// Texts of patterns.

@@ -1,4 +1,4 @@
-//! Tests of what bytes spell: of a client's moments, sequence numbers and packets, selectors, addresses, lines and
+//! Tests of what bytes spell: of a client's moments, sequence numbers and packets, patterns, addresses, lines and
 //! commands, and of records, their headers, records that are made, feeds of them, and listings, with the readers and
 //! writers below these. Nothing but tests.
 #![tactic(auto)]
@@ -28,6 +28,8 @@ mod moments;
 #[cfg(test)]
 mod packets;
 #[cfg(test)]
+mod patterns;
+#[cfg(test)]
 mod pools;
 #[cfg(test)]
 mod random_records;
@@ -35,8 +37,6 @@ mod random_records;
 mod reasons;
 #[cfg(test)]
 mod runs;
-#[cfg(test)]
-mod selectors;
 #[cfg(test)]
 mod sequence_numbers;
 #[cfg(test)]

@@ -1,8 +1,8 @@
-//! The selectors of all stations that one client names.
+//! The patterns of all stations that one client names.
 ghost use Rattle.std.specs.Prelude.{◌<◌};
 
 use protocol::record::Kind;
-use selector::{Pool, Selector};
+use selector::{Pattern, Pool};
 use std::test::Fail;
 
 const PLACE: &[u8; 2] = b"00";
@@ -11,7 +11,7 @@ const PLACE: &[u8; 2] = b"00";
 fn is_added(pool: &mut Pool, list: usize, text: &[u8]) -> Option<bool>
     requires { list < 255 }
 {
-    Some(pool.add(list, Selector::parse(text)?).is_ok())
+    Some(pool.add(list, Pattern::parse(text)?).is_ok())
 }
 
 /// How many of some more patterns are added to a list.
@@ -57,7 +57,7 @@ fn a_list_holds_64_and_others_have_room(rt: HostRuntime) -> Result<(), Fail> {
     Ok(())
 }
 
-/// All lists are full together. A list whose selectors are taken away makes room for another one, up to as many.
+/// All lists are full together. A list whose patterns are taken away makes room for another one, up to as many.
 #[test]
 fn all_lists_hold_1024_together(rt: HostRuntime) -> Result<(), Fail> {
     let mut pool = Pool::new(rt.alloc())?;

@@ -84,7 +84,7 @@ fn first_other_of<R: Net + AllocGlobal>(rt: &R, steps: &[Step]) -> Result<Option
     })
 }
 
-/// One station, with a selector.
+/// One station, with a pattern.
 static UNI: [Step; 7] = [
     Step::Say(b"HELLO\r", GREETING),
     Step::Say(b"SELECT BHZ\r", OK),
@@ -105,7 +105,7 @@ fn a_uni_station_client_gets_the_first_station_that_it_sees(rt: HostRuntime) -> 
     Ok(())
 }
 
-/// Two stations with selectors, and one that is closed.
+/// Two stations with patterns, and one that is closed.
 static MULTI: [Step; 15] = [
     Step::Say(b"HELLO\r", GREETING),
     Step::Say(b"STATION WLF GE\r", OK),
@@ -129,7 +129,7 @@ static MULTI: [Step; 15] = [
 ];
 
 #[test]
-fn a_multi_station_client_gets_what_its_selectors_let_pass(rt: HostRuntime) -> Result<(), Fail> {
+fn a_multi_station_client_gets_what_its_patterns_let_pass(rt: HostRuntime) -> Result<(), Fail> {
     assert_eq!(rt; first_other_of(&rt, &MULTI)?, None);
     Ok(())
 }

@@ -92,9 +92,9 @@ and-last false b e = refl
 outside-unwanted : (c : Choice) (next : ℕ) (x : Held) → is_in_window_of c.action (facts_of x.summary) ≡ false
     → wants_held c next x ≡ false
 outside-unwanted c next x e =
-    and-none (nat_le next x.stamp) (nat_le c.first x.stamp) _ (and-last (passes c.selectors (facts_of x.summary)) _ e)
+    and-none (nat_le next x.stamp) (nat_le c.first x.stamp) _ (and-last (passes c.patterns (facts_of x.summary)) _ e)
 
-pub refused-unwanted : (c : Choice) (next : ℕ) (x : Held) → passes c.selectors (facts_of x.summary) ≡ false
+pub refused-unwanted : (c : Choice) (next : ℕ) (x : Held) → passes c.patterns (facts_of x.summary) ≡ false
     → wants_held c next x ≡ false
 refused-unwanted c next x e =
     and-none (nat_le next x.stamp) (nat_le c.first x.stamp) _
@@ -175,7 +175,7 @@ get-set (x ∷ xs) (suc n) (suc k) v w e = elim (get-set xs n k v w e) [
 
 pub filter-refuses : (f g : Filter) (streams : List Stream) (c : Choice) (number : ℕ) (one : Stream)
     → g ≡ record f { refused = slice_set f.refused number true } → slice_get streams number ≡ Some one
-    → ((y : Summary) → stream_of y ≡ one → passes c.selectors (facts_of y) ≡ false) → IsFilter f streams c
+    → ((y : Summary) → stream_of y ≡ one → passes c.patterns (facts_of y) ≡ false) → IsFilter f streams c
     → IsFilter g streams c
 filter-refuses f g streams c number one made there never is = subst (λ (h : Filter). IsFilter h streams c) (sym made)
     (record {

@@ -46,7 +46,7 @@ window-within (Some (Time begin (Some last))) x e = both (int_lt last x.summary.
 
 wanted-within : (c : Choice) (q : ℕ) (x : Held) → wants_held c q x ≡ true → is_after_end c.action x ≡ false
 wanted-within c q x e = window-within c.action x
-    (last-of (passes c.selectors (facts_of x.summary)) _
+    (last-of (passes c.patterns (facts_of x.summary)) _
     (last-of (nat_le c.first x.stamp) _ (last-of (nat_le q x.stamp) _ e)))
 
 first-of : (a b : Bool) → (a && b) ≡ true → a ≡ true
@@ -54,9 +54,9 @@ first-of true b e = refl
 first-of false b e = absurd cc
 
 wanted-passes : (c : Choice) (q : ℕ) (x : Held) → wants_held c q x ≡ true
-    → passes c.selectors (facts_of x.summary) ≡ true
+    → passes c.patterns (facts_of x.summary) ≡ true
 wanted-passes c q x e =
-    first-of (passes c.selectors (facts_of x.summary)) _
+    first-of (passes c.patterns (facts_of x.summary)) _
     (last-of (nat_le c.first x.stamp) _ (last-of (nat_le q x.stamp) _ e))
 
 same-held : (r : RingValue) (place : ℕ) (x y : Held) → held_at r place ≡ Some x → held_at r place ≡ Some y → y ≡ x
@@ -93,11 +93,11 @@ same-passes : (ps : List Pattern) (x y : Summary) → stream_of x ≡ stream_of 
 same-passes ps x y e = ap (λ (s : Stream). passes_parts s.location s.channel s.kind ps) e
 
 -- A record of a stream that passes is wanted, where it comes late enough and is within what is asked.
-pub wanted-too : (c : Choice) (next : ℕ) (x : Summary) (y : Held) → passes c.selectors (facts_of x) ≡ true
+pub wanted-too : (c : Choice) (next : ℕ) (x : Summary) (y : Held) → passes c.patterns (facts_of x) ≡ true
     → nat_le next y.stamp ≡ true → nat_le c.first y.stamp ≡ true → stream_of x ≡ stream_of y.summary
     → is_in_window_of c.action (facts_of y.summary) ≡ true → wants_held c next y ≡ true
 wanted-too c next x y p late first same window =
-    rw (late, first, sym (same-passes c.selectors x y.summary same) ∙ p, window) refl
+    rw (late, first, sym (same-passes c.patterns x y.summary same) ∙ p, window) refl
 
 -- What a request finds at a place, where it wants the record there.
 pub wanted-found : (r : RingValue) (place : ℕ) (c : Choice) (next : ℕ) (x : Held) → held_at r place ≡ Some x
@@ -118,7 +118,7 @@ none-past r place x there none = both (nat_lt (place + 1) r.pushes)
 pub sent-rests : (rings : RingsValue) (q next stamp : ℕ) (c : Choice) (r : RingValue) (place : ℕ) (x : Held)
     (k : Cursor) → q ≤ x.stamp → x.stamp < next → slice_get rings.rings c.station ≡ Some r → c.cursor.ring_place ≡ place
     → held_at r place ≡ Some x → ahead_of c.cursor ≡ Some stamp → RestsIn rings q c
-    → (passes c.selectors (facts_of x.summary) ≡ true → HasPassed r next c (at_place (place + 1) c.cursor.ended)
+    → (passes c.patterns (facts_of x.summary) ≡ true → HasPassed r next c (at_place (place + 1) c.cursor.ended)
     → RestsAt r next c k) → RestsIn rings next (record c { cursor = k })
 sent-rests rings q next stamp c r place x k late sent ring is there ahead rests search = by c.action refl
   where

@@ -46,7 +46,7 @@ any-order false false few from passing window = refl
 abbrev pub request_for : Config → Choice → Action → Request
 request_for config c action = record {
   station = station_at config.entries c.station;
-  patterns = c.selectors;
+  patterns = c.patterns;
   action = action_value action;
   from = c.first;
 }
@@ -70,9 +70,9 @@ next-one config c action h q asked in_ring =
     ∙ first_from (λ p later a. holds_and_wants p later a r) q h
     ∙ same_first (λ p later a. nat_le q p && holds_and_wants p later a r)
     (λ p later a. is_held s later a && wants_held c q (held_of p a))
-    (λ p later a. any-order (nat_le q p) (is_of s a) _ (nat_le c.first p) (passes c.selectors a.facts)
+    (λ p later a. any-order (nat_le q p) (is_of s a) _ (nat_le c.first p) (passes c.patterns a.facts)
     (is_in_window (action_value action) a.facts)
-    ∙ ap (λ b. is_held s later a && (nat_le q p && (nat_le c.first p && (passes c.selectors a.facts && b))))
+    ∙ ap (λ b. is_held s later a && (nat_le q p && (nat_le c.first p && (passes c.patterns a.facts && b))))
     (sym (ap (λ o. is_in_window_of o (facts_of (summary_of a.facts))) asked
     ∙ in-window (action_value action) a.facts))) 0 h
     ∙ in_ring (λ p a. wants_held c q (held_of p a)) (wants_held c q) (λ p a. refl)

@@ -45,14 +45,14 @@ pub record Refuses (patterns : List Pattern) (s : Stream) : Type 0 where
 pub record IsFilter (f : Filter) (streams : List Stream) (c : Choice) : Type 0 where
   pub window : IsWindow f.window c.action
   pub refused : (k : ℕ) (s : Stream) → slice_get f.refused k ≡ Some true → slice_get streams k ≡ Some s
-      → Refuses c.selectors s
+      → Refuses c.patterns s
 
 -- No record passes the patterns of a named station: each has one of these streams, and all of them are refused. And
 -- none starts after the end of TIME.
 pub record RefusesAll (streams : List Stream) (c : Choice) : Type 0 where
   pub few : length streams < 64
   pub unended : (x : Held) → is_after_end c.action x ≡ false
-  pub refused : (k : ℕ) (s : Stream) → slice_get streams k ≡ Some s → Refuses c.selectors s
+  pub refused : (k : ℕ) (s : Stream) → slice_get streams k ≡ Some s → Refuses c.patterns s
 
 -- What is seen of a record is so.
 pub record IsSight (c : Choice) (x : Held) (sight : Sight) : Type 0 where

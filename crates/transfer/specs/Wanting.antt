@@ -35,4 +35,4 @@ abbrev pub wants_held : Choice → (next : ℕ) → Held → Bool
 wants_held c next x =
     nat_le next x.stamp
     && (nat_le c.first x.stamp
-    && (passes c.selectors (facts_of x.summary) && is_in_window_of c.action (facts_of x.summary)))
+    && (passes c.patterns (facts_of x.summary) && is_in_window_of c.action (facts_of x.summary)))

@@ -192,7 +192,7 @@ fn cursor_after(session: &Session, found: Candidate<'_>, next: u64) -> Cursor
     requires there { held_at found.ring.now found.place ≡ Some found.held.now }
     requires index { found.index < length (chosen_of session.now.mode) }
     ensures { (c : Choice) → slice_get (chosen_of session.now.mode) found.entry.index ≡ Some c
-        → passes c.selectors (facts_of found.entry.held.now.summary) ≡ true
+        → passes c.patterns (facts_of found.entry.held.now.summary) ≡ true
         → HasPassed found.entry.ring.now next c (at_place (found.entry.place + 1) c.cursor.ended)
         → RestsAt found.entry.ring.now next c result }
 {

@@ -84,7 +84,7 @@ fn is_same_stream(one: &Summary, other: &Summary) -> bool
 /// Whether it is known without its patterns that a request wants a held record: it is of the stream of one that passes
 /// them. `next` is the first arrival that may still be sent.
 pub(crate) fn wants_too(entry: &Entry, next: u64, passed: &Summary, held: &Held) -> bool
-    ensures { (c : Choice) → entry_of c ≡ entry.now → passes c.selectors (facts_of passed.now) ≡ true → result ≡ true
+    ensures { (c : Choice) → entry_of c ≡ entry.now → passes c.patterns (facts_of passed.now) ≡ true → result ≡ true
         → wants_held c next held.now ≡ true }
 {
     next <= held.stamp

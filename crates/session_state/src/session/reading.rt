@@ -25,7 +25,7 @@ use crate::negotiation::Change;
 use crate::waiting::{put_end_line, put_error, put_greeting, put_ok, put_station_line};
 use arrayvec::ArrayVec;
 use catalog::{Config, View};
-use selector::Selector;
+use selector::Pattern;
 use sl_lines::{Action, Command, Line, command};
 
 /// What a session is to do.
@@ -44,7 +44,7 @@ pub(crate) enum Instruction {
     /// SELECT without a pattern.
     Clear,
     /// SELECT with a pattern.
-    Add(Selector),
+    Add(Pattern),
     /// DATA, FETCH or TIME.
     Act(Action),
     /// END.
@@ -97,8 +97,8 @@ fn selecting(text: &[u8]) -> Instruction
         → select n (Some text.now) ≡ outcome_by config v n result }
     ensures stays { is_leaving result ≡ false }
 {
-    match Selector::parse(text) {
-        Some(selector) => Instruction::Add(selector),
+    match Pattern::parse(text) {
+        Some(pattern) => Instruction::Add(pattern),
         None => Instruction::Refused,
     }
 }
@@ -155,8 +155,8 @@ impl Session {
                 let change = self.mode.clear();
                 self.take_change(change);
             }
-            Instruction::Add(selector) => {
-                let change = self.mode.add(selector);
+            Instruction::Add(pattern) => {
+                let change = self.mode.add(pattern);
                 self.take_change(change);
             }
             Instruction::Act(action) => {

@@ -9,7 +9,7 @@ add-requires c = below-all _ _ _ _ c.args.i _ c.self.invariant.0 c.self.view_is 
 pub invariant_of-self : goal.invariant_of-self
 invariant_of-self c = (
   added-naming c.add.result c.self.inside.entries.items c.self.inside.current c.self.inside.pool _ _ c.args.i
-      c.args.selector c.add.ensures.added c.add.ensures.unchanged c.self.invariant.0
+      c.args.pattern c.add.ensures.added c.add.ensures.unchanged c.self.invariant.0
       (below _ _ _ c.args.i _ c.self.view_is c.requires),
   c.self.invariant.1,
   c.self.invariant.2,
@@ -21,7 +21,7 @@ invariant_of-self c = (
 pub returns-clause-new : goal.returns-clause-new
 returns-clause-new c =
     λ choice there. list-widened c.add.result c.self.inside.entries.items c.self.inside.current c.self.inside.pool _ _
-    c.args.i c.args.selector _ choice c.add.ensures.room c.add.ensures.added c.add.ensures.unchanged c.self.invariant.0
+    c.args.i c.args.pattern _ choice c.add.ensures.room c.add.ensures.added c.add.ensures.unchanged c.self.invariant.0
     c.self.view_is c.requires there
 
 pub returns-clause-change : goal.returns-clause-change

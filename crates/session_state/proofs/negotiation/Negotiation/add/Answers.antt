@@ -1,5 +1,5 @@
 use Rattle.session_state.specs.NamedValues.{Choice}
-use Rattle.session_state.specs.Changes.{all_selectors, widened}
+use Rattle.session_state.specs.Changes.{all_patterns, widened}
 use Rattle.session_state.proofs.ModeLemmas.{alone-changed}
 use Rattle.session_state.proofs.negotiation.Negotiation.add.Goals as goal
 
@@ -7,7 +7,7 @@ pub invariant_of-self-else-self : goal.invariant_of-self-else-self
 invariant_of-self-else-self c = λ e.
     alone-changed c.self.inside.named _
     (λ (x : Choice). record x {
-      selectors =
-          widened (all_selectors c.self.inside.named.choices) x.selectors c.args.selector;
+      patterns =
+          widened (all_patterns c.self.inside.named.choices) x.patterns c.args.pattern;
     })
     (c.self.invariant e) c.add_at.ensures.new

@@ -8,7 +8,7 @@ use Rattle.session_state.proofs.negotiation.Negotiation.clear.Goals as goal
 
 pub invariant_of-self-else-self : goal.invariant_of-self-else-self
 invariant_of-self-else-self c =
-    λ e. alone-changed c.self.inside.named _ (λ (x : Choice). record x { selectors = [] })
+    λ e. alone-changed c.self.inside.named _ (λ (x : Choice). record x { patterns = [] })
     (c.self.invariant e) c.clear_at.ensures
 
 pub returns-else-self : goal.returns-else-self

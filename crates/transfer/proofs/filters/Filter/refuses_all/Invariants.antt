@@ -11,5 +11,5 @@ invariant-loop-number l = record {
   filter : (c : Choice) → slice_get (chosen_of l.session.mode) l.i ≡ Some c → IsFilter l.fn.self l.streams c
       → IsFilter l.self l.streams c;
   refused : (c : Choice) → slice_get (chosen_of l.session.mode) l.i ≡ Some c → (k : ℕ) (s : Stream) → k < l.number
-      → slice_get l.streams k ≡ Some s → Refuses c.selectors s;
+      → slice_get l.streams k ≡ Some s → Refuses c.patterns s;
 }

@@ -1,7 +1,7 @@
 //! Patterns, and lists of them.
 use crate::reasons::is_reason;
 use protocol::record::Kind;
-use selector::{Full, Pool, Selector};
+use selector::{Full, Pattern, Pool};
 use std::alloc::Global;
 
 const PLACE: &[u8; 2] = b"00";
@@ -9,18 +9,18 @@ const PLACE: &[u8; 2] = b"00";
 const NO_PLACE: &[u8; 2] = b"  ";
 
 fn is_pattern(text: &[u8]) -> bool {
-    Selector::parse(text).is_some()
+    Pattern::parse(text).is_some()
 }
 
 fn matches(text: &[u8], location: &[u8; 2], channel: &[u8; 3], kind: Kind) -> Option<bool> {
-    Some(Selector::parse(text)?.matches(location, channel, kind))
+    Some(Pattern::parse(text)?.matches(location, channel, kind))
 }
 
 /// Adds patterns to the first list of a pool. Whether all are patterns, and have room.
 fn are_added(pool: &mut Pool, texts: &[&[u8]]) -> bool {
     for text in texts {
-        let is_added = match Selector::parse(text) {
-            Some(selector) => pool.add(0, selector).is_ok(),
+        let is_added = match Pattern::parse(text) {
+            Some(pattern) => pool.add(0, pattern).is_ok(),
             None => false,
         };
         if !is_added {
@@ -114,7 +114,7 @@ fn each_part_matches_or_is_left_off(rt: HostRuntime) {
 
 /// Whether a text is a negation, where it is a pattern.
 fn is_negation(text: &[u8]) -> Option<bool> {
-    Some(Selector::parse(text)?.negated())
+    Some(Pattern::parse(text)?.negated())
 }
 
 #[test]
