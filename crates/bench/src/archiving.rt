@@ -49,7 +49,7 @@ impl<'r, R: Files<File = File> + Clock> RecordSink for Archived<'r, R> {
         self.archive.begin();
     }
 
-    fn take(&mut self, packet: &GivenPacket<'_>) -> Result<(), SinkFault> {
+    fn put(&mut self, packet: &GivenPacket<'_>) -> Result<(), SinkFault> {
         match put_to(&mut self.archive, packet) {
             Ok(()) => Ok(()),
             Err(ArchiveFault::OutOfMemory) => Err(SinkFault::OutOfMemory),

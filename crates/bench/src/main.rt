@@ -4,8 +4,8 @@
 //! Works without a server: `command ROUNDS LINE` reads a line as a command, and `lines ROUNDS LINE` cuts it out of
 //! bytes first. `number ROUNDS` reads a sequence number and writes the one that follows. `header ROUNDS` reads the
 //! header of a record. `patterns ROUNDS` asks sixteen patterns whether a record passes, and `pool ROUNDS` asks the
-//! same sixteen in a pool that holds 1,024. `listing STATIONS ROUNDS` reads packets of so many stations by turns, each of
-//! which has a want, and lists them, `archive STATIONS ROUNDS FOLDER` puts the same into an archive, and `drained
+//! same sixteen in a pool that holds 1,024. `listing STATIONS ROUNDS` reads packets of so many stations by turns, each
+//! of which has a want, and lists them, `archive STATIONS ROUNDS FOLDER` puts the same into an archive, and `drained
 //! STATIONS ROUNDS` reads the same bytes and does nothing with them.
 //!
 //! Works with a server: `arrive CAPACITY ROUNDS`: a record arrives at one of 1,024 stations, whose ring holds so many

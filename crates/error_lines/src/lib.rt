@@ -22,7 +22,7 @@ pub trait Device {
     ghost taken: { Self → Option (List ℕ) };
 
     /// Takes the first of these bytes, as many as it can at once, and answers how many. It does not wait.
-    fn take(&mut self, bytes: &[u8]) -> usize
+    fn accept(&mut self, bytes: &[u8]) -> usize
         ensures bound { result ≤ length bytes.now }
         ensures bytes { Takes (taken self.old) (taken self.new) (take result bytes.now) };
 }

@@ -112,7 +112,7 @@ impl<D: Device> ErrorLines<D> {
         let head = text.len();
         text.push_str(line.as_str());
         text.push_str("\n");
-        let count = self.device.take(text.as_bytes());
+        let count = self.device.accept(text.as_bytes());
         self.note(text.as_bytes(), head, count)
     }
 }

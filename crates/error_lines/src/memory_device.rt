@@ -51,7 +51,7 @@ impl<'a> MemoryDevice<'a> {
 impl Device for MemoryDevice<'_> {
     ghost taken = { λ s. Some s.bytes.items };
 
-    fn take(&mut self, bytes: &[u8]) -> usize
+    fn accept(&mut self, bytes: &[u8]) -> usize
         ensures bound { result ≤ length bytes.now }
         ensures bytes { Takes (Some self.old.bytes.items) (Some self.new.bytes.items) (take result bytes.now) }
         ensures count { (result ≡ 0) ⊎ (result ≡ min (length bytes.now) (room_in self.old.rooms.now)) }

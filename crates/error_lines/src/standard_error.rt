@@ -140,7 +140,7 @@ impl<F> StandardError<F> {
 impl<F: AsRawFd> Device for StandardError<F> {
     ghost taken = { λ _. None };
 
-    fn take(&mut self, bytes: &[u8]) -> usize
+    fn accept(&mut self, bytes: &[u8]) -> usize
         ensures bound { result ≤ length bytes.now }
         ensures bytes { Takes None None (take result bytes.now) }
     {

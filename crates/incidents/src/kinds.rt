@@ -43,7 +43,7 @@ fn kind_by_signature(bytes: &[u8]) -> Option<FileKind>
 /// The length that a record gives, if that alone keeps it from being read.
 fn length_of(bytes: &[u8]) -> Option<u64> {
     let mut tally = FeedTally::new();
-    tally.see(&AllStations, bytes);
+    tally.judge(&AllStations, bytes);
     match tally.first()?.detail {
         Detail::Power(power) if power < 64 => Some(1 << power),
         _ => None,

@@ -11,7 +11,7 @@ const MOST: usize = 512;
 pub type FirstBytes = ArrayVec<u8, MOST>;
 
 /// Bytes that follow on those that are kept are kept too, as far as there is room.
-fn keep(first: &mut FirstBytes, bytes: &[u8])
+fn hold(first: &mut FirstBytes, bytes: &[u8])
     ensures { first.new.items ≡ first.old.items ++ take (512 - length first.old.items) bytes.now }
 {
     let count = bytes.len().min(MOST - first.len());
@@ -49,7 +49,7 @@ impl<T> BegunFile<T> {
 impl<T: Read> Read for BegunFile<T> {
     fn read(&mut self, block: &mut [u8]) -> io::Result<usize> {
         let count = self.inner.read(block)?;
-        keep(&mut self.first, &block[..count]);
+        hold(&mut self.first, &block[..count]);
         Ok(count)
     }
 }

@@ -52,7 +52,7 @@ impl Meter {
     ghost use Rattle.job_base.specs.Meters.{is_time};
 
     /// So many bytes more are read.
-    fn pass(&mut self, count: usize)
+    fn add_bytes(&mut self, count: usize)
         ensures { self.new ≡ record self.old { bytes = min (self.old.bytes + count) (2 ^ 64 - 1) } }
     {
         self.bytes = self.bytes.saturating_add(count as u64);
@@ -112,8 +112,8 @@ impl<'r, R: Eprint + Clock, T> Watched<'r, R, T> {
     }
 
     /// So many bytes more are read.
-    fn pass(&mut self, count: usize) {
-        self.meter.pass(count);
+    fn add_bytes(&mut self, count: usize) {
+        self.meter.add_bytes(count);
         if let Ok(now) = self.rt.monotonic() {
             let now = u64::try_from(now.as_millis()).unwrap_or(u64::MAX);
             if self.meter.comes(now) {
@@ -135,7 +135,7 @@ impl<R: Eprint + Clock, T: Read> Read for Watched<'_, R, T> {
     fn read(&mut self, block: &mut [u8]) -> io::Result<usize> {
         let count = self.inner.read(block)?;
         if self.is_shown {
-            self.pass(count);
+            self.add_bytes(count);
         }
         Ok(count)
     }

@@ -26,7 +26,7 @@ impl<T: Drop> ReasonKeeper<T> {
 
 impl<T> ReasonKeeper<T> {
     /// Keeps a reason, and answers an error of the same kind.
-    fn keep(&mut self, reason: io::Error) -> io::Error {
+    fn hold(&mut self, reason: io::Error) -> io::Error {
         let kind = reason.kind();
         self.reason = Some(reason);
         io::Error::from(kind)
@@ -37,7 +37,7 @@ impl<T: Read> Read for ReasonKeeper<T> {
     fn read(&mut self, block: &mut [u8]) -> io::Result<usize> {
         match self.inner.read(block) {
             Ok(count) => Ok(count),
-            Err(reason) => Err(self.keep(reason)),
+            Err(reason) => Err(self.hold(reason)),
         }
     }
 }
@@ -46,7 +46,7 @@ impl<T: Write> Write for ReasonKeeper<T> {
     fn write(&mut self, bytes: &[u8]) -> io::Result<usize> {
         match self.inner.write(bytes) {
             Ok(count) => Ok(count),
-            Err(reason) => Err(self.keep(reason)),
+            Err(reason) => Err(self.hold(reason)),
         }
     }
 

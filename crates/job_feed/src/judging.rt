@@ -150,7 +150,7 @@ impl<R: Eprint, T: Read, S: Stations> Read for Judged<'_, '_, '_, '_, R, T, S> {
             self.tell_passed(stretch);
         }
         self.look_at(&block[..count]);
-        self.tally.see(self.stations, &block[..count]);
+        self.tally.judge(self.stations, &block[..count]);
         let count = self.pass_on(count);
         self.offset = self.offset.saturating_add(count as u64);
         Ok(count)

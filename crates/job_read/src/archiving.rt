@@ -212,7 +212,7 @@ impl<'r, R: Files<File = File> + Eprint + Clock> RecordSink for ToldArchive<'r, 
         self.archive.get_mut().begin();
     }
 
-    fn take(&mut self, packet: &GivenPacket<'_>) -> Result<(), SinkFault> {
+    fn put(&mut self, packet: &GivenPacket<'_>) -> Result<(), SinkFault> {
         let (put, unplaced, torn) = put_to(self.archive.get_mut(), packet);
         self.tell(unplaced, torn);
         match put {
@@ -339,7 +339,7 @@ impl<'r, R: Files<File = File> + Eprint + Clock> RecordSink for ToldOutput<'r, R
         self.output.get_mut().begin();
     }
 
-    fn take(&mut self, packet: &GivenPacket<'_>) -> Result<(), SinkFault> {
+    fn put(&mut self, packet: &GivenPacket<'_>) -> Result<(), SinkFault> {
         let (put, torn) = put_one(self.output.get_mut(), packet);
         if let Some(path) = torn {
             tell_torn(self.rt, path.as_str());

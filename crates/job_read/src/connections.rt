@@ -58,8 +58,8 @@ impl<'r, 'a, 'w, R: Eprint + Clock + Net> ServersInTurn<'r, 'a, 'w, R> {
     }
 
     /// The turn passes to the next server after a failure, unless that ends the reading.
-    fn pass(&mut self, incident: Incident<'a>) -> Result<(), Incident<'a>>
-        ensures passed { OnOk result ((goes_on incident.entry.failure self.old.places.place self.old.places.count
+    fn go_on_after(&mut self, incident: Incident<'a>) -> Result<(), Incident<'a>>
+        ensures next { OnOk result ((goes_on incident.entry.failure self.old.places.place self.old.places.count
             self.old.reading.now.is_retried ≡ true) × (self.new.places ≡ record self.old.places {
               place = place_after self.old.places.place self.old.places.count;
             })) }
@@ -68,7 +68,7 @@ impl<'r, 'a, 'w, R: Eprint + Clock + Net> ServersInTurn<'r, 'a, 'w, R> {
             self.old.reading.now.is_retried ≡ false)) }
     {
         self.reading.pass_over(self.rt, incident, &self.places)?;
-        self.places.pass();
+        self.places.advance();
         Ok(())
     }
 }
@@ -153,7 +153,7 @@ impl<'r, 'a, 'w, R: Eprint + Clock + Net> Servers for ServersInTurn<'r, 'a, 'w, 
             let server = self.server()?;
             match connected(self.rt, server, self.present, self.reading) {
                 Ok(sides) => return Ok(sides),
-                Err(incident) => self.pass(incident)?,
+                Err(incident) => self.go_on_after(incident)?,
             }
         }
         Err(Incident::from(Failure::Connect))
@@ -181,7 +181,7 @@ impl<'r, 'a, 'w, R: Eprint + Clock + Net> Servers for ServersInTurn<'r, 'a, 'w, 
             // Nothing more comes of the window: the reading is at its end.
             return Err(incident);
         }
-        self.pass(incident)
+        self.go_on_after(incident)
     }
 
     fn close(

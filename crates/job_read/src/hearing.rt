@@ -68,7 +68,7 @@ impl Followed {
     }
 
     /// A packet with that number, of the station with these codes.
-    fn pass(&mut self, number: Seq, network: &[u8], station: &[u8])
+    fn note_packet(&mut self, number: Seq, network: &[u8], station: &[u8])
         ensures { self.new ≡ passed number network.now station.now self.old }
     {
         if self.is(network, station) {
@@ -165,7 +165,7 @@ fn pass_all(stations: &mut Vec<Followed>, number: Seq, network: &[u8], station: 
 {
     for index in 0..stations.len() {
         let followed = &mut stations[index];
-        followed.pass(number, network, station);
+        followed.note_packet(number, network, station);
     }
 }
 

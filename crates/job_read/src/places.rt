@@ -39,7 +39,7 @@ impl Places {
     }
 
     /// The next one, and after the last the first.
-    pub fn pass(&mut self)
+    pub fn advance(&mut self)
         ensures { self.new ≡ record self.old { place = place_after self.old.place self.old.count } }
     {
         self.place = if self.is_last() { 0 } else { self.place + 1 };

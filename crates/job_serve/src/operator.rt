@@ -243,7 +243,7 @@ impl<'r, 'a, 'l, R: Files<File = File> + AllocGlobal, D: Device> Operator<'r, 'a
     fn read_text(&mut self) -> Result<Vec<u8>, Incident<'a>> {
         self.spare.let_go();
         let text = plain_text_at(self.rt, self.path);
-        self.spare.take(self.rt);
+        self.spare.hold(self.rt);
         text
     }
 
@@ -340,7 +340,7 @@ impl<'r, 'a, 'l, R: Files<File = File> + Clock + AllocGlobal, D: Device> Between
         };
         self.spare.let_go();
         let kept = file.keep(self.rt, numbers);
-        self.spare.take(self.rt);
+        self.spare.hold(self.rt);
         kept?;
         self.last_keep = LastKeep::Succeeded;
         Ok(())

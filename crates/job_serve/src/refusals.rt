@@ -46,7 +46,7 @@ impl RefusalsSince {
     }
 
     /// One more was refused. If a line is due, it tells how many were since the last one.
-    fn see(&mut self, now: u64) -> Option<u64>
+    fn add(&mut self, now: u64) -> Option<u64>
         ensures told { result ≡ told_count self.old now }
         ensures count { self.new ≡ with_record self.old now }
     {
@@ -149,32 +149,32 @@ impl RefusalLog {
     }
 
     /// A record of a feed was refused. What a line tells of it, if one is due.
-    pub fn see(&mut self, port: u64, refusal: RecordRefusal, now: u64) -> Option<RefusedLine> {
+    pub fn add(&mut self, port: u64, refusal: RecordRefusal, now: u64) -> Option<RefusedLine> {
         match refusal {
-            RecordRefusal::Unknown(codes) => self.see_station(codes, now),
-            RecordRefusal::Other(reason) => self.see_cause(port, reason),
+            RecordRefusal::Unknown(codes) => self.add_station(codes, now),
+            RecordRefusal::Other(reason) => self.add_cause(port, reason),
         }
     }
 
     /// A record of an unknown station was refused.
-    fn see_station(&mut self, codes: RecordCodes, now: u64) -> Option<RefusedLine> {
+    fn add_station(&mut self, codes: RecordCodes, now: u64) -> Option<RefusedLine> {
         if let Some(at) = station_at(self.stations.as_slice(), codes) {
-            let count = self.stations[at].refused.see(now)?;
+            let count = self.stations[at].refused.add(now)?;
             return Some(RefusedLine::Station(codes, count));
         }
         if self.stations.len() < self.stations.capacity() {
             let mut refused = RefusalsSince::new();
-            let _first = refused.see(now);
+            let _first = refused.add(now);
             self.stations
                 .push_reserved(UnknownStation { codes, refused });
             return Some(RefusedLine::First);
         }
-        let count = self.others.see(now)?;
+        let count = self.others.add(now)?;
         Some(RefusedLine::Others(count))
     }
 
     /// A record of a feed was refused for another cause.
-    fn see_cause(&mut self, port: u64, reason: Reason) -> Option<RefusedLine> {
+    fn add_cause(&mut self, port: u64, reason: Reason) -> Option<RefusedLine> {
         if is_known(self.causes.as_slice(), port, reason) {
             return None;
         }

@@ -21,7 +21,7 @@ impl Spare {
     }
 
     /// Takes it again, once that file is closed.
-    pub fn take<R: Files<File = File>>(&mut self, rt: &R) {
+    pub fn hold<R: Files<File = File>>(&mut self, rt: &R) {
         self.held = null(rt);
     }
 }

@@ -143,7 +143,7 @@ impl<'l, R: Clock, D: Device> VisitLines<'l, R, D> {
             Ok(now) => u64::try_from(now.as_millis()).unwrap_or(u64::MAX),
             Err(_) => 0,
         };
-        match self.refusals.see(port, refusal, now) {
+        match self.refusals.add(port, refusal, now) {
             Some(RefusedLine::First) => lines.write_line(&line_of(visit)),
             Some(more) => lines.write_line(&line_of(RefusedText(more))),
             None => {}

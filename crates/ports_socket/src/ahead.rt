@@ -48,7 +48,7 @@ impl ReadAhead {
     }
 
     /// Moves the first bytes, as many as there are and as fit, to the beginning of the buffer.
-    pub fn take(&mut self, buffer: &mut [u8]) -> usize
+    pub fn move_into(&mut self, buffer: &mut [u8]) -> usize
         ensures count { result ≡ min (length self.old) (length buffer.new) }
         ensures given { take result buffer.new ≡ take result self.old }
         ensures left { self.new ≡ drop result self.old }

@@ -223,7 +223,7 @@ impl Connection {
         ensures unsent { self.new.unsent ≡ self.old.unsent }
     {
         if let Some(ahead) = &mut self.ahead {
-            return ahead.take(buffer);
+            return ahead.move_into(buffer);
         }
         self.ahead = aheads.lend();
         0
@@ -248,7 +248,7 @@ impl Connection {
         let receipt = ahead.receive(&self.stream);
         self.is_drained = is_short(receipt, BLOCK);
         match receipt {
-            Receipt::Bytes(_) => Receipt::Bytes(ahead.take(buffer)),
+            Receipt::Bytes(_) => Receipt::Bytes(ahead.move_into(buffer)),
             Receipt::WouldBlock => Receipt::WouldBlock,
             Receipt::Closed => Receipt::Closed,
             Receipt::Failed => Receipt::Failed,
@@ -268,7 +268,7 @@ impl Connection {
         ensures socket { socket_of self.new ≡ socket_of self.old }
         ensures ahead { self.new.ahead ≡ self.old.ahead }
     {
-        let put = self.take(bytes, pool);
+        let put = self.put_bytes(bytes, pool);
         match put {
             Ok(Put::Took(_)) => self.end.note_move(polls),
             Ok(Put::Later) => self.owes_writable = true,
@@ -277,7 +277,7 @@ impl Connection {
         put
     }
 
-    fn take(&mut self, bytes: &[u8], pool: &mut BufferPool) -> Result<Put, PortFault>
+    fn put_bytes(&mut self, bytes: &[u8], pool: &mut BufferPool) -> Result<Put, PortFault>
         ensures taken { IsTaken result (length bytes.now) }
         ensures order { TakesInOrder (waiting_in self.old.unsent) bytes.now result (waiting_in self.new.unsent) }
         ensures socket { socket_of self.new ≡ socket_of self.old }

@@ -52,7 +52,7 @@ impl<S: Sink> RecordSink for Gathered<S> {
         self.records.clear();
     }
 
-    fn take(&mut self, packet: &GivenPacket<'_>) -> Result<(), SinkFault> {
+    fn put(&mut self, packet: &GivenPacket<'_>) -> Result<(), SinkFault> {
         match self.records.extend_from_slice(packet.record()) {
             Ok(()) => Ok(()),
             Err(_) => Err(SinkFault::OutOfMemory),

@@ -45,7 +45,7 @@ impl RecordSink for Nowhere {
 
     fn begin(&mut self) {}
 
-    fn take(&mut self, _packet: &GivenPacket<'_>) -> Result<(), SinkFault> {
+    fn put(&mut self, _packet: &GivenPacket<'_>) -> Result<(), SinkFault> {
         Ok(())
     }
 

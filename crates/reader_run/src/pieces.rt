@@ -103,7 +103,7 @@ fn put_packet<P: RecordSink>(
         Ok(()) => {}
         Err(_) => return Err(SinkFault::OutOfMemory),
     }
-    match records.take(packet) {
+    match records.put(packet) {
         Ok(()) => Ok(()),
         Err(fault) => {
             output.cut(before);

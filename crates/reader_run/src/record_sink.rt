@@ -42,8 +42,8 @@ pub trait RecordSink {
         ensures failures { failures self.new ≡ failures self.old }
         ensures empty { empty_writes self.new ≡ empty_writes self.old };
 
-    /// Takes the record of a packet.
-    fn take(&mut self, packet: &GivenPacket<'_>) -> Result<(), SinkFault>
+    /// Puts the record of a packet where it belongs.
+    fn put(&mut self, packet: &GivenPacket<'_>) -> Result<(), SinkFault>
         ensures waits { OnOk result ((records : List ℕ) → Waits self.old records
             → Waits self.new (records ++ record_of packet.now)) }
         ensures written { OnOk result (written self.new ≡ written self.old) }

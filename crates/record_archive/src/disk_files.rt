@@ -198,7 +198,7 @@ impl<'a, R: Files<File = File> + Clock> DiskFiles<'a, R> {
 
     /// A file that was not written for long is no more kept open. Answers whether there was one.
     fn let_go_old(&mut self) -> bool {
-        match self.opened.take_old() {
+        match self.opened.remove_old() {
             Some(old) => {
                 self.let_go(old);
                 true
@@ -283,7 +283,7 @@ impl<'a, R: Files<File = File> + Clock> DiskFiles<'a, R> {
 
     /// A file is closed, if it is open.
     fn close(&mut self, name: &str) {
-        if let Some(open) = self.opened.take(name) {
+        if let Some(open) = self.opened.remove(name) {
             self.let_go(open);
         }
     }
@@ -308,10 +308,10 @@ impl<'a, R: Files<File = File> + Clock> DiskFiles<'a, R> {
     }
 
     /// A file that is open has that length, and its path names it.
-    fn see(&mut self, name: &str, length: u64) {
+    fn confirm(&mut self, name: &str, length: u64) {
         let piece = self.piece;
         if let Some(at) = self.opened.find_again(name) {
-            self.opened.all[at].file.see(piece, length);
+            self.opened.all[at].file.confirm(piece, length);
         }
     }
 
@@ -344,7 +344,7 @@ impl<'a, R: Files<File = File> + Clock> DiskFiles<'a, R> {
             let path = self.path_of(name)?;
             self.put_aside(path, length)?;
         }
-        self.see(name, length);
+        self.confirm(name, length);
         Ok(length / RECORD)
     }
 
@@ -376,7 +376,7 @@ impl<'a, R: Files<File = File> + Clock> DiskFiles<'a, R> {
     fn close_idle(&mut self) {
         let now = milliseconds(self.rt);
         for at in (0..self.opened.all.len()).rev() {
-            if let Some(idle) = self.opened.take_idle(at, now, IDLE) {
+            if let Some(idle) = self.opened.remove_idle(at, now, IDLE) {
                 self.let_go(idle);
             }
         }

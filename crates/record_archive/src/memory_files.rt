@@ -75,7 +75,7 @@ impl MemoryFiles {
     }
 
     /// Keeps one record more, or none.
-    fn keep(&mut self, name: &str, bytes: &[u8; 512]) -> Result<(), AllocError>
+    fn store(&mut self, name: &str, bytes: &[u8; 512]) -> Result<(), AllocError>
         ensures kept { OnOk result (map named self.new.all.items
             ≡ map named self.old.all.items ++ record { name = name.now; bytes = bytes.now } ∷ []) }
         ensures same { OnErr result (self.new.all.items ≡ self.old.all.items) }
@@ -141,7 +141,7 @@ impl RecordFiles for MemoryFiles {
 
     fn add(&mut self, name: &str, bytes: &[u8; 512]) -> Result<(), FolderFault> {
         self.call()?;
-        match self.keep(name, bytes) {
+        match self.store(name, bytes) {
             Ok(()) => Ok(()),
             Err(_) => Err(FolderFault),
         }

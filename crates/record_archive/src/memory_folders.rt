@@ -44,7 +44,7 @@ impl MemoryFolders {
     }
 
     /// Keeps one more, or none.
-    fn keep(&mut self, folder: &[u8], file: &[u8], bytes: &[u8; 512]) -> Result<(), AllocError>
+    fn store(&mut self, folder: &[u8], file: &[u8], bytes: &[u8; 512]) -> Result<(), AllocError>
         ensures kept { OnOk result (map stored self.new.all.items ≡ map stored self.old.all.items
             ++ record { folder = folder.now; file = file.now; bytes = bytes.now } ∷ []) }
         ensures same { OnErr result (self.new.all.items ≡ self.old.all.items) }
@@ -73,7 +73,7 @@ impl Folders for MemoryFolders {
             (PutsNothing (Some (map stored self.old.all.items)) (Some (map stored self.new.all.items))) }
         ensures failure { CountsFailure self.old.failures self.new.failures result }
     {
-        match self.keep(place.folder(), place.file(), bytes) {
+        match self.store(place.folder(), place.file(), bytes) {
             Ok(()) => Ok(()),
             Err(_) => {
                 self.failures = self.failures.wrapping_add(1);

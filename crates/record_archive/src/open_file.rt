@@ -80,7 +80,7 @@ impl OpenFile {
     }
 
     /// Its path names it in this piece, and it has that length.
-    pub(crate) fn see(&mut self, piece: u64, length: u64) {
+    pub(crate) fn confirm(&mut self, piece: u64, length: u64) {
         self.seen = piece;
         self.length = length;
     }

@@ -111,7 +111,7 @@ impl OpenFiles {
     }
 
     /// A file is no more one of them.
-    fn take_at(&mut self, at: usize) -> NamedFile
+    fn remove_at(&mut self, at: usize) -> NamedFile
         requires within { at < length self.old.all.items }
         ensures named { name_at self.old.all.items at ≡ Some (string_bytes result.name) }
     {
@@ -126,17 +126,17 @@ impl OpenFiles {
     }
 
     /// The file of that name is no more one of them.
-    pub(crate) fn take(&mut self, name: &str) -> Option<NamedFile>
+    pub(crate) fn remove(&mut self, name: &str) -> Option<NamedFile>
         ensures named { IfSome result (λ gone. string_bytes gone.name ≡ name.now) }
     {
         let at = self.place_of(name)?;
-        Some(self.take_at(at))
+        Some(self.remove_at(at))
     }
 
     /// The file at a place is no more one of them, if nothing was added to it for so many milliseconds.
-    pub(crate) fn take_idle(&mut self, at: usize, now: u64, time: u64) -> Option<NamedFile> {
+    pub(crate) fn remove_idle(&mut self, at: usize, now: u64, time: u64) -> Option<NamedFile> {
         match self.all.get(at) {
-            Some(open) if open.file.is_idle(now, time) => Some(self.take_at(at)),
+            Some(open) if open.file.is_idle(now, time) => Some(self.remove_at(at)),
             _ => None,
         }
     }
@@ -158,7 +158,7 @@ impl OpenFiles {
     }
 
     /// One that was not found for long is no more one of them.
-    pub(crate) fn take_old(&mut self) -> Option<NamedFile> {
+    pub(crate) fn remove_old(&mut self) -> Option<NamedFile> {
         for _ in 0..=self.all.len() {
             if self.is_let_go() {
                 break;
@@ -170,7 +170,7 @@ impl OpenFiles {
             0
         };
         if at < self.all.len() {
-            Some(self.take_at(at))
+            Some(self.remove_at(at))
         } else {
             None
         }

@@ -88,7 +88,7 @@ impl Walk {
     }
 
     /// A record of the tail was handed again.
-    fn pass(&mut self, place: u64)
+    fn step_over(&mut self, place: u64)
         requires { self.old.cursor < self.old.end }
         ensures next { place ≡ self.old.cursor → self.new ≡ moved self.old }
         ensures later { self.old.cursor < place → self.new ≡ met self.old }
@@ -134,7 +134,7 @@ impl Walk {
         let found = find(files, name, bytes, self.cursor, self.end)?;
         match found {
             Some(place) => {
-                self.pass(place);
+                self.step_over(place);
                 Ok(false)
             }
             None => {

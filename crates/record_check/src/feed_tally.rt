@@ -323,7 +323,7 @@ impl FeedTally {
 
     /// Judges the records that become whole in a piece. A record is refused if it can't be read (SEED Reference Manual
     /// 2.4, chapter 8), or if its station is not one of these.
-    pub fn see<S: Stations>(&mut self, stations: &S, piece: &[u8])
+    pub fn judge<S: Stations>(&mut self, stations: &S, piece: &[u8])
         ensures { self.new ≡ seen (S.has_station stations.now) self.old piece.now }
     {
         judge_piece(stations, &mut self.cutter, &mut self.count, piece);

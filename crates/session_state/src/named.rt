@@ -381,7 +381,7 @@ impl Named {
     }
 
     /// Keeps from which arrival on the i-th station's records are wanted.
-    pub fn keep(&mut self, i: usize, first: u64)
+    pub fn begin_at(&mut self, i: usize, first: u64)
         requires { i < length self.old.choices }
         ensures { self.new ≡ record self.old {
           choices =
@@ -393,7 +393,7 @@ impl Named {
     }
 
     /// Keeps how far the transfer has come in the ring of the i-th station.
-    pub fn pass(&mut self, i: usize, cursor: Cursor)
+    pub fn move_cursor(&mut self, i: usize, cursor: Cursor)
         requires { i < length self.old.choices }
         ensures { self.new ≡ record self.old {
           choices =

@@ -95,22 +95,22 @@ impl Negotiation {
     }
 
     /// Keeps from which arrival on the i-th of them is wanted.
-    pub fn keep(&mut self, i: usize, first: u64)
+    pub fn begin_at(&mut self, i: usize, first: u64)
         requires { i < length (chosen_of self.old) }
         ensures { self.new ≡ kept_in self.old i first }
     {
         if self.is_multi {
-            self.named.keep(i, first);
+            self.named.begin_at(i, first);
         }
     }
 
     /// Keeps how far the transfer has come in the ring of the i-th of them.
-    pub fn pass(&mut self, i: usize, cursor: Cursor)
+    pub fn move_cursor(&mut self, i: usize, cursor: Cursor)
         requires { i < length (chosen_of self.old) }
         ensures { self.new ≡ passed_in self.old i cursor }
     {
         if self.is_multi {
-            self.named.pass(i, cursor);
+            self.named.move_cursor(i, cursor);
         }
     }
 

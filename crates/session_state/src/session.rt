@@ -378,17 +378,17 @@ impl Session {
     }
 
     /// Keeps from which arrival on the i-th named station's records are wanted.
-    pub fn keep(&mut self, i: usize, first: u64)
+    pub fn begin_at(&mut self, i: usize, first: u64)
         requires { i < length (chosen_of self.old.mode) }
         ensures { self.new ≡ record self.old { mode = kept_in self.old.mode i first } }
     {
         let _ = &self.state;
-        self.mode.keep(i, first);
+        self.mode.begin_at(i, first);
     }
 
     /// Keeps how far the transfer has come in the ring of the i-th named station.
     #[tactic(auto, using(crate::proofs::CursorLemmas::pass_lemmas))]
-    pub fn pass(&mut self, i: usize, cursor: Cursor)
+    pub fn move_cursor(&mut self, i: usize, cursor: Cursor)
         requires { i < length (chosen_of self.old.mode) }
         ensures same { but_for_cursors self.new ≡ but_for_cursors self.old }
         ensures here { (c : ChoiceValue) → slice_get (chosen_of self.old.mode) i ≡ Some c →
@@ -399,7 +399,7 @@ impl Session {
         ensures looked { self.new.looked ≡ self.old.looked }
     {
         let _ = &self.state;
-        self.mode.pass(i, cursor);
+        self.mode.move_cursor(i, cursor);
     }
 
     /// Keeps that all requests have looked at their rings since so many records had arrived.

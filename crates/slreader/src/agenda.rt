@@ -61,7 +61,7 @@ impl Agenda {
 
     /// The first one is asked.
     #[tactic(auto, using(crate::proofs::AgendaLemmas::drop_one))]
-    pub(crate) fn pass(&mut self)
+    pub(crate) fn advance(&mut self)
         ensures { self.new ≡ drop 1 self.old }
     {
         if self.next < self.lines.len() {
@@ -84,7 +84,7 @@ impl Agenda {
         ensures { self.new ≡ without want self.old }
     {
         'skipping: while self.begins_with(want) {
-            self.pass();
+            self.advance();
         }
     }
 }

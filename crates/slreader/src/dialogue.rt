@@ -142,7 +142,7 @@ impl Dialogue {
             }
             None => self.stage = ReaderStage::Transfer,
         }
-        self.agenda.pass();
+        self.agenda.advance();
         self.cutter = PacketCutter::new();
     }
 

@@ -59,7 +59,7 @@ impl Exchange {
 
     /// Bytes of the request came. Those that are more than a head may have are dropped. It takes no memory, since there
     /// is room for a head.
-    pub fn take(&mut self, bytes: &[u8]) -> Result<(), AllocError>
+    pub fn add(&mut self, bytes: &[u8]) -> Result<(), AllocError>
         ensures { OnOk result (self.new ≡ with_bytes bytes.now self.old) }
     {
         let room = HEAD - self.head.len();

@@ -85,7 +85,7 @@ fn receive(stream: &TcpStream, exchange: &mut Exchange) -> bool {
     let mut buffer = [0u8; READ];
     let mut from = stream;
     match step_of(from.read(&mut buffer)) {
-        Step::Bytes(count) => exchange.take(&buffer[..count.min(READ)]).is_ok(),
+        Step::Bytes(count) => exchange.add(&buffer[..count.min(READ)]).is_ok(),
         Step::Later => true,
         Step::Over => false,
     }

@@ -225,7 +225,7 @@ fn pass_sent(session: &mut Session, found: Candidate<'_>, next: u64)
         → HasPassedAll rings next session.old → HasPassedAll rings next session.new }
 {
     let cursor = cursor_after(session, found, next);
-    session.pass(found.index, cursor);
+    session.move_cursor(found.index, cursor);
 }
 
 /// The packet of a held record is made to wait, and its request passes it.

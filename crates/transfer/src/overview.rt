@@ -154,7 +154,7 @@ fn catch_up(session: &mut Session, rings: &Rings, next: u64)
     }
     if let Some(index) = alone(session, rings) {
         let cursor = cursor_of(session, index, rings, next);
-        session.pass(index, cursor);
+        session.move_cursor(index, cursor);
         session.keep_look(rings.arrivals());
     }
 }
@@ -219,7 +219,7 @@ fn rest_all(session: &mut Session, rings: &Rings, next: u64) -> Option<First>
             Overview::Fresh(first) => return first,
             Overview::Stale(index, before) => {
                 let cursor = cursor_of(session, index, rings, next);
-                session.pass(index, cursor);
+                session.move_cursor(index, cursor);
                 best = earlier(before, index, cursor.ahead());
                 from = index + 1;
             }

@@ -148,7 +148,7 @@ fn place_cursors(session: &mut Session, rings: &Rings)
     let count = session.choices().len();
     for i in 0..count {
         let cursor = cursor_of(session.choice(i), rings);
-        session.pass(i, cursor);
+        session.move_cursor(i, cursor);
     }
 }
 
@@ -183,7 +183,7 @@ pub fn start(session: &mut Session, rings: &Rings)
     let count = session.choices().len();
     for i in 0..count {
         let first = first_of(session.choice(i), rings);
-        session.keep(i, first);
+        session.begin_at(i, first);
     }
     session.enter();
     place_cursors(session, rings);

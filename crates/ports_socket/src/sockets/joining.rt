@@ -109,7 +109,7 @@ impl Sockets {
             if self.joins.is_full() {
                 return None;
             }
-            match self.take() {
+            match self.accept_next() {
                 Taken::Joined(happening) => return Some(happening),
                 Taken::Away(one) => {
                     self.joins.turn_away();
@@ -122,7 +122,7 @@ impl Sockets {
     }
 
     /// Takes the next connection that waits.
-    fn take(&mut self) -> Taken
+    fn accept_next(&mut self) -> Taken
         requires room { self.old.joins.count + self.old.joins.away < 16 }
         requires told { self.old.polling.happened.items ≡ [] }
         ensures joined { IfJoined result (λ h. TellsOpenPorts self.old.peers.joined self.new.peers.joined

@@ -14,14 +14,14 @@ unfolding looked-at
 returns-in-Some-clause-passed c = λ all.
     let i = c.in-Some.index in
     let x = choice-there (chosen_of c.args.session.now.mode) i c.in-Some.ensures.index in
-    let made : c.keep_look.new.self ≡ looked-at c.pass.new.self c.args.rings.now.arrivals =
-    c.keep_look.ensures ∙ ap (looked-at c.pass.new.self) c.arrivals-in-Some.ensures.value in
-    caught-up c.args.rings.now c.args.next i c.cursor_of-cursor.result c.args.session.now c.pass.new.self
+    let made : c.keep_look.new.self ≡ looked-at c.move_cursor.new.self c.args.rings.now.arrivals =
+    c.keep_look.ensures ∙ ap (looked-at c.move_cursor.new.self) c.arrivals-in-Some.ensures.value in
+    caught-up c.args.rings.now c.args.next i c.cursor_of-cursor.result c.args.session.now c.move_cursor.new.self
     c.keep_look.new.self x.0
     (record {
-      same = c.pass.ensures.same;
-      here = c.pass.ensures.here;
-      others = c.pass.ensures.others;
-      count = c.pass.ensures.count;
-    }) c.pass.ensures.looked made x.1 (c.cursor_of-cursor.ensures x.0 x.1)
+      same = c.move_cursor.ensures.same;
+      here = c.move_cursor.ensures.here;
+      others = c.move_cursor.ensures.others;
+      count = c.move_cursor.ensures.count;
+    }) c.move_cursor.ensures.looked made x.1 (c.cursor_of-cursor.ensures x.0 x.1)
     (c.in-Some.ensures.others c.args.next all) all

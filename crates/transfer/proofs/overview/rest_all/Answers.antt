@@ -41,13 +41,13 @@ returns-in-Fresh-clause-best c =
 pub cursor_of-cursor-requires : goal.cursor_of-cursor-requires
 cursor_of-cursor-requires c = (c.in-Stale.ensures (chosen_of c.loop-i.session.mode) (sym c.choices.ensures)).within
 
-pub pass-requires : goal.pass-requires
-pass-requires c = (c.in-Stale.ensures (chosen_of c.loop-i.session.mode) (sym c.choices.ensures)).within
+pub move_cursor-requires : goal.move_cursor-requires
+move_cursor-requires c = (c.in-Stale.ensures (chosen_of c.loop-i.session.mode) (sym c.choices.ensures)).within
 
 pub loop-i-preserved : goal.loop-i-preserved
 loop-i-preserved c =
     let cs = chosen_of c.loop-i.session.mode in
-    let new = chosen_of c.pass.new.self.mode in
+    let new = chosen_of c.move_cursor.new.self.mode in
     let index = c.in-Stale.index in
     let cursor = c.cursor_of-cursor.result in
     let over = c.in-Stale.ensures cs (sym c.choices.ensures) in
@@ -57,15 +57,15 @@ loop-i-preserved c =
     let x = choice-there cs index within in
     let moves = moves-between c.args.rings.now c.args.next c.loop-i.from index c.loop-i.session c.args.session.now after
     over.rests c.loop-i.invariant.0 in
-    let longer : length new ≡ length cs = c.pass.ensures.count in
+    let longer : length new ≡ length cs = c.move_cursor.ensures.count in
     let alike : take index new ≡ take index cs = take-alike new cs index
-    (λ j low. c.pass.ensures.others j (λ e. absurd (omega (arith, e, low)))) in (
-      moves-on _ index cursor c.loop-i.session c.pass.new.self c.args.session.now x.0
+    (λ j low. c.move_cursor.ensures.others j (λ e. absurd (omega (arith, e, low)))) in (
+      moves-on _ index cursor c.loop-i.session c.move_cursor.new.self c.args.session.now x.0
           (record {
-            same = c.pass.ensures.same;
-            here = c.pass.ensures.here;
-            others = c.pass.ensures.others;
-            count = c.pass.ensures.count;
+            same = c.move_cursor.ensures.same;
+            here = c.move_cursor.ensures.here;
+            others = c.move_cursor.ensures.others;
+            count = c.move_cursor.ensures.count;
           }) x.1
           (λ all. c.cursor_of-cursor.ensures x.0 x.1 (all index x.0 (sym (moves.rest index (omega arith)) ∙ x.1)))
           moves,
@@ -74,7 +74,7 @@ loop-i-preserved c =
           ∙ ap (λ b. earlier b index (ahead_of cursor)) (over.best c.loop-i.invariant.1 ∙ ap best_of (sym alike))
           ∙ sym
           (best-more new index (record (x.0) { cursor = cursor }) (omega (arith, within, longer))
-          (item-is new index _ (c.pass.ensures.here x.0 x.1))),
+          (item-is new index _ (c.move_cursor.ensures.here x.0 x.1))),
       omega (arith, after, c.loop-i.invariant.2),
       omega (arith, within, count, c.loop-i.invariant.4),
       c.loop-i.invariant.4,

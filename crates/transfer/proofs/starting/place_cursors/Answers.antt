@@ -16,8 +16,8 @@ loop-i-init c = (
 pub choice-requires : goal.choice-requires
 choice-requires c = omega (arith, c.loop-i-test.true, c.loop-i.invariant.2, c.loop-i.invariant.0.count)
 
-pub pass-requires : goal.pass-requires
-pass-requires c = omega (arith, c.loop-i-test.true, c.loop-i.invariant.2, c.loop-i.invariant.0.count)
+pub move_cursor-requires : goal.move_cursor-requires
+move_cursor-requires c = omega (arith, c.loop-i-test.true, c.loop-i.invariant.2, c.loop-i.invariant.0.count)
 
 pub loop-i-preserved : goal.loop-i-preserved
 loop-i-preserved c =
@@ -29,12 +29,12 @@ loop-i-preserved c =
     ) in
     let x = choice-there (chosen_of c.loop-i.session.mode) c.loop-i.i within in
     let entry = sym (c.choice.ensures x.0 x.1) in (
-      moves-on _ c.loop-i.i c.cursor_of-cursor.result c.loop-i.session c.pass.new.self c.args.session.now x.0
+      moves-on _ c.loop-i.i c.cursor_of-cursor.result c.loop-i.session c.move_cursor.new.self c.args.session.now x.0
           (record {
-            same = c.pass.ensures.same;
-            here = c.pass.ensures.here;
-            others = c.pass.ensures.others;
-            count = c.pass.ensures.count;
+            same = c.move_cursor.ensures.same;
+            here = c.move_cursor.ensures.here;
+            others = c.move_cursor.ensures.others;
+            count = c.move_cursor.ensures.count;
           }) x.1 (
             c.cursor_of-cursor.ensures x.0 entry,
             λ all. begins-moved c.args.rings.now x.0 c.cursor_of-cursor.result
@@ -43,7 +43,7 @@ loop-i-preserved c =
           c.loop-i.invariant.0,
       omega (arith, c.loop-i-test.true),
       c.loop-i.invariant.2,
-      c.pass.ensures.looked ∙ c.loop-i.invariant.3,
+      c.move_cursor.ensures.looked ∙ c.loop-i.invariant.3,
     )
 
 pub returns-clause-same : goal.returns-clause-same

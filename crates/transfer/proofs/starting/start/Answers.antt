@@ -19,8 +19,8 @@ loop-i-preserved c =
     let x = choice-there cs c.loop-i.i within in
     let entry = sym (c.choice.ensures x.0 x.1) in
     let item = item-is cs c.loop-i.i x.0 x.1 in (
-      keeps-on c.args.rings.now c.loop-i.session c.keep.new.self c.args.session.now c.loop-i.i c.first_of-first.result
-          c.requires c.keep.ensures
+      keeps-on c.args.rings.now c.loop-i.session c.begin_at.new.self c.args.session.now c.loop-i.i
+          c.first_of-first.result c.requires c.begin_at.ensures
           (one-first c.args.rings.now cs c.loop-i.i c.first_of-first.result x.0 within item
           (c.first_of-first.ensures.first x.0 entry))
           (one-begin c.args.rings.now cs c.loop-i.i c.first_of-first.result x.0 within item

@@ -9,8 +9,8 @@ returns-in-Some-clause-offers g c = λ rs told.
     let found = rw c.in-Some.is at clauses.found rs told in (
       rs,
       c.find.ensures.same c.args.name.now ∙ told,
-      found-inside c.args.self.now _ c.pass.new.self rs c.args.bytes.now c.in-Some.place c.self.view_is bound.0 bound.1
-          found.0 found.1 c.pass.ensures.next c.pass.ensures.later,
+      found-inside c.args.self.now _ c.step_over.new.self rs c.args.bytes.now c.in-Some.place c.self.view_is bound.0
+          bound.1 found.0 found.1 c.step_over.ensures.next c.step_over.ensures.later,
     )
 
 pub returns-in_ok-add-in-None-clause-offers : goal.returns-in_ok-add-in-None-clause-offers

@@ -1,5 +1,5 @@
 use Rattle.ports_socket.proofs.SocketLemmas.{opens_sends}
-use Rattle.ports_socket.proofs.sockets.Sockets.take.Goals as goal
+use Rattle.ports_socket.proofs.sockets.Sockets.accept_next.Goals as goal
 
 pub returns-in-Some-hold-clause-sends : goal.returns-in-Some-hold-clause-sends
 returns-in-Some-hold-clause-sends c =

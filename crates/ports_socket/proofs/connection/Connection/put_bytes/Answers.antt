@@ -1,6 +1,6 @@
 use Rattle.ports_socket.specs.Waiting.{waiting_in}
 use Rattle.ports_socket.proofs.WaitingLemmas.{taken_after}
-use Rattle.ports_socket.proofs.connection.Connection.take.Goals as goal
+use Rattle.ports_socket.proofs.connection.Connection.put_bytes.Goals as goal
 
 pub returns-clause-order : goal.returns-clause-order
 returns-clause-order c =

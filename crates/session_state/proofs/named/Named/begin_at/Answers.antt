@@ -3,7 +3,7 @@ use Rattle.session_state.specs.declared.choices.Entry.{Entry}
 use Rattle.session_state.proofs.EntryLemmas.{indexed-set, read-at, read-same, tells-set}
 use Rattle.session_state.proofs.NamedLemmas.{below, kept-there, naming-entry}
 use Rattle.session_state.proofs.OrderChangeLemmas.{order-set, sorted-set}
-use Rattle.session_state.proofs.named.Named.keep.Goals as goal
+use Rattle.session_state.proofs.named.Named.begin_at.Goals as goal
 
 pub index_mut-requires : goal.index_mut-requires
 index_mut-requires c =

@@ -9,7 +9,7 @@ use Rattle.session_state.specs.Orders.{HasSorted, IsOrder, IsReady}
 use Rattle.session_state.proofs.EntryLemmas.{indexed-set, read-at, read-same, tells-pass}
 use Rattle.session_state.proofs.NamedLemmas.{below, naming-entry, passed-there}
 use Rattle.session_state.proofs.OrderChangeLemmas.{order-set, ready-pass}
-use Rattle.session_state.proofs.named.Named.pass.Goals as goal
+use Rattle.session_state.proofs.named.Named.move_cursor.Goals as goal
 
 pub index_mut-requires : goal.index_mut-requires
 index_mut-requires c =
