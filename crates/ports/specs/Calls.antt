@@ -1,6 +1,6 @@
 -- The calls on ports with their answers.
 -- Sockets are outside the standard. Left out: time, and what a socket carries.
-use Rattle.std.specs.Prelude.{◌≡◌, ℕ, ◌≤◌, List, ◌++◌, take, Option, Some, None, Result, Ok, Err}
+use Rattle.std.specs.Prelude.{◌≡◌, ℕ, ◌≤◌, List, ◌++◌, length, take, Option, Some, None, Result, Ok, Err}
 use Rattle.ports.specs.declared.answers.Happening.{Happening}
 use Rattle.ports.specs.declared.answers.Got.{Got}
 use Rattle.ports.specs.declared.answers.Got.TheVariants.{Bytes, Later, Closed}
@@ -22,6 +22,10 @@ pub data Call : Type 0 where
   Read : (port : ℕ) → (most : ℕ) → Given → Call
   Write : (port : ℕ) → (bytes : List ℕ) → Result Put PortFault → Call
   Shut : (port : ℕ) → Call
+
+-- a write that takes all of a piece
+abbrev pub whole_write : (port : ℕ) → (bytes : List ℕ) → Call
+whole_write port bytes = Write port bytes (Ok (Took (length bytes)))
 
 -- what a read gave, by its answer and the buffer after it
 abbrev pub given : Result Got PortFault → List ℕ → Given

@@ -3,10 +3,11 @@
 //! those in memory do.
 #![tactic(auto)]
 
-ghost use Rattle.std.specs.Prelude.{ℕ, ◌≡◌, ◌<◌, List, [], ◌∷◌, length};
+ghost use Rattle.std.specs.Prelude.{ℕ, ◌≡◌, ◌<◌, ◌≤◌, List, [], ◌∷◌, length, map};
+ghost use Rattle.std.specs.List.{All, concat};
 ghost use Rattle.std.specs.declared.option.Option.{Option};
 ghost use Rattle.sl_io.specs.Counts.{CountsFailure};
-ghost use Rattle.ports.specs.Calls.{Call, Tells, given, IsGiven, IsTaken};
+ghost use Rattle.ports.specs.Calls.{Call, Tells, given, whole_write, IsGiven, IsTaken};
 ghost use Rattle.ports.specs.Calls.Call.{Next, Read, Write, Shut};
 ghost use Rattle.ports.specs.Decisions.{Decides};
 ghost use Rattle.ports.specs.declared.decisions.Decision.{Decision as DecisionValue};
@@ -29,6 +30,9 @@ pub trait Ports {
     // What was decided of which port, if the ports tell it.
     ghost decided: { Self → Option (List (ℕ × DecisionValue)) };
 
+    // How many bytes a port is sure to take by the next call of `write_pieces`.
+    ghost room: { Self → ℕ → ℕ };
+
     /// What happened next.
     fn next(&mut self) -> Result<Happening, PortFault>
         ensures call { Tells (calls self.old) (calls self.new) (Next result ∷ []) }
@@ -50,6 +54,25 @@ pub trait Ports {
         ensures bound { IsTaken result (length bytes.now) }
         ensures call { Tells (calls self.old) (calls self.new) (Write port bytes.now result ∷ []) }
         ensures failure { CountsFailure (failures self.old) (failures self.new) result }
+        ensures decided { decided self.new ≡ decided self.old };
+
+    /// Makes room for bytes at a port, as far as it can, and says for how many there is room then: 0 to `most`. No byte
+    /// is taken.
+    fn make_room(&mut self, port: u64, most: usize) -> usize
+        ensures room { result ≤ room self.new port }
+        ensures most { result ≤ most }
+        ensures calls { calls self.new ≡ calls self.old }
+        ensures failures { failures self.new ≡ failures self.old }
+        ensures decided { decided self.new ≡ decided self.old };
+
+    /// Hands pieces of so many bytes each to a port that has room for all of them. Each is a write of its own, which
+    /// takes all of it.
+    fn write_pieces(&mut self, port: u64, bytes: &[u8], size: usize)
+        requires room { length bytes.now ≤ room self.old port }
+        requires size { 0 < size }
+        ensures call { (pieces : List (List ℕ)) → bytes.now ≡ concat pieces → All (λ p. length p ≡ size) pieces →
+            Tells (calls self.old) (calls self.new) (map (whole_write port) pieces) }
+        ensures failures { failures self.new ≡ failures self.old }
         ensures decided { decided self.new ≡ decided self.old };
 
     /// Ends a port.
