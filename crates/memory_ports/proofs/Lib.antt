@@ -1,1 +1,2 @@
+mod PieceLemmas
 mod RecordLemmas

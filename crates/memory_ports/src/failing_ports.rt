@@ -1,7 +1,9 @@
 //! Ports of which one call fails.
-ghost use Rattle.std.specs.Prelude.{◌≡◌, ◌<◌, ◌==◌, ◌-◌, ◌≢◌, List, [], ◌∷◌, Some, IsErr, IsSome, IfOk, OnOk, length};
+ghost use Rattle.std.specs.Prelude.{◌≡◌, ◌<◌, ◌≤◌, ◌==◌, ◌-◌, ◌≢◌, ℕ, List, [], ◌∷◌, Some, IsErr, IsSome, IfOk, OnOk};
+ghost use Rattle.std.specs.Prelude.{length, map};
+ghost use Rattle.std.specs.List.{All, concat};
 ghost use Rattle.sl_io.specs.Counts.{CountsFailure};
-ghost use Rattle.ports.specs.Calls.{Call, Tells, given, IsGiven, IsTaken};
+ghost use Rattle.ports.specs.Calls.{Call, Tells, given, whole_write, IsGiven, IsTaken};
 ghost use Rattle.ports.specs.Calls.Call.{Next, Read, Write, Shut};
 ghost use Rattle.ports.specs.Decisions.{Decides};
 ghost use Rattle.memory_ports.specs.Made.{told};
@@ -68,6 +70,8 @@ impl<P: Ports> Ports for FailingPorts<P> {
 
     ghost decided = { λ s. P.decided s.inner };
 
+    ghost room = { λ s port. P.room s.inner port };
+
     fn next(&mut self) -> Result<Happening, PortFault>
         ensures call { Tells (told self.old.log) (told self.new.log) (Next result ∷ []) }
         ensures failure { CountsFailure self.old.log.failures self.new.log.failures result }
@@ -129,6 +133,31 @@ impl<P: Ports> Ports for FailingPorts<P> {
         }
         let answer = self.inner.write(port, bytes);
         self.log.write(port, bytes, answer)
+    }
+
+    /// There never is any: so each packet is a write of its own, which can be the one that fails.
+    fn make_room(&mut self, _port: u64, _most: usize) -> usize
+        ensures none { result ≡ 0 }
+        ensures same { self.new ≡ self.old }
+    {
+        0
+    }
+
+    fn write_pieces(&mut self, port: u64, bytes: &[u8], size: usize)
+        requires room { length bytes.now ≤ P.room self.old.inner port }
+        requires size { 0 < size }
+        ensures call { (pieces : List (List ℕ)) → bytes.now ≡ concat pieces → All (λ p. length p ≡ size) pieces →
+            Tells (told self.old.log) (told self.new.log) (map (whole_write port) pieces) }
+        ensures failures { self.new.log.failures ≡ self.old.log.failures }
+        ensures passed_on { (pieces : List (List ℕ)) → bytes.now ≡ concat pieces →
+            All (λ p. length p ≡ size) pieces →
+            Tells (P.calls self.old.inner) (P.calls self.new.inner) (map (whole_write port) pieces)
+            × (P.failures self.new.inner ≡ P.failures self.old.inner) }
+        ensures decided { P.decided self.new.inner ≡ P.decided self.old.inner }
+        ensures due { self.new.due ≡ self.old.due }
+    {
+        self.inner.write_pieces(port, bytes, size);
+        self.log.write_pieces(port, bytes, size);
     }
 
     fn shut(&mut self, port: u64)

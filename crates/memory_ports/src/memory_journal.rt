@@ -38,7 +38,7 @@ impl MemoryJournal {
         self.visits.as_slice()
     }
 
-    /// What ports took, a write after the other.
+    /// What ports took, a call after the other.
     pub fn sent(&self) -> &[Sent]
         ensures { result.now ≡ self.now.sent.items }
     {

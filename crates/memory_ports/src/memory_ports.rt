@@ -1,11 +1,12 @@
 //! Ports in memory, that follow a script and tell every call.
 //!
 //! Ports in memory whose record can't grow tell nothing from then on. The call that found no memory fails and counts as
-//! a failure, but for `shut`, which has no answer. `MemoryPorts::record` copies what a port gave and took out of the
+//! a failure, but for `shut` and `write_pieces`, which have no answer. `MemoryPorts::record` copies what a port gave and took out of the
 //! calls, and so allocates.
-ghost use Rattle.std.specs.Prelude.{◌≡◌, ◌<◌, ℕ, List, Some, [], ◌∷◌, IfOk, IsSome, OnOk, length, map};
+ghost use Rattle.std.specs.Prelude.{◌≡◌, ◌<◌, ◌≤◌, ◌^◌, ℕ, List, Some, [], ◌∷◌, IfOk, IsSome, OnOk, length, map};
+ghost use Rattle.std.specs.List.{All, concat};
 ghost use Rattle.sl_io.specs.Counts.{CountsFailure};
-ghost use Rattle.ports.specs.Calls.{Call, Tells, given, IsGiven, IsTaken};
+ghost use Rattle.ports.specs.Calls.{Call, Tells, given, whole_write, IsGiven, IsTaken};
 ghost use Rattle.ports.specs.Calls.Call.{Next, Read, Write};
 ghost use Rattle.ports.specs.declared.decisions.Decision.{Decision};
 ghost use Rattle.memory_ports.specs.Made.{decided_in, decided_value, made_value, told};
@@ -24,7 +25,7 @@ pub(crate) use port_record::record_of;
 pub use script::{PortScript, ReadAnswer, Script, WriteAnswer};
 
 /// Ports in memory. They answer by a script, and keep each call with its answer. Only if there was no memory to keep a
-/// call, which is then a failure of it (`shut` can't fail), do they stop telling their calls.
+/// call, which is then a failure of it (`shut` and `write_pieces` can't fail), do they stop telling their calls.
 #[derive(Drop)]
 pub struct MemoryPorts {
     script: Script,
@@ -74,6 +75,8 @@ impl Ports for MemoryPorts {
 
     ghost decided = { λ s. decided_in s.log };
 
+    ghost room = { λ _ _. 2 ^ 64 };
+
     fn next(&mut self) -> Result<Happening, PortFault>
         ensures call { Tells (told self.old.log) (told self.new.log) (Next result ∷ []) }
         ensures failure { CountsFailure self.old.log.failures self.new.log.failures result }
@@ -107,6 +110,27 @@ impl Ports for MemoryPorts {
     {
         let answer = self.script.write(port, bytes.len());
         self.log.write(port, bytes, answer)
+    }
+
+    /// There is room once the script has no answer left for a write to the port.
+    fn make_room(&mut self, port: u64, most: usize) -> usize
+        ensures room { result ≤ 2 ^ 64 }
+        ensures most { result ≤ most }
+        ensures same { self.new ≡ self.old }
+    {
+        if self.script.takes_all(port) { most } else { 0 }
+    }
+
+    fn write_pieces(&mut self, port: u64, bytes: &[u8], size: usize)
+        requires room { length bytes.now ≤ 2 ^ 64 }
+        requires size { 0 < size }
+        ensures call { (pieces : List (List ℕ)) → bytes.now ≡ concat pieces → All (λ p. length p ≡ size) pieces →
+            Tells (told self.old.log) (told self.new.log) (map (whole_write port) pieces) }
+        ensures failures { self.new.log.failures ≡ self.old.log.failures }
+        ensures decided { decided_in self.new.log ≡ decided_in self.old.log }
+        ensures script { self.new.script ≡ self.old.script }
+    {
+        self.log.write_pieces(port, bytes, size);
     }
 
     fn shut(&mut self, port: u64) {

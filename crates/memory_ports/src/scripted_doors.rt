@@ -1,7 +1,8 @@
 //! Ports with doors that follow a script.
-ghost use Rattle.std.specs.Prelude.{◌≡◌, ◌<◌, [], ◌∷◌, length};
+ghost use Rattle.std.specs.Prelude.{◌≡◌, ◌<◌, ◌≤◌, ℕ, List, [], ◌∷◌, length, map};
+ghost use Rattle.std.specs.List.{All, concat};
 ghost use Rattle.sl_io.specs.Counts.{CountsFailure};
-ghost use Rattle.ports.specs.Calls.{Tells, given, IsGiven, IsTaken};
+ghost use Rattle.ports.specs.Calls.{Tells, given, whole_write, IsGiven, IsTaken};
 ghost use Rattle.ports.specs.Calls.Call.{Next, Read, Write, Shut};
 ghost use Rattle.ports.specs.Decisions.{Decides};
 ghost use Rattle.memory_ports.specs.Guests.{address_of};
@@ -90,6 +91,8 @@ impl<P: Ports> Ports for ScriptedDoors<P> {
 
     ghost decided = { λ s. P.decided s.inner };
 
+    ghost room = { λ s port. P.room s.inner port };
+
     fn next(&mut self) -> Result<Happening, PortFault>
         ensures call { Tells (P.calls self.old.inner) (P.calls self.new.inner) (Next result ∷ []) }
         ensures failure { CountsFailure (P.failures self.old.inner) (P.failures self.new.inner) result }
@@ -122,6 +125,27 @@ impl<P: Ports> Ports for ScriptedDoors<P> {
         ensures decided { P.decided self.new.inner ≡ P.decided self.old.inner }
     {
         self.inner.write(port, bytes)
+    }
+
+    fn make_room(&mut self, port: u64, most: usize) -> usize
+        ensures room { result ≤ P.room self.new.inner port }
+        ensures most { result ≤ most }
+        ensures calls { P.calls self.new.inner ≡ P.calls self.old.inner }
+        ensures failures { P.failures self.new.inner ≡ P.failures self.old.inner }
+        ensures decided { P.decided self.new.inner ≡ P.decided self.old.inner }
+    {
+        self.inner.make_room(port, most)
+    }
+
+    fn write_pieces(&mut self, port: u64, bytes: &[u8], size: usize)
+        requires room { length bytes.now ≤ P.room self.old.inner port }
+        requires size { 0 < size }
+        ensures call { (pieces : List (List ℕ)) → bytes.now ≡ concat pieces → All (λ p. length p ≡ size) pieces →
+            Tells (P.calls self.old.inner) (P.calls self.new.inner) (map (whole_write port) pieces) }
+        ensures failures { P.failures self.new.inner ≡ P.failures self.old.inner }
+        ensures decided { P.decided self.new.inner ≡ P.decided self.old.inner }
+    {
+        self.inner.write_pieces(port, bytes, size);
     }
 
     fn shut(&mut self, port: u64)

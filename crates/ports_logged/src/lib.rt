@@ -47,7 +47,7 @@ pub trait Journal {
     // All visits that were noted, if the journal tells them.
     ghost noted: { Self → Option (List Visit) };
 
-    // What ports took, a write after the other, if the journal tells it.
+    // What ports took, a call after the other, if the journal tells it.
     ghost passed: { Self → Option (List Sent) };
 
     /// Notes what happened of a visit.
@@ -55,7 +55,7 @@ pub trait Journal {
         ensures notes { Notes (noted self.old) (noted self.new) (visit ∷ []) }
         ensures passed { passed self.new ≡ passed self.old };
 
-    /// A port was written to, and took so many bytes.
+    /// A port was written to, or handed pieces, and took so many bytes.
     fn took(&mut self, sent: Sent)
         ensures notes { noted self.new ≡ noted self.old }
         ensures passed { Passes (passed self.old) (passed self.new) (sent ∷ []) };

@@ -3,9 +3,10 @@
 //! Who comes and goes is noted by ports over ports (`ports_logged`), so that `serve` without `--log` runs over the
 //! sockets themselves. They note what the loop says, and add what the loop doesn't know: the address of each
 //! connection, how many bytes went over its port, and who was turned away before a port joined (the trait `Doors`).
-ghost use Rattle.std.specs.Prelude.{◌≡◌, ◌<◌, [], ◌∷◌, IfOk, None, find, length, map};
+ghost use Rattle.std.specs.Prelude.{◌≡◌, ◌<◌, ◌≤◌, List, [], ◌∷◌, ℕ, IfOk, None, find, length, map};
+ghost use Rattle.std.specs.List.{All, concat};
 ghost use Rattle.sl_io.specs.Counts.{CountsFailure};
-ghost use Rattle.ports.specs.Calls.{Tells, given, taken, IsGiven, IsTaken};
+ghost use Rattle.ports.specs.Calls.{Tells, given, taken, whole_write, IsGiven, IsTaken};
 ghost use Rattle.ports.specs.Calls.Call.{Next, Read, Write, Shut};
 ghost use Rattle.ports.specs.Decisions.{Decides};
 ghost use Rattle.ports.specs.declared.decisions.Decision.TheVariants.{LetIn};
@@ -154,6 +155,8 @@ impl<P: Doors, J: Journal> Ports for LoggedPorts<P, J> {
 
     ghost decided = { λ s. P.decided s.inner };
 
+    ghost room = { λ s port. P.room s.inner port };
+
     fn next(&mut self) -> Result<Happening, PortFault>
         ensures call { Tells (P.calls self.old.inner) (P.calls self.new.inner) (Next result ∷ []) }
         ensures failure { CountsFailure (P.failures self.old.inner) (P.failures self.new.inner) result }
@@ -210,6 +213,38 @@ impl<P: Doors, J: Journal> Ports for LoggedPorts<P, J> {
             bytes: count as u64,
         });
         answer
+    }
+
+    fn make_room(&mut self, port: u64, most: usize) -> usize
+        ensures room { result ≤ P.room self.new.inner port }
+        ensures most { result ≤ most }
+        ensures calls { P.calls self.new.inner ≡ P.calls self.old.inner }
+        ensures failures { P.failures self.new.inner ≡ P.failures self.old.inner }
+        ensures decided { P.decided self.new.inner ≡ P.decided self.old.inner }
+        ensures visitors { self.new.visitors ≡ self.old.visitors }
+        ensures journal { self.new.journal ≡ self.old.journal }
+    {
+        self.inner.make_room(port, most)
+    }
+
+    /// The journal is told once of all pieces.
+    fn write_pieces(&mut self, port: u64, bytes: &[u8], size: usize)
+        requires room { length bytes.now ≤ P.room self.old.inner port }
+        requires size { 0 < size }
+        ensures call { (pieces : List (List ℕ)) → bytes.now ≡ concat pieces → All (λ p. length p ≡ size) pieces →
+            Tells (P.calls self.old.inner) (P.calls self.new.inner) (map (whole_write port) pieces) }
+        ensures failures { P.failures self.new.inner ≡ P.failures self.old.inner }
+        ensures decided { P.decided self.new.inner ≡ P.decided self.old.inner }
+        ensures visitors { self.new.visitors ≡ counted_at port (taking (length bytes.now)) self.old.visitors }
+        ensures notes { J.noted self.new.journal ≡ J.noted self.old.journal }
+        ensures passed { Passes (J.passed self.old.journal) (J.passed self.new.journal)
+            (record { port = port; bytes = length bytes.now } ∷ []) }
+    {
+        self.inner.write_pieces(port, bytes, size);
+        let count = bytes.len();
+        self.visitors.count(port, Traffic::bytes_taken(count));
+        let all = count as u64;
+        self.journal.took(Sent { port, bytes: all });
     }
 
     fn shut(&mut self, port: u64)

@@ -15,7 +15,7 @@ pub struct Away {
     pub reason: AwayReason,
 }
 
-/// What a port took of a write.
+/// What a port took of a write, or of all pieces that it was handed by one call.
 #[derive(Clone, Copy, Drop)]
 pub struct Sent {
     pub port: u64,

@@ -13,6 +13,8 @@ mod kept_numbers;
 #[cfg(test)]
 mod logged;
 #[cfg(test)]
+mod pieces;
+#[cfg(test)]
 mod random;
 #[cfg(test)]
 mod runs;

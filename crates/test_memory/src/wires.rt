@@ -94,6 +94,8 @@ impl Ports for Wires {
 
     ghost decided = { λ _. None };
 
+    ghost room = { λ _ _. 0 };
+
     fn next(&mut self) -> Result<Happening, PortFault> {
         let step = self.step;
         self.step = self.step.saturating_add(1);
@@ -123,6 +125,14 @@ impl Ports for Wires {
             }
         }
     }
+
+    /// There is none, so that each packet is a write of its own.
+    fn make_room(&mut self, _port: u64, _most: usize) -> usize {
+        0
+    }
+
+    /// There is no room for any.
+    fn write_pieces(&mut self, _port: u64, _bytes: &[u8], _size: usize) {}
 
     fn shut(&mut self, port: u64) {
         match port {

@@ -1,7 +1,8 @@
 //! Calls that were made.
-ghost use Rattle.std.specs.Prelude.{◌≡◌, IfOk, IsErr, IsSome, OnOk, Some, None, [], ◌∷◌, length};
+ghost use Rattle.std.specs.Prelude.{◌≡◌, ◌<◌, ℕ, IfOk, IsErr, IsSome, OnOk, Some, None, List, [], ◌∷◌, length, map};
+ghost use Rattle.std.specs.List.{All, concat};
 ghost use Rattle.sl_io.specs.Counts.{CountsFailure, IsMore};
-ghost use Rattle.ports.specs.Calls.{Tells, given, IsGiven, IsTaken};
+ghost use Rattle.ports.specs.Calls.{Tells, given, whole_write, IsGiven, IsTaken};
 ghost use Rattle.ports.specs.Calls.Call.{Next, Read, Write, Shut};
 ghost use Rattle.ports.specs.Decisions.{Decides};
 ghost use Rattle.memory_ports.specs.Made.{decided_in, gave_value, told};
@@ -201,6 +202,39 @@ impl Log {
             self.fail();
         }
         answer
+    }
+
+    // Keeps a piece that was taken whole.
+    fn write_whole(&mut self, port: u64, piece: &[u8])
+        ensures call { Tells (told self.old) (told self.new) (whole_write port piece.now ∷ []) }
+        ensures failures { self.new.failures ≡ self.old.failures }
+        ensures decided { decided_in self.new ≡ decided_in self.old }
+    {
+        let is_kept = match piece.to_vec(self.alloc) {
+            Ok(copy) => {
+                let whole = Ok(Put::Took(piece.len()));
+                self.made.push(Made::Write(port, copy, whole)).is_ok()
+            }
+            Err(_) => false,
+        };
+        self.lost = self.lost || !is_kept;
+    }
+
+    /// Keeps pieces of so many bytes each, which were taken whole. That fails no call: if there is no memory for one,
+    /// the calls aren't told any more.
+    pub fn write_pieces(&mut self, port: u64, bytes: &[u8], size: usize)
+        requires size { 0 < size }
+        ensures call { (pieces : List (List ℕ)) → bytes.now ≡ concat pieces → All (λ p. length p ≡ size) pieces →
+            Tells (told self.old) (told self.new) (map (whole_write port) pieces) }
+        ensures failures { self.new.failures ≡ self.old.failures }
+        ensures decided { decided_in self.new ≡ decided_in self.old }
+    {
+        if bytes.len() < size {
+            return;
+        }
+        let (piece, rest) = bytes.split_at(size);
+        self.write_whole(port, piece);
+        self.write_pieces(port, rest, size);
     }
 
     pub fn shut(&mut self, port: u64)

@@ -141,6 +141,11 @@ impl PortScript {
             WriteAnswer::Fail => Err(PortFault),
         }
     }
+
+    // Every write takes all from now on.
+    fn takes_all(&self) -> bool {
+        self.next_write >= self.writes.len()
+    }
 }
 
 impl Script {
@@ -189,5 +194,15 @@ impl Script {
             }
         }
         Ok(Put::Took(count))
+    }
+
+    // Every write to a port takes all from now on.
+    pub(crate) fn takes_all(&self, port: u64) -> bool {
+        for script in &self.ports {
+            if script.port == port {
+                return script.takes_all();
+            }
+        }
+        true
     }
 }
