@@ -19,10 +19,10 @@ use Rattle.ports_socket.proofs.WaitingLemmas.{gone_none}
 
 -- ---- whose number it is
 
-is-same : (a b : ℕ) → a ≡ b → (a == b) ≡ true
+pub is-same : (a b : ℕ) → a ≡ b → (a == b) ≡ true
 is-same a b e = grind (arith, nat_tests)
 
-is-other : (a b : ℕ) → a ≢ b → (a == b) ≡ false
+pub is-other : (a b : ℕ) → a ≢ b → (a == b) ≡ false
 is-other a b ne = grind (arith, nat_tests)
 
 abbrev kept : ConnectionValue → List ConnectionValue → Bool → List ConnectionValue
@@ -106,7 +106,7 @@ number-at n (x ∷ xs) (suc at) c is read =
 number-of : (n : ℕ) (cs : List Connection) (at : ℕ) (c new : Connection) → IsChanged n cs at c new → c.number ≡ n
 number-of n cs at c new h = number-at n cs at c h.place h.read
 
-number-of-new : (n : ℕ) (cs : List Connection) (at : ℕ) (c new : Connection) → IsChanged n cs at c new → new.number ≡ n
+pub number-of-new : (n : ℕ) (cs : List Connection) (at : ℕ) (c new : Connection) → IsChanged n cs at c new → new.number ≡ n
 number-of-new n cs at c new h = ap (λ s. s.0) h.socket ∙ number-of n cs at c new h
 
 above-set : (n : ℕ) (cs : List Connection) (at : ℕ) (c : Connection) → AreAbove n (numbers_in cs)
@@ -121,11 +121,11 @@ rise-set-at [] at c h e = tt
 rise-set-at (x ∷ xs) zero c h e = (subst (λ m. AreAbove m (numbers_in xs)) (sym e) h.0, h.1)
 rise-set-at (x ∷ xs) (suc at) c h e = (above-set x.number xs at c h.0 e, rise-set-at xs at c h.1 e)
 
-rise-set : (n : ℕ) (cs : List Connection) (at : ℕ) (c new : Connection) → IsChanged n cs at c new
+pub rise-set : (n : ℕ) (cs : List Connection) (at : ℕ) (c new : Connection) → IsChanged n cs at c new
     → Rise (numbers_in (set cs at new))
 rise-set n cs at c new h = rise-set-at cs at new h.rise (number-of-new n cs at c new h ∙ sym h.place.has_number)
 
-place-set : (n : ℕ) (cs : List Connection) (at : ℕ) (new : Connection) → IsPlaceOf n (numbers_in cs) at → new.number ≡ n
+pub place-set : (n : ℕ) (cs : List Connection) (at : ℕ) (new : Connection) → IsPlaceOf n (numbers_in cs) at → new.number ≡ n
     → IsPlaceOf n (numbers_in (set cs at new)) at × (new ≡ get_or (set cs at new) at new)
 place-set n [] at new is e = absurd (omega (arith, is.inside))
 place-set n (x ∷ xs) zero new is e = (record { inside = omega arith; has_number = e }, refl)

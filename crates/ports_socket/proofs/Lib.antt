@@ -4,6 +4,7 @@ pub mod HostLemmas
 pub mod PeerLemmas
 pub mod PlaceLemmas
 pub mod ReadLemmas
+pub mod RoomLemmas
 pub mod SocketLemmas
 pub mod TableLemmas
 pub mod WaitingLemmas

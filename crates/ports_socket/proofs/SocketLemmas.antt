@@ -16,7 +16,7 @@ use Rattle.ports_socket.specs.Connections.{ConnectionValue, KeepsSockets, OnlySe
 use Rattle.ports_socket.specs.Connections.{ahead_at, held_at, numbers, sockets_of, waiting_at}
 use Rattle.ports_socket.specs.Peers.{happening_of}
 use Rattle.ports_socket.specs.Reads.{GivesInOrder}
-use Rattle.ports_socket.proofs.WaitingLemmas.{gone_none, gone_over, taken_after}
+use Rattle.ports_socket.proofs.WaitingLemmas.{gone_none, gone_over, taken_after, taken_before}
 
 pub sends_none : (a : List ConnectionValue) → OnlySends a a
 sends_none a = record { waiting = λ m. gone_none _ _ refl; ahead = λ m. refl }
@@ -43,6 +43,17 @@ writes_on n bytes answer a b c first same second = record {
       gone_over (waiting_at m a) (waiting_at m b) (waiting_at m c) (first.waiting m) (second.others m other);
   ahead = λ m. second.ahead m ∙ first.ahead m;
   closed = λ none. second.closed (λ there. none (open-as n a b same there));
+}
+
+-- and the same where what waits is sent after the write
+pub writes_then : (n : ℕ) (bytes : List ℕ) (answer : Result Put PortFault) (a b c : List ConnectionValue)
+    → WritesTo n bytes answer a b → OnlySends b c → WritesTo n bytes answer a c
+writes_then n bytes answer a b c first second = record {
+  takes = taken_before (waiting_at n a) bytes answer (waiting_at n b) (waiting_at n c) first.takes (second.waiting n);
+  others = λ m other.
+      gone_over (waiting_at m a) (waiting_at m b) (waiting_at m c) (first.others m other) (second.waiting m);
+  ahead = λ m. second.ahead m ∙ first.ahead m;
+  closed = first.closed;
 }
 
 pub reads_on : (n : ℕ) (answer : Result Got PortFault) (given : List ℕ) (a b c : List ConnectionValue)

@@ -63,7 +63,7 @@ abbrev pub IsShut : Option KeptConnection → Type 0
 IsShut None = Unit {0}
 IsShut (Some held) = held.is_open ≡ false
 
-some-same : (a b : KeptConnection) → Some a ≡ Some b → a ≡ b
+pub some-same : (a b : KeptConnection) → Some a ≡ Some b → a ≡ b
 some-same a b e = cc
 
 held-there : (slots : Slab KeptConnection) (p : ConnectionPlace) (key : ℕ) (h : KeptConnection) (t : IsThere slots p)

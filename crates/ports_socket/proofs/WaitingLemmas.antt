@@ -1,7 +1,7 @@
 -- Bytes that wait, from one step of a write to the next.
 use Rattle.std.proofs.Common.{◌≡◌, ℕ, ◌+◌, ◌-◌, ◌++◌, List, length, take, drop, ap, sym, ◌∙◌, arith}
 use Rattle.std.proofs.Common.{length-append, length-drop, Result, Ok, Err}
-use Rattle.std.proofs.lemmas.List.{drop-append-le, drop-drop}
+use Rattle.std.proofs.lemmas.List.{drop-append-le, drop-drop, take_all}
 use Rattle.ports.specs.declared.answers.Put.{Put}
 use Rattle.ports.specs.declared.answers.Put.TheVariants.{Took, Later}
 use Rattle.ports.specs.declared.answers.PortFault.{PortFault}
@@ -39,3 +39,18 @@ taken_after before mid bytes (Ok (Took count)) after first second =
     (gone_before before mid (take count bytes) first) second
 taken_after before mid bytes (Ok Later) after first second = gone_over before mid after first second
 taken_after before mid bytes (Err fault) after first second = gone_over before mid after first second
+
+-- Bytes went after a write took some.
+pub taken_before : (before bytes : List ℕ) (answer : Result Put PortFault) (mid after : List ℕ)
+    → TakesInOrder before bytes answer mid → HaveGone mid after → TakesInOrder before bytes answer after
+taken_before before bytes (Ok (Took count)) mid after first second =
+    gone_over (before ++ take count bytes) mid after first second
+taken_before before bytes (Ok Later) mid after first second = gone_over before mid after first second
+taken_before before bytes (Err fault) mid after first second = gone_over before mid after first second
+
+-- A write that takes all of its bytes.
+pub taken_all : (before bytes after : List ℕ) → after ≡ before ++ bytes
+    → TakesInOrder before bytes (Ok (Took (length bytes))) after
+taken_all before bytes after is =
+    gone_none (before ++ take (length bytes) bytes) after
+    (is ∙ ap (λ l. before ++ l) (sym (take_all (length bytes) bytes (omega arith))))

@@ -14,13 +14,15 @@ use Rattle.ports.specs.declared.answers.Put.{Put}
 use Rattle.ports.specs.declared.answers.Put.TheVariants.{Later}
 use Rattle.ports_socket.specs.declared.connection.Connection.{Connection}
 use Rattle.ports_socket.specs.Reads.{GivesInOrder}
-use Rattle.ports_socket.specs.Waiting.{HaveGone, TakesInOrder, waiting_in}
+use Rattle.ports_socket.specs.Waiting.{HaveGone, TakesInOrder, room_in, waiting_in}
 
--- a connection: its number and socket, the bytes that wait to be sent, and those that were read ahead
+-- a connection: its number and socket, the bytes that wait to be sent, for how many there is room beside them, and the
+-- bytes that were read ahead
 pub record ConnectionValue : Type 0 where
   pub number : ℕ
   pub stream : TcpStream
   pub waiting : List ℕ
+  pub room : ℕ
   pub ahead : List ℕ
 
 -- the bytes that were read ahead
@@ -29,7 +31,13 @@ ahead_in None = []
 ahead_in (Some ahead) = ahead
 
 abbrev pub value_of : Connection → ConnectionValue
-value_of c = record { number = c.number; stream = c.stream; waiting = waiting_in c.unsent; ahead = ahead_in c.ahead }
+value_of c = record {
+  number = c.number;
+  stream = c.stream;
+  waiting = waiting_in c.unsent;
+  room = room_in c.unsent;
+  ahead = ahead_in c.ahead;
+}
 
 abbrev pub values : List Connection → List ConnectionValue
 values connections = map (λ c. value_of c) connections
@@ -62,6 +70,11 @@ waiting_at port connections = held_at (λ c. c.waiting) port connections
 abbrev pub ahead_at : ℕ → List ConnectionValue → List ℕ
 ahead_at port connections = held_at (λ c. c.ahead) port connections
 
+-- for how many bytes a port has room; none if there is no such port
+abbrev pub room_at : ℕ → List ConnectionValue → ℕ
+room_at port [] = 0
+room_at port (c ∷ cs) = if c.number == port then c.room else room_at port cs
+
 -- At each port only the first of the bytes that waited are gone, and what was read ahead stays.
 pub record OnlySends (before after : List ConnectionValue) : Type 0 where
   pub waiting : (port : ℕ) → HaveGone (waiting_at port before) (waiting_at port after)
@@ -88,7 +101,8 @@ pub record ReadsFrom (port : ℕ) (answer : Result Got PortFault) (given : List 
 -- A port has a new connection, which holds nothing, and all others are as they were.
 pub record Opens (port : ℕ) (before after : List ConnectionValue) : Type 0 where
   pub stream : TcpStream
-  pub is : after ≡ before ++ record { number = port; stream = stream; waiting = []; ahead = [] } ∷ []
+  pub is : after
+      ≡ before ++ record { number = port; stream = stream; waiting = []; room = 0; ahead = [] } ∷ []
 
 -- By an answer a port joined, with a socket of its own, or none did; all others keep theirs.
 abbrev pub KeepsSockets : Result Happening PortFault → (before after : List (ℕ × TcpStream)) → Type 0

@@ -1,8 +1,9 @@
 -- The bytes that a connection took and that wait to be sent.
 -- Ports are this project's own. Left out: whether the bytes that wait no longer went to the system.
-use Rattle.std.specs.Prelude.{◌≡◌, ℕ, ◌≤◌, ◌++◌, ◌&&◌, not, false, is_some, List, [], drop, take, length}
+use Rattle.std.specs.Prelude.{◌≡◌, ℕ, ◌≤◌, ◌-◌, ◌++◌, ◌&&◌, not, false, is_some, List, [], drop, take, length}
 use Rattle.std.specs.Prelude.{Option, Some, None, Result, Ok, Err}
 use Rattle.std.specs.Global.{Vec}
+use Rattle.std.specs.Vec.{vec_capacity, vec_len}
 use Rattle.ports.specs.declared.answers.Put.{Put}
 use Rattle.ports.specs.declared.answers.Put.TheVariants.{Took, Later}
 use Rattle.ports.specs.declared.answers.PortFault.{PortFault}
@@ -12,6 +13,11 @@ use Rattle.ports_socket.specs.declared.connection.Connection.{Connection}
 abbrev pub waiting_in : Option (Vec ℕ) → List ℕ
 waiting_in None = []
 waiting_in (Some unsent) = unsent.items
+
+-- how many bytes have room beside them; none without a buffer
+abbrev pub room_in : Option (Vec ℕ) → ℕ
+room_in None = 0
+room_in (Some unsent) = vec_capacity unsent - vec_len unsent
 
 -- The first so many of the bytes that waited are gone, and the others wait.
 pub record HaveGone (before after : List ℕ) : Type 0 where

@@ -1,7 +1,8 @@
 //! A connection with the bytes that it took and has not sent, and those of a feed that were read ahead.
-ghost use Rattle.std.specs.Prelude.{◌≡◌, ◌<◌, ◌≤◌, ◌↔◌, ◌||◌, [], IsTrue, None, Ok, drop, is_none, length};
+ghost use Rattle.std.specs.Prelude.{◌≡◌, ◌<◌, ◌≤◌, ◌↔◌, ◌||◌, ◌++◌, [], IsTrue, None, Ok, drop, is_none, length};
 ghost use Rattle.std.specs.Prelude.{take, true};
 ghost use Rattle.ports.specs.Calls.{IsGiven, IsTaken};
+ghost use Rattle.ports.specs.declared.answers.Put.TheVariants.{Took};
 ghost use Rattle.ports_socket.specs.Admissions.{is_client};
 ghost use Rattle.ports_socket.specs.Ends.{IsNoted};
 ghost use Rattle.ports_socket.specs.Receipts.{IsReceived};
@@ -36,7 +37,8 @@ pub struct Connection {
     pub number: u64,
     pub kind: PeerKind,
     pub stream: TcpStream,
-    /// Bytes that were taken and are not sent yet; a buffer is here only while there are some.
+    /// Bytes that were taken and are not sent yet; a buffer is here only while there are some, or until the port's turn
+    /// is over.
     pub unsent: Option<Vec<u8>>,
     /// Bytes of a feed that were read ahead.
     pub ahead: Option<ReadAhead>,
@@ -61,11 +63,11 @@ pub struct Connection {
 impl Connection {
     ghost use Rattle.ports_socket.specs.Connections.{ahead_in, socket_of, value_of};
     ghost use Rattle.ports_socket.specs.Reads.{GivesInOrder, IsOver, ReadsBy, given_bytes, received_bytes};
-    ghost use Rattle.ports_socket.specs.Waiting.{HaveGone, IsSettled, TakesInOrder, waiting_in};
+    ghost use Rattle.ports_socket.specs.Waiting.{HaveGone, IsSettled, TakesInOrder, room_in, waiting_in};
 
     /// Nothing waits, and nothing was read ahead.
     pub fn new(number: u64, kind: PeerKind, stream: TcpStream) -> Connection
-        ensures { value_of result ≡ record { number = number; stream = stream; waiting = []; ahead = [] } }
+        ensures { value_of result ≡ record { number = number; stream = stream; waiting = []; room = 0; ahead = [] } }
     {
         Connection {
             number,
@@ -322,6 +324,60 @@ impl Connection {
         Ok(Put::Took(count))
     }
 
+    /// Makes room for bytes beside those that wait, and says for how many there is some: none where a write may have to
+    /// wait. An empty buffer that is borrowed for that is given back when what waits is sent.
+    pub fn reserve(&mut self, most: usize, pool: &mut BufferPool) -> usize
+        ensures room { result ≤ room_in self.new.unsent }
+        ensures most { result ≤ most }
+        ensures gone { HaveGone (waiting_in self.old.unsent) (waiting_in self.new.unsent) }
+        ensures socket { socket_of self.new ≡ socket_of self.old }
+        ensures ahead { self.new.ahead ≡ self.old.ahead }
+    {
+        self.make_room(most, pool);
+        if self.has_failed || self.owes_writable {
+            return 0;
+        }
+        self.borrow(pool);
+        self.room().min(most)
+    }
+
+    /// Borrows a buffer, if there is none and the system takes bytes.
+    fn borrow(&mut self, pool: &mut BufferPool)
+        ensures waiting { waiting_in self.new.unsent ≡ waiting_in self.old.unsent }
+        ensures socket { socket_of self.new ≡ socket_of self.old }
+        ensures ahead { self.new.ahead ≡ self.old.ahead }
+    {
+        if self.unsent.is_none() && !self.is_full {
+            self.unsent = pool.lend();
+        }
+    }
+
+    /// How many bytes have room in the buffer.
+    fn room(&self) -> usize
+        ensures { result ≡ room_in self.now.unsent }
+    {
+        match &self.unsent {
+            Some(unsent) => unsent.capacity().saturating_sub(unsent.len()),
+            None => 0,
+        }
+    }
+
+    /// Takes all of some bytes, for which there is room, after so many polls.
+    pub fn take_all(&mut self, bytes: &[u8], polls: u64)
+        requires some { 0 < length bytes.now }
+        requires room { length bytes.now ≤ room_in self.old.unsent }
+        ensures taken { waiting_in self.new.unsent ≡ waiting_in self.old.unsent ++ bytes.now }
+        ensures moved { IsNoted (Ok (Took (length bytes.now))) self.new.end polls }
+        ensures socket { socket_of self.new ≡ socket_of self.old }
+        ensures ahead { self.new.ahead ≡ self.old.ahead }
+    {
+        if let Some(unsent) = &mut self.unsent {
+            // There is room for them.
+            let _ = unsent.extend_from_slice(bytes);
+        }
+        self.end.note_move(polls);
+    }
+
     /// Sends bytes that there is no buffer for.
     fn write_now(&mut self, bytes: &[u8]) -> Result<Put, PortFault>
         ensures taken { IsTaken result (length bytes.now) }
@@ -388,6 +444,10 @@ impl Connection {
         let Some(mut unsent) = self.unsent.take() else {
             return 0;
         };
+        if unsent.is_empty() {
+            pool.take_back(unsent);
+            return 0;
+        }
         let count = self.send(unsent.as_slice());
         if count >= unsent.len() {
             pool.take_back(unsent);

@@ -4,12 +4,14 @@
 //! pass writes up to 64 packets to one port, and among 5,000 connections a halving has thirteen steps. Connections
 //! stand in a slab, so that none is moved when another ends. A new one is registered only once no event of the last
 //! poll is left: so none of these can reach it by a key that a closed connection had.
-ghost use Rattle.std.specs.Prelude.{◌≡◌, ◌-◌, ◌<◌, ◌++◌, ◌∷◌, [], IfNone, IfOk, IfSome, None, length, take, true};
+ghost use Rattle.std.specs.Prelude.{◌≡◌, ◌-◌, ◌<◌, ◌≤◌, ◌++◌, ◌∷◌, [], IfNone, IfOk, IfSome, None, Ok, length, take};
+ghost use Rattle.std.specs.Prelude.{true};
 ghost use Rattle.std.specs.Bool.{OnFalse, OnTrue};
 ghost use Rattle.std.specs.List.{Contains};
 ghost use Rattle.slab.specs.Slab.{Updates, get};
 ghost use Rattle.ports.specs.Calls.{IsGiven, IsTaken};
-ghost use Rattle.ports_socket.specs.Connections.{OnlySends, ReadsFrom, WritesTo, all_but, numbers, sockets_of};
+ghost use Rattle.ports.specs.declared.answers.Put.TheVariants.{Took};
+ghost use Rattle.ports_socket.specs.Connections.{OnlySends, ReadsFrom, WritesTo, all_but, numbers, room_at, sockets_of};
 ghost use Rattle.ports_socket.specs.Connections.{value_of};
 ghost use Rattle.ports_socket.specs.Places.{AreBelow, AreOthers, IsPlaceOf, Rise, closed_from, numbers_of};
 ghost use Rattle.ports_socket.specs.Reads.{given_bytes};
@@ -266,6 +268,40 @@ impl Connections {
             return Ok(Put::Later);
         }
         held.connection.write(bytes, polls, pool)
+    }
+
+    /// Makes room for bytes at the connection at a place, and says for how many there is some. One that is not open has
+    /// none.
+    pub fn make_room(&mut self, place: ConnectionPlace, most: usize, pool: &mut BufferPool) -> usize
+        ensures room { result ≤ room_at place.number self.new }
+        ensures most { result ≤ most }
+        ensures sends { OnlySends self.old self.new }
+        ensures sockets { sockets_of self.new ≡ sockets_of self.old }
+    {
+        let Some(held) = self.slots.get_mut(place.key) else {
+            return 0;
+        };
+        if !held.is_port(place.number) {
+            return 0;
+        }
+        held.connection.reserve(most, pool)
+    }
+
+    /// Has the open connection with a number take all of some bytes, for which it has room, after so many polls.
+    pub fn take_all(&mut self, number: u64, bytes: &[u8], polls: u64)
+        requires some { 0 < length bytes.now }
+        requires room { length bytes.now ≤ room_at number self.old }
+        ensures writes { WritesTo number bytes.now (Ok (Took (length bytes.now))) self.old self.new }
+        ensures sockets { sockets_of self.new ≡ sockets_of self.old }
+    {
+        let Some(at) = place_of(self.opened.as_slice(), number) else {
+            return;
+        };
+        let key = self.opened[at].key;
+        let Some(held) = self.slots.get_mut(key) else {
+            return;
+        };
+        held.connection.take_all(bytes, polls);
     }
 
     /// Sends what waits at the connection at a place, as far as the system takes it. If that fails, the next read or

@@ -3,12 +3,14 @@
 //! Ports over sockets keep no runtime. The runtime opens sockets, and what is open reads, writes and waits by itself.
 //! Why an address can't be listened on is a `ListenError`, with the system's reason, and its `fault` is the number that
 //! is reported.
-ghost use Rattle.std.specs.Prelude.{◌≡◌, ◌<◌, [], ◌∷◌, length, IfOk, None};
+ghost use Rattle.std.specs.Prelude.{◌≡◌, ◌<◌, ◌≤◌, List, [], ◌∷◌, ℕ, length, map, IfOk, None, Ok};
+ghost use Rattle.std.specs.List.{All, concat};
 ghost use Rattle.sl_io.specs.Counts.{CountsFailure};
-ghost use Rattle.ports.specs.Calls.{Tells, given, IsGiven, IsTaken};
+ghost use Rattle.ports.specs.Calls.{Tells, given, whole_write, IsGiven, IsTaken};
 ghost use Rattle.ports.specs.Calls.Call.{Next, Read, Write, Shut};
+ghost use Rattle.ports.specs.declared.answers.Put.TheVariants.{Took};
 ghost use Rattle.ports_socket.specs.Connections.{KeepsSockets, OnlySends, ReadsFrom, WritesTo, all_but, numbers};
-ghost use Rattle.ports_socket.specs.Connections.{sockets_of};
+ghost use Rattle.ports_socket.specs.Connections.{room_at, sockets_of};
 ghost use Rattle.ports_socket.specs.Departures.{HaveReasons, TellsAway};
 ghost use Rattle.ports_socket.specs.Doors.{RationsJoins};
 ghost use Rattle.ports_socket.specs.Numbers.{TellsOpenPorts};
@@ -108,6 +110,8 @@ impl Ports for MioPorts {
 
     ghost decided = { λ _. None };
 
+    ghost room = { λ s port. room_at port s.sockets.connections };
+
     /// What happened next. A new port has a number that no port had before: the count of those that joined, which no
     /// other call changes. Readable and Writable are told of open ports alone. At most sixteen ports join between two
     /// polls, and those alone that are admitted. All that are not admitted are told.
@@ -165,6 +169,34 @@ impl Ports for MioPorts {
             self.failures = self.failures.wrapping_add(1);
         }
         answer
+    }
+
+    fn make_room(&mut self, port: u64, most: usize) -> usize
+        ensures room { result ≤ room_at port self.new.sockets.connections }
+        ensures most { result ≤ most }
+        ensures failures { self.new.failures ≡ self.old.failures }
+        ensures peers { self.new.sockets.peers ≡ self.old.sockets.peers }
+        ensures sends { OnlySends self.old.sockets.connections self.new.sockets.connections }
+        ensures sockets { sockets_of self.new.sockets.connections ≡ sockets_of self.old.sockets.connections }
+    {
+        self.sockets.make_room(port, most)
+    }
+
+    fn write_pieces(&mut self, port: u64, bytes: &[u8], size: usize)
+        requires room { length bytes.now ≤ room_at port self.old.sockets.connections }
+        requires size { 0 < size }
+        ensures call { (pieces : List (List ℕ)) → bytes.now ≡ concat pieces → All (λ p. length p ≡ size) pieces →
+            Tells None None (map (whole_write port) pieces) }
+        ensures failures { self.new.failures ≡ self.old.failures }
+        ensures peers { self.new.sockets.peers ≡ self.old.sockets.peers }
+        ensures writes { 0 < length bytes.now → WritesTo port bytes.now (Ok (Took (length bytes.now)))
+            self.old.sockets.connections self.new.sockets.connections }
+        ensures nothing { bytes.now ≡ [] → self.new ≡ self.old }
+        ensures sockets { sockets_of self.new.sockets.connections ≡ sockets_of self.old.sockets.connections }
+    {
+        if !bytes.is_empty() {
+            self.sockets.take_all(port, bytes);
+        }
     }
 
     fn shut(&mut self, port: u64)

@@ -1,9 +1,10 @@
 //! Connections by numbers that are never used again, and what happens to them.
-ghost use Rattle.std.specs.Prelude.{◌≡◌, ◌<◌, [], IfNone, IfOk, IfSome, Ok, length, true};
+ghost use Rattle.std.specs.Prelude.{◌≡◌, ◌<◌, ◌≤◌, [], IfNone, IfOk, IfSome, Ok, length, true};
 ghost use Rattle.std.specs.List.{Contains};
 ghost use Rattle.ports.specs.Calls.{IsGiven, IsTaken};
+ghost use Rattle.ports.specs.declared.answers.Put.TheVariants.{Took};
 ghost use Rattle.ports_socket.specs.Connections.{KeepsSockets, OnlySends, ReadsFrom, WritesTo, all_but, numbers};
-ghost use Rattle.ports_socket.specs.Connections.{sockets_of};
+ghost use Rattle.ports_socket.specs.Connections.{room_at, sockets_of};
 ghost use Rattle.ports_socket.specs.Departures.{HaveReasons, TellsAway};
 ghost use Rattle.ports_socket.specs.Doors.{IsPolled, RationsJoins, joins_by};
 ghost use Rattle.ports_socket.specs.Numbers.{TellsOpenPorts};
@@ -381,6 +382,38 @@ impl Sockets {
         self.is_busy = self.is_busy || matches!(&put, Ok(Put::Took(_)));
         self.is_gathering = true;
         put
+    }
+
+    /// Makes room for bytes at a port, and says for how many there is some. What is borrowed for them is given back when
+    /// the next port has its turn.
+    #[tactic(auto, using(crate::proofs::SocketLemmas::sends))]
+    pub fn make_room(&mut self, port: u64, most: usize) -> usize
+        ensures room { result ≤ room_at port self.new.connections }
+        ensures most { result ≤ most }
+        ensures peers { self.new.peers ≡ self.old.peers }
+        ensures sends { OnlySends self.old.connections self.new.connections }
+        ensures sockets { sockets_of self.new.connections ≡ sockets_of self.old.connections }
+    {
+        let Some(place) = self.turn_to(port) else {
+            return 0;
+        };
+        self.is_gathering = true;
+        self.connections.make_room(place, most, &mut self.pool)
+    }
+
+    /// Has a port take all of some bytes, for which it has room. They wait at that port, and at no other.
+    pub fn take_all(&mut self, port: u64, bytes: &[u8])
+        requires some { 0 < length bytes.now }
+        requires room { length bytes.now ≤ room_at port self.old.connections }
+        ensures peers { self.new.peers ≡ self.old.peers }
+        ensures writes { WritesTo port bytes.now (Ok (Took (length bytes.now)))
+            self.old.connections self.new.connections }
+        ensures sockets { sockets_of self.new.connections ≡ sockets_of self.old.connections }
+    {
+        self.connections.take_all(port, bytes, self.polls);
+        let _place = self.turn_to(port);
+        self.is_busy = true;
+        self.is_gathering = true;
     }
 
     /// Ends a port. Its last bytes are still sent.
