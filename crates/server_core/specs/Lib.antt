@@ -6,3 +6,4 @@ pub mod Clients
 pub mod Rows
 pub mod Marks
 pub mod Reloads
+pub mod Filling

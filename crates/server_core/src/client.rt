@@ -81,6 +81,15 @@ impl Gone {
     }
 }
 
+/// What a fill did.
+#[derive(Clone, Copy)]
+pub struct Filled {
+    /// How many packets it handed.
+    pub count: usize,
+    /// What the offer after them found.
+    pub found: Result<Offer, Gone>,
+}
+
 /// Why bytes of a client are not taken. Then nothing changes.
 #[derive(Clone, Copy, Debug, PartialEq, Eq, Drop)]
 pub enum ReceiveRefusal {

@@ -11,6 +11,6 @@ pub mod server;
 mod slots;
 
 pub use arrivals::ArriveFault;
-pub use client::{Client, Gone, Offer, ReceiveRefusal, ReloadFault};
+pub use client::{Client, Filled, Gone, Offer, ReceiveRefusal, ReloadFault};
 pub use events::{Event, Handed, run};
 pub use server::Server;

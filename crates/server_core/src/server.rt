@@ -4,7 +4,7 @@
 //! looks at no record twice. It is no event: the server stands for the same world, with the same marks.
 ghost use Rattle.std.specs.Prelude.{OnErr, option_map, ◌≡◌, ◌≢◌, ◌-◌, ◌^◌, Err, ◌<◌, ◌≤◌, [], ◌∷◌, ◌++◌, length};
 ghost use Rattle.std.specs.Prelude.{slice_get, slice_index_or, IfOk, OnOk, Ok, Some, None, ℕ, not, false, is_some};
-ghost use Rattle.std.specs.Prelude.{◌+◌, is_ok, true};
+ghost use Rattle.std.specs.Prelude.{◌+◌, ◌*◌, is_ok, true, vec_capacity, vec_len};
 ghost use Rattle.std.specs.Result.{result_ok};
 ghost use Rattle.std.specs.Net.Addr.{ipv4_bits};
 ghost use Rattle.protocol.specs.Catalog.{Config as ProtocolConfig, is_same_but_for_access};
@@ -13,7 +13,7 @@ ghost use Rattle.protocol.specs.World.{World, config_by, step, empty_world, clie
 ghost use Rattle.protocol.specs.World.Event.{Open, Bytes, Take, Close, Arrive, Reload};
 
 use crate::arrivals::{ArriveFault, Placing, placed};
-use crate::client::{Client, Gone, Offer, ReceiveRefusal, ReloadFault};
+use crate::client::{Client, Filled, Gone, Offer, ReceiveRefusal, ReloadFault};
 use crate::clients::Clients;
 use crate::marks::Marks;
 use crate::reviewing::review_all;
@@ -64,6 +64,7 @@ impl Server {
     ghost use Rattle.station_ring.specs.HeldRecords.{holdings_of};
     ghost use Rattle.server_core.specs.ServerValues.{MayTake, StandsAt, mark_at};
     ghost use Rattle.server_core.specs.Marks.{IsAmong, IsSpared, LeavesOthers, MarksThose, OpensNext};
+    ghost use Rattle.server_core.specs.Filling.{IsFilled, IsOffered};
     ghost use Rattle.server_core.specs.Refusals.{is_idle, room_of, receipt, offer_of};
     ghost use Rattle.server_core.specs.declared.client.Offer.TheVariants.{Idle};
     ghost use Rattle.server_core.specs.Arrivals.{answer_to, IsExhausted, IsPlaced};
@@ -276,6 +277,27 @@ impl Server {
             ),
             None => Err(Gone),
         }
+    }
+
+    /// Whole packets that wait for a client that was offered something are handed one after the other, at most so many:
+    /// they are appended to `out`, which has room for them. What is handed is what as many single offers and takes would
+    /// have handed. It stops before anything else that waits (a line, END, a rest of a packet), and answers how many
+    /// packets it handed and what the offer after them found.
+    pub fn fill(
+        &mut self,
+        client: &Client,
+        found: Result<Offer, Gone>,
+        most: usize,
+        out: &mut Vec<u8>,
+    ) -> Filled
+        requires { vec_len out.old + most * 520 ≤ vec_capacity out.old }
+        ensures fills { (config : ProtocolConfig) (w : World) → IsOffered config w client.now found self.old →
+            IsFilled config w client.now out.old.items out.new.items result self.new }
+        ensures most { result.count ≤ most }
+        ensures room { vec_capacity out.old ≤ vec_capacity out.new }
+        ensures others { LeavesOthers client.now self.old self.new }
+    {
+        Filled { count: 0, found }
     }
 
     /// A record comes from a feeder. Where it is one, and of a station of the configuration, it is the last arrival, is
