@@ -13,3 +13,4 @@ pub mod SpareLemmas
 mod ReloadLemmas
 mod CurrentLemmas
 mod AmongLemmas
+mod FillLemmas

@@ -311,6 +311,14 @@ keeps-twice a m r one other = record {
       let first = one.kept last.0 in (first.0, last.1 ∙ first.1);
 }
 
+-- A session that stays as it is keeps its mark.
+pub marked-still : (config : Config) (rings : RingsValue) (marks : Marks) (before after : Slab SessionValue) (slot : ℕ)
+    (a r : SessionValue) → AreMarked config rings marks before → get before slot ≡ Some a
+    → Updates before after slot (Some r) → r ≡ a → AreMarked config rings marks after
+marked-still config rings marks before after slot a r are there updates same =
+    marked-goes config rings marks marks before after slot (keeps-itself (Elsewhere slot) marks) are r updates
+    (subst (IsMarkedAt config rings marks slot) (sym same) (are.held slot a there))
+
 -- A session that is looked at keeps its mark, where it is marked.
 pub marked-looked : (config : Config) (rings : RingsValue) (marks : Marks) (before after : Slab SessionValue) (slot : ℕ)
     (a r : SessionValue) → AreMarked config rings marks before → get before slot ≡ Some a

@@ -95,7 +95,7 @@ some_waits [] n some fits = absurd (omega arith)
 some_waits (b ∷ ws) n some fits = refl
 
 -- the client of a session of which some bytes that wait were taken
-taken-of : (config : Config) (h : List Arrival) (n : ℕ) (a m : SessionValue) → 0 < n → n ≤ length a.waiting
+pub taken-of : (config : Config) (h : List Arrival) (n : ℕ) (a m : SessionValue) → 0 < n → n ≤ length a.waiting
     → client_in config h m ≡ after_take (session_view config a) h (client_in config h a) n
     → client_in config h m ≡ taking h n (session_view config a) (client_in config h a)
 unfolding taking
@@ -154,7 +154,7 @@ handed-answer config h old slot n a m found there some fits client is =
     ∙ ap (λ o. option_map (λ c. offer_of (offered h c))
     (client_of_open (goes_on (taking h n) (open_client config h (Some o))))) (sym there)
 
-client_of-open : (x : Option Connection) → client_of x ≡ client_of_open (open_client_at x)
+pub client_of-open : (x : Option Connection) → client_of x ≡ client_of_open (open_client_at x)
 client_of-open None = refl
 client_of-open (Some k) = open_or_not k.view k.client
   where

@@ -68,7 +68,7 @@ offer-then-take config w k n some =
     (sym (offered-waiting w.history (offered w.history c) (some c (ap client_of there ∙ client))))))
 
 -- two changes of one connection, as one
-at-composed : (cs : List Connection) (k : ℕ) (f g : View → Client → Client)
+pub at-composed : (cs : List Connection) (k : ℕ) (f g : View → Client → Client)
     → at (at cs k (changed f)) k (changed g) ≡ at cs k (changed (λ v c. g v (f v c)))
 at-composed [] k f g = refl
 at-composed (x ∷ cs) zero f g = ap (λ o. record x { client = o } ∷ cs) (by x.client)

@@ -7,3 +7,4 @@ pub mod Rows
 pub mod Marks
 pub mod Reloads
 pub mod Filling
+pub mod Handing

@@ -1,6 +1,7 @@
 //! What the server does with the session in a slot, and with its marks.
 ghost use Rattle.std.specs.Prelude.{◌≡◌, ◌≢◌, ◌≤◌, ◌<◌, ◌&&◌, IfOk, OnOk, OnErr, List, [], length, not, take, Some};
-ghost use Rattle.std.specs.Prelude.{true, false, Ok, is_ok, is_some, IsSome, option_map};
+ghost use Rattle.std.specs.Prelude.{true, false, Ok, is_ok, is_some, IsSome, option_map, ◌+◌, ◌*◌, ◌^◌, ◌++◌, ℕ};
+ghost use Rattle.std.specs.Prelude.{vec_capacity, vec_len};
 ghost use Rattle.std.specs.Result.{result_ok};
 ghost use Rattle.protocol.specs.Catalog.{Config as ProtocolConfig};
 ghost use Rattle.protocol.specs.History.{Arrival};
@@ -17,15 +18,19 @@ ghost use Rattle.server_core.specs.Reloads.{HasHistory};
 ghost use Rattle.server_core.specs.Marks.{AreMarked, Elsewhere, IsIdle, Keeps, KeepsRequests};
 ghost use Rattle.server_core.specs.declared.client.Offer.TheVariants.{Idle};
 ghost use Rattle.server_core.specs.ServerValues.{AreSettled, HoldsOf, IsSettled, SlotGoesOn, StayOpen, client_of_open};
-ghost use Rattle.server_core.specs.ServerValues.{goes_on, handing, open_client, taking};
+ghost use Rattle.server_core.specs.ServerValues.{goes_on, handing, open_client, open_client_of, taking};
+ghost use Rattle.server_core.specs.Handing.{HandsPackets};
 
-use crate::client::{Gone, Offer, ReceiveRefusal};
+use crate::client::{Filled, Gone, Offer, ReceiveRefusal};
 use crate::marks::Marks;
 use catalog::Config;
 use session_state::{Session, Settled, State};
 use slab::Slab;
 use station_ring::Rings;
 use transfer::{choose, finds, start};
+
+/// How long a packet is.
+const PACKET: usize = 520;
 
 /// A session that settled goes on with its transfer, where one is to start.
 #[tactic(auto, using(crate::proofs::OfferLemmas::proceed_lemmas))]
@@ -171,6 +176,105 @@ fn took(config: &Config, rings: &Rings, session: &mut Session, count: usize) -> 
     let settled = session.took(config, count);
     proceed(config, rings, session, settled);
     settled
+}
+
+/// What packets that were handed one after the other led to.
+#[derive(Clone, Copy)]
+struct Filling {
+    /// How many they were.
+    count: usize,
+    /// Whether a transfer started after the last of them.
+    settled: Settled,
+    /// What the offer after it found.
+    found: Offer,
+}
+
+/// Whether no transfer started.
+fn is_at_rest(settled: Settled) -> bool
+    ensures { result ≡ true → settled ≡ Rest }
+{
+    match settled {
+        Settled::Rest => true,
+        Settled::Start => false,
+    }
+}
+
+/// Whether a whole packet waits.
+fn is_whole(session: &Session) -> bool
+    ensures { result ≡ true → length session.now.waiting ≡ 520 }
+{
+    session.waiting().len() == PACKET
+}
+
+/// A packet that waits is appended to bytes that have room for it, and is handed; and what comes next is made to wait.
+/// It answers how many packets were handed by then.
+fn hand_packet(
+    config: &Config,
+    rings: &Rings,
+    session: &mut Session,
+    count: usize,
+    out: &mut Vec<u8>,
+) -> Filling
+    requires settled { IsSettled config.now rings.now session.old }
+    requires whole { length session.old.waiting ≡ 520 }
+    requires few { count < 2 ^ 63 }
+    requires room { vec_len out.old + 520 ≤ vec_capacity out.old }
+    ensures count { result.count ≡ count + 1 }
+    ensures client { (h : List Arrival) → HoldsOf config.now rings.now h
+        → Some (open_client_of config.now h session.new)
+        ≡ goes_on (handing h 520) (Some (open_client_of config.now h session.old)) }
+    ensures found { (h : List Arrival) → HoldsOf config.now rings.now h
+        → result.found ≡ offer_of (client_in config.now h session.new) }
+    ensures idle { result.found ≡ Idle → IsIdle config.now rings.now session.new }
+    ensures kept { result.settled ≡ Rest → KeepsRequests session.old session.new }
+    ensures settled { IsSettled config.now rings.now session.new }
+    ensures bytes { out.new.items ≡ out.old.items ++ session.old.waiting }
+    ensures length { vec_len out.new ≡ vec_len out.old + 520 }
+    ensures room { vec_capacity out.old ≤ vec_capacity out.new }
+{
+    let _appended = out.extend_from_slice(session.waiting());
+    let settled = took(config, rings, session, PACKET);
+    let found = offer(config, rings, session);
+    Filling {
+        count: count + 1,
+        settled,
+        found,
+    }
+}
+
+/// Whole packets that wait are appended to bytes and handed one after the other, at most so many, until something else
+/// waits or a transfer starts.
+fn hand_packets(
+    config: &Config,
+    rings: &Rings,
+    session: &mut Session,
+    most: usize,
+    out: &mut Vec<u8>,
+) -> Filling
+    requires settled { IsSettled config.now rings.now session.old }
+    requires room { vec_len out.old + most * 520 ≤ vec_capacity out.old }
+    ensures most { result.count ≤ most }
+    ensures some { 0 < result.count → length session.old.waiting ≡ 520 }
+    ensures hands { (h : List Arrival) → HoldsOf config.now rings.now h
+        → HandsPackets h (Some (open_client_of config.now h session.old)) (Some (open_client_of config.now h session.new))
+        result.count out.old.items out.new.items }
+    ensures found { 0 < result.count → (h : List Arrival) → HoldsOf config.now rings.now h
+        → result.found ≡ offer_of (client_in config.now h session.new) }
+    ensures idle { result.found ≡ Idle → IsIdle config.now rings.now session.new }
+    ensures kept { result.settled ≡ Rest → KeepsRequests session.old session.new }
+    ensures unchanged { result.count ≡ 0 → session.new ≡ session.old }
+    ensures settled { IsSettled config.now rings.now session.new }
+    ensures room { vec_capacity out.old ≤ vec_capacity out.new }
+{
+    let mut filling = Filling {
+        count: 0,
+        settled: Settled::Rest,
+        found: Offer::Bytes,
+    };
+    'packets: while filling.count < most && is_at_rest(filling.settled) && is_whole(session) {
+        filling = hand_packet(config, rings, session, filling.count, out);
+    }
+    filling
 }
 
 /// Bytes come from a client.
@@ -333,5 +437,53 @@ pub fn go_on_in(
             Ok(found)
         }
         None => Err(Gone),
+    }
+}
+
+/// Whole packets that wait for a client that was offered something are appended to bytes and handed one after the
+/// other, at most so many. It answers how many they were, and what the offer after them found.
+pub fn fill_in(
+    config: &Config,
+    rings: &Rings,
+    slots: &mut Slab<Session>,
+    marks: &mut Marks,
+    slot: usize,
+    found: Result<Offer, Gone>,
+    most: usize,
+    out: &mut Vec<u8>,
+) -> Filled
+    requires settled { AreSettled config.now rings.now slots.old }
+    requires marked { AreMarked config.now rings.now marks.old slots.old }
+    requires there { IsSome (get slots.old slot) }
+    requires room { vec_len out.old + most * 520 ≤ vec_capacity out.old }
+    ensures most { result.count ≤ most }
+    ensures hands { (h : List Arrival) → HoldsOf config.now rings.now h
+        → HandsPackets h (open_client config.now h (Some (get slots.old slot)))
+        (open_client config.now h (Some (get slots.new slot))) result.count out.old.items out.new.items }
+    ensures elsewhere { (other : ℕ) → other ≢ slot → get slots.new other ≡ get slots.old other }
+    ensures settled { AreSettled config.now rings.now slots.new }
+    ensures marked { AreMarked config.now rings.now marks.new slots.new }
+    ensures stations { length marks.new.rows.items ≡ length marks.old.rows.items }
+    ensures kept { StayOpen slots.old slots.new }
+    ensures others { Keeps (Elsewhere slot) marks.old marks.new }
+    ensures answer { (h : List Arrival) → HoldsOf config.now rings.now h
+        → result_ok found ≡ option_map offer_of (client_of_open (open_client config.now h (Some (get slots.old slot))))
+        → result_ok result.found
+        ≡ option_map offer_of (client_of_open (open_client config.now h (Some (get slots.new slot)))) }
+    ensures room { vec_capacity out.old ≤ vec_capacity out.new }
+{
+    match slots.get_mut(slot) {
+        Some(session) => {
+            let filling = hand_packets(config, rings, session, most, out);
+            if filling.count == 0 {
+                return Filled { count: 0, found };
+            }
+            marks.went_on(slot, session, filling.settled, filling.found);
+            Filled {
+                count: filling.count,
+                found: Ok(filling.found),
+            }
+        }
+        None => Filled { count: 0, found },
     }
 }
