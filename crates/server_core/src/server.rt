@@ -297,19 +297,19 @@ impl Server {
         ensures room { vec_capacity out.old ≤ vec_capacity out.new }
         ensures others { LeavesOthers client.now self.old self.new }
     {
-        match self.clients.slot_of(client) {
-            Some(slot) => slots::fill_in(
-                &self.config,
-                &self.rings,
-                &mut self.clients.slots,
-                &mut self.marks,
-                slot,
-                found,
-                most,
-                out,
-            ),
-            None => Filled { count: 0, found },
-        }
+        let Some(slot) = self.clients.slot_of(client) else {
+            return Filled { count: 0, found };
+        };
+        slots::fill_in(
+            &self.config,
+            &self.rings,
+            &mut self.clients.slots,
+            &mut self.marks,
+            slot,
+            found,
+            most,
+            out,
+        )
     }
 
     /// A record comes from a feeder. Where it is one, and of a station of the configuration, it is the last arrival, is

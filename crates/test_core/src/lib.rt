@@ -3,6 +3,8 @@
 #![tactic(auto)]
 
 #[cfg(test)]
+mod fills;
+#[cfg(test)]
 mod marks;
 #[cfg(test)]
 mod random;

@@ -16,8 +16,7 @@ fill_in-requires-clause-there c = c.self.invariant.0.there c.args.client.now c.i
 
 pub invariant_of-self : goal.invariant_of-self
 invariant_of-self c =
-    let h = c.self.invariant.5.history in
-    (
+    let h = c.self.invariant.5.history in (
       written-table c.self.inside.clients c.fill_in.new.slots c.self.invariant.0 c.fill_in.ensures.kept,
       c.fill_in.ensures.settled,
       c.self.invariant.2,
@@ -33,8 +32,8 @@ invariant_of-self c =
           c.self.invariant.6,
     )
 
-pub returns-in-Some-clause-fills : goal.returns-in-Some-clause-fills
-returns-in-Some-clause-fills c = λ config w offers.
+pub returns-clause-fills : goal.returns-clause-fills
+returns-clause-fills c = λ config w offers.
     let here = found c.self.inside.config c.self.inside.rings c.self.inside.clients c.self.inside.clients
     (marks_of c.self.inside.clients c.self.inside.marks) c.args.self.now config (step config w (Take c.args.client.now 0))
     c.self.view_is refl refl offers.stands in
@@ -45,8 +44,8 @@ returns-in-Some-clause-fills c = λ config w offers.
     (c.fill_in.ensures.hands w.history here.holds) c.fill_in.ensures.elsewhere
     (c.fill_in.ensures.answer w.history here.holds)
 
-pub returns-in-None-clause-fills : goal.returns-in-None-clause-fills
-returns-in-None-clause-fills c = λ config w offers. record {
+pub returns-in_default-clause-fills : goal.returns-in_default-clause-fills
+returns-in_default-clause-fills c = λ config w offers. record {
   pieces = [];
   beyond = w;
   fills = none;
@@ -56,8 +55,8 @@ returns-in-None-clause-fills c = λ config w offers. record {
   count = refl;
 }
 
-pub returns-in-Some-clause-others : goal.returns-in-Some-clause-others
-returns-in-Some-clause-others c =
+pub returns-clause-others : goal.returns-clause-others
+returns-clause-others c =
     let there = sym c.in-Some.ensures in
     subst (λ s. LeavesOthers c.args.client.now s (serving-with c.self.inside.config c.self.inside.rings
     (record c.self.inside.clients { slots = c.fill_in.new.slots }) c.fill_in.new.marks)) c.self.view_is
