@@ -26,7 +26,8 @@ use Rattle.server_core.specs.Filling.Fills.{none, more}
 use Rattle.server_core.specs.Handing.{AreWhole, HandsPackets, handing_on, packets_of, waiting_after, waiting_at}
 use Rattle.server_core.specs.Refusals.{offer_of}
 use Rattle.server_core.specs.ServerValues.{OpenClient, ServerValue, StandsAt, client_of_open, goes_on, handing}
-use Rattle.server_core.specs.ServerValues.{SlotGoesOn, open_client, open_client_at, open_client_of, open_client_with, taking}
+use Rattle.server_core.specs.ServerValues.{SlotGoesOn, open_client, open_client_at, open_client_of, open_client_with}
+use Rattle.server_core.specs.ServerValues.{taking}
 use Rattle.server_core.proofs.CurrentLemmas.{KeepsOver, offered-over, taken-over}
 use Rattle.server_core.proofs.SessionLemmas.{goes-there, opened-there, serving, with-marks}
 use Rattle.server_core.proofs.StandsLemmas.{client_of-open, taken-of}
@@ -107,7 +108,8 @@ packet-handed config h n a m r some fits client places next still =
 pub hands-in-slot : (config : Config) (h : List Arrival) (old new : Slab SessionValue) (slot n : ℕ)
     (a r : SessionValue) (out out' : List ℕ) → get old slot ≡ Some a → Updates old new slot (Some r)
     → HandsPackets h (Some (open_client_of config h a)) (Some (open_client_of config h r)) n out out'
-    → HandsPackets h (open_client config h (Some (get old slot))) (open_client config h (Some (get new slot))) n out out'
+    → HandsPackets h (open_client config h (Some (get old slot))) (open_client config h (Some (get new slot))) n out
+    out'
 hands-in-slot config h old new slot n a r out out' there updates hands =
     subst (λ o. HandsPackets h (open_client config h (Some o)) (open_client config h (Some (get new slot))) n out out')
     (sym there)
@@ -115,7 +117,8 @@ hands-in-slot config h old new slot n a r out out' there updates hands =
     (sym updates.changed) hands)
 
 pub slot-goes : (config : Config) (h : List Arrival) (old new : Slab SessionValue) (slot n : ℕ) (out out' : List ℕ)
-    → HandsPackets h (open_client config h (Some (get old slot))) (open_client config h (Some (get new slot))) n out out'
+    → HandsPackets h (open_client config h (Some (get old slot))) (open_client config h (Some (get new slot))) n out
+    out'
     → ((other : ℕ) → other ≢ slot → get new other ≡ get old other)
     → SlotGoesOn config h old new slot (handing_on h n)
 slot-goes config h old new slot n out out' hands others = record { here = hands.goes; others = others }
@@ -289,7 +292,8 @@ filled-there g rings c number config w marks new slot table there here found ans
     is-filled config w number out out' filled
     (record (serving g rings (record c { slots = new })) { marks = marks })
     (open_client g w.history (Some (get new slot)))
-    (subst (λ o. HandsPackets w.history o (open_client g w.history (Some (get new slot))) filled.count out out') at hands)
+    (subst (λ o. HandsPackets w.history o (open_client g w.history (Some (get new slot))) filled.count out out') at
+    hands)
     (with-marks (serving g rings (record c { slots = new })) marks config (going config w number filled.count)
     (goes-there g rings c number config (step config w (Take number 0)) (handing_on w.history filled.count) new slot
     table there (slot-goes g w.history c.slots new slot filled.count out out' hands others) here))

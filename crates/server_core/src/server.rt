@@ -280,9 +280,9 @@ impl Server {
     }
 
     /// Whole packets that wait for a client that was offered something are handed one after the other, at most so many:
-    /// they are appended to `out`, which has room for them. What is handed is what as many single offers and takes would
-    /// have handed. It stops before anything else that waits (a line, END, a rest of a packet), and answers how many
-    /// packets it handed and what the offer after them found.
+    /// they are appended to `out`, which has room for them. What is handed is what as many single offers and takes
+    /// would have handed. It stops before anything else that waits (a line, END, a rest of a packet), and answers how
+    /// many packets it handed and what the offer after them found. It takes no memory.
     pub fn fill(
         &mut self,
         client: &Client,

@@ -256,8 +256,8 @@ fn hand_packets(
     ensures most { result.count ≤ most }
     ensures some { 0 < result.count → length session.old.waiting ≡ 520 }
     ensures hands { (h : List Arrival) → HoldsOf config.now rings.now h
-        → HandsPackets h (Some (open_client_of config.now h session.old)) (Some (open_client_of config.now h session.new))
-        result.count out.old.items out.new.items }
+        → HandsPackets h (Some (open_client_of config.now h session.old))
+        (Some (open_client_of config.now h session.new)) result.count out.old.items out.new.items }
     ensures found { 0 < result.count → (h : List Arrival) → HoldsOf config.now rings.now h
         → result.found ≡ offer_of (client_in config.now h session.new) }
     ensures idle { result.found ≡ Idle → IsIdle config.now rings.now session.new }

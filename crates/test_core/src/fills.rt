@@ -59,8 +59,8 @@ fn handed_singly(server: &mut Server, alloc: Global) -> Result<Vec<u8>, Fail> {
     Ok(taken)
 }
 
-/// All that such a client is handed, first by one call at most so many packets, and then one offer after the other. With
-/// it stands what the call did.
+/// All that such a client is handed, first by one call at most so many packets, and then one offer after the other.
+/// Before it stands what the call did.
 fn handed_at_once(
     server: &mut Server,
     alloc: Global,

@@ -35,7 +35,8 @@ invariant_of-self c =
 pub returns-clause-fills : goal.returns-clause-fills
 returns-clause-fills c = λ config w offers.
     let here = found c.self.inside.config c.self.inside.rings c.self.inside.clients c.self.inside.clients
-    (marks_of c.self.inside.clients c.self.inside.marks) c.args.self.now config (step config w (Take c.args.client.now 0))
+    (marks_of c.self.inside.clients c.self.inside.marks) c.args.self.now config
+    (step config w (Take c.args.client.now 0))
     c.self.view_is refl refl offers.stands in
     filled-there c.self.inside.config c.self.inside.rings c.self.inside.clients c.args.client.now config w
     (marks_of (record c.self.inside.clients { slots = c.fill_in.new.slots }) c.fill_in.new.marks) c.fill_in.new.slots

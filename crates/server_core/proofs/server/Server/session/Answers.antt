@@ -1,5 +1,5 @@
 use Rattle.std.proofs.Common.{◌∙◌, ap, sym, None, option_map, slice_index_or}
-use Rattle.server_core.specs.Clients.{in_slot}
+use Rattle.server_core.specs.Clients.{in_slot, sessions_of}
 use Rattle.server_core.specs.ServerValues.{ServerValue}
 use Rattle.server_core.proofs.SlotLemmas.{session-is}
 use Rattle.server_core.proofs.server.Server.session.Goals as goal
