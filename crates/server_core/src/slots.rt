@@ -264,6 +264,7 @@ fn hand_packets(
     ensures kept { result.settled ≡ Rest → KeepsRequests session.old session.new }
     ensures unchanged { result.count ≡ 0 → session.new ≡ session.old }
     ensures settled { IsSettled config.now rings.now session.new }
+    ensures len { vec_len out.new ≡ vec_len out.old + result.count * 520 }
     ensures room { vec_capacity out.old ≤ vec_capacity out.new }
 {
     let mut filling = Filling {
@@ -470,6 +471,7 @@ pub fn fill_in(
         → result_ok found ≡ option_map offer_of (client_of_open (open_client config.now h (Some (get slots.old slot))))
         → result_ok result.found
         ≡ option_map offer_of (client_of_open (open_client config.now h (Some (get slots.new slot)))) }
+    ensures len { vec_len out.new ≡ vec_len out.old + result.count * 520 }
     ensures room { vec_capacity out.old ≤ vec_capacity out.new }
 {
     match slots.get_mut(slot) {
