@@ -10,12 +10,13 @@ use Rattle.protocol.specs.World.Event.{Arrive}
 use Rattle.protocol.specs.Alone.{alone, own_view, seen, handed_to}
 use Rattle.protocol.proofs.AloneLemmas.{goes-on}
 use Rattle.protocol.proofs.Connections.{handed_from-append}
+use Rattle.server_core.specs.Filling.{client_at, lent_to}
 use Rattle.ports.specs.Calls.{taken}
 use Rattle.ports.specs.Calls.Given.{Piece, Nothing, TheEnd, Failure}
 use Rattle.event_loop.specs.Deeds.{Deed, events_of, events_in, taken_at, taken_in}
 use Rattle.event_loop.specs.Deeds.Deed.{Hears, Opens, Feeds, TurnsAway, Reads, ReadsFeed, Writes, Offers, Closes}
 use Rattle.event_loop.specs.Deeds.Deed.{ShutsFeed}
-use Rattle.event_loop.specs.Passes.{lent_to, client_at, beyond}
+use Rattle.event_loop.specs.Passes.{beyond}
 use Rattle.event_loop.specs.Faithful.{IsFaithful, AreFaithful}
 use Rattle.event_loop.specs.Turns.{HandsAsAlone, bytes_alone}
 use Rattle.event_loop.proofs.DeedLemmas.{deed-keeps}

@@ -15,4 +15,5 @@ mod SleepLemmas
 mod LeaveLemmas
 mod AwakeLemmas
 mod FewLemmas
+mod FillLemmas
 pub mod OfferingLemmas

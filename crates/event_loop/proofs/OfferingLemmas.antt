@@ -1,28 +1,27 @@
 -- Writes to a client's port, each of what the client was offered before.
-use Rattle.std.proofs.Common.{◌≡◌, ℕ, ◌<◌, ◌≤◌, ◌-◌, suc, arith, List, [], ◌∷◌, ◌++◌, length, refl, sym, ap, subst, ◌∙◌}
+use Rattle.std.proofs.Common.{◌≡◌, ℕ, ◌<◌, ◌≤◌, ◌+◌, ◌-◌, suc, arith, List, [], ◌∷◌, ◌++◌, refl, sym, ap, subst, ◌∙◌}
 use Rattle.std.proofs.Common.{append_assoc, append-nil, Option, Some, None, Result, Ok, option_map}
 use Rattle.std.specs.Result.{result_ok}
 use Rattle.protocol.specs.Catalog.{Config}
 use Rattle.protocol.specs.Client.{offered}
-use Rattle.protocol.specs.World.{World, client_of, step}
+use Rattle.protocol.specs.World.{World, step}
 use Rattle.protocol.specs.World.Event.{Take}
 use Rattle.server_core.specs.declared.client.Gone.{Gone}
 use Rattle.server_core.specs.declared.client.Offer.{Offer}
 use Rattle.server_core.specs.declared.client.Offer.TheVariants.{Bytes}
+use Rattle.server_core.specs.Filling.{IsOffered, client_at}
 use Rattle.server_core.specs.Refusals.{offer_of}
 use Rattle.server_core.specs.ServerValues.{ServerValue, StandsAt}
 use Rattle.server_core.proofs.TakeLemmas.{offer-then-take}
 use Rattle.event_loop.specs.declared.seat.Seat.{Seat}
-use Rattle.event_loop.specs.declared.passes.Onward.{Onward}
 use Rattle.event_loop.specs.declared.passes.Onward.TheVariants.{On, Stop, Over}
 use Rattle.ports.specs.Calls.{Call, Tells}
-use Rattle.ports.specs.Calls.Call.{Write}
 use Rattle.ports.specs.declared.answers.Put.TheVariants.{Took as TookPut}
 use Rattle.event_loop.specs.Deeds.{Deed, Tally, calls_of, calls_in, tallied, world_beyond}
 use Rattle.event_loop.specs.Deeds.Deed.{Writes}
-use Rattle.event_loop.specs.Going.{Does, Ends, GoesOn, Once, Step, Whole}
-use Rattle.event_loop.specs.Offering.{HandsSome, IsOffered, OnceOffered, SoFarOffered}
-use Rattle.event_loop.specs.Passes.{ClientWrites, client_at}
+use Rattle.event_loop.specs.Going.{Does, Once, Whole}
+use Rattle.event_loop.specs.Offering.{HandsSome, OnceOffered, SoFarOffered}
+use Rattle.event_loop.specs.Passes.{ClientWrites}
 use Rattle.event_loop.specs.Passes.ClientWrites.{enough, took}
 use Rattle.event_loop.proofs.DeedLemmas.{Tells-nil, Tells-trans, faithful-append, flat_map-append, one-less}
 use Rattle.event_loop.proofs.DeedLemmas.{tallied-append, world_beyond-append}
@@ -41,7 +40,7 @@ pub wrote-on : (config : Config) (w : World) (k count : ℕ) (a b : Option (List
     → StandsAt last config (step config (step config v (Take k count)) (Take k 0)))
     → ((v : World) → StandsAt mid config v → result_ok next ≡ option_map (λ c. offer_of (offered v.history c))
     (client_at (step config v (Take k count)) k))
-    → OnceOffered config k w a b last t s s next
+    → OnceOffered config k w a b last t s s next 1
 wrote-on config w k count a b mid last t s found next offers hands stands answer =
     let same : step config (step config w (Take k 0)) (Take k count) ≡ step config w (Take k count) =
     offer-then-take config w k count (bytes-found w k (found-bytes found hands.is ∙ offers.answer)) in
@@ -56,7 +55,10 @@ wrote-on config w k count a b mid last t s found next offers hands stands answer
       };
       counted = refl;
       faithful = (hands.may.all, tt);
-      how = λ n ds w' o rest. took hands.bytes count hands.may hands.some hands.fits rest;
+      how = λ n ds w' o rest.
+          let more : suc n ≡ n + 1 = omega arith in
+          subst (λ m. ClientWrites config k m w s (Writes k s.port hands.bytes (Ok (TookPut count)) ∷ ds) w' o) more
+          (took hands.bytes count hands.may hands.some hands.fits rest);
     }
 
 -- The port took some bytes, and the client was told so.
@@ -84,14 +86,17 @@ offered-begins config k limit w calls server t s found offers = record {
   how = λ ds w' o rest. rest;
 }
 
+less-by : (left made : ℕ) → made ≤ left → (left - made) + made ≡ left
+less-by left made few = omega arith
+
 module _ (config : Config) (k limit left : ℕ) (some : 0 < left) (w : World) (a b c : Option (List Call))
     (mid last : ServerValue) (t : Tally) (s s' : Seat) (found : Result Offer Gone)
     (so_far : SoFarOffered config k limit left w a b mid t s s' found) where
-  -- one write more
-  pub offered-goes-on : (s'' : Seat) (next : Result Offer Gone)
-      → ((v : World) → IsOffered config v k found mid → OnceOffered config k v b c last t s' s'' next)
-      → SoFarOffered config k limit (left - 1) w a c last t s s'' next
-  offered-goes-on s'' next once =
+  -- so many writes more
+  pub offered-goes-on : (s'' : Seat) (next : Result Offer Gone) (made : ℕ) → made ≤ left
+      → ((v : World) → IsOffered config v k found mid → OnceOffered config k v b c last t s' s'' next made)
+      → SoFarOffered config k limit (left - made) w a c last t s s'' next
+  offered-goes-on s'' next made few once =
       let v : World = world_beyond config w so_far.deeds in
       let x = once v so_far.offers in
       record {
@@ -106,9 +111,9 @@ module _ (config : Config) (k limit left : ℕ) (some : 0 < left) (w : World) (a
         how = λ ds w' o p.
             subst (λ l. ClientWrites config k limit w s l w' o) (sym (append_assoc so_far.deeds x.deeds ds))
             (so_far.how (x.deeds ++ ds) w' o
-            (subst (λ n. ClientWrites config k n v s' (x.deeds ++ ds) w' o) (sym (one-less left some))
-            (x.how (left - 1) ds w' o
-            (subst (λ u. ClientWrites config k (left - 1) u s'' ds w' o)
+            (subst (λ n. ClientWrites config k n v s' (x.deeds ++ ds) w' o) (less-by left made few)
+            (x.how (left - made) ds w' o
+            (subst (λ u. ClientWrites config k (left - made) u s'' ds w' o)
             (world_beyond-append config w so_far.deeds x.deeds) p))));
       }
 

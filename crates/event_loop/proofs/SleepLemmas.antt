@@ -1,5 +1,5 @@
 -- The pass over a seat that sleeps makes no call.
-use Rattle.std.proofs.Common.{◌≡◌, ℕ, zero, suc, true, false, Bool, List, [], ◌∷◌, refl, sym, ap, subst, ◌∙◌, Option}
+use Rattle.std.proofs.Common.{◌≡◌, ℕ, zero, suc, true, false, List, [], refl, sym, ap, subst, Option}
 use Rattle.std.proofs.Common.{Some, None}
 use Rattle.std.proofs.Common.{option_map}
 use Rattle.std.specs.Prelude.{is_some, slice_get}
@@ -9,6 +9,7 @@ use Rattle.protocol.specs.World.{World, client_of}
 use Rattle.protocol.proofs.FoundLemmas.{both}
 use Rattle.server_core.specs.declared.client.Offer.{Offer}
 use Rattle.server_core.specs.declared.client.Offer.TheVariants.{Bytes, Ended, Idle}
+use Rattle.server_core.specs.Filling.{client_at}
 use Rattle.server_core.specs.Marks.{IsSpared}
 use Rattle.server_core.specs.Refusals.{is_idle as finds_none, offer_of}
 use Rattle.server_core.specs.ServerValues.{ServerValue, StandsAt, mark_at}
@@ -17,7 +18,7 @@ use Rattle.event_loop.specs.declared.seat.Role.TheVariants.{Client as ClientRole
 use Rattle.event_loop.specs.declared.seat.Seat.{Seat}
 use Rattle.ports.specs.Calls.{Call}
 use Rattle.event_loop.specs.Deeds.{Tally, world_beyond}
-use Rattle.event_loop.specs.Passes.{ClientReads, ClientWrites, client_at}
+use Rattle.event_loop.specs.Passes.{ClientReads, ClientWrites}
 use Rattle.event_loop.specs.Passes.ClientReads.{enough as enough_reads, not_readable}
 use Rattle.event_loop.specs.Feeding.{FeedReads}
 use Rattle.event_loop.specs.Feeding.FeedReads.{enough as enough_fed, not_readable as not_fed}

@@ -10,6 +10,7 @@ use Rattle.server_core.specs.declared.client.Offer.{Offer}
 use Rattle.server_core.specs.declared.client.Offer.TheVariants.{Bytes, Ended, Idle}
 use Rattle.server_core.specs.Refusals.{is_idle as finds_none, offer_when, offer_of}
 use Rattle.server_core.specs.ServerValues.{ServerValue, StandsAt}
+use Rattle.server_core.specs.Filling.{client_at, lent_to}
 use Rattle.server_core.specs.Marks.{IsSpared}
 use Rattle.event_loop.specs.declared.seat.Seat.{Seat}
 use Rattle.ports.specs.declared.answers.Put.TheVariants.{Took, Later}
@@ -19,7 +20,7 @@ use Rattle.ports.specs.Calls.{Call, Tells}
 use Rattle.ports.specs.Calls.Call.{Write, Shut}
 use Rattle.event_loop.specs.Deeds.{Tally}
 use Rattle.event_loop.specs.Deeds.Deed.{Writes, Offers, Closes}
-use Rattle.event_loop.specs.Passes.{ClientWrites, MayWrite, client_at, lent_to, is_over_in, unwritable}
+use Rattle.event_loop.specs.Passes.{ClientWrites, MayWrite, is_over_in, unwritable}
 use Rattle.event_loop.specs.Passes.ClientWrites.{enough, not_writable, idle, ended, took, took_none, later, failed}
 use Rattle.event_loop.specs.Going.{Once, Whole}
 use Rattle.event_loop.proofs.DeedLemmas.{Tells-nil, Tells-trans}

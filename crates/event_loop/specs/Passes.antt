@@ -1,10 +1,10 @@
 -- How a loop goes through its ports: each port's pass by itself.
 -- The loop is this project's own.
 use Rattle.std.specs.Prelude.{◌≡◌, ℕ, zero, suc, ◌≤◌, ◌<◌, Bool, true, false, List, [], ◌∷◌, ◌++◌, length, Option, Some}
-use Rattle.std.specs.Prelude.{None, option_map, unwrap_or, Ok, Err, slice_get}
+use Rattle.std.specs.Prelude.{None, option_map, unwrap_or, Ok, Err}
 use Rattle.protocol.specs.Catalog.{Config}
-use Rattle.protocol.specs.Client.{Client, offered}
-use Rattle.protocol.specs.World.{World, world_from, client_of, taken_by}
+use Rattle.protocol.specs.World.{World, world_from, taken_by}
+use Rattle.server_core.specs.Filling.{client_at, lent_to}
 use Rattle.server_core.specs.Refusals.{room_of}
 use Rattle.event_loop.specs.declared.seat.Role.TheVariants.{Client as ClientRole}
 use Rattle.event_loop.specs.declared.seat.Seat.{Seat}
@@ -14,17 +14,9 @@ use Rattle.ports.specs.Calls.Given.{Piece, Nothing, TheEnd, Failure}
 use Rattle.event_loop.specs.Deeds.{Deed, events_of}
 use Rattle.event_loop.specs.Deeds.Deed.{Reads, Writes, Offers, Closes}
 
--- the k-th client, where it is open
-abbrev pub client_at : World → ℕ → Option Client
-client_at w k = client_of (slice_get w.connections k)
-
 -- how many bytes the k-th client may send
 abbrev pub room_in : World → ℕ → ℕ
 room_in w k = unwrap_or (option_map room_of (client_at w k)) 0
-
--- what waits for the k-th client once it is offered something
-abbrev pub lent_to : World → ℕ → List ℕ
-lent_to w k = unwrap_or (option_map (λ c. (offered w.history c).waiting) (client_at w k)) []
 
 -- The k-th client's connection is over: an offer finds that nothing waits in its end.
 abbrev pub is_over_in : World → ℕ → Bool

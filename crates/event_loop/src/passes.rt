@@ -14,19 +14,23 @@ ghost use Rattle.ports.specs.Calls.{Tells};
 ghost use Rattle.ports.specs.Calls.Call.{Shut};
 ghost use Rattle.ports.specs.Decisions.{Decides};
 ghost use Rattle.ports.specs.declared.decisions.Decision.TheVariants.{Ends};
+ghost use Rattle.server_core.specs.Filling.{IsOffered, client_at};
 ghost use Rattle.server_core.specs.Marks.{LeavesOthers};
 ghost use Rattle.server_core.specs.Refusals.{offer_of};
 ghost use Rattle.server_core.specs.ServerValues.{MayTake, StandsAt};
 ghost use Rattle.server_core.specs.declared.client.Offer.TheVariants.{Idle};
 ghost use Rattle.event_loop.specs.Deeds.{Tally};
-ghost use Rattle.event_loop.specs.Passes.{ClientReads, ClientWrites, client_at, room_in};
+ghost use Rattle.event_loop.specs.Passes.{ClientReads, ClientWrites, room_in};
 ghost use Rattle.event_loop.specs.Going.{Once, Whole, if_open};
-ghost use Rattle.event_loop.specs.Offering.{Hands, IfTook, IfWrites, IsOffered, WritesOn};
+ghost use Rattle.event_loop.specs.Offering.{Hands, HandsPieces, IfTook, IfWrites, WritesOn};
 
 use crate::deciding::end;
 use crate::seat::{Role, Seat};
 use ports::{Ending, Got, PortFault, Ports, Put};
-use server_core::{Client, Gone, Offer, Server};
+use server_core::{Client, Filled, Gone, Offer, Server};
+
+/// How many bytes a packet has.
+pub const PACKET: usize = 520;
 
 /// How a pass goes on after a step.
 #[derive(Clone, Copy, Drop)]
@@ -214,36 +218,89 @@ fn hand<P: Ports>(
     }
 }
 
+/// Whole packets that wait for a client are handed to its port one after the other, at most so many, once the client was
+/// offered something and this was found. None is handed where the port has no room for two: one alone may be taken in
+/// part, and is left to `hand`.
+fn hand_pieces<P: Ports>(
+    server: &mut Server,
+    ports: &mut P,
+    client: &Client,
+    port: u64,
+    found: Result<Offer, Gone>,
+    most: usize,
+    pieces: &mut Vec<u8>,
+) -> Filled
+    ensures hands { (config : Config) (w : World) → IsOffered config w client.now found server.old →
+        HandsPieces config w client.now port (P.calls ports.old) (P.calls ports.new) result server.new }
+    ensures most { result.count ≤ most }
+    ensures nothing { result.count ≡ 0 → P.calls ports.new ≡ P.calls ports.old }
+    ensures others { LeavesOthers client.now server.old server.new }
+{
+    if most < 2 || !matches!(found, Ok(Offer::Bytes)) {
+        return Filled { count: 0, found };
+    }
+    let fits = most.min(pieces.capacity() / PACKET);
+    let room = ports.make_room(port, fits * PACKET) / PACKET;
+    if room < 2 {
+        return Filled { count: 0, found };
+    }
+    pieces.clear();
+    let filled = server.fill(client, found, room, pieces);
+    if filled.count > 0 {
+        ports.write_pieces(port, pieces.as_slice(), PACKET);
+    }
+    filled
+}
+
 /// How a pass goes on after a write.
 #[derive(Clone, Copy)]
 enum Next {
-    /// With the next write: the client was offered what comes next, and this was found.
-    Write(Result<Offer, Gone>),
+    /// So many writes were made, and it goes on with the next one: the client was offered what comes next, and this was
+    /// found.
+    Write {
+        found: Result<Offer, Gone>,
+        made: usize,
+    },
     /// Not in this turn.
     Stop,
     /// Never: the port is shut.
     Over,
 }
 
-/// One write to a client's port, of all that waits for the client, after which it is offered what comes next.
+/// Writes to a client's port, at most so many, after which the client is offered what comes next: of whole packets, one
+/// each, where the port has room for them, and else one of all that waits for the client.
 fn write_on<P: Ports>(
     server: &mut Server,
     ports: &mut P,
     client: &Client,
     seat: &mut Seat,
     found: Result<Offer, Gone>,
+    most: usize,
+    pieces: &mut Vec<u8>,
 ) -> Next
     requires role { seat.old.role ≡ Role.Client client.now }
     requires writable { seat.old.writable ≡ true }
+    requires some { 0 < most }
     ensures goes { (t : Tally) (config : Config) (w : World) → IsOffered config w client.now found server.old →
         WritesOn config client.now w (P.calls ports.old) (P.calls ports.new) server.new t seat.old seat.new result }
+    ensures made { IfWrites result (λ made. (0 < made) × (made ≤ most)) }
     ensures role { seat.new.role ≡ Role.Client client.now }
-    ensures writable { IfWrites result (seat.new.writable ≡ true) }
+    ensures writable { IfWrites result (λ _. seat.new.writable ≡ true) }
     ensures port { seat.new.port ≡ seat.old.port }
     ensures others { LeavesOthers client.now server.old server.new }
 {
-    match hand(server, ports, client, seat, found) {
-        Handing::Took(count) => Next::Write(server.go_on(client, count)),
+    let filled = hand_pieces(server, ports, client, seat.port, found, most, pieces);
+    if filled.count > 0 {
+        return Next::Write {
+            found: filled.found,
+            made: filled.count,
+        };
+    }
+    match hand(server, ports, client, seat, filled.found) {
+        Handing::Took(count) => Next::Write {
+            found: server.go_on(client, count),
+            made: 1,
+        },
         Handing::Stopped => Next::Stop,
         Handing::Closed => Next::Over,
     }
@@ -297,6 +354,7 @@ fn write_all<P: Ports>(
     ports: &mut P,
     client: &Client,
     seat: &mut Seat,
+    pieces: &mut Vec<u8>,
     limit: usize,
 ) -> bool
     requires role { seat.old.role ≡ Role.Client client.now }
@@ -313,10 +371,10 @@ fn write_all<P: Ports>(
     let mut found = server.offer(client);
     let mut left = limit;
     'writes: while left > 1 {
-        match write_on(server, ports, client, seat, found) {
-            Next::Write(next) => {
+        match write_on(server, ports, client, seat, found, left - 1, pieces) {
+            Next::Write { found: next, made } => {
                 found = next;
-                left -= 1;
+                left -= made;
             }
             Next::Stop => return true,
             Next::Over => return false,
@@ -337,6 +395,7 @@ pub fn write_client<P: Ports>(
     ports: &mut P,
     client: &Client,
     seat: &mut Seat,
+    pieces: &mut Vec<u8>,
     limit: usize,
 ) -> bool
     requires role { seat.old.role ≡ Role.Client client.now }
@@ -354,5 +413,5 @@ pub fn write_client<P: Ports>(
     if finds_nothing(server, client) {
         return true;
     }
-    write_all(server, ports, client, seat, limit)
+    write_all(server, ports, client, seat, pieces, limit)
 }

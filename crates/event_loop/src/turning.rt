@@ -24,7 +24,7 @@ ghost use Rattle.event_loop.specs.declared.seat.Role.TheVariants.{Client as Clie
 
 use crate::feeding::read_feed;
 use crate::hearing::hear;
-use crate::passes::{read_client, write_client};
+use crate::passes::{PACKET, read_client, write_client};
 use crate::seat::{Role, Seat};
 use crate::seats::{Seats, clients, go, settle, skip, wake_if};
 use crate::waking::wake_after;
@@ -42,6 +42,9 @@ const CLIENT_READ: usize = 1024;
 /// How many bytes a feed's read asks for at most: one record, so that no feed brings more records in a pass than a
 /// client takes.
 const FEED_READ: usize = 512;
+
+/// How many packets a port is handed at once, at most.
+const PIECES: usize = 64;
 
 /// What a turn did.
 #[derive(Clone, Copy, Drop)]
@@ -73,6 +76,7 @@ fn pass<P: Ports>(
     ports: &mut P,
     seat: &mut Seat,
     buffer: &mut [u8; CLIENT_READ],
+    pieces: &mut Vec<u8>,
     limit: usize,
     refused: &mut u64,
 ) -> bool
@@ -87,7 +91,7 @@ fn pass<P: Ports>(
         Role::Client(client) => {
             let client = client.same();
             read_client(server, ports, &client, seat, buffer, limit)
-                && write_client(server, ports, &client, seat, limit)
+                && write_client(server, ports, &client, seat, pieces, limit)
         }
         Role::Feed(rest) => read_feed(
             server,
@@ -117,6 +121,7 @@ fn pass_at<P: Ports>(
     seats: &mut Seats,
     at: usize,
     buffer: &mut [u8; CLIENT_READ],
+    pieces: &mut Vec<u8>,
     limit: usize,
     refused: &mut u64,
 ) -> usize
@@ -133,7 +138,15 @@ fn pass_at<P: Ports>(
         (feed_tally happenings refused.new) ss (take result seats.new.all.items) (drop result seats.new.all.items) }
 {
     let before = server.arrivals();
-    let stays = pass(server, ports, &mut seats.all[at], buffer, limit, refused);
+    let stays = pass(
+        server,
+        ports,
+        &mut seats.all[at],
+        buffer,
+        pieces,
+        limit,
+        refused,
+    );
     let brought = has_more(server, before);
     wake_after(
         server,
@@ -156,6 +169,7 @@ fn pass_all<P: Ports>(
     server: &mut Server,
     ports: &mut P,
     seats: &mut Seats,
+    pieces: &mut Vec<u8>,
     limit: usize,
     refused: &mut u64,
 )
@@ -170,7 +184,16 @@ fn pass_all<P: Ports>(
     let mut buffer = [0u8; CLIENT_READ];
     let mut at = skip(server, seats.all.as_slice(), seats.awake.as_slice(), 0);
     'passes: while at < seats.all.len() {
-        let next = pass_at(server, ports, seats, at, &mut buffer, limit, refused);
+        let next = pass_at(
+            server,
+            ports,
+            seats,
+            at,
+            &mut buffer,
+            pieces,
+            limit,
+            refused,
+        );
         at = skip(server, seats.all.as_slice(), seats.awake.as_slice(), next);
     }
 }
@@ -182,6 +205,8 @@ pub struct Loop<P: Ports> {
     server: Server,
     ports: P,
     seats: Seats,
+    /// Packets that are handed to a port at once.
+    pieces: Vec<u8>,
     alloc: Global,
     refused: u64,
 }
@@ -215,11 +240,13 @@ impl<P: Ports + Drop> Loop<P> {
         ensures refused { IfOk result (λ made. made.refused ≡ 0) }
     {
         let seats = Seats::new(alloc, config.max_connections());
+        let pieces = Vec::with_capacity(alloc, PIECES * PACKET)?;
         let server = Server::new(alloc, config)?;
         Ok(Loop {
             server,
             ports,
             seats,
+            pieces,
             alloc,
             refused: 0,
         })
@@ -259,6 +286,7 @@ impl<P: Ports> Loop<P> {
             &mut self.server,
             &mut self.ports,
             &mut self.seats,
+            &mut self.pieces,
             limit,
             &mut refused,
         );

@@ -1,4 +1,4 @@
-use Rattle.std.proofs.Common.{◌<◌, ◌∙◌, arith, refl}
+use Rattle.std.proofs.Common.{◌<◌, ◌≤◌, ◌-◌, ◌∙◌, arith, refl}
 use Rattle.event_loop.proofs.LeaveLemmas.{leaves_then}
 use Rattle.event_loop.proofs.OfferingLemmas.{offered-begins, offered-goes-on, offered-over, offered-runs-out}
 use Rattle.event_loop.proofs.OfferingLemmas.{offered-stops}
@@ -29,14 +29,18 @@ writes-preserved g c =
       role = c.write_on.ensures.role;
       writable = c.in-Write.ensures.writable;
       port = c.write_on.ensures.port ∙ c.writes.invariant.port;
-      some = let more : 1 < c.writes.left = c.writes-test.true in omega arith;
+      some =
+          let more : 1 < c.writes.left = c.writes-test.true in
+          let few : c.in-Write.made ≤ c.writes.left - 1 = c.in-Write.ensures.made.1 in
+          omega arith;
       others = leaves_then c.args.client.now c.args.server.now c.writes.server c.write_on.new.server
           c.writes.invariant.others c.write_on.ensures.others;
       goes = λ t config w stands.
           offered-goes-on config c.args.client.now c.args.limit c.writes.left
           (let some = c.writes.invariant.some in omega arith) w (calls c.args.ports.now) (calls c.writes.ports)
           (calls c.write_on.new.ports) c.writes.server c.write_on.new.server t c.args.seat.now c.writes.seat
-          c.writes.found (c.writes.invariant.goes t config w stands) c.write_on.new.seat c.in-Write.next
+          c.writes.found (c.writes.invariant.goes t config w stands) c.write_on.new.seat c.in-Write.next c.in-Write.made
+          (let few : c.in-Write.made ≤ c.writes.left - 1 = c.in-Write.ensures.made.1 in omega arith)
           (λ v offers. c.in-Write.ensures.goes t config v offers);
     }
 
