@@ -152,6 +152,11 @@ def unwanted(patterns):
     return lambda: per(bench("unwanted", patterns, 65_536, 12), bench("unwanted", patterns, 65_536, 2), 10 * 65_536)
 
 
+def filled():
+    """A packet of 63 that are handed in one call."""
+    return per(bench("filled", 1, 65_536, 900), bench("filled", 1, 65_536, 450), 450 * 63)
+
+
 def named():
     """STATION of the 200th station that a client names."""
     return per(bench("named", 200, 200), bench("named", 199, 200), 200)
@@ -305,6 +310,7 @@ ROWS = (
     Row(900, "an offer and the taking of it, FETCH of a full ring of 65,536", rounds("packets", 1, 65_536)),
     Row(750, "the same with 64 requests, records coming round, full rings of 4,096", rounds("packets", 64, 4_096)),
     Row(900, "the same with 255 requests, full rings of 256", rounds("packets", 255, 256)),
+    Row(430, "a packet of 63 that are handed in one call, FETCH of a full ring of 65,536", filled),
     Row(900, "an offer that is Idle, 32 requests, full rings of 65,536", rounds("idle", 32, 65_536)),
     Row(20_000, "an offer after 1,000 records that its pattern does not let pass", passed(1)),
     Row(300, "the offer after that", passed(2)),

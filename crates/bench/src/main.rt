@@ -10,8 +10,9 @@
 //!
 //! Works with a server: `arrive CAPACITY ROUNDS`: a record arrives at one of 1,024 stations, whose ring holds so many
 //! and is full. `packets REQUESTS CAPACITY ROUNDS`: a client that asks by FETCH for so many stations, whose rings are
-//! full, is offered a packet and takes it. `idle REQUESTS CAPACITY ROUNDS`: a client that asks for them by DATA is
-//! offered something, and nothing arrived. `passed OFFERS ROUNDS`: 1,000 records arrive that no pattern of a client
+//! full, is offered a packet and takes it. `filled REQUESTS CAPACITY ROUNDS`: the same client is handed 63 packets in
+//! one call. `idle REQUESTS CAPACITY ROUNDS`: a client that asks for them by DATA is offered something, and nothing
+//! arrived. `passed OFFERS ROUNDS`: 1,000 records arrive that no pattern of a client
 //! lets pass, and the client is offered something so many times. `unwanted PATTERNS CAPACITY ROUNDS`: a client asks
 //! for a full ring of three channels with so many patterns that no record passes, or for a time to come if there are
 //! none. `garbage ROUNDS`: a client sends 1,024 bytes without an end of line. `found ROUNDS`: a station of 1,024 is
@@ -96,6 +97,9 @@ fn sum_of_serving(
     let sum = match (work, numbers) {
         ("arrive", [capacity, rounds]) => serving::arrive(alloc, *capacity, *rounds),
         ("packets", [requests, capacity, rounds]) => serving::packets(
+            alloc, *requests, *capacity, *rounds,
+        ),
+        ("filled", [requests, capacity, rounds]) => serving::filled(
             alloc, *requests, *capacity, *rounds,
         ),
         ("idle", [requests, capacity, rounds]) => serving::idle(

@@ -41,6 +41,39 @@ pub fn packets(alloc: Global, requests: u32, capacity: u32, rounds: u32) -> anyh
     )
 }
 
+/// How many packets a call hands at most, and how many bytes that is.
+const MANY: usize = 63;
+const ROOM: usize = 32_760;
+
+/// Packets are handed, many in one call. Answers how many.
+fn hand_many(alloc: Global, server: &mut Server, client: &Client) -> anyhow::Result<u64> {
+    let mut bytes = Vec::with_capacity(alloc, ROOM)?;
+    let found = server.offer(client);
+    let filled = server.fill(client, found, MANY, &mut bytes);
+    Ok(filled.count as u64)
+}
+
+/// A client asks for so many stations. It is handed packets, many in one call.
+fn hand_all(alloc: Global, server: &mut Server, requests: u32, rounds: u32) -> anyhow::Result<u64> {
+    let client = asking(alloc, server, requests, b"FETCH\r")?;
+    let mut sum: u64 = 0;
+    for _ in 0..rounds {
+        sum = sum.wrapping_add(hand_many(alloc, server, &client)?);
+    }
+    Ok(sum)
+}
+
+/// Packets are handed, 63 in one call.
+pub fn filled(alloc: Global, requests: u32, capacity: u32, rounds: u32) -> anyhow::Result<u64> {
+    at_full_server(
+        alloc,
+        0,
+        requests,
+        capacity,
+        |server| hand_all(alloc, server, requests, rounds),
+    )
+}
+
 /// Offers of which none has anything.
 fn offers(server: &mut Server, client: &Client, rounds: u32) -> u64 {
     let mut idle: u64 = 0;
