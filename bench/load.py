@@ -23,9 +23,10 @@ HEADER = (
 )
 
 
-def record(number):
-    """The record of station GE WLF that is fed as the `number`-th."""
-    return (HEADER.ljust(64, b"\0") + number.to_bytes(8, "little")).ljust(RECORD, b"\0")
+def record(number, station=b"WLF  "):
+    """The record of a station of network GE, of five bytes with spaces behind it, that is fed as the `number`-th."""
+    header = HEADER[:8] + station + HEADER[13:]
+    return (header.ljust(64, b"\0") + number.to_bytes(8, "little")).ljust(RECORD, b"\0")
 
 
 def stream_of(first, count):
@@ -60,6 +61,37 @@ def reader(port):
     client.sendall(b"END\r")
     client.setblocking(False)
     return client
+
+
+def fill(port, stations, count):
+    """Feeds so many records to each of the stations W000, W001 and so on, by turns, and waits until they are taken."""
+    feed = dial(port)
+    for number in range(count):
+        feed.sendall(b"".join(record(number, b"W%03d " % at) for at in range(stations)))
+    feed.shutdown(socket.SHUT_WR)
+    while feed.recv(1):
+        pass
+    feed.close()
+
+
+def fetcher(port, stations):
+    """A connection of a reader that asks for all that is held of these stations, but for END."""
+    client = dial(port)
+    for at in range(stations):
+        ask(client, b"STATION W%03d GE\r" % at, b"OK\r\n")
+        ask(client, b"FETCH\r", b"OK\r\n")
+    return client
+
+
+def take_all(client, most=None):
+    """Takes what comes until the connection ends, or so many bytes; how many they were."""
+    taken = 0
+    while most is None or taken < most:
+        piece = client.recv(PIECE if most is None else min(PIECE, most - taken))
+        if not piece:
+            break
+        taken += len(piece)
+    return taken
 
 
 def idle_client(port):

@@ -5,12 +5,15 @@
 
 FANOUT is a program that is called with a client port, a feed port and, to write packet by packet, the word `single`. It takes
 records of 512 bytes at the feed port and sends each as a packet to every client that said END. Without it the server alone is
-measured.
+measured. The last rows are of one reader that asks for the full rings of 255 stations, beside a process that writes as many
+bytes to a connection, and does nothing else.
 """
 
 import os
+import socket
 import statistics
 import sys
+import time
 
 import load
 from programs import RunningProgram, config_file, raise_descriptor_limit, serve_words
@@ -24,19 +27,22 @@ code = "WLF"
 description = "One station"
 capacity = 65536
 """
-RECORDS = 20_000
+PACKETS = 320_000
 ROUNDS = 15
+STATIONS = 255
+HELD = 256
 
 
 def measured(words, readers, idle):
     """Packets a second, and the microseconds of a processor that a packet took, of a program that hands records on."""
+    records = min(20_000, PACKETS // readers)
     with RunningProgram(words) as program:
-        run = load.Load(*program.ports, readers, RECORDS, idle)
+        run = load.Load(*program.ports, readers, records, idle)
         before = program.cpu_seconds()
         took = run.run()
         used = program.cpu_seconds() - before
         run.close()
-    packets = readers * RECORDS
+    packets = readers * records
     return packets / took, used / packets * 1e6
 
 
@@ -52,12 +58,72 @@ def medians(programs, readers, idles):
 def print_table(programs):
     """Measures all and prints a line each."""
     print(f"{'packets/s':>12} {'us each':>8} {'to serve':>7}  what")
-    for readers, idles in ((16, [0, 500, 5000]), (1, [0])):
+    for readers, idles in ((1, [0]), (16, [0, 500, 5000]), (64, [0]), (1000, [0])):
         rows = medians(programs, readers, idles)
         rate = rows["serve", 0][0]
         for (name, idle), (packets, used) in rows.items():
             what = f"{name}, {readers} reader{'s' * (readers > 1)}" + (f", {idle} idle" if idle else "")
             print(f"{packets:12.0f} {used:8.2f} {packets / rate:7.2f}  {what}", flush=True)
+
+
+def many_stations():
+    """A configuration of 255 stations."""
+    stations = "".join(
+        f'\n[[station]]\nnetwork = "GE"\ncode = "W{at:03}"\ndescription = "One of many"\ncapacity = {HELD}\n' for at in range(STATIONS)
+    )
+    return 'title = "Wire"\n' + stations
+
+
+def fetched(config):
+    """Packets a second, and the microseconds of a processor that a packet took, of a server whose rings are full."""
+    with RunningProgram(serve_words(config)) as program:
+        load.fill(program.ports[1], STATIONS, HELD)
+        client = load.fetcher(program.ports[0], STATIONS)
+        before, start = program.cpu_seconds(), time.monotonic()
+        client.sendall(b"END\r")
+        taken = load.take_all(client)
+        took, used = time.monotonic() - start, program.cpu_seconds() - before
+    if taken != STATIONS * HELD * load.PACKET + len(b"END"):
+        raise SystemExit(f"{taken} bytes were fetched")
+    packets = STATIONS * HELD
+    return packets / took, used / packets * 1e6
+
+
+def written():
+    """The same of a process that writes as many bytes, and does nothing else."""
+    packets = STATIONS * HELD
+    with socket.create_server(("127.0.0.1", 0)) as listener:
+        child = os.fork()
+        if child == 0:
+            with listener.accept()[0] as peer:
+                whole = bytes(packets * load.PACKET)
+                peer.recv(1)
+                before = time.process_time()
+                peer.sendall(whole)
+                used = time.process_time() - before
+                peer.sendall(b"%.9f" % used)
+            os._exit(0)
+        client = load.dial(listener.getsockname()[1])
+        time.sleep(0.2)
+        start = time.monotonic()
+        client.sendall(b"G")
+        load.take_all(client, packets * load.PACKET)
+        took = time.monotonic() - start
+        used = float(client.recv(64))
+        os.waitpid(child, 0)
+    return packets / took, used / packets * 1e6
+
+
+def print_fetch(config):
+    """Measures a reader of all stations, and prints a line, and one of what bare writes take."""
+    seen = {"serve, FETCH of 255 stations": [], "bare writes": []}
+    for _ in range(ROUNDS):
+        seen["serve, FETCH of 255 stations"].append(fetched(config))
+        seen["bare writes"].append(written())
+    rows = {name: tuple(map(statistics.median, zip(*figures))) for name, figures in seen.items()}
+    rate = rows["serve, FETCH of 255 stations"][0]
+    for name, (packets, used) in rows.items():
+        print(f"{packets:12.0f} {used:8.2f} {packets / rate:7.2f}  {name}", flush=True)
 
 
 def fanout_words(path, *options):
@@ -74,6 +140,8 @@ def main():
             programs["fan-out"] = fanout_words(path)
             programs["fan-out, packet by packet"] = fanout_words(path, "single")
         print_table(programs)
+    with config_file(many_stations()) as config:
+        print_fetch(config)
 
 
 if __name__ == "__main__":
