@@ -1,5 +1,5 @@
 //! Lists of addresses and masks.
-ghost use Rattle.std.specs.Prelude.{◌≡◌, ◌↔◌, true};
+ghost use Rattle.std.specs.Prelude.{◌≡◌, ◌↔◌, IsTrue};
 ghost use Rattle.std.specs.List.{list_any};
 ghost use Rattle.protocol.specs.Access.{is_in};
 ghost use Rattle.access_list.specs.Tokens.{is_refused, is_separator};
@@ -43,7 +43,7 @@ impl AccessList {
     /// bits in which its mask is one.
     pub fn parse(alloc: Global, text: &[u8]) -> Result<AccessList, AccessFault>
         ensures ok { IfOk result (λ list. list_of text.now ≡ Ok list) }
-        ensures words { IfOk result (λ list. (a : ℕ) → (allows list a ≡ true) ↔ IsAllowed list a) }
+        ensures words { IfOk result (λ list. (a : ℕ) → IsTrue (allows list a) ↔ IsAllowed list a) }
         ensures err { IfErr result (λ fault. fault ≢ OutOfMemory → list_of text.now ≡ Err fault) }
     {
         let mut tokens = Vec::new(alloc);
@@ -99,7 +99,7 @@ impl AccessList {
     /// Whether another list has the same tokens in the same order. Then it allows the same addresses; one of other
     /// tokens, or of the same in another order, may also allow the same.
     pub fn is_same(&self, other: &AccessList) -> bool
-        ensures { (result ≡ true) ↔ (self.now ≡ other.now) }
+        ensures { IsTrue result ↔ (self.now ≡ other.now) }
     {
         are_same(self.tokens.as_slice(), other.tokens.as_slice())
     }
@@ -129,7 +129,7 @@ fn is_allowed(tokens: &[Token], address: u32) -> bool
 /// Whether two lists have the same tokens in the same order.
 #[tactic(auto, using(crate::proofs::SameLemmas::same_lemmas))]
 fn are_same(tokens: &[Token], others: &[Token]) -> bool
-    ensures { (result ≡ true) ↔ (tokens.now ≡ others.now) }
+    ensures { IsTrue result ↔ (tokens.now ≡ others.now) }
 {
     if tokens.len() != others.len() {
         return false;

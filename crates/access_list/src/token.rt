@@ -26,7 +26,7 @@ impl Model for Token {
 
 impl Token {
     ghost use Rattle.protocol.specs.Access.{is_in};
-    ghost use Rattle.std.specs.Prelude.{◌↔◌, Some, true};
+    ghost use Rattle.std.specs.Prelude.{◌↔◌, Some, IsTrue};
     ghost use Rattle.access_list.specs.Addresses.{address_of};
     ghost use Rattle.access_list.specs.Tokens.{mask_of, ones, token_by, token_of};
 
@@ -72,7 +72,7 @@ impl Token {
 
     /// Whether another token has the same address and the same mask.
     pub fn is_same(&self, other: &Token) -> bool
-        ensures { (result ≡ true) ↔ (self.now ≡ other.now) }
+        ensures { IsTrue result ↔ (self.now ≡ other.now) }
     {
         self.address == other.address && self.mask == other.mask
     }

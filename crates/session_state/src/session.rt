@@ -3,7 +3,7 @@
 //! Three calls serve `transfer` alone: `keep` takes the first arrival that a request wants and its cursor, `put` takes a
 //! packet with the position after it, and `state` tells which of its states a session is in without the data of it.
 ghost use Rattle.std.specs.Prelude.{◌≡◌, ◌≢◌, ◌≤◌, ◌<◌, ◌+◌, ◌-◌, ◌&&◌, IfOk, IfSome, OnErr, List, [], ◌∷◌, ◌++◌};
-ghost use Rattle.std.specs.Prelude.{length, drop};
+ghost use Rattle.std.specs.Prelude.{IsTrue, length, drop};
 ghost use Rattle.std.specs.Prelude.{◌↔◌, map, nat_lt, not, is_ok, is_some, true, false, codes, ℕ, Some, slice_get};
 ghost use Rattle.protocol.specs.History.{Arrival};
 ghost use Rattle.session_state.specs.Entries.{IsOnlyAt, TellsAhead};
@@ -182,7 +182,7 @@ impl Session {
     /// Whether all requests of its transfer have looked at their rings since so many records had arrived, as far as it
     /// was kept.
     pub fn has_looked_at(&self, arrivals: u64) -> bool
-        ensures { (result ≡ true) ↔ (self.now.looked ≡ Some arrivals) }
+        ensures { IsTrue result ↔ (self.now.looked ≡ Some arrivals) }
     {
         self.looked == Some(arrivals)
     }
