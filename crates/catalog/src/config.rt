@@ -132,10 +132,7 @@ impl Config {
             Ok(max_connections) => max_connections,
             Err(fault) => return Err(ConfigError::at(fault, Step::MaxConnections)),
         };
-        let listed = match stations_of(alloc, table) {
-            Ok(listed) => listed,
-            Err(error) => return Err(error),
-        };
+        let listed = stations_of(alloc, table)?;
         Ok(Config {
             title,
             max_connections,

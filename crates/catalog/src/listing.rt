@@ -95,10 +95,7 @@ fn stations_read(alloc: Global, values: &[Value]) -> Result<IndexedStations, Con
     let mut stations = Vec::new(alloc);
     let mut index = Index::new(alloc);
     for value in values {
-        let station = match station_of(alloc, stations.as_slice(), &mut index, value) {
-            Ok(station) => station,
-            Err(error) => return Err(error),
-        };
+        let station = station_of(alloc, stations.as_slice(), &mut index, value)?;
         if let Err(_) = stations.push(station) {
             return Err(ConfigError::at(ConfigFault::OutOfMemory, Step::Stations));
         }
@@ -130,10 +127,7 @@ fn station_of(
         Ok(table) => table,
         Err(fault) => return Err(ConfigError::at(fault, Step::Station(place, StationStep::Table))),
     };
-    let station = match Station::read(alloc, table, place) {
-        Ok(station) => station,
-        Err(error) => return Err(error),
-    };
+    let station = Station::read(alloc, table, place)?;
     let is_repeated = index.add(earlier, &station).map_err(|_| ConfigError::at(
         ConfigFault::OutOfMemory,
         Step::Stations,

@@ -97,19 +97,15 @@ fn send_once<R: Source, W: Sink>(
         (R.failures reader.old) (R.failures reader.new) (R.calls reader.old) (R.calls reader.new)
         (W.failures writer.old) (W.failures writer.new) (W.empty_writes writer.old) (W.empty_writes writer.new)) }
 {
-    match read_behind(reader, block, &rest[..held]) {
-        Ok(count) => {
-            let total = held + count;
-            let whole = total - total % RECORD;
-            match write_all(writer, &block[..whole]) {
-                Ok(()) => {
-                    put_rest(rest, &block[whole..total]);
-                    Ok(count)
-                }
-                Err(_) => Err(SendFault::Write),
-            }
+    let count = read_behind(reader, block, &rest[..held])?;
+    let total = held + count;
+    let whole = total - total % RECORD;
+    match write_all(writer, &block[..whole]) {
+        Ok(()) => {
+            put_rest(rest, &block[whole..total]);
+            Ok(count)
         }
-        Err(fault) => Err(fault),
+        Err(_) => Err(SendFault::Write),
     }
 }
 
@@ -143,10 +139,7 @@ pub fn send<R: Source, W: Sink>(reader: &mut R, writer: &mut W) -> Result<u64, S
     let mut held = 0;
     let mut sent = 0u64;
     'reads: for _ in 0..u64::MAX {
-        let count = match send_once(reader, writer, &mut block, &mut rest, held) {
-            Ok(count) => count,
-            Err(fault) => return Err(fault),
-        };
+        let count = send_once(reader, writer, &mut block, &mut rest, held)?;
         if count == 0 {
             return if held == 0 {
                 Ok(sent)

@@ -135,10 +135,8 @@ impl<T: OpenStream + Write + Drop> Feed<T> {
             CountsBeginning self.old.taken self.new.taken before
             (counted_part self.new.taken (T.contents self.new.stream)) (whole_part bytes))) }
     {
-        match feed_records(records, self) {
-            Ok(_) => Ok(()),
-            Err(failure) => Err(failure),
-        }
+        feed_records(records, self)?;
+        Ok(())
     }
 
     /// How many records the connection has taken whole.

@@ -30,17 +30,19 @@ fn tell_answer<R: Print + AllocGlobal>(rt: &R, bytes: &[u8]) -> Result<bool, Fai
     Ok(answer.is_silent)
 }
 
-/// Asks a server over a connection, and writes what it answers.
+/// Asks a server over a connection that is open, and writes what it answers. Whether a station is silent.
+fn tell_by<R: Print + Net + AllocGlobal>(rt: &R, stream: R::Stream) -> Result<bool, Failure> {
+    let bytes = ask(rt.alloc(), stream)?;
+    tell_answer(rt, bytes.as_slice())
+}
+
+/// Connects to a server, and writes what it answers. Whether a station is silent.
 fn tell_over<'a, R: Print + Net + AllocGlobal>(
     rt: &R,
     server: ServerAddress<'a>,
 ) -> Result<bool, Incident<'a>> {
     let stream = connection(rt, server)?;
-    let told = match ask(rt.alloc(), stream) {
-        Ok(bytes) => tell_answer(rt, bytes.as_slice()),
-        Err(failure) => Err(failure),
-    };
-    match told {
+    match tell_by(rt, stream) {
         Ok(is_silent) => Ok(is_silent),
         Err(failure) => Err(failure.at_server(server.word)),
     }

@@ -24,10 +24,8 @@ pub fn read_numbers(alloc: Global, bytes: &[u8]) -> Result<Vec<KeptNumber>, Conf
         → numbers_read (parse_document bytes.now) ≡ Err e) }
     ensures no_text { IfErr result (λ e. e ≢ ConfigFault.OutOfMemory → ¬ IsUtf8 bytes.now → e ≡ ConfigFault.Toml) }
 {
-    match table_of(alloc, bytes) {
-        Ok(table) => numbers_of(alloc, &table),
-        Err(fault) => Err(fault),
-    }
+    let table = table_of(alloc, bytes)?;
+    numbers_of(alloc, &table)
 }
 
 /// The numbers that a table has.
@@ -48,10 +46,7 @@ fn numbers_in(alloc: Global, values: &[Value]) -> Result<Vec<KeptNumber>, Config
 {
     let mut numbers = Vec::new(alloc);
     for value in values {
-        let number = match number_in(alloc, value) {
-            Ok(number) => number,
-            Err(fault) => return Err(fault),
-        };
+        let number = number_in(alloc, value)?;
         numbers.push(number).map_err(|_| ConfigFault::OutOfMemory)?;
     }
     Ok(numbers)

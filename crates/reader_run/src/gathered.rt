@@ -60,12 +60,8 @@ impl<S: Sink> RecordSink for Gathered<S> {
     }
 
     fn hand_on(&mut self) -> Result<(), WriteFault> {
-        match write_all(&mut self.sink, &self.records) {
-            Ok(()) => {
-                self.records.clear();
-                Ok(())
-            }
-            Err(fault) => Err(fault),
-        }
+        write_all(&mut self.sink, &self.records)?;
+        self.records.clear();
+        Ok(())
     }
 }

@@ -78,10 +78,7 @@ pub(crate) fn keep_behind<P: RecordSink, K: Keeper<P>>(
     ensures steps { Steps core.now.tally (P.written records.now) (K.done keeper.old) (K.done keeper.new) }
     ensures failure { CountsFailure (K.failures keeper.old) (K.failures keeper.new) result }
 {
-    match keeper.flush(records) {
-        Ok(()) => {}
-        Err(fault) => return Err(fault),
-    }
+    keeper.flush(records)?;
     keeper.keep(core.tally())
 }
 
@@ -101,11 +98,7 @@ pub(crate) fn keep_if_due<P: RecordSink, K: Keeper<P>>(
     if !keeper.is_due() {
         return Ok(());
     }
-    match keep_behind(core, records, keeper) {
-        Ok(()) => {
-            *kept = core.records();
-            Ok(())
-        }
-        Err(fault) => Err(fault),
-    }
+    keep_behind(core, records, keeper)?;
+    *kept = core.records();
+    Ok(())
 }

@@ -34,14 +34,10 @@ fn send<W: Sink>(core: &mut ReaderCore, writer: &mut W) -> Result<(), WriteFault
         (W.empty_writes writer.old) (W.empty_writes writer.new)) }
 {
     let outgoing = core.outgoing();
-    match write_all(writer, outgoing) {
-        Ok(()) => {
-            let count = outgoing.len();
-            core.sent(count);
-            Ok(())
-        }
-        Err(fault) => Err(fault),
-    }
+    write_all(writer, outgoing)?;
+    let count = outgoing.len();
+    core.sent(count);
+    Ok(())
 }
 
 /// Writes what is told: the records, and their lines only once the writer has taken all of the records.
@@ -66,14 +62,8 @@ fn write_output<O: Sink, P: RecordSink>(
         → WritesRecordsFirst (beside output.old waiting)
         (O.written out.old) (O.written out.new) (P.written records.old) (P.written records.new)) }
 {
-    match records.hand_on() {
-        Ok(()) => {}
-        Err(fault) => return Err(fault),
-    }
-    match write_all(out, output.lines()) {
-        Ok(()) => {}
-        Err(fault) => return Err(fault),
-    }
+    records.hand_on()?;
+    write_all(out, output.lines())?;
     output.clear();
     Ok(())
 }
@@ -133,10 +123,7 @@ fn put<P: RecordSink>(output: &mut Output, what: What<'_>, records: &mut P) -> R
             Ok(()) => Ok(()),
             Err(_) => Err(SinkFault::OutOfMemory),
         },
-        What::Packet(packet) => match put_packet(output, &packet, records) {
-            Ok(()) => Ok(()),
-            Err(fault) => Err(fault),
-        },
+        What::Packet(packet) => put_packet(output, &packet, records),
         What::End => Ok(()),
     }
 }
@@ -320,16 +307,14 @@ pub(crate) fn read_once<R: Source, W: Sink, O: Sink, P: RecordSink>(
         (writes (P.failures records.old) (P.empty_writes records.old))
         (writes (P.failures records.new) (P.empty_writes records.new))) }
 {
-    let count = match exchange(core, block, reader, writer) {
-        Ok(count) => count,
-        Err(fault) => return Err(fault),
-    };
-    match take_block(core, output, &block[..count], out, records) {
-        Ok(true) => match send(core, writer) {
+    let count = exchange(core, block, reader, writer)?;
+    let is_over = take_block(core, output, &block[..count], out, records)?;
+    if is_over {
+        match send(core, writer) {
             Ok(()) => Ok(true),
             Err(_) => Err(ListingFault::Write),
-        },
-        Ok(false) => Ok(false),
-        Err(fault) => Err(fault),
+        }
+    } else {
+        Ok(false)
     }
 }

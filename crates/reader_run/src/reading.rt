@@ -71,10 +71,8 @@ fn read_blocks<R: Source, W: Sink, O: Sink, P: RecordSink, K: Keeper<P>>(
 {
     let mut kept = core.records();
     'reads: for _ in 0..u64::MAX {
-        match read_once(core, output, block, reader, writer, out, records) {
-            Ok(true) => return Ok(()),
-            Ok(false) => {}
-            Err(fault) => return Err(fault),
+        if read_once(core, output, block, reader, writer, out, records)? {
+            return Ok(());
         }
         match keep_if_due(core, records, keeper, &mut kept) {
             Ok(()) => {}
@@ -119,10 +117,7 @@ fn begin(alloc: Global, times: Times, plan: Plan<'_>) -> Result<Begun, ListingFa
     ensures plan { OnOk result (is_plan (plan_value plan.entry) ≡ true) }
     ensures fault { IfErr result (λ fault. IsNotBegunBy fault (plan_value plan.entry)) }
 {
-    let (output, block) = match output_for(alloc, times, &plan) {
-        Ok(made) => made,
-        Err(fault) => return Err(fault),
-    };
+    let (output, block) = output_for(alloc, times, &plan)?;
     match ReaderCore::new(alloc, plan) {
         Ok(core) => Ok(Begun {
             core,
@@ -183,10 +178,7 @@ pub fn read_over<R: Source, W: Sink, O: Sink, P: RecordSink>(
         (writes (P.failures records.old) (P.empty_writes records.old))
         (writes (P.failures records.new) (P.empty_writes records.new))) }
 {
-    let mut begun = match begin(alloc, times, plan) {
-        Ok(begun) => begun,
-        Err(refused) => return Err(refused),
-    };
+    let mut begun = begin(alloc, times, plan)?;
     read_blocks(
         &mut begun.core,
         &mut begun.output,
@@ -242,10 +234,7 @@ fn begin_further(
     let Ok(counted) = tally.copy(alloc) else {
         return Err(ListingFault::Reader(ReaderFault::OutOfMemory));
     };
-    let (output, block) = match output_for(alloc, times, &plan) {
-        Ok(made) => made,
-        Err(fault) => return Err(fault),
-    };
+    let (output, block) = output_for(alloc, times, &plan)?;
     match ReaderCore::going_on(alloc, plan, counted) {
         Ok(core) => Ok(Begun {
             core,
@@ -351,10 +340,7 @@ pub fn read_further<R: Source, W: Sink, O: Sink, P: RecordSink, K: Keeper<P>>(
         (writes (P.failures records.old) (P.empty_writes records.old))
         (writes (P.failures records.new) (P.empty_writes records.new))) }
 {
-    let mut begun = match begin_further(alloc, times, wants, tally) {
-        Ok(begun) => begun,
-        Err(fault) => return Err(fault),
-    };
+    let mut begun = begin_further(alloc, times, wants, tally)?;
     let read = read_blocks(
         &mut begun.core,
         &mut begun.output,

@@ -68,10 +68,7 @@ pub(crate) fn files_in(alloc: Global, bytes: &[u8]) -> Result<Vec<FileLength>, S
     let mut files = Vec::new(alloc);
     let mut left = bytes;
     'lines: while let Some(line) = cut(left, b'\n') {
-        let file = match file_of(alloc, line.front) {
-            Ok(file) => file,
-            Err(fault) => return Err(fault),
-        };
+        let file = file_of(alloc, line.front)?;
         match files.push(file) {
             Ok(()) => {}
             Err(_) => return Err(StateFault::OutOfMemory),

@@ -149,10 +149,7 @@ fn lasts_in(alloc: Global, bytes: &[u8]) -> Result<Vec<LastPacket>, StateFault>
     let mut lasts = Vec::new(alloc);
     let mut left = bytes;
     'lines: while let Some(line) = cut(left, b'\n') {
-        let last = match last_of(alloc, line.front) {
-            Ok(last) => last,
-            Err(fault) => return Err(fault),
-        };
+        let last = last_of(alloc, line.front)?;
         match lasts.push(last) {
             Ok(()) => {}
             Err(_) => return Err(StateFault::OutOfMemory),
@@ -180,10 +177,7 @@ fn stations_in(alloc: Global, bytes: &[u8]) -> Result<Vec<LastPacket>, StateFaul
     ensures back { (ls : List LastValue) → AreLast ls → are_apart ls ≡ true → bytes.now ≡ text_of ls
         → MatchResult result (λ lasts. lasts.items ≡ ls) (λ fault. fault ≡ OutOfMemory) }
 {
-    let lasts = match lasts_in(alloc, bytes) {
-        Ok(lasts) => lasts,
-        Err(fault) => return Err(fault),
-    };
+    let lasts = lasts_in(alloc, bytes)?;
     if are_apart(&lasts) {
         Ok(lasts)
     } else {
@@ -225,14 +219,9 @@ fn state_in(alloc: Global, bytes: &[u8]) -> Result<KeptState, StateFault>
         → MatchResult result (λ state. state ≡ s) (λ fault. fault ≡ OutOfMemory) }
 {
     let parts = parts_of(bytes);
-    let lasts = match stations_in(alloc, parts.front) {
-        Ok(lasts) => lasts,
-        Err(fault) => return Err(fault),
-    };
-    match files_in(alloc, parts.rest) {
-        Ok(files) => Ok(KeptState { lasts, files }),
-        Err(fault) => Err(fault),
-    }
+    let lasts = stations_in(alloc, parts.front)?;
+    let files = files_in(alloc, parts.rest)?;
+    Ok(KeptState { lasts, files })
 }
 
 /// Reads the text of a state, exactly as it is written: for each station a line `NET STA NUMBER END`, with codes of
@@ -248,10 +237,7 @@ pub fn read_state(alloc: Global, bytes: &[u8]) -> Result<KeptState, StateFault>
     ensures back { (s : StateValue) → IsState s → bytes.now ≡ state_text s
         → MatchResult result (λ state. state ≡ s) (λ fault. fault ≡ OutOfMemory) }
 {
-    let state = match state_in(alloc, bytes) {
-        Ok(state) => state,
-        Err(fault) => return Err(fault),
-    };
+    let state = state_in(alloc, bytes)?;
     let mut text = Vec::new(alloc);
     match put_state(&mut text, state.lasts(), state.files()) {
         Ok(()) => {}

@@ -81,14 +81,11 @@ impl<F: Folders> Archive<F> {
         ensures uncounted { OnErr result (self.new.unplaced ≡ self.old.unplaced) }
         ensures stations { self.new.streams.stations ≡ self.old.streams.stations }
     {
-        match put_record(&mut self.folders, &mut self.streams, bytes, header) {
-            Ok(Placed::InFile) => Ok(()),
-            Ok(Placed::Unplaced) => {
-                self.unplaced = self.unplaced.saturating_add(1);
-                Ok(())
-            }
-            Err(fault) => Err(fault),
+        match put_record(&mut self.folders, &mut self.streams, bytes, header)? {
+            Placed::InFile => {}
+            Placed::Unplaced => self.unplaced = self.unplaced.saturating_add(1),
         }
+        Ok(())
     }
 }
 

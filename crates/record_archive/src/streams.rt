@@ -288,17 +288,12 @@ impl KnownStreams {
             → s ≡ get_or self.new.all.items at s → HasPlace s.year s.day self.old.stations.items header.now s.place)) }
         ensures none { result ≡ Ok None → IsUnplaced self.old.stations.items bytes.now }
     {
-        match stream_of(self.alloc, self.stations.as_slice(), bytes, header) {
-            Ok(Some(stream)) => match self.set(place, stream) {
-                Ok(at) => {
-                    self.last = at;
-                    Ok(Some(at))
-                }
-                Err(fault) => Err(fault),
-            },
-            Ok(None) => Ok(None),
-            Err(fault) => Err(fault),
-        }
+        let Some(stream) = stream_of(self.alloc, self.stations.as_slice(), bytes, header)? else {
+            return Ok(None);
+        };
+        let at = self.set(place, stream)?;
+        self.last = at;
+        Ok(Some(at))
     }
 
     /// The place of the stream of a record that says this, which is known from now on. None if the record has no place

@@ -92,13 +92,9 @@ fn write_lines<W: Sink>(writer: &mut W, listing: &mut Listing) -> Result<(), Wri
         (StopsWriting (W.failures writer.old) (W.failures writer.new) (W.empty_writes writer.old)
         (W.empty_writes writer.new)) }
 {
-    match write_all(writer, listing.lines()) {
-        Ok(()) => {
-            listing.clear();
-            Ok(())
-        }
-        Err(fault) => Err(fault),
-    }
+    write_all(writer, listing.lines())?;
+    listing.clear();
+    Ok(())
 }
 
 /// Writes the lines that are not written yet, where they are many.

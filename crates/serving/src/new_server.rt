@@ -57,12 +57,10 @@ fn run_new<P: Ports, B: Between>(
         KeptNothing config (B.asked between.old) (B.asked between.new)) }
     ensures memory { IfErr result (λ fault. fault ≢ OutOfMemory) }
 {
-    match keep_first(server, between, &timetable) {
-        Ok(()) => match run(server, between, timetable) {
-            Ok(()) => Ok(()),
-            Err(_) => Err(ServeFault::Poll),
-        },
-        Err(fault) => Err(fault),
+    keep_first(server, between, &timetable)?;
+    match run(server, between, timetable) {
+        Ok(()) => Ok(()),
+        Err(_) => Err(ServeFault::Poll),
     }
 }
 
@@ -88,10 +86,8 @@ pub fn serve_between<P: Ports + Drop, B: Between>(
     let Ok(mut server) = Loop::new(alloc, config, ports) else {
         return Err(ServeFault::OutOfMemory);
     };
-    match run_new(&mut server, between, timetable) {
-        Ok(()) => Ok(server.into_ports()),
-        Err(fault) => Err(fault),
-    }
+    run_new(&mut server, between, timetable)?;
+    Ok(server.into_ports())
 }
 
 /// Runs a new server with that configuration over ports for so many turns, with nothing between them, and gives the

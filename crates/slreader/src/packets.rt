@@ -22,24 +22,22 @@ pub(crate) fn read_packet(
     ensures sound { OnOk result (cutter.new ≢ Faulty) }
     ensures within { IfOk result (λ step. step.used ≤ length piece.now) }
 {
-    match cutter.feed(piece) {
-        Ok(fed) => match fed.cut {
-            Cut::Nothing => Ok(PieceStep {
+    let fed = cutter.feed(piece)?;
+    match fed.cut {
+        Cut::Nothing => Ok(PieceStep {
+            used: fed.used,
+            event: None,
+        }),
+        Cut::Packet(whole) => {
+            packet.copy_from_slice(whole);
+            Ok(PieceStep {
                 used: fed.used,
-                event: None,
-            }),
-            Cut::Packet(whole) => {
-                packet.copy_from_slice(whole);
-                Ok(PieceStep {
-                    used: fed.used,
-                    event: Some(StageEvent::Packet),
-                })
-            }
-            Cut::End => Ok(PieceStep {
-                used: fed.used,
-                event: Some(StageEvent::End),
-            }),
-        },
-        Err(fault) => Err(fault),
+                event: Some(StageEvent::Packet),
+            })
+        }
+        Cut::End => Ok(PieceStep {
+            used: fed.used,
+            event: Some(StageEvent::End),
+        }),
     }
 }

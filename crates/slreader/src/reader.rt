@@ -97,17 +97,13 @@ impl ReaderCore {
         ensures reads { IfOk result (λ came. Reads came.used came.what (length piece.now)) }
         ensures left { self.new ≡ (read_first self.old piece.now).reader }
     {
-        match self.dialogue.read(piece, packet) {
-            Ok(step) => {
-                let what = what_of(step.event, packet);
-                self.dialogue.count(&what);
-                Ok(Came {
-                    used: step.used,
-                    what,
-                })
-            }
-            Err(fault) => Err(fault),
-        }
+        let step = self.dialogue.read(piece, packet)?;
+        let what = what_of(step.event, packet);
+        self.dialogue.count(&what);
+        Ok(Came {
+            used: step.used,
+            what,
+        })
     }
 
     /// How many packets were given, at most 2^64 - 1.

@@ -1,6 +1,7 @@
 -- The reader begins with the plan by which wants go on, and what it reads is told and counted.
-use Rattle.std.proofs.Common.{ap, false, Ok, Err, refl}
+use Rattle.std.proofs.Common.{ap, false, Ok, Err, refl, ◌∙◌}
 use Rattle.std.specs.Prelude.{IfErr, OnOk, Result}
+use Rattle.std.proofs.lemmas.Result.{err_from_is_err_and}
 use Rattle.reader_run.specs.Lines.{OutputValue}
 use Rattle.reader_run.proofs.CountLaws.{counts-ended, counts-stopped}
 use Rattle.reader_run.proofs.FurtherLaws.{ended-ok, kept-err, limited, never, stopped-err, stops-quietly, untold}
@@ -16,43 +17,56 @@ on-ok : {T E : Type 0} → (P Q : Type 0) → (r : Result T E) → OnOk r P → 
 on-ok P Q (Ok x) h f = f h
 on-ok P Q (Err e) h f = tt
 
-pub returns-in-Err-clause-told : goal.returns-in-Err-clause-told
-returns-in-Err-clause-told g c = λ told. never _ (untold c.in-Err.fault _ c.in-Err.ensures.fault) told
+pub returns-in_err-begun-clause-told : goal.returns-in_err-begun-clause-told
+returns-in_err-begun-clause-told g c =
+    let p = err_from_is_err_and c.from_residual.result c.from_residual.ensures.1 in
+    rw (p.1 ∙ ap Err p.2) (λ told. never _ (untold c.in_err-begun.field-0.0 _ c.in_err-begun.ensures.fault) told)
 
-pub returns-in-Err-clause-kept : goal.returns-in-Err-clause-kept
-returns-in-Err-clause-kept g c = λ _. refl
+pub returns-in_err-begun-clause-kept : goal.returns-in_err-begun-clause-kept
+returns-in_err-begun-clause-kept g c =
+    let p = err_from_is_err_and c.from_residual.result c.from_residual.ensures.1 in
+    rw (p.1 ∙ ap Err p.2) (λ _. refl)
 
-pub returns-in-Err-clause-plan : goal.returns-in-Err-clause-plan
-returns-in-Err-clause-plan g c = limited c.in-Err.fault _ c.in-Err.ensures.fault
+pub returns-in_err-begun-clause-plan : goal.returns-in_err-begun-clause-plan
+returns-in_err-begun-clause-plan g c =
+    let p = err_from_is_err_and c.from_residual.result c.from_residual.ensures.1 in
+    rw (p.1 ∙ ap Err p.2) (limited c.in_err-begun.field-0.0 _ c.in_err-begun.ensures.fault)
 
-pub returns-in-Err-clause-order : goal.returns-in-Err-clause-order
-returns-in-Err-clause-order g c = nothing-written _ _ _ _ _
+pub returns-in_err-begun-clause-order : goal.returns-in_err-begun-clause-order
+returns-in_err-begun-clause-order g c =
+    nothing-written _ _ _ _ _
 
-pub returns-in-Err-clause-stopped : goal.returns-in-Err-clause-stopped
-returns-in-Err-clause-stopped g c =
-    stops-quietly c.in-Err.fault _ _ _ _ _ c.in-Err.ensures.fault refl
-    ((refl, refl), ((refl, refl), (refl, refl)))
+pub returns-in_err-begun-clause-stopped : goal.returns-in_err-begun-clause-stopped
+returns-in_err-begun-clause-stopped g c =
+    let p = err_from_is_err_and c.from_residual.result c.from_residual.ensures.1 in
+    rw (p.1 ∙ ap Err p.2) (stops-quietly c.in_err-begun.field-0.0 _ _ _ _ _ c.in_err-begun.ensures.fault refl
+    ((refl, refl), ((refl, refl), (refl, refl))))
 
-pub returns-in-Err-clause-behind : goal.returns-in-Err-clause-behind
-returns-in-Err-clause-behind g c = keeps-none _ _
+pub returns-in_err-begun-clause-behind : goal.returns-in_err-begun-clause-behind
+returns-in_err-begun-clause-behind g c =
+    keeps-none _ _
 
-pub returns-in-Err-clause-last_at : goal.returns-in-Err-clause-last_at
-returns-in-Err-clause-last_at g c = λ told. never _ (untold c.in-Err.fault _ c.in-Err.ensures.fault) told
+pub returns-in_err-begun-clause-last_at : goal.returns-in_err-begun-clause-last_at
+returns-in_err-begun-clause-last_at g c =
+    let p = err_from_is_err_and c.from_residual.result c.from_residual.ensures.1 in
+    rw (p.1 ∙ ap Err p.2) (λ told. never _ (untold c.in_err-begun.field-0.0 _ c.in_err-begun.ensures.fault) told)
 
-pub returns-in-Err-clause-keeper : goal.returns-in-Err-clause-keeper
-returns-in-Err-clause-keeper g c = not-kept (Unit {0}) c.in-Err.fault _ _ c.in-Err.ensures.fault
+pub returns-in_err-begun-clause-keeper : goal.returns-in_err-begun-clause-keeper
+returns-in_err-begun-clause-keeper g c =
+    let p = err_from_is_err_and c.from_residual.result c.from_residual.ensures.1 in
+    rw (p.1 ∙ ap Err p.2) (not-kept (Unit {0}) c.in_err-begun.field-0.0 _ _ c.in_err-begun.ensures.fault)
 
 pub returns-clause-ends : goal.returns-clause-ends
 returns-clause-ends g c =
-    ended-ok _ _ _ _ _ _ _ _ _ _ _ _ c.keep_at-outcome.result _ _ _ _ c.in-Ok.ensures.core
-    (ap (λ (o : OutputValue). o.style) c.in-Ok.ensures.output) c.is_told.ensures.ok c.count.ensures
+    ended-ok _ _ _ _ _ _ _ _ _ _ _ _ c.keep_at-outcome.result _ _ _ _ c.in_ok-begun.ensures.core
+    (ap (λ (o : OutputValue). o.style) c.in_ok-begun.ensures.output) c.is_told.ensures.ok c.count.ensures
     (same-ok _ c.read_blocks-read.result c.keep_at-outcome.result c.keep_at-outcome.ensures.outcome
     c.read_blocks-read.ensures.ends)
 
 pub returns-clause-told : goal.returns-clause-told
 returns-clause-told g c =
-    stopped-err _ _ _ _ _ _ _ _ _ _ _ _ c.keep_at-outcome.result _ _ _ _ c.in-Ok.ensures.core
-    (ap (λ (o : OutputValue). o.style) c.in-Ok.ensures.output) c.is_told.ensures.fault c.count.ensures
+    stopped-err _ _ _ _ _ _ _ _ _ _ _ _ c.keep_at-outcome.result _ _ _ _ c.in_ok-begun.ensures.core
+    (ap (λ (o : OutputValue). o.style) c.in_ok-begun.ensures.output) c.is_told.ensures.fault c.count.ensures
     (same-err _ c.read_blocks-read.result c.keep_at-outcome.result c.keep_at-outcome.ensures.outcome
     (λ told. never false refl told) c.read_blocks-read.ensures.told)
 
@@ -71,7 +85,7 @@ returns-clause-stopped g c =
 
 pub returns-clause-behind : goal.returns-clause-behind
 returns-clause-behind g c =
-    keeps-at _ _ c.read_blocks-read.result _ _ _ _ _ _ c.in-Ok.ensures.core
+    keeps-at _ _ c.read_blocks-read.result _ _ _ _ _ _ c.in_ok-begun.ensures.core
     (on-ok _ _ c.read_blocks-read.result c.read_blocks-read.ensures.ends (counts-ended _ _ _ _ _ _ _ _ _ _ _))
     (on-err _ _ c.read_blocks-read.result c.read_blocks-read.ensures.told
     (λ fault h told. counts-stopped fault _ _ _ _ _ _ _ _ _ _ _ (h told)))
@@ -93,6 +107,6 @@ returns-clause-keeper g c = c.keep_at-outcome.ensures.keeper _ c.read_blocks-rea
 
 pub returns-clause-order : goal.returns-clause-order
 returns-clause-order g c =
-    first-as _ _ _ _ _ _ _ _ _ _ c.in-Ok.ensures.core
-    (ap (λ (o : OutputValue). o.style) c.in-Ok.ensures.output)
+    first-as _ _ _ _ _ _ _ _ _ _ c.in_ok-begun.ensures.core
+    (ap (λ (o : OutputValue). o.style) c.in_ok-begun.ensures.output)
     c.read_blocks-read.ensures.order

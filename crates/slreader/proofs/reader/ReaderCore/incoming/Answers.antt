@@ -7,22 +7,22 @@ use Rattle.slreader.proofs.CameLemmas.{reads_gave}
 use Rattle.slreader.proofs.ReceiveLemmas.{given_tally}
 use Rattle.slreader.proofs.reader.ReaderCore.incoming.Goals as goal
 
-pub returns-in-Ok-clause-outcome : goal.returns-in-Ok-clause-outcome
-returns-in-Ok-clause-outcome c =
-    ap (Gave c.in-Ok.step.used) c.what_of-what.ensures ∙ c.in-Ok.ensures.outcome
+pub returns-clause-outcome : goal.returns-clause-outcome
+returns-clause-outcome c =
+    ap (Gave c.in_ok-step.step.used) c.what_of-what.ensures ∙ c.in_ok-step.ensures.outcome
     ∙ ap (λ (r : ReaderValue). outcome_of (read_first r c.args.piece.now)) c.self.view_is
 
-pub returns-in-Ok-clause-reads : goal.returns-in-Ok-clause-reads
-returns-in-Ok-clause-reads c =
-    reads_gave c.args.self.now c.args.piece.now c.in-Ok.step.used c.what_of-what.result
-    (ap (Gave c.in-Ok.step.used) c.what_of-what.ensures ∙ c.in-Ok.ensures.outcome
+pub returns-clause-reads : goal.returns-clause-reads
+returns-clause-reads c =
+    reads_gave c.args.self.now c.args.piece.now c.in_ok-step.step.used c.what_of-what.result
+    (ap (Gave c.in_ok-step.step.used) c.what_of-what.ensures ∙ c.in_ok-step.ensures.outcome
     ∙ ap (λ (r : ReaderValue). outcome_of (read_first r c.args.piece.now)) c.self.view_is)
 
-pub returns-in-Ok-clause-left : goal.returns-in-Ok-clause-left
-returns-in-Ok-clause-left c =
+pub returns-clause-left : goal.returns-clause-left
+returns-clause-left c =
     c.count.ensures
     ∙ ap (λ t. record c.read.new.self { tally = t })
     (ap (tally_given c.read.new.self.tally) c.what_of-what.ensures
-    ∙ given_tally c.read.new.self.tally c.in-Ok.step.event _)
-    ∙ c.in-Ok.ensures.read
+    ∙ given_tally c.read.new.self.tally c.in_ok-step.step.event _)
+    ∙ c.in_ok-step.ensures.read
     ∙ ap (λ (r : ReaderValue). (read_first r c.args.piece.now).reader) c.self.view_is
