@@ -1,4 +1,14 @@
 //! What one address sees of a configuration.
+//!
+//! A client finds a station in its own view alone. A view has its places twice: in the order of the configuration, and
+//! in the order of the stations' codes, which is made when the client opens. STATION with a network halves the second
+//! list, without a network it walks over the first; codes are compared as numbers, both in one comparison, and a step
+//! of the halving is a call that is never inlined: in every other form that was tried the compiler makes a branch, and
+//! one way then takes an instruction or two more. So all codes that a view doesn't have take the same instructions,
+//! those of hidden stations and those that don't exist, and no memory of a hidden station is read. Looking into the
+//! configuration's map first differed by 8 instructions of 1,212 and by 5 to 12 nanoseconds, which 120,000 questions
+//! tell apart. The second list costs two bytes a station and client, and sorting: some 25,000 instructions for 1,024
+//! stations in order, 260,000 at worst.
 ghost use Rattle.std.specs.Prelude.{◌≡◌, ◌-◌, ◌<◌, ◌≤◌, ◌++◌, ◌∷◌, [], true, false, min, nat_lt, All, IfOk, IfSome};
 ghost use Rattle.std.specs.Prelude.{None, option_map, map, find, length, List, ℕ};
 ghost use Rattle.std.specs.List.Sorted.{IsNonDecreasingBy};

@@ -1,4 +1,8 @@
 //! What a configuration lets whom see.
+//!
+//! Of two configurations beside each other (`view OLD NEW`), a station that one does not have counts as one that nobody
+//! may use there. A word that is neither an address nor a network is a file, so a misspelled address is 44, before 11.
+//! Unknown keys are named of NEW alone: OLD is what runs already.
 ghost use Rattle.std.specs.Prelude.{◌≡◌, IfOk, IfSome, OnOk, is_some};
 ghost use Rattle.std.specs.Str.{IsUtf8};
 ghost use Rattle.std.specs.Io.KnownBytes.{Appends};

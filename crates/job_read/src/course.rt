@@ -1,4 +1,9 @@
 //! How far a connection is, by the bytes that went over it: whether the server owes something.
+//!
+//! Silence is a fault only if something is owed. A server between two packets may have no record for days. It owes an
+//! answer to each command but the last one, and the rest of a packet that has begun: the bytes of a connection are
+//! counted to know that, and the dialogue below knows no time. A connection that takes no command is over: the next
+//! read says that it ended. So a fault of writing is one of an output, and never one that another server could mend.
 ghost use Rattle.std.specs.Prelude.{◌≡◌};
 ghost use Rattle.job_read.specs.Waiting.{is_end, lengthened};
 

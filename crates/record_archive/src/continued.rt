@@ -1,4 +1,8 @@
 //! Files in which readers go on one after the other.
+//!
+//! A file that the state doesn't name is all tail. It can't be told whether it was made after the state was written or
+//! is only old; to look through an old one costs a walk and changes nothing. So all files to which records came within
+//! the last hour are named, and a state of an earlier version, which names none, is read.
 ghost use Rattle.std.specs.Prelude.{◌≡◌, None, OnErr, OnOk};
 ghost use Rattle.sl_io.specs.Counts.{CountsFailure};
 ghost use Rattle.record_archive.specs.Archives.{PutsNothing, PutsOne};

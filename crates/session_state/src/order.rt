@@ -4,6 +4,13 @@
 //! is another one, that index alone moves, to the place that is found by halving, and first it is tried at the end:
 //! where records come from the stations by turns, the station whose record was sent has the next one of its own after
 //! those of all others.
+//!
+//! A byte for each, sorted once two or more of them may have a record ahead. The bytes between the old place and the
+//! new one are moved at once (`memmove`). A packet takes 68 instructions more with 64 requests than with one, and 86
+//! more with 255, if records come by turns. By a prototype in Rust with the same entries it is 132 and 174 if they come
+//! at random; a tree of winners takes 159 and 202 in both cases, since it compares at each level. A walk over all
+//! cursors takes 13.9 for each request. While one request alone has a record ahead, as in a transfer that keeps up, the
+//! order is left as it is.
 ghost use Rattle.std.specs.Prelude.{◌≡◌, ◌≢◌, ◌≤◌, ◌<◌, ◌+◌, ◌==◌, ℕ, List, length, slice_index};
 ghost use Rattle.std.specs.Prelude.{position};
 ghost use Rattle.session_state.specs.declared.choices.Entry.{Entry as EntryValue};

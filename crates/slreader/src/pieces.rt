@@ -1,4 +1,7 @@
 //! One more byte of a line that answers HELLO, or of an answer to a command.
+//!
+//! A line that answers HELLO ends with CR LF, and nothing else ends it. A fault in a piece comes at the first byte with
+//! which no dialogue goes on, and not at the end of the line.
 ghost use Rattle.std.specs.Prelude.{◌≡◌, ◌≤◌, Bool, length};
 ghost use Rattle.slreader.specs.Pieces.{begins_error as spec_begins_error, line_piece as spec_line_piece};
 ghost use Rattle.slreader.specs.Pieces.{reply_byte as spec_reply_byte, reply_piece as spec_reply_piece};

@@ -11,7 +11,7 @@ use std::test::Fail;
 use test_centre::{RecordOf, made};
 
 /// Two stations, of which one holds two records.
-const CENTRE: &[u8] = br#"title = "Test Centre"
+const TWO_STATIONS: &[u8] = br#"title = "Test Centre"
 
 [[station]]
 network = "GE"
@@ -136,7 +136,7 @@ fn arrivals(alloc: Global) -> Result<Vec<Event>, Fail> {
 
 /// What the server hands last, after the events.
 fn handed_last(alloc: Global, events: &[Event]) -> Result<Vec<u8>, Fail> {
-    let takes = run(alloc, Config::read(alloc, CENTRE)?, events)?;
+    let takes = run(alloc, Config::read(alloc, TWO_STATIONS)?, events)?;
     match takes.as_slice() {
         [.., last] => Ok(last.bytes.as_slice().to_vec(alloc)?),
         [] => Ok(Vec::new(alloc)),

@@ -205,7 +205,7 @@ static ROWS: [Row; 31] = [
 ];
 
 /// A configuration of one station.
-static CENTRE: &str =
+static ONE_STATION: &str =
     "title = \"Centre\"\nmax_connections = 9\n[[station]]\nnetwork = \"GE\"\ncode = \"APE\"\n\
     description = \"Island\"\ncapacity = 9\n";
 
@@ -282,7 +282,7 @@ where
 
 /// The files that the rows name.
 fn make_files<R: Files>(rt: &R) -> Result<(), Fail> {
-    fs::write(rt, "centre.toml", CENTRE.as_bytes())?;
+    fs::write(rt, "centre.toml", ONE_STATION.as_bytes())?;
     fs::write(rt, "wrong.toml", WRONG.as_bytes())?;
     fs::write(rt, "broken.toml", b"title =")?;
     fs::write(rt, "two.mseed", &[b'0'; 1_024])?;
