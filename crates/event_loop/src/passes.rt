@@ -218,9 +218,9 @@ fn hand<P: Ports>(
     }
 }
 
-/// Whole packets that wait for a client are handed to its port one after the other, at most so many, once the client was
-/// offered something and this was found. None is handed where the port has no room for two: one alone may be taken in
-/// part, and is left to `hand`.
+/// Whole packets that wait for a client are handed to its port one after the other, at most so many, once the client
+/// was offered something and this was found. None is handed where the port has no room for two: one alone may be taken
+/// in part, and is left to `hand`.
 fn hand_pieces<P: Ports>(
     server: &mut Server,
     ports: &mut P,

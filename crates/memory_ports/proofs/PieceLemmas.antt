@@ -22,7 +22,8 @@ abbrev AreOf : ℕ → List (List ℕ) → Type 0
 AreOf size pieces = All (λ p. length p ≡ size) pieces
 
 -- too few bytes for a piece are none
-pub no_piece : (port size : ℕ) (a : Option (List Call)) (bytes : List ℕ) (pieces : List (List ℕ)) → bytes ≡ concat pieces
+pub no_piece : (port size : ℕ) (a : Option (List Call)) (bytes : List ℕ) (pieces : List (List ℕ))
+    → bytes ≡ concat pieces
     → AreOf size pieces → length bytes < size → Tells a a (map (whole_write port) pieces)
 no_piece port size a bytes [] is are short = tells_none a
 no_piece port size a bytes (p ∷ ps) is are short =

@@ -1,8 +1,8 @@
 //! Ports in memory, that follow a script and tell every call.
 //!
 //! Ports in memory whose record can't grow tell nothing from then on. The call that found no memory fails and counts as
-//! a failure, but for `shut` and `write_pieces`, which have no answer. `MemoryPorts::record` copies what a port gave and took out of the
-//! calls, and so allocates.
+//! a failure, but for `shut` and `write_pieces`, which have no answer. `MemoryPorts::record` copies what a port gave
+//! and took out of the calls, and so allocates.
 ghost use Rattle.std.specs.Prelude.{◌≡◌, ◌<◌, ◌≤◌, ◌^◌, ℕ, List, Some, [], ◌∷◌, IfOk, IsSome, OnOk, length, map};
 ghost use Rattle.std.specs.List.{All, concat};
 ghost use Rattle.sl_io.specs.Counts.{CountsFailure};

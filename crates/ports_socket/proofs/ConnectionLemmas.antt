@@ -106,7 +106,8 @@ number-at n (x ∷ xs) (suc at) c is read =
 number-of : (n : ℕ) (cs : List Connection) (at : ℕ) (c new : Connection) → IsChanged n cs at c new → c.number ≡ n
 number-of n cs at c new h = number-at n cs at c h.place h.read
 
-pub number-of-new : (n : ℕ) (cs : List Connection) (at : ℕ) (c new : Connection) → IsChanged n cs at c new → new.number ≡ n
+pub number-of-new : (n : ℕ) (cs : List Connection) (at : ℕ) (c new : Connection) → IsChanged n cs at c new
+    → new.number ≡ n
 number-of-new n cs at c new h = ap (λ s. s.0) h.socket ∙ number-of n cs at c new h
 
 above-set : (n : ℕ) (cs : List Connection) (at : ℕ) (c : Connection) → AreAbove n (numbers_in cs)
@@ -125,7 +126,8 @@ pub rise-set : (n : ℕ) (cs : List Connection) (at : ℕ) (c new : Connection) 
     → Rise (numbers_in (set cs at new))
 rise-set n cs at c new h = rise-set-at cs at new h.rise (number-of-new n cs at c new h ∙ sym h.place.has_number)
 
-pub place-set : (n : ℕ) (cs : List Connection) (at : ℕ) (new : Connection) → IsPlaceOf n (numbers_in cs) at → new.number ≡ n
+pub place-set : (n : ℕ) (cs : List Connection) (at : ℕ) (new : Connection) → IsPlaceOf n (numbers_in cs) at
+    → new.number ≡ n
     → IsPlaceOf n (numbers_in (set cs at new)) at × (new ≡ get_or (set cs at new) at new)
 place-set n [] at new is e = absurd (omega (arith, is.inside))
 place-set n (x ∷ xs) zero new is e = (record { inside = omega arith; has_number = e }, refl)

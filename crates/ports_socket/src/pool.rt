@@ -1,4 +1,5 @@
-//! Buffers for bytes that wait to be sent. A port has one only while it holds something, or while it is the port's turn.
+//! Buffers for bytes that wait to be sent. A port has one only while it holds something, or while it is the port's
+//! turn.
 //!
 //! What a port took is sent when the next port has its turn, by one write of up to 64 packets. So one buffer serves all
 //! ports whose sockets take everything, and stays in the processor's cache. To hold the bytes of a port that filled its

@@ -384,8 +384,8 @@ impl Sockets {
         put
     }
 
-    /// Makes room for bytes at a port, and says for how many there is some. What is borrowed for them is given back when
-    /// the next port has its turn.
+    /// Makes room for bytes at a port, and says for how many there is some. What is borrowed for them is given back
+    /// when the next port has its turn.
     #[tactic(auto, using(crate::proofs::SocketLemmas::sends))]
     pub fn make_room(&mut self, port: u64, most: usize) -> usize
         ensures room { result ≤ room_at port self.new.connections }

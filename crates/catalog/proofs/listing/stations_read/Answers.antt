@@ -52,7 +52,8 @@ returns-in_err-station-clause-step c =
     let within = subst (λ es. FailsWithin (length es) es table c.in_err-station.field-0.0) same
     (c.in_err-station.ensures.step not_memory) in
     fails_at_place c.args.values.now c.loop-value.value-index c.value-item.result earlier c.in_err-station.field-0.0
-    c.in_err-station.field-0.0.step c.loop-value-test.true c.value-item.is c.loop-value.invariant.before c.loop-value.invariant.size
+    c.in_err-station.field-0.0.step c.loop-value-test.true c.value-item.is c.loop-value.invariant.before
+    c.loop-value.invariant.size
     within within
     (subst (λ es. station_of es (view c.value-item.result) ≡ Err c.in_err-station.field-0.0.fault) same
     (c.in_err-station.ensures.fault not_memory)))

@@ -10,7 +10,8 @@ returns-in_err-flush-clause-steps g c =
 
 pub returns-clause-steps : goal.returns-clause-steps
 returns-clause-steps g c =
-    step-kept _ _ _ _ _ _ c.keep.result c.tally.ensures c.in_ok-flush.ensures.done c.keep.ensures.done c.keep.ensures.undone
+    step-kept _ _ _ _ _ _ c.keep.result c.tally.ensures c.in_ok-flush.ensures.done c.keep.ensures.done
+    c.keep.ensures.undone
 
 pub returns-clause-kept : goal.returns-clause-kept
 returns-clause-kept g c =

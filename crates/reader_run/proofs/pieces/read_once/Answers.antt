@@ -14,7 +14,8 @@ take_block-requires-clause-plan g c =
 pub returns-in_err-count-clause-round : goal.returns-in_err-count-clause-round
 returns-in_err-count-clause-round g c =
     let p = err_from_is_err_and c.from_residual.result c.from_residual.ensures.1 in
-    rw (p.1 ∙ ap Err p.2) (exchange-round c.in_err-count.field-0.0 _ _ _ _ _ _ _ _ _ _ _ _ _ c.in_err-count.ensures.stopped)
+    rw (p.1 ∙ ap Err p.2) (exchange-round c.in_err-count.field-0.0 _ _ _ _ _ _ _ _ _ _ _ _ _
+    c.in_err-count.ensures.stopped)
 
 pub returns-in_err-count-clause-order : goal.returns-in_err-count-clause-order
 returns-in_err-count-clause-order g c =
@@ -33,7 +34,8 @@ returns-in_err-count-clause-state g c =
 pub returns-in_err-count-clause-stopped : goal.returns-in_err-count-clause-stopped
 returns-in_err-count-clause-stopped g c =
     let p = err_from_is_err_and c.from_residual.result c.from_residual.ensures.1 in
-    rw (p.1 ∙ ap Err p.2) (exchange-stopped c.in_err-count.field-0.0 _ _ _ _ _ _ _ _ _ _ _ _ c.in_err-count.ensures.stopped)
+    rw (p.1 ∙ ap Err p.2) (exchange-stopped c.in_err-count.field-0.0 _ _ _ _ _ _ _ _ _ _ _ _
+    c.in_err-count.ensures.stopped)
 
 pub returns-in-Ok-clause-round : goal.returns-in-Ok-clause-round
 returns-in-Ok-clause-round g c =
@@ -42,12 +44,14 @@ returns-in-Ok-clause-round g c =
 
 pub returns-in-Ok-clause-order : goal.returns-in-Ok-clause-order
 returns-in-Ok-clause-order g c =
-    taken-order _ _ _ c.send.new.core _ _ _ _ _ _ (g.W.Sink.written c.send.new.writer) _ _ _ _ _ _ c.in_ok-count.ensures.sent
+    taken-order _ _ _ c.send.new.core _ _ _ _ _ _ (g.W.Sink.written c.send.new.writer) _ _ _ _ _ _
+    c.in_ok-count.ensures.sent
     c.in_ok-count.ensures.consumed c.in_ok-is_over.ensures.taken
 
 pub returns-in-Err-clause-order : goal.returns-in-Err-clause-order
 returns-in-Err-clause-order g c =
-    taken-order _ _ _ c.send.new.core _ _ _ _ _ _ (g.W.Sink.written c.send.new.writer) _ _ _ _ _ _ c.in_ok-count.ensures.sent
+    taken-order _ _ _ c.send.new.core _ _ _ _ _ _ (g.W.Sink.written c.send.new.writer) _ _ _ _ _ _
+    c.in_ok-count.ensures.sent
     c.in_ok-count.ensures.consumed c.in_ok-is_over.ensures.taken
 
 pub returns-else-is_over-clause-round : goal.returns-else-is_over-clause-round
@@ -63,7 +67,8 @@ returns-else-is_over-clause-order g c =
 pub returns-in_err-is_over-clause-round : goal.returns-in_err-is_over-clause-round
 returns-in_err-is_over-clause-round g c =
     let p = err_from_is_err_and c.from_residual-in_err-is_over.result c.from_residual-in_err-is_over.ensures.1 in
-    rw (p.1 ∙ ap Err p.2) (taking-round c.in_err-is_over.field-0.0 _ _ _ _ _ _ _ _ _ _ _ _ _ _ _ _ c.in_ok-count.ensures.sent
+    rw (p.1 ∙ ap Err p.2) (taking-round c.in_err-is_over.field-0.0 _ _ _ _ _ _ _ _ _ _ _ _ _ _ _ _
+    c.in_ok-count.ensures.sent
     c.in_ok-count.ensures.consumed c.in_err-is_over.ensures.stopped)
 
 pub returns-in_err-is_over-clause-order : goal.returns-in_err-is_over-clause-order

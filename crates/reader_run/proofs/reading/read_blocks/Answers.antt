@@ -63,14 +63,17 @@ returns-in_err-read_once-clause-order g c =
 pub returns-in_err-read_once-clause-keeper : goal.returns-in_err-read_once-clause-keeper
 returns-in_err-read_once-clause-keeper g c =
     let p = err_from_is_err_and c.from_residual.result c.from_residual.ensures.1 in
-    rw (p.1 ∙ ap Err p.2) (round-keeping (Unit {0}) c.in_err-read_once.field-0.0 _ _ c.in_err-read_once.ensures.state c.reads.invariant.keeper_failures)
+    rw (p.1 ∙ ap Err p.2) (round-keeping (Unit {0}) c.in_err-read_once.field-0.0 _ _ c.in_err-read_once.ensures.state
+    c.reads.invariant.keeper_failures)
 
 pub returns-in_err-read_once-clause-stopped : goal.returns-in_err-read_once-clause-stopped
 returns-in_err-read_once-clause-stopped g c =
     let p = err_from_is_err_and c.from_residual.result c.from_residual.ensures.1 in
     rw (p.1 ∙ ap Err p.2) (let i = c.reads.invariant in
-    round-stopped c.in_err-read_once.field-0.0 _ _ _ _ _ _ _ _ _ _ _ _ _ _ _ i.failures (ap₂ writes i.write_failures i.write_empty)
-    (ap₂ writes i.line_failures i.line_empty) (ap₂ writes i.record_failures i.record_empty) c.in_err-read_once.ensures.stopped)
+    round-stopped c.in_err-read_once.field-0.0 _ _ _ _ _ _ _ _ _ _ _ _ _ _ _ i.failures
+    (ap₂ writes i.write_failures i.write_empty)
+    (ap₂ writes i.line_failures i.line_empty) (ap₂ writes i.record_failures i.record_empty)
+    c.in_err-read_once.ensures.stopped)
 
 pub reads-preserved : goal.reads-preserved
 reads-preserved g c =

@@ -70,5 +70,6 @@ returns-clause-plan g c = on-ok c.read_blocks.result c.in_ok-begun.ensures.plan
 
 pub returns-clause-order : goal.returns-clause-order
 returns-clause-order g c =
-    first-as _ _ _ _ _ _ _ _ _ _ c.in_ok-begun.ensures.core (ap (λ (o : OutputValue). o.style) c.in_ok-begun.ensures.output)
+    first-as _ _ _ _ _ _ _ _ _ _ c.in_ok-begun.ensures.core
+    (ap (λ (o : OutputValue). o.style) c.in_ok-begun.ensures.output)
     c.read_blocks.ensures.order

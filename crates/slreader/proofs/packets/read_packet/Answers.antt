@@ -15,7 +15,8 @@ returns-in-Packet-clause-first c = λ r.
 
 pub returns-in-End-clause-first : goal.returns-in-End-clause-first
 returns-in-End-clause-first c = λ r.
-    cut_end r _ _ _ _ _ c.in_ok-fed.was c.feed.ensures.for_good c.in_ok-fed.ensures.fed c.in-End.is c.feed.follows.holds-at-none
+    cut_end r _ _ _ _ _ c.in_ok-fed.was c.feed.ensures.for_good c.in_ok-fed.ensures.fed c.in-End.is
+    c.feed.follows.holds-at-none
 
 pub returns-in_err-fed-clause-first : goal.returns-in_err-fed-clause-first
 returns-in_err-fed-clause-first c = λ r.
