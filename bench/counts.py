@@ -41,6 +41,20 @@ def each(config, idle=0):
     return total / records / READERS
 
 
+def taken(config, *options):
+    """The instructions that a record takes of a server that nobody reads from."""
+    records = 20_000
+    with tempfile.NamedTemporaryFile(suffix=".callgrind") as out:
+        before = ["valgrind", "--tool=callgrind", "-q", f"--callgrind-out-file={out.name}"]
+        with RunningProgram(serve_words(config, *options), before, errors=subprocess.DEVNULL) as server:
+            subprocess.run(["callgrind_control", "-z", str(server.program.pid)], capture_output=True, check=True)
+            load.flood(server.feed_port, records)
+            server.program.send_signal(signal.SIGINT)
+            server.program.wait()
+        total = int(re.search(rb"^(?:summary|totals): (\d+)", out.read(), re.M).group(1))
+    return total / records
+
+
 class Traced:
     """The system calls that a program makes for as long as a `with` lasts, and for a second before."""
 
@@ -108,9 +122,12 @@ def main():
         writes, reads = under_load(config)
         calm, waits = at_rest(config)
         alone, crowded = each(config), each(config, IDLE)
+        plain, logged = taken(config), taken(config, "--log")
         good = [
             told(alone, 2_500, f"instructions, a packet handed on, {READERS} readers"),
             told(crowded, int(alone * 1.3), f"the same with {IDLE} idle clients"),
+            told(plain, 1_500, "instructions, a record of a flood that nobody reads"),
+            told(logged, int(plain * 1.05), "the same with --log"),
             told(writes, 1, "write calls for 16 packets"),
             told(reads, 1, "read calls for 16 records"),
             told(calm, 20, "system calls a second with 1,000 idle clients"),

@@ -74,6 +74,20 @@ def fill(port, stations, count):
     feed.close()
 
 
+def flood(port, records):
+    """Feeds so many records to station GE WLF at once, and waits until they are taken. How many seconds that took."""
+    whole = b"".join(record(it) for it in range(records))
+    feed = dial(port)
+    start = time.monotonic()
+    feed.sendall(whole)
+    feed.shutdown(socket.SHUT_WR)
+    while feed.recv(1):
+        pass
+    took = time.monotonic() - start
+    feed.close()
+    return took
+
+
 def fetcher(port, stations):
     """A connection of a reader that asks for all that is held of these stations, but for END."""
     client = dial(port)

@@ -5,14 +5,15 @@
 
 FANOUT is a program that is called with a client port, a feed port and, to write packet by packet, the word `single`. It takes
 records of 512 bytes at the feed port and sends each as a packet to every client that said END. Without it the server alone is
-measured. The last rows are of one reader that asks for the full rings of 255 stations, beside a process that writes as many
-bytes to a connection, and does nothing else.
+measured. Then it measures a flood of records that nobody reads, without and with `--numbers`, and at last one reader that asks for
+the full rings of 255 stations, beside a process that writes as many bytes to a connection and does nothing else.
 """
 
 import os
 import socket
 import statistics
 import sys
+import tempfile
 import time
 
 import load
@@ -31,6 +32,7 @@ PACKETS = 320_000
 ROUNDS = 15
 STATIONS = 255
 HELD = 256
+FLOOD = 200_000
 
 
 def measured(words, readers, idle):
@@ -126,6 +128,19 @@ def print_fetch(config):
         print(f"{packets:12.0f} {used:8.2f} {packets / rate:7.2f}  {name}", flush=True)
 
 
+def print_flood(config):
+    """Measures a flood of records that nobody reads, without and with numbers that are kept, and prints a line each."""
+    seen = {"records a second of a flood": [], "the same with --numbers": []}
+    for _ in range(ROUNDS):
+        with tempfile.TemporaryDirectory() as folder:
+            for name, options in zip(seen, ([], ["--numbers", f"{folder}/numbers"])):
+                with RunningProgram(serve_words(config, *options)) as program:
+                    seen[name].append(FLOOD / load.flood(program.ports[1], FLOOD))
+    plain = statistics.median(seen["records a second of a flood"])
+    for name, rates in seen.items():
+        print(f"{statistics.median(rates):12.0f} {'':8} {statistics.median(rates) / plain:7.2f}  {name}", flush=True)
+
+
 def fanout_words(path, *options):
     """The words that start a fan-out."""
     return lambda client_port, feed_port: [path, str(client_port), str(feed_port), *options]
@@ -140,6 +155,7 @@ def main():
             programs["fan-out"] = fanout_words(path)
             programs["fan-out, packet by packet"] = fanout_words(path, "single")
         print_table(programs)
+        print_flood(config)
     with config_file(many_stations()) as config:
         print_fetch(config)
 
