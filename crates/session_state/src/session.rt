@@ -348,12 +348,18 @@ impl Session {
         }
     }
 
-    /// The packet of a record is made to wait, after which a transfer may choose arrivals from that one on.
-    pub fn put_packet(&mut self, number: Seq, bytes: &[u8; 512], next: u64)
-        ensures { self.new ≡ record self.old { state = Transfer next; waiting = packet number bytes.now } }
+    /// The packet of a record is made to wait.
+    pub fn put_packet(&mut self, number: Seq, bytes: &[u8; 512])
+        ensures { self.new ≡ record self.old { waiting = packet number bytes.now } }
     {
         put_packet(&mut self.waiting, number, bytes);
         self.sent = 0;
+    }
+
+    /// A transfer may choose arrivals from that one on.
+    pub fn choose_from(&mut self, next: u64)
+        ensures { self.new ≡ record self.old { state = Transfer next } }
+    {
         self.state = State::Transfer(next);
     }
 

@@ -1,26 +1,29 @@
 -- What an offer in a transfer leads to.
-use Rattle.std.proofs.Common.{◌≡◌, ℕ, ◌+◌, Bool, true, false, ◌&&◌, if◌then◌else◌, List, [], ◌∷◌, filter_map, length}
+use Rattle.std.proofs.Common.{◌≡◌, ℕ, ◌+◌, ◌≤◌, Bool, true, false, ◌&&◌, if◌then◌else◌, List, [], ◌∷◌, filter_map, length}
 use Rattle.std.proofs.Common.{drop, drop-cons, get_or, add-one, suc, ◌<◌, Option, Some, None, codes, refl, sym, ap}
 use Rattle.std.proofs.Common.{subst, ◌∙◌}
 use Rattle.std.specs.List.{list_all}
 use Rattle.protocol.specs.Packet.{packet}
-use Rattle.protocol.specs.Catalog.{Config}
+use Rattle.protocol.specs.Catalog.{Config, Station}
 use Rattle.protocol.specs.History.{Arrival, Request, next, is_over}
 use Rattle.protocol.specs.Client.{Client, chosen, filled_in, is_nothing, offered, packet_of}
 use Rattle.protocol.specs.Client.State.{Transfer as ClientTransfer, Ending as ClientEnding}
 use Rattle.protocol.proofs.FoundLemmas.{both}
 use Rattle.catalog.specs.Places.{station_at, HasDistinctCodes}
 use Rattle.station_ring.specs.declared.held.Held.{Held}
+use Rattle.station_ring.specs.HeldRecords.{RingsValue, holdings_of, ring_of, IsArrival}
+use Rattle.station_ring.specs.Rings.{RingValue, held_at, number_at as ring_number}
 use Rattle.sl_lines.specs.declared.actions.Action.{Action}
 use Rattle.sl_lines.specs.declared.actions.Action.TheVariants.{Data, Fetch, Time}
 use Rattle.session_state.specs.NamedValues.{Choice}
 use Rattle.session_state.specs.declared.session.State.TheVariants.{Transfer, Ending}
 use Rattle.session_state.specs.Choices.{chosen_of, request_in}
-use Rattle.session_state.specs.Sessions.{SessionValue, client_in}
+use Rattle.session_state.specs.Sessions.{SessionValue, but_for_cursors, client_in}
 use Rattle.transfer.specs.declared.choosing.Chosen.{Chosen}
 use Rattle.transfer.specs.declared.choosing.Chosen.TheVariants.{Nothing, Complete}
-use Rattle.transfer.specs.Choosing.{answer_of, is_over_of, IsArrived}
-use Rattle.transfer.proofs.PacketLemmas.{packet-next}
+use Rattle.transfer.specs.Choosing.{answer_of, is_over_of, HoldsThere, IsArrived}
+use Rattle.transfer.proofs.PacketLemmas.{arrived-there, packet-next}
+use Rattle.transfer.proofs.StartLemmas.{client-same}
 
 -- the requests of a session
 abbrev pub requests_of : Config → SessionValue → List Request
@@ -57,6 +60,25 @@ leads-to-packet config h a n q number p x distinct state none stamp is_next arri
     }) (sym here)
     ∙ ap (chosen h (requests_of config a) q (client_in config h a)) is_next
     ∙ sym (offered-transfer config h a q state none)
+
+-- A session of which the record that comes next was found is, with that record's packet waiting, as an offer leads to.
+pub packet-offered : ((s : Station) (h : List Arrival) (place : ℕ) (x : Held) → 1 ≤ s.capacity
+    → held_at (ring_of s h) place ≡ Some x → IsArrival s h (ring_number (ring_of s h) place) x)
+    → (config : Config) (h : List Arrival) (rings : RingsValue) (old mid sent : SessionValue) (q place : ℕ)
+    (r : RingValue) (x : Held) → HasDistinctCodes config.entries → rings ≡ holdings_of config h → old.state ≡ Transfer q
+    → old.waiting ≡ [] → but_for_cursors mid ≡ but_for_cursors old
+    → Some x.stamp ≡ next h (requests_of config mid) q → HoldsThere rings r place x → 1 ≤ r.capacity
+    → but_for_cursors sent ≡ but_for_cursors
+    (record mid { state = Transfer (x.stamp + 1); waiting = packet (ring_number r place) x.bytes })
+    → client_in config h sent ≡ offered h (client_in config h old)
+packet-offered law config h rings old mid sent q place r x distinct holds state none same is_next there some made =
+    let as_made : SessionValue =
+    record mid { state = Transfer (x.stamp + 1); waiting = packet (ring_number r place) x.bytes } in
+    client-same config h sent as_made made
+    ∙ leads-to-packet config h mid as_made q (ring_number r place) x.stamp x distinct
+    (ap (λ (s : SessionValue). s.state) same ∙ state) (ap (λ (s : SessionValue). s.waiting) same ∙ none) refl is_next
+    (arrived-there law config h rings there.station place r x holds there.ring_there some there.there) refl
+    ∙ ap (offered h) (client-same config h mid old same)
 
 pub leads-to-end : (config : Config) (h : List Arrival) (a n : SessionValue) (q : ℕ) → a.state ≡ Transfer q
     → a.waiting ≡ [] → None ≡ next h (requests_of config a) q → list_all (is_over h) (requests_of config a) ≡ true

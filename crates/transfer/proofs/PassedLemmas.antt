@@ -159,6 +159,14 @@ keeps-passed rings a n keeps passed = record {
       };
 }
 
+-- Nor does it matter what waits.
+pub waiting-passes : (rings : RingsValue) (a n : SessionValue) (w : List ℕ) → n ≡ record a { waiting = w }
+    → ArePassed rings a → ArePassed rings n
+waiting-passes rings a n w made = keeps-passed rings a n (record {
+  kept = λ next state. (ap (λ (s : SessionValue). s.state) (sym made) ∙ state, ap (λ (s : SessionValue). s.mode) made);
+  looked = λ next state. ap (λ (s : SessionValue). s.looked) made;
+})
+
 -- A session that is in no transfer has passed nothing.
 pub none-passed : (rings : RingsValue) (s : SessionValue) → ((next : ℕ) → s.state ≢ Transfer next) → ArePassed rings s
 unfolding ArePassed

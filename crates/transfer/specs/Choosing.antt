@@ -1,14 +1,16 @@
 -- What an offer in a transfer leads to.
 use Rattle.std.specs.Prelude.{◌≡◌, ℕ, ◌<◌, Bool, true, false, if◌then◌else◌, nat_le, nat_lt, List, length, Option, Some}
-use Rattle.std.specs.Prelude.{None, slice_get}
+use Rattle.std.specs.Prelude.{None, slice_get, ◌++◌}
 use Rattle.protocol.specs.Catalog.{Config, Station}
 use Rattle.protocol.specs.History.{Arrival, is_over_by}
+use Rattle.protocol.specs.Client.{offered}
 use Rattle.station_ring.specs.HeldRecords.{RingsValue, IsArrival}
 use Rattle.station_ring.specs.Rings.{RingValue, held_at}
 use Rattle.catalog.specs.Places.{station_at}
 use Rattle.sl_lines.specs.declared.actions.Action.{Action}
 use Rattle.session_state.specs.Choices.{action_value}
 use Rattle.session_state.specs.NamedValues.{Choice, ahead_of}
+use Rattle.session_state.specs.Sessions.{SessionValue, client_in}
 use Rattle.session_state.specs.declared.session.State.{State}
 use Rattle.session_state.specs.declared.session.State.TheVariants.{Transfer}
 use Rattle.station_ring.specs.declared.held.Held.{Held}
@@ -65,3 +67,11 @@ least_of (Some p) (Some q) = if nat_le p q then Some p else Some q
 abbrev pub comes_before : Option ℕ → ℕ → Bool
 comes_before None p = true
 comes_before (Some best) p = nat_lt p best
+
+-- The packet that comes next was appended to bytes: with it waiting the session is as an offer leads to.
+pub record IsHanded (config : Config) (h : List Arrival) (before after : SessionValue) (out out' : List ℕ)
+    : Type 0 where
+  pub packet : List ℕ
+  pub bytes : out' ≡ out ++ packet
+  pub size : length packet ≡ 520
+  pub offers : client_in config h (record after { waiting = packet }) ≡ offered h (client_in config h before)

@@ -3,6 +3,9 @@
 //! The position in the definitions' history from which a transfer goes on stays a number in the session's state, since
 //! the definitions have it. It only rises when a packet is chosen, so what was unwanted stays unwanted.
 //!
+//! What is done for each packet is marked to be inlined into `choose` and `choose_into`, which takes 80 instructions of a
+//! packet's 400.
+//!
 //! Where `choose` answers Nothing the session is as it was but for its cursors (`but_for_cursors`). No client can tell
 //! the difference: the client that the session is doesn't depend on them.
 ghost use Rattle.std.specs.Prelude.{◌≡◌, ◌≢◌, ◌≤◌, ◌<◌, ◌+◌, [], ◌∷◌, List, ℕ, codes, length, map, slice_get};
@@ -34,6 +37,7 @@ use crate::searching::{SearchReached, search_from};
 use crate::wanting::{Candidate, at_end, at_record, has_passed_its_end, wants_too};
 use catalog::Config;
 use session_state::{Action, Cursor, Entry, First, Session, State};
+use sl_packet::Seq;
 use station_ring::{Rings, arrivals_by_place};
 
 /// What an offer in a transfer leads to.
@@ -69,7 +73,8 @@ fn candidate<'a>(session: &Session, first: First, rings: &'a Rings) -> Option<Ca
 }
 
 /// Of all held records that some request wants, from the arrival `next` on, the one that came first.
-fn found_next<'a>(session: &mut Session, rings: &'a Rings, next: u64) -> Option<Candidate<'a>>
+#[inline(always)]
+pub fn found_next<'a>(session: &mut Session, rings: &'a Rings, next: u64) -> Option<Candidate<'a>>
     ensures same { but_for_cursors session.new ≡ but_for_cursors session.old }
     ensures rest { HasPassedAll rings.now next session.old
         → OfAll (RestsIn rings.now next) (chosen_of session.new.mode) }
@@ -188,6 +193,7 @@ fn search_after(session: &Session, found: Candidate<'_>, next: u64) -> Cursor
 
 /// How far a request comes from the record after one whose stream passes its patterns. Where the next record is of that
 /// stream too, the patterns are not asked again.
+#[inline(always)]
 fn cursor_after(session: &Session, found: Candidate<'_>, next: u64) -> Cursor
     requires there { held_at found.ring.now found.place ≡ Some found.held.now }
     requires index { found.index < length (chosen_of session.now.mode) }
@@ -214,6 +220,7 @@ fn cursor_after(session: &Session, found: Candidate<'_>, next: u64) -> Cursor
 
 /// The request whose record ahead was sent passes that one, which is not looked at again, and what it doesn't want
 /// after it.
+#[inline(always)]
 fn pass_sent(session: &mut Session, found: Candidate<'_>, next: u64)
     requires there { held_at found.ring.now found.place ≡ Some found.held.now }
     requires index { found.index < length (chosen_of session.old.mode) }
@@ -226,6 +233,28 @@ fn pass_sent(session: &mut Session, found: Candidate<'_>, next: u64)
 {
     let cursor = cursor_after(session, found, next);
     session.move_cursor(found.index, cursor);
+}
+
+/// A transfer goes on after a held record, which its request passes. It answers the number of the record's packet.
+#[inline(always)]
+pub fn go_past(session: &mut Session, rings: &Rings, found: Candidate<'_>) -> Seq
+    requires there { HoldsThere rings.now found.ring.now found.place found.held.now }
+    requires index { found.index < length (chosen_of session.old.mode) }
+    requires cursor { IsAtCursor rings.now (chosen_of session.old.mode) found.index found.ring.now found.place }
+    ensures number { result ≡ number_at found.entry.ring.now found.entry.place }
+    ensures session { but_for_cursors session.new ≡ but_for_cursors
+        (record session.old { state = Transfer (found.entry.held.now.stamp + 1) }) }
+    ensures capacity { 1 ≤ found.entry.ring.now.capacity }
+    ensures passed { (next : ℕ) → next ≤ found.entry.held.now.stamp → session.old.looked ≡ Some rings.now.arrivals
+        → OfAll (RestsIn rings.now next) (chosen_of session.old.mode) → ArePassed rings.now session.new }
+{
+    let _arrivals = rings.arrivals();
+    found.ring.holds_its_last();
+    let number = found.ring.number_at(found.place);
+    let next = found.held.stamp + 1;
+    session.choose_from(next);
+    pass_sent(session, found, next);
+    number
 }
 
 /// The packet of a held record is made to wait, and its request passes it.
@@ -242,12 +271,8 @@ fn send(session: &mut Session, rings: &Rings, found: Candidate<'_>)
     ensures passed { (next : ℕ) → next ≤ found.entry.held.now.stamp → session.old.looked ≡ Some rings.now.arrivals
         → OfAll (RestsIn rings.now next) (chosen_of session.old.mode) → ArePassed rings.now session.new }
 {
-    let _arrivals = rings.arrivals();
-    found.ring.holds_its_last();
-    let number = found.ring.number_at(found.place);
-    let next = found.held.stamp + 1;
-    session.put_packet(number, &found.held.bytes, next);
-    pass_sent(session, found, next);
+    let number = go_past(session, rings, found);
+    session.put_packet(number, &found.held.bytes);
 }
 
 /// In a transfer, while nothing waits: of all held records that some request wants, and that arrived after the last
@@ -318,7 +343,7 @@ pub fn finds(session: &mut Session, rings: &Rings) -> bool
 }
 
 /// Where nothing more can come, a transfer ends.
-fn end_if_complete(session: &mut Session, rings: &Rings) -> Chosen
+pub fn end_if_complete(session: &mut Session, rings: &Rings) -> Chosen
     ensures complete { (next : ℕ) → OfAll (RestsIn rings.now next) (chosen_of session.old.mode)
         → OfAll (IsReached rings.now) (chosen_of session.old.mode) → (config : ProtocolConfig) (h : List Arrival)
         → rings.now ≡ holdings_of config h →

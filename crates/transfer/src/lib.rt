@@ -5,6 +5,7 @@
 mod choosing;
 mod cursors;
 mod filters;
+mod handing;
 mod overview;
 mod searching;
 mod sleeping;
@@ -13,5 +14,6 @@ mod wanting;
 
 pub use choosing::{Chosen, choose, finds};
 pub use cursors::cursor;
+pub use handing::choose_into;
 pub use sleeping::{sleeping_goes_on, sleeping_is_idle};
 pub use starting::start;

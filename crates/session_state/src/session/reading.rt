@@ -336,7 +336,8 @@ impl Session {
         self.read += count;
     }
 
-    pub(super) fn has_unread(&self) -> bool
+    /// Whether bytes that came are still unread.
+    pub fn has_unread(&self) -> bool
         ensures { result ≡ nat_lt 0 (length self.now.unread) }
     {
         self.read < self.unread.len()

@@ -1,17 +1,13 @@
-use Rattle.std.proofs.Common.{◌≡◌, ◌∙◌, ◌+◌, None, ap, refl, sym, subst, filter_map}
+use Rattle.std.proofs.Common.{◌≡◌, ◌∙◌, None, ap, refl, sym, subst, filter_map}
 use Rattle.std.specs.List.{list_all}
 use Rattle.protocol.specs.History.{is_over, next}
 use Rattle.protocol.specs.Client.{offered}
-use Rattle.protocol.specs.Packet.{packet}
-use Rattle.station_ring.specs.Rings.{number_at}
-use Rattle.session_state.specs.declared.session.State.TheVariants.{Transfer}
 use Rattle.session_state.specs.Choices.{chosen_of, request_in}
 use Rattle.session_state.specs.Sessions.{SessionValue}
 use Rattle.transfer.specs.Choosing.{answer_of}
 use Rattle.transfer.proofs.StartLemmas.{client-same, requests-same}
 use Rattle.transfer.proofs.PassedLemmas.{ended-passes, ended-reached, passed-all, same-next}
-use Rattle.transfer.proofs.ChooseLemmas.{leads-to-packet, leads-on}
-use Rattle.transfer.proofs.PacketLemmas.{arrived-there}
+use Rattle.transfer.proofs.ChooseLemmas.{leads-on, packet-offered}
 use Rattle.transfer.specs.Sleeping.{Sleeps}
 use Rattle.transfer.proofs.SleepLemmas.{all-reached, sleeps-so}
 use Rattle.transfer.proofs.choosing.choose.Goals as goal
@@ -19,25 +15,12 @@ use Rattle.transfer.proofs.choosing.choose.Goals as goal
 pub returns-in-Some-clause-client : goal.returns-in-Some-clause-client
 returns-in-Some-clause-client c = λ transfers passed h holds.
     let found = c.in-Some.found in
-    let there = c.in-Some.ensures.held in
-    let number = number_at found.ring.now found.place in
-    let config = c.args.config.now in
-    let mid = c.found_next.new.session in
     let before = passed-all c.args.rings.now c.args.session.now passed c.in-Transfer.next (sym c.in-Transfer.ensures) in
-    let made : SessionValue = record mid {
-      state = Transfer (found.held.now.stamp + 1);
-      waiting = packet number found.held.now.bytes;
-    } in
-    client-same config h c.send.new.session made c.send.ensures.session
-    ∙ leads-to-packet config h mid made c.in-Transfer.next number found.held.now.stamp found.held.now
-    c.codes_are_distinct.ensures
-    (ap (λ (s : SessionValue). s.state) c.found_next.ensures.same ∙ sym c.in-Transfer.ensures)
-    (ap (λ (s : SessionValue). s.waiting) c.found_next.ensures.same ∙ c.requires) refl
-    (c.in-Some.ensures.position before config h holds)
-    (arrived-there c.arrivals_by_place.ensures config h c.args.rings.now there.station found.place
-    found.ring.now found.held.now holds there.ring_there c.send.ensures.capacity there.there)
-    refl
-    ∙ ap (offered h) (client-same config h mid c.args.session.now c.found_next.ensures.same)
+    packet-offered c.arrivals_by_place.ensures c.args.config.now h c.args.rings.now c.args.session.now
+    c.found_next.new.session c.send.new.session c.in-Transfer.next found.place found.ring.now found.held.now
+    c.codes_are_distinct.ensures holds (sym c.in-Transfer.ensures) c.requires c.found_next.ensures.same
+    (c.in-Some.ensures.position before c.args.config.now h holds) c.in-Some.ensures.held c.send.ensures.capacity
+    c.send.ensures.session
 
 pub returns-in-Some-clause-answer : goal.returns-in-Some-clause-answer
 returns-in-Some-clause-answer c = λ h q holds state passed.

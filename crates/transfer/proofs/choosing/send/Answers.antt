@@ -1,37 +1,22 @@
-use Rattle.std.proofs.Common.{ℕ, ◌∙◌, ◌+◌, ap, sym, subst, arith}
+use Rattle.std.proofs.Common.{ℕ, ◌∙◌, ◌+◌, ap}
 use Rattle.protocol.specs.Packet.{packet}
 use Rattle.session_state.specs.declared.session.State.TheVariants.{Transfer}
 use Rattle.session_state.specs.Sessions.{SessionValue, but_for_cursors}
-use Rattle.session_state.specs.Choices.{chosen_of}
-use Rattle.transfer.specs.Choosing.{IsAtCursor}
-use Rattle.transfer.specs.Cursors.{HasPassedAll, OfAll, RestsIn}
-use Rattle.transfer.proofs.PassedLemmas.{one-passes, packet-passes, same-next}
+use Rattle.transfer.proofs.PassedLemmas.{waiting-passes}
 use Rattle.transfer.proofs.choosing.send.Goals as goal
-
-pub overflow_add-next : goal.overflow_add-next
-overflow_add-next c =
-    omega (arith, c.requires.there.before, c.arrivals-arrivals.ensures.value, c.arrivals-arrivals.type_inv)
 
 pub returns-clause-session : goal.returns-clause-session
 returns-clause-session c =
-    let sent : ℕ → SessionValue = λ number. record (c.args.session.now) {
+    let bytes = c.args.found.held.now.bytes in
+    ap but_for_cursors c.put_packet.ensures
+    ∙ ap (λ (s : SessionValue). record s { waiting = packet c.go_past-number.result bytes })
+    c.go_past-number.ensures.session
+    ∙ ap (λ (number : ℕ). but_for_cursors (record (c.args.session.now) {
       state = Transfer (c.args.found.held.now.stamp + 1);
-      waiting = packet number c.args.found.held.now.bytes;
-    } in
-    c.pass_sent.ensures.same
-    ∙ ap but_for_cursors (c.put_packet.ensures ∙ ap sent c.number_at-number.ensures)
+      waiting = packet number bytes;
+    })) c.go_past-number.ensures.number
 
 pub returns-clause-passed : goal.returns-clause-passed
 returns-clause-passed c = λ next late kept rests.
-    let put = c.put_packet.new.self in
-    let after = c.pass_sent.new.session in
-    let position = c.args.found.held.now.stamp in
-    one-passes c.args.rings.now put after c.pass_sent.ensures.same
-    (λ q state. subst (λ k. HasPassedAll c.args.rings.now k put → HasPassedAll c.args.rings.now k after)
-    (same-next (position + 1) q (sym (ap (λ (s : SessionValue). s.state) c.put_packet.ensures) ∙ state))
-    (c.pass_sent.ensures.passed c.args.rings.now next late
-    (subst (λ (s : SessionValue). IsAtCursor c.args.rings.now (chosen_of s.mode) c.args.found.index
-    c.args.found.ring.now c.args.found.place) (sym c.put_packet.ensures) c.requires.cursor)
-    (subst (λ (s : SessionValue). OfAll (RestsIn c.args.rings.now next) (chosen_of s.mode))
-    (sym c.put_packet.ensures) rests)))
-    (packet-passes c.args.rings.now c.args.session.now put next position _ c.put_packet.ensures late kept rests)
+    waiting-passes c.args.rings.now c.go_past-number.new.session c.put_packet.new.self _ c.put_packet.ensures
+    (c.go_past-number.ensures.passed next late kept rests)
