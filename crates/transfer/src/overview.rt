@@ -145,6 +145,7 @@ fn alone(session: &Session, rings: &Rings) -> Option<usize>
 
 /// Where all that arrived since all requests had looked at their rings went to the ring of one of them, that one passes
 /// what it doesn't want, and so all have looked again.
+#[inline(always)]
 fn catch_up(session: &mut Session, rings: &Rings, next: u64)
     ensures same { but_for_cursors session.new ≡ but_for_cursors session.old }
     ensures passed { HasPassedAll rings.now next session.old → HasPassedAll rings.now next session.new }
@@ -161,6 +162,7 @@ fn catch_up(session: &mut Session, rings: &Rings, next: u64)
 
 /// Each request passes what it doesn't want, and the one whose record came first is told. Where no record arrived
 /// since all of them did so, or all to one station, the cursors tell it, and no other ring is looked at.
+#[inline(always)]
 pub(crate) fn rest(session: &mut Session, rings: &Rings, next: u64) -> Option<First>
     ensures same { but_for_cursors session.new ≡ but_for_cursors session.old }
     ensures rest { HasPassedAll rings.now next session.old
@@ -186,6 +188,7 @@ fn keep_quiet(session: &mut Session, first: &Option<First>)
 
 /// The request whose record came first. Where all have looked at their rings since the last record arrived, the cursors
 /// tell it; else each passes what it doesn't want.
+#[inline(always)]
 fn leader(session: &mut Session, rings: &Rings, next: u64) -> Option<First>
     ensures same { but_for_cursors session.new ≡ but_for_cursors session.old }
     ensures rest { HasPassedAll rings.now next session.old
@@ -205,6 +208,7 @@ fn leader(session: &mut Session, rings: &Rings, next: u64) -> Option<First>
 
 /// Each request passes what it doesn't want, where something may have come to its ring, and the one whose record
 /// came first is told. All requests are walked over once.
+#[inline(never)]
 fn rest_all(session: &mut Session, rings: &Rings, next: u64) -> Option<First>
     ensures same { but_for_cursors session.new ≡ but_for_cursors session.old }
     ensures rest { OfAll (PassedIn rings.now next) (chosen_of session.old.mode)

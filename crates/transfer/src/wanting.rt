@@ -74,15 +74,36 @@ fn wants(session: &Session, i: usize, entry: &Entry, next: u64, held: &Held) -> 
         && is_in_window(entry, summary)
 }
 
+/// Whether two locations are the same. Their bytes are compared at once: few differ.
+fn is_same_location(one: &[u8; 2], other: &[u8; 2]) -> bool
+    ensures { result ≡ true → one.now ≡ other.now }
+{
+    let [a, b] = *one;
+    let [x, y] = *other;
+    (a == x) & (b == y)
+}
+
+/// Whether two channels are the same, as `is_same_location` compares.
+fn is_same_channel(one: &[u8; 3], other: &[u8; 3]) -> bool
+    ensures { result ≡ true → one.now ≡ other.now }
+{
+    let [a, b, c] = *one;
+    let [x, y, z] = *other;
+    (a == x) & (b == y) & (c == z)
+}
+
 /// Whether two records are of the same stream.
 fn is_same_stream(one: &Summary, other: &Summary) -> bool
     ensures { result ≡ true → stream_of one.now ≡ stream_of other.now }
 {
-    one.location == other.location && one.channel == other.channel && one.kind == other.kind
+    is_same_location(&one.location, &other.location)
+        & is_same_channel(&one.channel, &other.channel)
+        & (one.kind == other.kind)
 }
 
 /// Whether it is known without its patterns that a request wants a held record: it is of the stream of one that passes
 /// them. `next` is the first arrival that may still be sent.
+#[inline(always)]
 pub(crate) fn wants_too(entry: &Entry, next: u64, passed: &Summary, held: &Held) -> bool
     ensures { (c : Choice) → entry_of c ≡ entry.now → passes c.patterns (facts_of passed.now) ≡ true → result ≡ true
         → wants_held c next held.now ≡ true }
