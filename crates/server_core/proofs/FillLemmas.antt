@@ -1,19 +1,24 @@
 -- Packets that are handed one after the other.
-use Rattle.std.proofs.Common.{◌≡◌, ℕ, zero, suc, ◌+◌, ◌<◌, ◌≤◌, false, Bool, List, [], ◌∷◌, ◌++◌, length, refl, sym, ap}
+use Rattle.std.proofs.Common.{◌≡◌, ℕ, zero, suc, ◌+◌, true, false, Bool, if◌then◌else◌, List, [], ◌∷◌, ◌++◌, length, refl, sym, ap}
 use Rattle.std.proofs.Common.{subst, ◌∙◌, arith, Option, Some, None, Result, option_map, unwrap_or, slice_get}
 use Rattle.std.proofs.Common.{add-one, ap₂, append-nil, append_assoc, length-append}
 use Rattle.std.specs.Prelude.{All, ◌≢◌}
 use Rattle.std.specs.List.{concat}
 use Rattle.std.specs.Result.{result_ok}
 use Rattle.std.proofs.lemmas.List.Elements.{All-append}
+use Rattle.std.proofs.lemmas.List.{drop_all, take_all}
 use Rattle.protocol.specs.Catalog.{Config, View}
 use Rattle.protocol.specs.History.{Arrival}
-use Rattle.protocol.specs.Client.{Client, after_take, is_nothing, offered}
+use Rattle.protocol.specs.Client.{Client, after_take, is_ending, is_nothing, left_with, listed, offered, read_on}
 use Rattle.protocol.specs.World.{Connection, World, at, changed, client_of, step}
 use Rattle.protocol.specs.World.Event.{Take}
 use Rattle.protocol.proofs.Connections.{slice_get-at_same}
 use Rattle.slab.specs.Slab.{Slab, get, Updates}
-use Rattle.session_state.specs.Sessions.{SessionValue, client_in, session_view}
+use Rattle.session_state.specs.Sessions.{SessionValue, but_for_cursors, client_in, session_view}
+use Rattle.session_state.specs.declared.session.State.{State}
+use Rattle.session_state.specs.declared.session.State.TheVariants.{Negotiating, Listing, Starting, Transfer, Ending}
+use Rattle.transfer.specs.Choosing.{IsHanded, is_transfer}
+use Rattle.transfer.specs.Sleeping.{Sleeps}
 use Rattle.catalog.specs.Places.{view_in, Seen}
 use Rattle.station_ring.specs.HeldRecords.{RingsValue}
 use Rattle.server_core.specs.Clients.{IsTable, slot_in}
@@ -21,14 +26,18 @@ use Rattle.server_core.specs.declared.clients.Clients.{Clients}
 use Rattle.server_core.specs.declared.client.Filled.{Filled}
 use Rattle.server_core.specs.declared.client.Gone.{Gone}
 use Rattle.server_core.specs.declared.client.Offer.{Offer}
+use Rattle.server_core.specs.declared.client.Offer.TheVariants.{Bytes, Idle}
 use Rattle.server_core.specs.Filling.{Fills, IsFilled, client_at, lent_to}
 use Rattle.server_core.specs.Filling.Fills.{none, more}
-use Rattle.server_core.specs.Handing.{AreWhole, HandsPackets, handing_on, packets_of, waiting_after, waiting_at}
-use Rattle.server_core.specs.Refusals.{offer_of}
+use Rattle.server_core.specs.Handing.{AreWhole, HandsPackets, OnlySends, handing_on, offered_open_of, packets_of}
+use Rattle.server_core.specs.Handing.{waiting_after, waiting_at}
+use Rattle.server_core.specs.Marks.{IsIdle, idle_in}
+use Rattle.server_core.specs.Refusals.{offer_of, offer_when}
 use Rattle.server_core.specs.ServerValues.{OpenClient, ServerValue, StandsAt, client_of_open, goes_on, handing}
 use Rattle.server_core.specs.ServerValues.{SlotGoesOn, open_client, open_client_at, open_client_of, open_client_with}
 use Rattle.server_core.specs.ServerValues.{taking}
 use Rattle.server_core.proofs.CurrentLemmas.{KeepsOver, offered-over, taken-over}
+use Rattle.server_core.proofs.OfferLemmas.{offered-waiting}
 use Rattle.server_core.proofs.SessionLemmas.{goes-there, opened-there, serving, with-marks}
 use Rattle.server_core.proofs.StandsLemmas.{client_of-open, taken-of}
 use Rattle.server_core.proofs.TakeLemmas.{at-composed, offer-then-take, offered-there, same-at, take-then-offer}
@@ -94,15 +103,140 @@ packets-whole h (suc n) o whole =
     All-append (λ p. length p ≡ 520) (packets_of h n o) (waiting_after h n o ∷ []) (packets-whole h n o whole.0)
     (all-one (λ p. length p ≡ 520) (waiting_after h n o) whole.1)
 
--- a session of which a packet was handed, and for which what comes next was made to wait
-pub packet-handed : (config : Config) (h : List Arrival) (n : ℕ) (a m r : SessionValue) → 0 < n → n ≤ length a.waiting
-    → client_in config h m ≡ after_take (session_view config a) h (client_in config h a) n → m.places ≡ a.places
+-- Packets after packets.
+pub hands-join : (h : List Arrival) (a m r : Option OpenClient) (n k : ℕ) (out mid last : List ℕ)
+    → HandsPackets h a m n out mid → HandsPackets h m r k mid last → HandsPackets h a r (k + n) out last
+unfolding packets_of AreWhole
+hands-join h a m r n zero out mid last one rest =
+    let same : n ≡ 0 + n = omega arith in
+    subst (λ i. HandsPackets h a r i out last) same
+    (subst (λ l. HandsPackets h a r n out l) (sym (rest.bytes ∙ append-nil mid))
+    (subst (λ o. HandsPackets h a o n out mid) (sym (rest.goes ∙ sym (stays h m))) one))
+hands-join h a m r n (suc k) out mid last one rest =
+    let here : Option OpenClient = goes_on (handing_on h k) m in
+    let sent : List ℕ = mid ++ concat (packets_of h k m) in
+    subst (λ i. HandsPackets h a r i out last) (omega arith)
+    (hands-more h a here r (k + n) out sent last
+    (hands-join h a m here n k out mid sent one (record { goes = refl; bytes = refl; whole = rest.whole.0 }))
+    rest.whole.1 (rest.goes ∙ sym (goes-more h k m))
+    (rest.bytes ∙ ap (λ l. mid ++ l) (concat-more (packets_of h k m) (waiting_after h k m))
+    ∙ sym (append_assoc mid (concat (packets_of h k m)) (waiting_after h k m))))
+
+-- a session of which a whole packet was handed
+pub first-handed : (config : Config) (h : List Arrival) (a m : SessionValue) (out mid : List ℕ)
+    → length a.waiting ≡ 520
+    → client_in config h m ≡ after_take (session_view config a) h (client_in config h a) 520 → m.places ≡ a.places
+    → mid ≡ out ++ a.waiting
+    → HandsPackets h (Some (open_client_of config h a)) (Some (offered_open_of config h m)) 1 out mid
+first-handed config h a m out mid size client places is =
+    hands-more h (Some (open_client_of config h a)) (Some (open_client_of config h a))
+    (Some (offered_open_of config h m)) 0 out out mid (hands-none h (Some (open_client_of config h a)) out) size
+    (ap₂ (λ (p : Seen) (q : Client). let t : Option OpenClient =
+    Some (record { view = view_in config p; client = offered h q }) in t)
+    places (taken-of config h 520 a m (omega arith) (omega (arith, size)) client)) is
+
+-- ---- packets that never wait
+
+listed-sends : (config : Config) (h : List Arrival) (s : SessionValue) (t : State) → is_transfer t ≡ true
+    → listed (client_in config h (record s { state = t })).state ≡ (client_in config h (record s { state = t })).state
+listed-sends config h s Negotiating sends = absurd cc
+listed-sends config h s (Listing made) sends = absurd cc
+listed-sends config h s Starting sends = absurd cc
+listed-sends config h s (Transfer next) sends = refl
+listed-sends config h s Ending sends = absurd cc
+
+-- Where all of a packet is taken while nothing is unread, the packet alone is gone.
+all-taken : (config : Config) (h : List Arrival) (v : View) (s : SessionValue) (packet : List ℕ) → length packet ≡ 520
+    → OnlySends s → after_take v h (client_in config h (record s { waiting = packet })) 520 ≡ client_in config h s
+all-taken config h v s packet size only =
+    let c : Client = client_in config h (record s { waiting = packet }) in
+    ap₂ (λ (b : Bool) (l : List ℕ). if b then c else left_with v h c l)
+    (ap is_nothing (take_all 520 packet (omega (arith, size))) ∙ some_wait packet size)
+    (drop_all 520 packet (omega (arith, size)))
+    ∙ ap (λ (u : List ℕ). read_on v h u (record c { state = listed c.state; waiting = [] })) only.read
+    ∙ ap (λ t. let x : Client = record { state = t; open_line = s.open_line; unread = []; waiting = [] } in x)
+    (listed-sends config h s s.state only.sends)
+    ∙ ap₂ (λ (u w : List ℕ). let x : Client = record (client_in config h s) { unread = u; waiting = w } in x)
+    (sym only.read) (sym only.nothing)
+
+taking-all : (config : Config) (h : List Arrival) (v : View) (s : SessionValue) (packet : List ℕ) → length packet ≡ 520
+    → OnlySends s → taking h 520 v (client_in config h (record s { waiting = packet })) ≡ client_in config h s
+unfolding taking
+taking-all config h v s packet size only =
+    ap (λ c. after_take v h c 520)
+    (sym (offered-waiting h (client_in config h (record s { waiting = packet })) (some_wait packet size)))
+    ∙ all-taken config h v s packet size only
+
+-- A packet that was handed as it was chosen is one that waited and was taken.
+pub hands-next : (config : Config) (h : List Arrival) (a : Option OpenClient) (m r : SessionValue) (n : ℕ)
+    (out mid last : List ℕ) → HandsPackets h a (Some (offered_open_of config h m)) n out mid
+    → IsHanded config h m r mid last → OnlySends r → r.places ≡ m.places
+    → HandsPackets h a (Some (offered_open_of config h r)) (n + 1) out last
+hands-next config h a m r n out mid last before is only places =
+    let waits : (offered h (client_in config h m)).waiting ≡ is.packet = ap (λ (c : Client). c.waiting) (sym is.offers) in
+    let taken : client_in config h r ≡ taking h 520 (session_view config m) (offered h (client_in config h m)) =
+    sym (taking-all config h (session_view config m) r is.packet is.size only)
+    ∙ ap (taking h 520 (session_view config m)) is.offers in
+    hands-more h a (Some (offered_open_of config h m)) (Some (offered_open_of config h r)) n out mid last before
+    (ap length waits ∙ is.size)
+    (ap₂ (λ (p : Seen) (q : Client). let t : Option OpenClient =
+    Some (record { view = view_in config p; client = offered h q }) in t) places taken)
+    (is.bytes ∙ ap (λ l. mid ++ l) (sym waits))
+
+-- Where nothing is handed any more, what comes next was made to wait.
+pub hands-last : (config : Config) (h : List Arrival) (a : Option OpenClient) (m r : SessionValue) (n : ℕ)
+    (out mid : List ℕ) → HandsPackets h a (Some (offered_open_of config h m)) n out mid
     → client_in config h r ≡ offered h (client_in config h m) → r.places ≡ m.places
-    → Some (open_client_of config h r) ≡ goes_on (handing h n) (Some (open_client_of config h a))
-packet-handed config h n a m r some fits client places next still =
-    ap₂ (λ (p : Seen) (q : Client). let t : Option OpenClient =
-    Some (record { view = view_in config p; client = q }) in t)
-    (still ∙ places) (next ∙ ap (offered h) (taken-of config h n a m some fits client))
+    → HandsPackets h a (Some (open_client_of config h r)) n out mid
+hands-last config h a m r n out mid before client places =
+    subst (λ o. HandsPackets h a o n out mid)
+    (sym (ap₂ (λ (p : Seen) (q : Client). let t : Option OpenClient =
+    Some (record { view = view_in config p; client = q }) in t) places client)) before
+
+pub still-sends : (m r : SessionValue) → OnlySends m → is_transfer r.state ≡ true
+    → but_for_cursors r ≡ but_for_cursors (record m { state = r.state }) → OnlySends r
+still-sends m r only sends same = record {
+  sends = sends;
+  nothing = ap (λ (s : SessionValue). s.waiting) same ∙ only.nothing;
+  read = ap (λ (s : SessionValue). s.unread) same ∙ only.read;
+}
+
+transfer-idle : (config : Config) (h : List Arrival) (s : SessionValue) (t : State) → is_transfer t ≡ true
+    → is_ending (client_in config h (record s { state = t })).state ≡ false
+transfer-idle config h s Negotiating sends = absurd cc
+transfer-idle config h s (Listing made) sends = absurd cc
+transfer-idle config h s Starting sends = absurd cc
+transfer-idle config h s (Transfer next) sends = refl
+transfer-idle config h s Ending sends = absurd cc
+
+-- what an offer found that chose nothing
+pub nothing-found : (config : Config) (h : List Arrival) (m r : SessionValue) → OnlySends m
+    → but_for_cursors r ≡ but_for_cursors m → Idle ≡ offer_of (client_in config h r)
+nothing-found config h m r only same =
+    sym (ap₂ offer_when
+    (ap is_nothing (ap (λ (s : SessionValue). s.waiting) same ∙ only.nothing))
+    (transfer-idle config h r r.state
+    (ap is_transfer (ap (λ (s : SessionValue). s.state) same) ∙ only.sends)))
+
+-- and one that has END waiting
+pub end-found : (config : Config) (h : List Arrival) (r : SessionValue) → is_nothing r.waiting ≡ false
+    → Bytes ≡ offer_of (client_in config h r)
+end-found config h r some = sym (ap (λ b. offer_when b (is_ending (client_in config h r).state)) some)
+
+idle-by : (config : Config) (rings : RingsValue) (s : SessionValue) (t : State) → is_transfer t ≡ true
+    → Sleeps rings s → idle_in config rings s t
+idle-by config rings s Negotiating sends sleeps = absurd cc
+idle-by config rings s (Listing made) sends sleeps = absurd cc
+idle-by config rings s Starting sends sleeps = absurd cc
+idle-by config rings s (Transfer next) sends sleeps = sleeps
+idle-by config rings s Ending sends sleeps = absurd cc
+
+pub sleeper-idle : (config : Config) (rings : RingsValue) (m r : SessionValue) → OnlySends m
+    → but_for_cursors r ≡ but_for_cursors m → Sleeps rings r → IsIdle config rings r
+sleeper-idle config rings m r only same sleeps = record {
+  by_state = idle-by config rings r r.state
+      (ap is_transfer (ap (λ (s : SessionValue). s.state) same) ∙ only.sends) sleeps;
+}
 
 -- the same of the session in a slot
 pub hands-in-slot : (config : Config) (h : List Arrival) (old new : Slab SessionValue) (slot n : ℕ)
@@ -130,12 +264,6 @@ handing-over h zero v c over = over
 handing-over h (suc n) v c over =
     offered-over h v (taking h 520 v (handing_on h n v c))
     (taken-over h 520 v (handing_on h n v c) (handing-over h n v c over))
-
--- The first packet waited at the start.
-pub first-whole : (n : ℕ) (a m : SessionValue) → (0 < n → length a.waiting ≡ 520) → (n ≡ 0 → m ≡ a)
-    → length m.waiting ≡ 520 → length a.waiting ≡ 520
-first-whole zero a m some same here = sym (ap (λ s. length s.waiting) (same refl)) ∙ here
-first-whole (suc n) a m some same here = some (omega arith)
 
 -- ---- the worlds
 

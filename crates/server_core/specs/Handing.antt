@@ -1,10 +1,12 @@
 -- Packets that an open client is handed one after the other, by how many they are.
 -- This project's own.
-use Rattle.std.specs.Prelude.{◌≡◌, ℕ, zero, suc, List, [], ◌∷◌, ◌++◌, length, Option, Some, None}
+use Rattle.std.specs.Prelude.{◌≡◌, ℕ, zero, suc, List, [], ◌∷◌, ◌++◌, length, true, Option, Some, None}
 use Rattle.std.specs.List.{concat}
-use Rattle.protocol.specs.Catalog.{View}
-use Rattle.protocol.specs.Client.{Client}
+use Rattle.protocol.specs.Catalog.{Config, View}
+use Rattle.protocol.specs.Client.{Client, offered}
 use Rattle.protocol.specs.History.{Arrival}
+use Rattle.session_state.specs.Sessions.{SessionValue, client_in, session_view}
+use Rattle.transfer.specs.Choosing.{is_transfer}
 use Rattle.server_core.specs.ServerValues.{OpenClient, goes_on, handing}
 
 -- the client after so many packets, and what comes next made to wait after each
@@ -37,3 +39,13 @@ pub record HandsPackets (h : List Arrival) (before after : Option OpenClient) (n
   pub goes : after ≡ goes_on (handing_on h n) before
   pub bytes : out' ≡ out ++ concat (packets_of h n before)
   pub whole : AreWhole h n before
+
+-- the open client of a session that is offered something
+abbrev pub offered_open_of : Config → List Arrival → SessionValue → OpenClient
+offered_open_of config h s = record { view = session_view config s; client = offered h (client_in config h s) }
+
+-- The session is in a transfer in which nothing waits and nothing is unread.
+pub record OnlySends (s : SessionValue) : Type 0 where
+  pub sends : is_transfer s.state ≡ true
+  pub nothing : s.waiting ≡ []
+  pub read : s.unread ≡ []
