@@ -41,8 +41,10 @@ pub fn packets(alloc: Global, requests: u32, capacity: u32, rounds: u32) -> anyh
     )
 }
 
-/// How many packets a call hands at most, and how many bytes that is.
+/// How many packets a call hands at most.
 const MANY: usize = 63;
+
+/// How many bytes they have.
 const ROOM: usize = 32_760;
 
 /// Packets are handed, many in one call. Answers how many.
