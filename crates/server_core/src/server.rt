@@ -334,10 +334,8 @@ impl Server {
         ensures kept { (k : ℕ) → is_some (mark_at self.new k) ≡ is_some (mark_at self.old k) }
         ensures unchanged { OnErr result (self.new ≡ self.old) }
     {
-        match placed(&self.config, bytes) {
-            Ok(placing) => self.hold(bytes, placing),
-            Err(fault) => Err(fault),
-        }
+        let placing = placed(&self.config, bytes)?;
+        self.hold(bytes, placing)
     }
 
     /// A record of a station that is there is the last arrival.
