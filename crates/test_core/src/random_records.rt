@@ -50,10 +50,8 @@ fn plain_answer(counts: &mut Counts, record: &[u8; 512]) -> Result<u32, ArriveFa
 
 /// What a server answers.
 fn answer(server: &mut Server, record: &[u8; 512]) -> Result<u32, ArriveFault> {
-    match server.arrive(record) {
-        Ok(number) => Ok(number.value()),
-        Err(fault) => Err(fault),
-    }
+    let number = server.arrive(record)?;
+    Ok(number.value())
 }
 
 /// The number of the first record that a server answers otherwise, and how many were taken.
