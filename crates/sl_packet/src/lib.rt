@@ -8,6 +8,6 @@ pub mod sequence;
 mod unfinished;
 
 pub use cutter::{Cut, Fed, NotAPacket, PacketCutter};
-pub use packets::{frame, header};
+pub use packets::{PACKET, frame, header};
 pub use sequence::Seq;
 pub use unfinished::Unfinished;

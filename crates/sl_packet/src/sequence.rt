@@ -1,6 +1,6 @@
 //! Sequence numbers: 24 bits, spelled as hexadecimal digits (SeedLink 3, data packets).
-ghost use Rattle.std.specs.Prelude.{◌≡◌, ◌<◌, ◌≤◌, if◌then◌else◌, IfSome, None, nat_lt};
-ghost use Rattle.protocol.specs.Packet.{digit, digits, hex_digit, hex_number, next_number, number_of, numbers};
+ghost use Rattle.std.specs.Prelude.{◌≡◌, ◌<◌, if◌then◌else◌, IfSome, nat_lt};
+ghost use Rattle.protocol.specs.Packet.{digit, digits, hex_digit, next_number, number_of, numbers};
 
 use std::marker::Model;
 
@@ -45,11 +45,6 @@ impl Seq {
     pub fn parse(text: &[u8]) -> Option<Seq>
         ensures { result ≡ number_of text.now }
     {
-        if let Some(digits) = text.as_array() {
-            return Some(Seq {
-                number: six_digits(digits)?,
-            });
-        }
         if text.is_empty() || text.len() > DIGITS {
             return None;
         }
@@ -93,42 +88,17 @@ impl Seq {
     }
 }
 
-/// The number that six hexadecimal digits spell.
-fn six_digits(digits: &[u8; 6]) -> Option<u32>
-    ensures value { result ≡ hex_number 0 digits.now }
-    ensures below { IfSome result (λ n. n < numbers) }
-{
-    let [a, b, c, d, e, f] = *digits;
-    let (a, b, c) = (hex_value(a), hex_value(b), hex_value(c));
-    let (d, e, f) = (hex_value(d), hex_value(e), hex_value(f));
-    if a < 16 && b < 16 && c < 16 && d < 16 && e < 16 && f < 16 {
-        Some(16 * (16 * (16 * (16 * (16 * a + b) + c) + d) + e) + f)
-    } else {
-        None
-    }
-}
-
-/// The value of a hexadecimal digit of either case; 16 of a byte that is not one.
-fn hex_value(byte: u8) -> u32
-    ensures digit { result < 16 → hex_digit byte ≡ Some result }
-    ensures other { 16 ≤ result → hex_digit byte ≡ None }
-    ensures bound { result ≤ 16 }
-{
-    match byte {
-        b'0'..=b'9' => u32::from(byte - b'0'),
-        b'A'..=b'F' => u32::from(byte - b'A') + 10,
-        b'a'..=b'f' => u32::from(byte - b'a') + 10,
-        _ => 16,
-    }
-}
-
 /// A hexadecimal digit of either case.
 fn hex_digit(byte: u8) -> Option<u32>
     ensures value { result ≡ hex_digit byte }
     ensures below { IfSome result (λ d. d < 16) }
 {
-    let value = hex_value(byte);
-    if value < 16 { Some(value) } else { None }
+    match byte {
+        b'0'..=b'9' => Some(u32::from(byte - b'0')),
+        b'A'..=b'F' => Some(u32::from(byte - b'A') + 10),
+        b'a'..=b'f' => Some(u32::from(byte - b'a') + 10),
+        _ => None,
+    }
 }
 
 /// The sixteen hexadecimal digits, in upper case.

@@ -14,5 +14,5 @@ overflow_add-number c =
       c.in_ok-number.ensures.below,
     )
 
-pub invariant_of-result-2 : goal.invariant_of-result-2
-invariant_of-result-2 c = power_six c.loop-byte.byte-index c.loop-byte.number (omega arith) c.loop-byte.invariant.below
+pub invariant_of-result : goal.invariant_of-result
+invariant_of-result c = power_six c.loop-byte.byte-index c.loop-byte.number (omega arith) c.loop-byte.invariant.below
