@@ -3,9 +3,9 @@ use Rattle.std.proofs.Common.{◌≡◌, ℕ, ◌+◌, ◌-◌, ◌<◌, ◌≤�
 use Rattle.std.proofs.Common.{drop}
 use Rattle.std.proofs.Common.{refl, sym, ap, ◌∙◌, subst, arith, Some, None, Option, slice_get, length-append}
 use Rattle.std.proofs.Common.{length-drop}
-use Rattle.std.proofs.lemmas.List.{drop-append-le, drop-drop, take_all}
+use Rattle.std.proofs.lemmas.List.{drop-append-le, take_all}
 use Rattle.std.specs.Prelude.{IfSome}
-use Rattle.circular_buffer.specs.Buffer.{Buffer, buffer, keep_last}
+use Rattle.circular_buffer.specs.Buffer.{keep_last}
 use Rattle.station_ring.specs.declared.held.Brief.{Brief}
 use Rattle.station_ring.specs.declared.held.Held.{Held}
 use Rattle.station_ring.specs.declared.held.Stream.{Stream}
@@ -44,28 +44,6 @@ module _ {A : Type 0} where
   drop-over (suc n) (x ∷ xs) ys low =
       let e : suc n - length (x ∷ xs) ≡ n - length xs = omega arith in
       rw e (drop-over n xs ys (omega arith))
-
--- What is let go for one item more would be let go with it.
-pub keep_last-push : (n : ℕ) (xs : List Held) (x : Held) → 1 ≤ n
-    → keep_last n (keep_last (n - 1) xs ++ x ∷ []) ≡ keep_last n (xs ++ x ∷ [])
-keep_last-push n xs x some =
-    let gone : ℕ = length xs - (n - 1) in
-    let within : gone ≤ length xs = omega arith in
-    let joined : drop gone xs ++ x ∷ [] ≡ drop gone (xs ++ x ∷ []) = sym (drop-append-le gone xs (x ∷ []) within) in
-    let more : ℕ = length (drop gone xs ++ x ∷ []) - n in
-    let count : gone + more ≡ length (xs ++ x ∷ []) - n = simp (length-append, length-drop) (omega arith) in
-    ap (drop more) joined ∙ drop-drop more gone (xs ++ x ∷ []) ∙ ap (λ k. drop k (xs ++ x ∷ [])) count
-
-pub put-held : (b m n : Buffer Held) (x : Held) → 1 ≤ b.capacity
-    → m ≡ buffer (keep_last (b.capacity - 1) b.items) b.capacity
-    → n ≡ buffer (keep_last m.capacity (m.items ++ x ∷ [])) m.capacity
-    → n ≡ buffer (keep_last b.capacity (b.items ++ x ∷ [])) b.capacity
-put-held b m n x some first then =
-    then
-    ∙ ap (λ (k : Buffer Held). buffer (keep_last k.capacity (k.items ++ x ∷ [])) k.capacity) first
-    ∙ ap (λ xs. buffer xs b.capacity) (keep_last-push b.capacity b.items x some)
-
-pub ruleset keep_lemmas = (put-held)
 
 -- ---- briefs
 
@@ -127,21 +105,14 @@ briefs-push before after held briefs capacity x b keeps grows told are =
     (sym more.count)
     (briefs-drop after (held ++ x ∷ []) (briefs ++ b ∷ []) (length (held ++ x ∷ []) - capacity) more)
 
--- the same of buffers
-pub briefs-put : (before after : List Stream) (h h' : Buffer Held) (d d' : Buffer Brief) (x : Held) (b : Brief)
-    → h' ≡ buffer (keep_last h.capacity (h.items ++ x ∷ [])) h.capacity
-    → d' ≡ buffer (keep_last d.capacity (d.items ++ b ∷ [])) d.capacity
+-- the same by what each list became
+pub briefs-put : (before after : List Stream) (held held' : List Held) (briefs briefs' : List Brief) (capacity : ℕ)
+    (x : Held) (b : Brief) → held' ≡ keep_last capacity (held ++ x ∷ [])
+    → briefs' ≡ keep_last capacity (briefs ++ b ∷ [])
     → ((k : ℕ) (s : Stream) → slice_get before k ≡ Some s → slice_get after k ≡ Some s)
-    → length before ≤ length after → Tells after x b → 1 ≤ h.capacity → d.capacity ≡ h.capacity
-    → AreBriefs before h.items d.items
-    → (1 ≤ h'.capacity) × (d'.capacity ≡ h'.capacity) × AreBriefs after h'.items d'.items
-briefs-put before after h h' d d' x b eh ed keeps grows told some same are =
-    rw (eh, ed) (
-      some,
-      same,
-      subst (λ n. AreBriefs after (keep_last h.capacity (h.items ++ x ∷ [])) (keep_last n (d.items ++ b ∷ [])))
-          (sym same) (briefs-push before after h.items d.items h.capacity x b keeps grows told are),
-    )
+    → length before ≤ length after → Tells after x b → AreBriefs before held briefs → AreBriefs after held' briefs'
+briefs-put before after held held' briefs briefs' capacity x b eh eb keeps grows told are =
+    rw (eh, eb) (briefs-push before after held briefs capacity x b keeps grows told are)
 
 -- a brief that was made of a record's summary
 pub tells-made : (streams : List Stream) (x : Held) (b : Brief) (stream : Stream) → b.start ≡ x.summary.start

@@ -1,3 +1,4 @@
+pub mod BlockLemmas
 pub mod PushLemmas
 pub mod NumberLemmas
 pub mod ReachLemmas

@@ -1,3 +1,4 @@
+pub mod Blocks
 pub mod Briefs
 pub mod Rings
 pub mod HeldRecords

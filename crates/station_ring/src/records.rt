@@ -1,36 +1,42 @@
 //! The last records of a station, and their briefs beside them.
-ghost use Rattle.std.specs.Prelude.{◌≡◌, ◌≤◌, ◌++◌, ◌∷◌, [], IfOk, length, drop, slice_get};
+ghost use Rattle.std.specs.Prelude.{◌≡◌, ◌≤◌, ◌<◌, ◌++◌, ◌∷◌, [], IfOk, length, drop, slice_get, slice_set};
 ghost use Rattle.std.specs.Option.{option_copied};
 ghost use Rattle.circular_buffer.specs.Buffer.{buffer, keep_last};
-ghost use Rattle.station_ring.specs.Briefs.{AreBriefs, Tells};
+ghost use Rattle.station_ring.specs.Blocks.{place_after};
+ghost use Rattle.station_ring.specs.Briefs.{AreBriefs};
 
 use crate::held::{Brief, Briefs, Held, Summary};
 use crate::streams::Streams;
-use circular_buffer::HeapCircularBuffer;
 use std::alloc::{AllocError, Global};
 use std::marker::Model;
 
 /// The last records of a station, as many as its capacity, in a block of a fixed size that is allocated once. What a
-/// search looks at of each lies in a block beside it.
+/// search looks at of each lies in a block beside it, at the same place. Once both are full, a record is written over
+/// the oldest one, where that lies, so that its bytes are copied once.
 #[derive(Drop)]
 pub(crate) struct Records {
-    held: HeapCircularBuffer<Held>,
-    briefs: HeapCircularBuffer<Brief>,
+    held: Vec<Held>,
+    briefs: Vec<Brief>,
+    /// Where the oldest one lies.
+    oldest: usize,
+    capacity: usize,
     streams: Streams,
 }
 
 impl Model for Records {
-    ghost use Rattle.std.specs.Prelude.{◌≡◌, ◌≤◌};
-    ghost use Rattle.circular_buffer.specs.Buffer.{Buffer};
+    ghost use Rattle.std.specs.Prelude.{◌≡◌, ◌≤◌, vec_capacity, vec_len};
+    ghost use Rattle.circular_buffer.specs.Buffer.{Buffer, buffer};
     ghost use Rattle.station_ring.specs.declared.held.Held.{Held};
+    ghost use Rattle.station_ring.specs.Blocks.{IsFilled, from_oldest};
     ghost use Rattle.station_ring.specs.Briefs.{AreBriefs};
 
     ghost Value = { Buffer Held };
 
-    ghost view = { λ s. s.held };
+    ghost view = { λ s. buffer (from_oldest s.oldest s.held.items) s.capacity };
 
-    ghost invariant = { λ s. (1 ≤ s.held.capacity) × (s.briefs.capacity ≡ s.held.capacity)
-        × AreBriefs s.streams s.held.items s.briefs.items };
+    ghost invariant = { λ s. IsFilled s.oldest (vec_len s.held) s.capacity × (vec_len s.briefs ≡ vec_len s.held)
+        × (s.capacity ≤ vec_capacity s.held) × (s.capacity ≤ vec_capacity s.briefs)
+        × AreBriefs s.streams (from_oldest s.oldest s.held.items) (from_oldest s.oldest s.briefs.items) };
 }
 
 impl Records {
@@ -39,12 +45,14 @@ impl Records {
         requires { 1 ≤ capacity }
         ensures { IfOk result (λ r. r ≡ buffer [] capacity) }
     {
-        let held = HeapCircularBuffer::with_capacity(alloc, capacity)?;
-        let briefs = HeapCircularBuffer::with_capacity(alloc, capacity)?;
+        let held = Vec::with_capacity(alloc, capacity)?;
+        let briefs = Vec::with_capacity(alloc, capacity)?;
         let streams = Streams::new(alloc)?;
         Ok(Records {
             held,
             briefs,
+            oldest: 0,
+            capacity,
             streams,
         })
     }
@@ -62,7 +70,12 @@ impl Records {
         ensures { option_copied result ≡ slice_get self.now.items index }
     {
         let _ = &self.briefs;
-        self.held.get(index)
+        let (newer, older) = self.held.split_at(self.oldest);
+        if index < older.len() {
+            older.get(index)
+        } else {
+            newer.get(index - older.len())
+        }
     }
 
     /// Puts in one record more. If there is no room for it, the oldest one is let go first.
@@ -76,13 +89,19 @@ impl Records {
             stop: summary.stop,
             stream,
         };
-        let item = Held {
-            stamp,
-            bytes: *bytes,
-            summary,
-        };
-        put_held(&mut self.held, item);
-        put_brief(&mut self.briefs, brief);
+        if self.held.len() < self.capacity {
+            let item = Held {
+                stamp,
+                bytes: *bytes,
+                summary,
+            };
+            self.held.push_reserved(item);
+            self.briefs.push_reserved(brief);
+        } else {
+            write_over(&mut self.held[self.oldest], stamp, bytes, summary);
+            self.briefs[self.oldest] = brief;
+            self.oldest = next_place(self.oldest, self.capacity);
+        }
     }
 
     /// The briefs of the records from an index on.
@@ -90,7 +109,7 @@ impl Records {
         requires { index ≤ length self.now.items }
         ensures { AreBriefs result.streams.now (drop index self.now.items) (result.older.now ++ result.newer.now) }
     {
-        let (older, newer) = self.briefs.as_slices();
+        let (newer, older) = self.briefs.split_at(self.oldest);
         let streams = self.streams.known();
         if index <= older.len() {
             Briefs {
@@ -108,20 +127,19 @@ impl Records {
     }
 }
 
-/// Puts a record after the others. If there is no room for it, the oldest one is let go first, where it lies, so that
-/// its bytes are not moved.
-#[tactic(auto, using(crate::proofs::BriefLemmas::keep_lemmas))]
-fn put_held(held: &mut HeapCircularBuffer<Held>, item: Held)
-    requires { 1 ≤ held.old.capacity }
-    ensures { held.new ≡ buffer (keep_last held.old.capacity (held.old.items ++ item ∷ [])) held.old.capacity }
+/// The place after one, in a block of so many.
+fn next_place(place: usize, capacity: usize) -> usize
+    requires { place < capacity }
+    ensures { result ≡ place_after place capacity }
 {
-    held.truncate_front(held.capacity() - 1);
-    let _none = held.push_back(item);
+    if place + 1 < capacity { place + 1 } else { 0 }
 }
 
-/// The same of a brief.
-fn put_brief(briefs: &mut HeapCircularBuffer<Brief>, item: Brief)
-    ensures { briefs.new ≡ buffer (keep_last briefs.old.capacity (briefs.old.items ++ item ∷ [])) briefs.old.capacity }
+/// Writes a record over another one, where that lies.
+fn write_over(held: &mut Held, stamp: u64, bytes: &[u8; 512], summary: Summary)
+    ensures { held.new ≡ record { stamp = stamp; bytes = bytes.now; summary = summary } }
 {
-    let _oldest = briefs.push_back(item);
+    held.stamp = stamp;
+    held.bytes = *bytes;
+    held.summary = summary;
 }

@@ -1,0 +1,17 @@
+-- Where the records of a station lie: in a block of a fixed size, which is filled from its first place on, and then
+-- written over, the oldest first. Left out: what a record is.
+use Rattle.std.specs.Prelude.{◌≡◌, ℕ, ◌+◌, ◌<◌, ◌≤◌, nat_lt, if◌then◌else◌, List, ◌++◌, drop, take}
+
+-- the items of a block from the oldest on, which lies at a place
+abbrev pub from_oldest : {X : Type 0} → ℕ → List X → List X
+from_oldest oldest items = drop oldest items ++ take oldest items
+
+-- the place after one, in a block of so many
+abbrev pub place_after : ℕ → ℕ → ℕ
+place_after place capacity = if nat_lt (place + 1) capacity then place + 1 else 0
+
+-- What is true of where the oldest lies, among so many items: a block that is not full begins with it.
+pub record IsFilled (oldest count capacity : ℕ) : Type 0 where
+  pub oldest_place : oldest < capacity
+  pub few : count ≤ capacity
+  pub first : count < capacity → oldest ≡ 0
