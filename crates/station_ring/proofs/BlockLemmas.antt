@@ -6,8 +6,7 @@ use Rattle.std.proofs.lemmas.List.{append-nil, drop-append-le, drop-drop, drop-s
 use Rattle.std.proofs.lemmas.List.{length-take, take_all}
 use Rattle.std.proofs.lemmas.Bool.Decides.{nat_tests}
 use Rattle.std.proofs.lemmas.Grind.{take-set_at}
-use Rattle.circular_buffer.specs.Buffer.{keep_last}
-use Rattle.station_ring.specs.Blocks.{from_oldest, place_after, IsFilled}
+use Rattle.station_ring.specs.Blocks.{from_oldest, keep_last, place_after, IsFilled}
 
 module _ {X : Type 0} where
   pub length-from_oldest : (oldest : ℕ) (xs : List X) → length (from_oldest oldest xs) ≡ length xs

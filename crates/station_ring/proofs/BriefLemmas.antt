@@ -5,12 +5,12 @@ use Rattle.std.proofs.Common.{refl, sym, ap, ◌∙◌, subst, arith, Some, None
 use Rattle.std.proofs.Common.{length-drop}
 use Rattle.std.proofs.lemmas.List.{drop-append-le, take_all}
 use Rattle.std.specs.Prelude.{IfSome}
-use Rattle.circular_buffer.specs.Buffer.{keep_last}
 use Rattle.station_ring.specs.declared.held.Brief.{Brief}
 use Rattle.station_ring.specs.declared.held.Held.{Held}
 use Rattle.station_ring.specs.declared.held.Stream.{Stream}
 use Rattle.station_ring.specs.Rings.{RingValue, first_place}
 use Rattle.station_ring.proofs.GrowthLemmas.{held_at-low}
+use Rattle.station_ring.specs.Blocks.{keep_last}
 use Rattle.station_ring.specs.Briefs.{AreBriefs, Tells, TellFrom, stream_of}
 
 -- ---- lists

@@ -88,6 +88,15 @@ found-held r number place holds found none =
 grows-same : (r : RingValue) → Grows r r
 grows-same r = record { pushes = omega arith; held = λ place x low there. there; same = λ e. refl }
 
+-- A ring that is put at a place changes no other place.
+pub get-other : (rings : List RingValue) (place other : ℕ) (r : RingValue) → other ≢ place
+    → slice_get (slice_set rings place r) other ≡ slice_get rings other
+get-other [] place other r apart = refl
+get-other (y ∷ rings) zero zero r apart = absurd (apart refl)
+get-other (y ∷ rings) zero (suc other) r apart = refl
+get-other (y ∷ rings) (suc place) zero r apart = refl
+get-other (y ∷ rings) (suc place) (suc other) r apart = get-other rings place other r (λ e. apart (ap suc e))
+
 -- One ring has grown.
 pub grow-at : (rings : List RingValue) (place : ℕ) (b r : RingValue) → slice_get rings place ≡ Some b → Grows b r
     → AllGrow rings (slice_set rings place r)

@@ -1,8 +1,7 @@
 //! The last records of a station, and their briefs beside them.
 ghost use Rattle.std.specs.Prelude.{◌≡◌, ◌≤◌, ◌<◌, ◌++◌, ◌∷◌, [], IfOk, length, drop, slice_get, slice_set};
 ghost use Rattle.std.specs.Option.{option_copied};
-ghost use Rattle.circular_buffer.specs.Buffer.{buffer, keep_last};
-ghost use Rattle.station_ring.specs.Blocks.{place_after};
+ghost use Rattle.station_ring.specs.Blocks.{buffer, keep_last, place_after};
 ghost use Rattle.station_ring.specs.Briefs.{AreBriefs};
 
 use crate::held::{Brief, Briefs, Held, Summary};
@@ -25,9 +24,8 @@ pub(crate) struct Records {
 
 impl Model for Records {
     ghost use Rattle.std.specs.Prelude.{◌≡◌, ◌≤◌, vec_capacity, vec_len};
-    ghost use Rattle.circular_buffer.specs.Buffer.{Buffer, buffer};
     ghost use Rattle.station_ring.specs.declared.held.Held.{Held};
-    ghost use Rattle.station_ring.specs.Blocks.{IsFilled, from_oldest};
+    ghost use Rattle.station_ring.specs.Blocks.{Buffer, IsFilled, buffer, from_oldest};
     ghost use Rattle.station_ring.specs.Briefs.{AreBriefs};
 
     ghost Value = { Buffer Held };

@@ -1,10 +1,9 @@
 use Rattle.std.proofs.Common.{◌+◌, ◌∙◌, if◌then◌else◌, get_or, slice_set, sym, ap}
 use Rattle.std.proofs.lemmas.List.{get_or-set_same}
-use Rattle.circular_buffer.proofs.Places.{slice_get-set_other}
 use Rattle.station_ring.specs.declared.held.Held.{Held}
 use Rattle.station_ring.specs.Rings.{RingValue}
 use Rattle.station_ring.specs.Levels.{is_raise, raises_of}
-use Rattle.station_ring.proofs.FirstLemmas.{grow-at, grow-one}
+use Rattle.station_ring.proofs.FirstLemmas.{get-other, grow-at, grow-one}
 use Rattle.station_ring.proofs.LevelLemmas.{raises-push, ring-there}
 use Rattle.station_ring.proofs.rings.push_at.Goals as goal
 
@@ -37,4 +36,4 @@ returns-clause-by_one c =
 
 pub returns-clause-others : goal.returns-clause-others
 returns-clause-others c =
-    λ other apart. slice_get-set_other c.args.rings.now c.args.place other c.push-number.new.self apart
+    λ other apart. get-other c.args.rings.now c.args.place other c.push-number.new.self apart

@@ -1,8 +1,7 @@
 use Rattle.std.proofs.Common.{◌≡◌, ◌≤◌, ◌<◌, length, set, refl, ap, ◌∙◌, arith, vec_len}
-use Rattle.circular_buffer.specs.Buffer.{buffer}
 use Rattle.station_ring.specs.declared.held.Brief.{Brief}
 use Rattle.station_ring.specs.declared.held.Held.{Held}
-use Rattle.station_ring.specs.Blocks.{from_oldest, place_after}
+use Rattle.station_ring.specs.Blocks.{buffer, from_oldest, place_after}
 use Rattle.station_ring.proofs.BlockLemmas.{filled-more, filled-over, from_oldest-more, from_oldest-over}
 use Rattle.station_ring.proofs.BriefLemmas.{briefs-put, tells-made}
 use Rattle.station_ring.proofs.records.Records.push.Goals as goal
