@@ -1,5 +1,6 @@
 //! The texts of what a record says, put behind a text.
-ghost use Rattle.std.specs.Prelude.{◌≡◌, ◌∷◌, ◌++◌, [], OnOk, IfOk, map, decimal};
+ghost use Rattle.std.specs.Prelude.{◌≡◌, ◌≤◌, ◌+◌, ◌∷◌, ◌++◌, [], OnOk, IfOk, length, map, decimal};
+ghost use Rattle.std.specs.Prelude.{vec_capacity, vec_len};
 ghost use Rattle.record_check.specs.Listing.{header_text, partial_line, partial_text};
 ghost use Rattle.record_check.specs.Listing.{record_line, record_text, refusal_text, refused_text, seam_text};
 ghost use Rattle.record_check.specs.Listing.{span_text, stranger_text};
@@ -50,23 +51,34 @@ pub fn kind_letter(kind: Kind) -> u8
     }
 }
 
+/// A code, for which there is room.
+fn put_reserved(text: &mut Vec<u8>, code: &[u8])
+    requires room { vec_len text.old + length code.now ≤ vec_capacity text.old }
+    ensures items { text.new.items ≡ text.old.items ++ map shown_byte code.now }
+    ensures len { vec_len text.new ≡ vec_len text.old + length code.now }
+    ensures room { vec_capacity text.old ≤ vec_capacity text.new }
+{
+    for byte in code {
+        text.push_reserved(shown_byte(*byte));
+    }
+}
+
 /// A code.
 fn put_shown(text: &mut Vec<u8>, code: &[u8]) -> Result<(), AllocError>
     ensures { OnOk result (text.new.items ≡ text.old.items ++ map shown_byte code.now) }
 {
     text.reserve(code.len())?;
-    for byte in code {
-        text.push_reserved(shown_byte(*byte));
-    }
+    put_reserved(text, code);
     Ok(())
 }
 
-/// A code and a space.
+/// A code and a space, by one look at the room that there is.
 fn put_code(text: &mut Vec<u8>, code: &[u8]) -> Result<(), AllocError>
     ensures { OnOk result (text.new.items ≡ text.old.items ++ word_text (map shown_byte code.now)) }
 {
-    put_shown(text, code)?;
-    text.push(b' ')?;
+    text.reserve(code.len() + 1)?;
+    put_reserved(text, code);
+    text.push_reserved(b' ');
     Ok(())
 }
 

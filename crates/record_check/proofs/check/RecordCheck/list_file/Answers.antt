@@ -1,5 +1,5 @@
 -- What is found is the first that is wrong, and after a fault the lines of the file were begun.
-use Rattle.record_check.proofs.FindingLemmas.{answers_first, answers_verdict}
+use Rattle.record_check.proofs.FindingLemmas.{answers_first}
 use Rattle.std.proofs.Common.{ap, ◌∙◌, subst, IfSome}
 use Rattle.std.specs.Prelude.{OnErr}
 use Rattle.sl_io.specs.Known.{AppendsBeginning}
