@@ -7,10 +7,8 @@
 ghost use Rattle.std.specs.Prelude.{◌≡◌};
 ghost use Rattle.job_read.specs.Waiting.{is_end, lengthened};
 
+use sl_packet::PACKET;
 use std::marker::Model;
-
-/// The length of a packet, in bytes.
-const PACKET: usize = 520;
 
 /// The command that is being sent, as far as it may be END.
 #[derive(Clone, Copy, PartialEq, Eq, Drop)]

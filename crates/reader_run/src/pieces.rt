@@ -17,10 +17,8 @@ use crate::fault::ListingFault;
 use crate::output::Output;
 use crate::record_sink::{RecordSink, SinkFault};
 use sl_io::{Sink, Source, WriteFault, write_all};
+use sl_packet::PACKET;
 use slreader::{GivenPacket, ReaderCore, ReaderFault, What};
-
-/// The length of a packet, in bytes.
-const PACKET: usize = 520;
 
 /// Writes all that is asked and was not sent.
 fn send<W: Sink>(core: &mut ReaderCore, writer: &mut W) -> Result<(), WriteFault>
@@ -103,27 +101,31 @@ fn put_packet<P: RecordSink>(
 }
 
 /// Tells what was given, and hands the record of a packet on; or neither.
-fn put<P: RecordSink>(output: &mut Output, what: What<'_>, records: &mut P) -> Result<(), SinkFault>
-    ensures lines { OnOk result (output.new ≡ with_lines output.old (what_value what.entry)) }
+fn put<P: RecordSink>(
+    output: &mut Output,
+    what: &What<'_>,
+    records: &mut P,
+) -> Result<(), SinkFault>
+    ensures lines { OnOk result (output.new ≡ with_lines output.old (what_value what.now)) }
     ensures waits { OnOk result ((waiting : List ℕ) → P.Waits records.old waiting
-        → P.Waits records.new (with_records waiting (what_value what.entry))) }
+        → P.Waits records.new (with_records waiting (what_value what.now))) }
     ensures written { OnOk result (P.written records.new ≡ P.written records.old) }
     ensures quiet { OnOk result (IsQuiet (P.failures records.old) (P.failures records.new)
         (P.empty_writes records.old) (P.empty_writes records.new)) }
     ensures kept { OnErr result (output.new ≡ output.old) }
     ensures stopped { IfErr result (λ fault. StopsGiven fault (P.Waits records.old) (P.Waits records.new)
-        (what_value what.entry) (P.written records.old) (P.written records.new)
+        (what_value what.now) (P.written records.old) (P.written records.new)
         (P.failures records.old) (P.failures records.new)
         (P.empty_writes records.old) (P.empty_writes records.new)) }
 {
     match what {
         What::Nothing => Ok(()),
         What::Hello => Ok(()),
-        What::Refused(want) => match output.put_refused(want) {
+        What::Refused(want) => match output.put_refused(*want) {
             Ok(()) => Ok(()),
             Err(_) => Err(SinkFault::OutOfMemory),
         },
-        What::Packet(packet) => put_packet(output, &packet, records),
+        What::Packet(packet) => put_packet(output, packet, records),
         What::End => Ok(()),
     }
 }
@@ -157,7 +159,7 @@ fn take_piece<P: RecordSink>(
             Ok(came) => came,
             Err(fault) => return Ok(Err(fault)),
         };
-        match came.what {
+        match &came.what {
             What::Nothing => return Ok(Ok(false)),
             What::End => return Ok(Ok(true)),
             what => match put(output, what, records) {
