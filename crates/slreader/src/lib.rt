@@ -7,6 +7,7 @@ mod came;
 mod commands;
 mod dialogue;
 mod fault;
+mod given_number;
 mod given_packet;
 mod going_on;
 mod last_packet;

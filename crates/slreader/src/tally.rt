@@ -1,12 +1,13 @@
 //! What is counted of the packets.
-ghost use Rattle.std.specs.Prelude.{◌≡◌, ◌++◌, map, option_map, IfOk, OnOk, Some};
+ghost use Rattle.std.specs.Prelude.{◌≡◌, ◌++◌, map, option_and_then, option_map, IfOk, OnOk, Some};
 ghost use Rattle.std.specs.List.{list_any};
 ghost use Rattle.slreader.specs.Placing.{ArePlaces, HasPlaces};
-ghost use Rattle.slreader.specs.Tallies.{has_codes as spec_has_codes, packet_number, passed};
+ghost use Rattle.slreader.specs.Tallies.{has_codes as spec_has_codes, passed};
 ghost use Rattle.slreader.specs.Tallies.{resume_of};
 ghost use Rattle.slreader.specs.Lasts.{resume_after};
 ghost use Rattle.slreader.specs.Tallies.{resumes_of as spec_resumes_of};
 
+use crate::given_number::GivenNumber;
 use crate::given_packet::GivenPacket;
 use crate::last_packet::{LastPacket, last_at};
 use crate::places::WantPlaces;
@@ -36,22 +37,79 @@ impl Model for Reached {
     ghost inverse = { λ r. record { number = r.number; end = r.end } };
 }
 
+/// The last packet of a want as it came: its number is read where somebody asks for it, and not with each packet. In a
+/// contract it is the packet, or None if its number is none.
+#[derive(Drop)]
+struct LastSeen {
+    number: GivenNumber,
+    end: Option<Tick>,
+}
+
+impl Model for LastSeen {
+    ghost use Rattle.std.specs.Prelude.{Option, option_map};
+    ghost use Rattle.slreader.specs.Tallies.{ReachedValue};
+
+    ghost Value = { Option ReachedValue };
+
+    ghost view = { λ l. option_map (λ number. record { number = number; end = l.end }) l.number };
+}
+
+impl LastSeen {
+    ghost use Rattle.std.specs.Prelude.{◌≡◌, Some};
+
+    /// The packet that was reached.
+    fn of(reached: Reached) -> LastSeen
+        ensures { result ≡ Some reached }
+    {
+        LastSeen {
+            number: GivenNumber::of(reached.number),
+            end: reached.end,
+        }
+    }
+
+    /// Another one that says the same.
+    fn copy(&self) -> LastSeen
+        ensures { result ≡ self.now }
+    {
+        LastSeen {
+            number: self.number.copy(),
+            end: self.end,
+        }
+    }
+
+    /// The packet, by its number.
+    fn read(&self) -> Option<Reached>
+        ensures { result ≡ self.now }
+    {
+        let number = self.number.read()?;
+        Some(Reached {
+            number,
+            end: self.end,
+        })
+    }
+}
+
 /// How far a want is: the last packet of its station, or of any station.
 #[derive(Drop)]
 pub(crate) struct Resume {
     is_any: bool,
     network: Vec<u8>,
     station: Vec<u8>,
-    last: Option<Reached>,
+    last: Option<LastSeen>,
 }
 
 impl Model for Resume {
+    ghost use Rattle.std.specs.Prelude.{option_and_then};
     ghost use Rattle.slreader.specs.Tallies.{Resume as ResumeValue};
 
     ghost Value = { ResumeValue };
 
-    ghost view = { λ r.
-        record { is_any = r.is_any; network = r.network.items; station = r.station.items; last = r.last } };
+    ghost view = { λ r. record {
+      is_any = r.is_any;
+      network = r.network.items;
+      station = r.station.items;
+      last = option_and_then (λ l. l) r.last;
+    } };
 }
 
 /// Whether a record has those codes; one that can't be read has none.
@@ -75,11 +133,13 @@ fn end_of(header: &Option<Header<'_>>) -> Option<Tick>
 }
 
 /// The packet with that number, if it has one, and that end of its record.
-fn reached_at(end: Option<Tick>, number: &Option<Seq>) -> Option<Reached>
+fn reached_at(end: Option<Tick>, number: &GivenNumber) -> LastSeen
     ensures { result ≡ option_map (λ number. record { number = number; end = end }) number.now }
 {
-    let number = (*number)?;
-    Some(Reached { number, end })
+    LastSeen {
+        number: number.copy(),
+        end,
+    }
 }
 
 impl Resume {
@@ -103,10 +163,11 @@ impl Resume {
         ensures { IfOk result (λ r. r ≡ resume_after lasts.now want.now) }
     {
         let first = Resume::new(alloc, false, want)?;
-        Ok(Resume {
-            last: last_at(want.network, want.station, lasts),
-            ..first
-        })
+        let last = match last_at(want.network, want.station, lasts) {
+            Some(reached) => Some(LastSeen::of(reached)),
+            None => None,
+        };
+        Ok(Resume { last, ..first })
     }
 
     /// The network's code.
@@ -123,6 +184,26 @@ impl Resume {
         self.station.as_slice()
     }
 
+    /// Its last packet, or none.
+    fn last_seen(&self) -> Option<LastSeen>
+        ensures { option_and_then (λ l. l) result ≡ self.now.last }
+    {
+        match &self.last {
+            Some(last) => Some(last.copy()),
+            None => None,
+        }
+    }
+
+    /// Its last packet, by its number.
+    fn reached(&self) -> Option<Reached>
+        ensures { result ≡ self.now.last }
+    {
+        match &self.last {
+            Some(last) => last.read(),
+            None => None,
+        }
+    }
+
     /// Another one that says the same.
     fn copy(&self, alloc: Global) -> Result<Resume, AllocError>
         ensures { IfOk result (λ r. r ≡ self.now) }
@@ -131,37 +212,29 @@ impl Resume {
             is_any: self.is_any,
             network: Vec::from_slice(alloc, &self.network)?,
             station: Vec::from_slice(alloc, &self.station)?,
-            last: self.last,
+            last: self.last_seen(),
         })
     }
 
     /// Its last packet is another one.
-    fn put(&mut self, last: &Option<Reached>)
+    fn put(&mut self, last: &LastSeen)
         ensures { self.new ≡ record self.old { last = last.now } }
     {
-        let own = &mut self.last;
-        *own = *last;
+        self.last = Some(last.copy());
     }
 
     /// A packet with that number and that record.
-    fn pass(&mut self, number: &Option<Seq>, header: &Option<Header<'_>>)
+    fn pass(&mut self, number: &GivenNumber, header: &Option<Header<'_>>)
         ensures { self.new ≡ passed number.now header.now self.old }
     {
         if self.is_any || has_codes(&self.network, &self.station, header) {
-            self.last = reached_at(end_of(header), number);
+            self.last = Some(reached_at(end_of(header), number));
         }
     }
 }
 
-/// The number that a packet has behind `SL`.
-fn packet_number(packet: &[u8; 520]) -> Option<Seq>
-    ensures { result ≡ packet_number packet.now }
-{
-    Seq::parse(&packet[2..8])
-}
-
 /// Each of the wants is one that goes on with a packet, or is not.
-fn pass_all(resumes: &mut Vec<Resume>, number: &Option<Seq>, header: &Option<Header<'_>>)
+fn pass_all(resumes: &mut Vec<Resume>, number: &GivenNumber, header: &Option<Header<'_>>)
     ensures { resumes.new.items ≡ map (passed number.now header.now) resumes.old.items }
 {
     for index in 0..resumes.len() {
@@ -174,7 +247,7 @@ fn pass_all(resumes: &mut Vec<Resume>, number: &Option<Seq>, header: &Option<Hea
 fn pass_station(
     resumes: &mut Vec<Resume>,
     places: &WantPlaces,
-    number: &Option<Seq>,
+    number: &GivenNumber,
     facts: &Header<'_>,
 )
     requires { ArePlaces places.now.firsts places.now.nexts.items resumes.old.items }
@@ -193,7 +266,7 @@ fn pass_station(
 fn pass_found(
     resumes: &mut Vec<Resume>,
     places: &WantPlaces,
-    number: &Option<Seq>,
+    number: &GivenNumber,
     header: &Option<Header<'_>>,
 )
     requires { ArePlaces places.now.firsts places.now.nexts.items resumes.old.items }
@@ -352,7 +425,7 @@ impl Tally {
         ensures { self.new ≡ counted self.old packet.now }
     {
         self.records = self.records.saturating_add(1);
-        let number = packet_number(packet.bytes());
+        let number = GivenNumber::in_packet(packet.bytes());
         let header = packet.header();
         match &self.places {
             Some(places) => pass_found(&mut self.resumes, places, &number, header),
@@ -373,7 +446,7 @@ impl Tally {
         ensures { result ≡ reached_of self.now want }
     {
         match self.resumes.get(want) {
-            Some(resume) => resume.last,
+            Some(resume) => resume.reached(),
             None => None,
         }
     }
