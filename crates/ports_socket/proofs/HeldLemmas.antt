@@ -9,7 +9,7 @@ use Rattle.ports.specs.declared.answers.Put.{Put}
 use Rattle.slab.specs.Slab.{Slab, Updates, get, with_value}
 use Rattle.ports_socket.specs.declared.connection.Connection.{Connection}
 use Rattle.ports_socket.specs.declared.connections.ConnectionPlace.{ConnectionPlace}
-use Rattle.ports_socket.specs.declared.connection.KeptConnection.{KeptConnection}
+use Rattle.ports_socket.specs.declared.kept_connection.KeptConnection.{KeptConnection}
 use Rattle.ports_socket.specs.Connections.{OnlySends, ReadsFrom, WritesTo, ahead_in, numbers, socket_of, sockets_of}
 use Rattle.ports_socket.specs.Connections.{value_of, values}
 use Rattle.ports_socket.specs.Places.{IsTable, connections_at}

@@ -4,7 +4,7 @@ use Rattle.std.proofs.Common.{Some, None, refl, sym, ap, subst, ◌∙◌, arith
 use Rattle.slab.specs.Slab.{Slab, Updates, get, with_value}
 use Rattle.ports_socket.specs.declared.connection.Connection.{Connection}
 use Rattle.ports_socket.specs.declared.connections.ConnectionPlace.{ConnectionPlace}
-use Rattle.ports_socket.specs.declared.connection.KeptConnection.{KeptConnection}
+use Rattle.ports_socket.specs.declared.kept_connection.KeptConnection.{KeptConnection}
 use Rattle.ports_socket.specs.Connections.{room_at, socket_of, values}
 use Rattle.ports_socket.specs.Places.{AreOthers, IsPlaceOf, IsTable, IsThere, Rise, connections_at}
 use Rattle.ports_socket.specs.Places.{numbers_of}

@@ -10,7 +10,7 @@ use Rattle.slab.specs.Slab.{Slab, Updates, get, with_value}
 use Rattle.slab.proofs.SlabLemmas.{Updates-with_value}
 use Rattle.ports_socket.specs.declared.connection.Connection.{Connection}
 use Rattle.ports_socket.specs.declared.connections.ConnectionPlace.{ConnectionPlace}
-use Rattle.ports_socket.specs.declared.connection.KeptConnection.{KeptConnection}
+use Rattle.ports_socket.specs.declared.kept_connection.KeptConnection.{KeptConnection}
 use Rattle.ports_socket.specs.Places.{AreAbove, AreBelow, AreThere, IsAmong, IsPlaceOf, IsTable, IsThere, Rise}
 use Rattle.ports_socket.specs.Places.{closed_from, connections_at, numbers_of, with_held}
 use Rattle.ports_socket.proofs.PlaceLemmas.{above-at, long, number-read, rise-push, rise-remove}

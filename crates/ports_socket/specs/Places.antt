@@ -5,7 +5,7 @@ use Rattle.std.specs.Prelude.{Option, Some, None}
 use Rattle.slab.specs.Slab.{Slab, get}
 use Rattle.ports_socket.specs.declared.connection.Connection.{Connection}
 use Rattle.ports_socket.specs.declared.connections.ConnectionPlace.{ConnectionPlace}
-use Rattle.ports_socket.specs.declared.connection.KeptConnection.{KeptConnection}
+use Rattle.ports_socket.specs.declared.kept_connection.KeptConnection.{KeptConnection}
 
 -- All numbers are above one.
 abbrev pub AreAbove : ℕ → List ℕ → Type 0

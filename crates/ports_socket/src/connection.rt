@@ -12,25 +12,10 @@ use crate::ahead::{AheadPool, BLOCK, ReadAhead};
 use crate::inflow::{PeerEnd, Ration};
 use crate::peer::PeerKind;
 use crate::pool::{BufferPool, ROOM, remove_front};
+use crate::readiness::{PortNews, Readiness};
 use crate::socket_io::{Receipt, SendOutcome, is_short, receive, send};
 use mio::net::TcpStream;
 use ports::{Got, PortFault, Put};
-
-/// What happened to a connection.
-#[derive(Clone, Copy, Drop)]
-pub struct Readiness {
-    pub is_readable: bool,
-    /// The peer sends no more, or the connection failed.
-    pub is_over: bool,
-    pub is_writable: bool,
-}
-
-/// What is to be told of a port: which of its calls are worth making again.
-#[derive(Clone, Copy, Drop)]
-pub struct PortNews {
-    pub readable: bool,
-    pub writable: bool,
-}
 
 #[derive(Drop)]
 pub struct Connection {
@@ -502,36 +487,5 @@ impl Connection {
 
     pub fn has_taken(&self) -> bool {
         self.end.has_moved()
-    }
-}
-
-/// A connection where it is kept, from its join until its last bytes have gone.
-#[derive(Drop)]
-pub struct KeptConnection {
-    pub connection: Connection,
-    /// The loop has not shut it.
-    pub is_open: bool,
-    /// Its peer was told the end. That is done once: each time would be an event again.
-    pub is_told: bool,
-}
-
-impl KeptConnection {
-    /// A connection that joins.
-    pub fn new(connection: Connection) -> KeptConnection
-        ensures connection { result.connection ≡ connection }
-        ensures open { result.is_open ≡ true }
-    {
-        KeptConnection {
-            connection,
-            is_open: true,
-            is_told: false,
-        }
-    }
-
-    /// Whether this is the open connection with a number.
-    pub fn is_port(&self, number: u64) -> bool
-        ensures { IsTrue result ↔ ((self.now.is_open ≡ true) × (self.now.connection.number ≡ number)) }
-    {
-        self.is_open && self.connection.number == number
     }
 }

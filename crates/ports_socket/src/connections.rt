@@ -17,9 +17,11 @@ ghost use Rattle.ports_socket.specs.Places.{AreBelow, AreOthers, IsPlaceOf, Rise
 ghost use Rattle.ports_socket.specs.Reads.{given_bytes};
 
 use crate::ahead::AheadPool;
-use crate::connection::{Connection, KeptConnection, PortNews, Readiness};
+use crate::connection::Connection;
+use crate::kept_connection::KeptConnection;
 use crate::lingering::Lingering;
 use crate::pool::BufferPool;
+use crate::readiness::{PortNews, Readiness};
 use ports::{Got, PortFault, Put};
 use slab::Slab;
 use std::alloc::{AllocError, Global};

@@ -14,6 +14,7 @@ mod fault;
 mod hosts;
 mod inflow;
 mod joins;
+mod kept_connection;
 mod lingering;
 mod listeners;
 mod mio_ports;
@@ -22,6 +23,7 @@ mod peer;
 mod peers;
 mod polling;
 mod pool;
+mod readiness;
 mod socket_io;
 mod sockets;
 

@@ -8,7 +8,8 @@ ghost use Rattle.std.specs.Prelude.{◌≡◌, ◌==◌, ◌∷◌, ◌++◌, []
 ghost use Rattle.std.specs.List.{filter};
 
 use crate::ahead::AheadPool;
-use crate::connection::{Connection, KeptConnection};
+use crate::connection::Connection;
+use crate::kept_connection::KeptConnection;
 use crate::pool::BufferPool;
 use crate::socket_io::{Receipt, receive};
 use std::alloc::{AllocError, Global};

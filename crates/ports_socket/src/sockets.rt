@@ -15,7 +15,6 @@ mod joining;
 
 use crate::admission::Admission;
 use crate::ahead::AheadPool;
-use crate::connection::{PortNews, Readiness};
 use crate::connections::{ConnectionPlace, Connections};
 use crate::departures::Departures;
 use crate::fault::ListenError;
@@ -24,6 +23,7 @@ use crate::listeners::Listeners;
 use crate::peers::Peers;
 use crate::polling::{EVENTS, Origin, Polling, ToldPorts, origin_of};
 use crate::pool::BufferPool;
+use crate::readiness::{PortNews, Readiness};
 use mio::event::Event;
 use ports::{Got, Happening, PortFault, Put};
 use std::alloc::{AllocError, Global};
