@@ -28,9 +28,7 @@ use crate::deciding::end;
 use crate::seat::{Role, Seat};
 use ports::{Ending, Got, PortFault, Ports, Put};
 use server_core::{Client, Filled, Gone, Offer, Server};
-
-/// How many bytes a packet has.
-pub const PACKET: usize = 520;
+use sl_packet::PACKET;
 
 /// How a pass goes on after a step.
 #[derive(Clone, Copy, Drop)]

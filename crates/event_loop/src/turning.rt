@@ -24,7 +24,7 @@ ghost use Rattle.event_loop.specs.declared.seat.Role.TheVariants.{Client as Clie
 
 use crate::feeding::read_feed;
 use crate::hearing::hear;
-use crate::passes::{PACKET, read_client, write_client};
+use crate::passes::{read_client, write_client};
 use crate::seat::{Role, Seat};
 use crate::seats::{Seats, clients, go, settle, skip, wake_if};
 use crate::waking::wake_after;
@@ -32,6 +32,7 @@ use catalog::Config;
 use ports::Ports;
 use protocol::reason::Reason;
 use server_core::{ReloadFault, Server};
+use sl_packet::PACKET;
 use station_ring::Rings;
 use std::alloc::{AllocError, Global};
 use std::marker::Model;
