@@ -136,18 +136,18 @@ hands-nothing config w k port a b out out' filled server same nothing x = record
 }
 
 -- All that was filled into an empty buffer is.
-pub hands-filled : (config : Config) (w : World) (k port : ℕ) (a b c : Option (List Call)) (out out' bytes : List ℕ)
-    (filled : Filled) (server : ServerValue) → b ≡ a → out ≡ [] → bytes ≡ out'
+pub hands-filled : (config : Config) (w : World) (k port : ℕ) (a b c : Option (List Call)) (out out' : List ℕ)
+    (filled : Filled) (server : ServerValue) → b ≡ a → out ≡ []
     → IsFilled config w k out out' filled server
-    → ((pieces : List (List ℕ)) → bytes ≡ concat pieces → All (λ p. length p ≡ 520) pieces
+    → ((pieces : List (List ℕ)) → out' ≡ concat pieces → All (λ p. length p ≡ 520) pieces
     → Tells b c (map (whole_write port) pieces))
     → HandsPieces config w k port a c filled server
-hands-filled config w k port a b c out out' bytes filled server same empty all x told = record {
+hands-filled config w k port a b c out out' filled server same empty x told = record {
   pieces = x.pieces;
   beyond = x.beyond;
   fills = x.fills;
   offers = x.offers;
   count = x.count;
   tells = subst (λ y. Tells y c (map (whole_write port) x.pieces)) same
-      (told x.pieces (all ∙ x.bytes ∙ ap (λ l. l ++ concat x.pieces) empty) x.sizes);
+      (told x.pieces (x.bytes ∙ ap (λ l. l ++ concat x.pieces) empty) x.sizes);
 }

@@ -245,7 +245,7 @@ fn hand_pieces<P: Ports>(
     pieces.clear();
     let filled = server.fill(client, found, room, pieces);
     if filled.count > 0 {
-        ports.write_pieces(port, pieces.as_slice(), PACKET);
+        ports.write_pieces(port, pieces, PACKET);
     }
     filled
 }

@@ -2,6 +2,7 @@
 ghost use Rattle.std.specs.Prelude.{◌≡◌, ◌<◌, ◌≤◌, ◌==◌, ◌-◌, ◌≢◌, ℕ, List, [], ◌∷◌, Some, IsErr, IsSome, IfOk, OnOk};
 ghost use Rattle.std.specs.Prelude.{length, map};
 ghost use Rattle.std.specs.List.{All, concat};
+ghost use Rattle.std.specs.Vec.{vec_capacity};
 ghost use Rattle.sl_io.specs.Counts.{CountsFailure};
 ghost use Rattle.ports.specs.Calls.{Call, Tells, given, whole_write, IsGiven, IsTaken};
 ghost use Rattle.ports.specs.Calls.Call.{Next, Read, Write, Shut};
@@ -143,21 +144,23 @@ impl<P: Ports> Ports for FailingPorts<P> {
         0
     }
 
-    fn write_pieces(&mut self, port: u64, bytes: &[u8], size: usize)
-        requires room { length bytes.now ≤ P.room self.old.inner port }
+    fn write_pieces(&mut self, port: u64, bytes: &mut Vec<u8>, size: usize)
+        requires room { length bytes.old.items ≤ P.room self.old.inner port }
         requires size { 0 < size }
-        ensures call { (pieces : List (List ℕ)) → bytes.now ≡ concat pieces → All (λ p. length p ≡ size) pieces →
+        ensures call { (pieces : List (List ℕ)) → bytes.old.items ≡ concat pieces →
+            All (λ p. length p ≡ size) pieces →
             Tells (told self.old.log) (told self.new.log) (map (whole_write port) pieces) }
+        ensures capacity { vec_capacity bytes.old ≤ vec_capacity bytes.new }
         ensures failures { self.new.log.failures ≡ self.old.log.failures }
-        ensures passed_on { (pieces : List (List ℕ)) → bytes.now ≡ concat pieces →
+        ensures passed_on { (pieces : List (List ℕ)) → bytes.old.items ≡ concat pieces →
             All (λ p. length p ≡ size) pieces →
             Tells (P.calls self.old.inner) (P.calls self.new.inner) (map (whole_write port) pieces)
             × (P.failures self.new.inner ≡ P.failures self.old.inner) }
         ensures decided { P.decided self.new.inner ≡ P.decided self.old.inner }
         ensures due { self.new.due ≡ self.old.due }
     {
+        self.log.write_pieces(port, bytes.as_slice(), size);
         self.inner.write_pieces(port, bytes, size);
-        self.log.write_pieces(port, bytes, size);
     }
 
     fn shut(&mut self, port: u64)

@@ -5,6 +5,7 @@
 //! and took out of the calls, and so allocates.
 ghost use Rattle.std.specs.Prelude.{◌≡◌, ◌<◌, ◌≤◌, ◌^◌, ℕ, List, Some, [], ◌∷◌, IfOk, IsSome, OnOk, length, map};
 ghost use Rattle.std.specs.List.{All, concat};
+ghost use Rattle.std.specs.Vec.{vec_capacity};
 ghost use Rattle.sl_io.specs.Counts.{CountsFailure};
 ghost use Rattle.ports.specs.Calls.{Call, Tells, given, whole_write, IsGiven, IsTaken};
 ghost use Rattle.ports.specs.Calls.Call.{Next, Read, Write};
@@ -121,16 +122,18 @@ impl Ports for MemoryPorts {
         if self.script.takes_all(port) { most } else { 0 }
     }
 
-    fn write_pieces(&mut self, port: u64, bytes: &[u8], size: usize)
-        requires room { length bytes.now ≤ 2 ^ 64 }
+    fn write_pieces(&mut self, port: u64, bytes: &mut Vec<u8>, size: usize)
+        requires room { length bytes.old.items ≤ 2 ^ 64 }
         requires size { 0 < size }
-        ensures call { (pieces : List (List ℕ)) → bytes.now ≡ concat pieces → All (λ p. length p ≡ size) pieces →
+        ensures call { (pieces : List (List ℕ)) → bytes.old.items ≡ concat pieces →
+            All (λ p. length p ≡ size) pieces →
             Tells (told self.old.log) (told self.new.log) (map (whole_write port) pieces) }
+        ensures capacity { vec_capacity bytes.old ≤ vec_capacity bytes.new }
         ensures failures { self.new.log.failures ≡ self.old.log.failures }
         ensures decided { decided_in self.new.log ≡ decided_in self.old.log }
         ensures script { self.new.script ≡ self.old.script }
     {
-        self.log.write_pieces(port, bytes, size);
+        self.log.write_pieces(port, bytes.as_slice(), size);
     }
 
     fn shut(&mut self, port: u64) {

@@ -1,6 +1,7 @@
 //! Ports with doors that follow a script.
 ghost use Rattle.std.specs.Prelude.{◌≡◌, ◌<◌, ◌≤◌, ℕ, List, [], ◌∷◌, length, map};
 ghost use Rattle.std.specs.List.{All, concat};
+ghost use Rattle.std.specs.Vec.{vec_capacity};
 ghost use Rattle.sl_io.specs.Counts.{CountsFailure};
 ghost use Rattle.ports.specs.Calls.{Tells, given, whole_write, IsGiven, IsTaken};
 ghost use Rattle.ports.specs.Calls.Call.{Next, Read, Write, Shut};
@@ -137,11 +138,13 @@ impl<P: Ports> Ports for ScriptedDoors<P> {
         self.inner.make_room(port, most)
     }
 
-    fn write_pieces(&mut self, port: u64, bytes: &[u8], size: usize)
-        requires room { length bytes.now ≤ P.room self.old.inner port }
+    fn write_pieces(&mut self, port: u64, bytes: &mut Vec<u8>, size: usize)
+        requires room { length bytes.old.items ≤ P.room self.old.inner port }
         requires size { 0 < size }
-        ensures call { (pieces : List (List ℕ)) → bytes.now ≡ concat pieces → All (λ p. length p ≡ size) pieces →
+        ensures call { (pieces : List (List ℕ)) → bytes.old.items ≡ concat pieces →
+            All (λ p. length p ≡ size) pieces →
             Tells (P.calls self.old.inner) (P.calls self.new.inner) (map (whole_write port) pieces) }
+        ensures capacity { vec_capacity bytes.old ≤ vec_capacity bytes.new }
         ensures failures { P.failures self.new.inner ≡ P.failures self.old.inner }
         ensures decided { P.decided self.new.inner ≡ P.decided self.old.inner }
     {

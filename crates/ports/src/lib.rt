@@ -5,6 +5,7 @@
 
 ghost use Rattle.std.specs.Prelude.{ℕ, ◌≡◌, ◌<◌, ◌≤◌, List, [], ◌∷◌, length, map};
 ghost use Rattle.std.specs.List.{All, concat};
+ghost use Rattle.std.specs.Vec.{vec_capacity};
 ghost use Rattle.std.specs.declared.option.Option.{Option};
 ghost use Rattle.sl_io.specs.Counts.{CountsFailure};
 ghost use Rattle.ports.specs.Calls.{Call, Tells, given, whole_write, IsGiven, IsTaken};
@@ -66,12 +67,15 @@ pub trait Ports {
         ensures decided { decided self.new ≡ decided self.old };
 
     /// Hands pieces of so many bytes each to a port that has room for all of them. Each is a write of its own, which
-    /// takes all of it.
-    fn write_pieces(&mut self, port: u64, bytes: &[u8], size: usize)
-        requires room { length bytes.now ≤ room self.old port }
+    /// takes all of it. The port may keep the buffer that they are in, and give another one of at least the same
+    /// capacity for it: what stands in that is not said.
+    fn write_pieces(&mut self, port: u64, bytes: &mut Vec<u8>, size: usize)
+        requires room { length bytes.old.items ≤ room self.old port }
         requires size { 0 < size }
-        ensures call { (pieces : List (List ℕ)) → bytes.now ≡ concat pieces → All (λ p. length p ≡ size) pieces →
+        ensures call { (pieces : List (List ℕ)) → bytes.old.items ≡ concat pieces →
+            All (λ p. length p ≡ size) pieces →
             Tells (calls self.old) (calls self.new) (map (whole_write port) pieces) }
+        ensures capacity { vec_capacity bytes.old ≤ vec_capacity bytes.new }
         ensures failures { failures self.new ≡ failures self.old }
         ensures decided { decided self.new ≡ decided self.old };
 

@@ -5,6 +5,7 @@
 //! connection, how many bytes went over its port, and who was turned away before a port joined (the trait `Doors`).
 ghost use Rattle.std.specs.Prelude.{◌≡◌, ◌<◌, ◌≤◌, List, [], ◌∷◌, ℕ, IfOk, None, find, length, map};
 ghost use Rattle.std.specs.List.{All, concat};
+ghost use Rattle.std.specs.Vec.{vec_capacity};
 ghost use Rattle.sl_io.specs.Counts.{CountsFailure};
 ghost use Rattle.ports.specs.Calls.{Tells, given, taken, whole_write, IsGiven, IsTaken};
 ghost use Rattle.ports.specs.Calls.Call.{Next, Read, Write, Shut};
@@ -228,20 +229,22 @@ impl<P: Doors, J: Journal> Ports for LoggedPorts<P, J> {
     }
 
     /// The journal is told once of all pieces.
-    fn write_pieces(&mut self, port: u64, bytes: &[u8], size: usize)
-        requires room { length bytes.now ≤ P.room self.old.inner port }
+    fn write_pieces(&mut self, port: u64, bytes: &mut Vec<u8>, size: usize)
+        requires room { length bytes.old.items ≤ P.room self.old.inner port }
         requires size { 0 < size }
-        ensures call { (pieces : List (List ℕ)) → bytes.now ≡ concat pieces → All (λ p. length p ≡ size) pieces →
+        ensures call { (pieces : List (List ℕ)) → bytes.old.items ≡ concat pieces →
+            All (λ p. length p ≡ size) pieces →
             Tells (P.calls self.old.inner) (P.calls self.new.inner) (map (whole_write port) pieces) }
+        ensures capacity { vec_capacity bytes.old ≤ vec_capacity bytes.new }
         ensures failures { P.failures self.new.inner ≡ P.failures self.old.inner }
         ensures decided { P.decided self.new.inner ≡ P.decided self.old.inner }
-        ensures visitors { self.new.visitors ≡ counted_at port (taking (length bytes.now)) self.old.visitors }
+        ensures visitors { self.new.visitors ≡ counted_at port (taking (length bytes.old.items)) self.old.visitors }
         ensures notes { J.noted self.new.journal ≡ J.noted self.old.journal }
         ensures passed { Passes (J.passed self.old.journal) (J.passed self.new.journal)
-            (record { port = port; bytes = length bytes.now } ∷ []) }
+            (record { port = port; bytes = length bytes.old.items } ∷ []) }
     {
-        self.inner.write_pieces(port, bytes, size);
         let count = bytes.len();
+        self.inner.write_pieces(port, bytes, size);
         self.visitors.count(port, Traffic::bytes_taken(count));
         let all = count as u64;
         self.journal.took(Sent { port, bytes: all });

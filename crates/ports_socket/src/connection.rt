@@ -1,6 +1,7 @@
 //! A connection with the bytes that it took and has not sent, and those of a feed that were read ahead.
 ghost use Rattle.std.specs.Prelude.{◌≡◌, ◌<◌, ◌≤◌, ◌↔◌, ◌||◌, ◌++◌, [], IsTrue, None, Ok, drop, is_none, length};
 ghost use Rattle.std.specs.Prelude.{take, true};
+ghost use Rattle.std.specs.Vec.{vec_capacity};
 ghost use Rattle.ports.specs.Calls.{IsGiven, IsTaken};
 ghost use Rattle.ports.specs.declared.answers.Put.TheVariants.{Took};
 ghost use Rattle.ports_socket.specs.Admissions.{is_client};
@@ -11,7 +12,7 @@ ghost use Rattle.ports_socket.specs.declared.peer.PeerKind.TheVariants.{Client, 
 use crate::ahead::{AheadPool, BLOCK, ReadAhead};
 use crate::inflow::{PeerEnd, Ration};
 use crate::peer::PeerKind;
-use crate::pool::{BufferPool, ROOM, remove_front};
+use crate::pool::{BufferPool, ROOM, append, remove_front};
 use crate::readiness::{PortNews, Readiness};
 use crate::socket_io::{Receipt, SendOutcome, is_short, receive, send};
 use mio::net::TcpStream;
@@ -347,18 +348,19 @@ impl Connection {
         }
     }
 
-    /// Takes all of some bytes, for which there is room, after so many polls.
-    pub fn take_all(&mut self, bytes: &[u8], polls: u64)
-        requires some { 0 < length bytes.now }
-        requires room { length bytes.now ≤ room_in self.old.unsent }
-        ensures taken { waiting_in self.new.unsent ≡ waiting_in self.old.unsent ++ bytes.now }
-        ensures moved { IsNoted (Ok (Took (length bytes.now))) self.new.end polls }
+    /// Takes all of some bytes, for which there is room, after so many polls. Nothing is copied if none wait: their
+    /// buffer is kept then, and the empty one is given for it.
+    pub fn take_all(&mut self, bytes: &mut Vec<u8>, polls: u64)
+        requires some { 0 < length bytes.old.items }
+        requires room { length bytes.old.items ≤ room_in self.old.unsent }
+        ensures taken { waiting_in self.new.unsent ≡ waiting_in self.old.unsent ++ bytes.old.items }
+        ensures capacity { vec_capacity bytes.old ≤ vec_capacity bytes.new }
+        ensures moved { IsNoted (Ok (Took (length bytes.old.items))) self.new.end polls }
         ensures socket { socket_of self.new ≡ socket_of self.old }
         ensures ahead { self.new.ahead ≡ self.old.ahead }
     {
         if let Some(unsent) = &mut self.unsent {
-            // There is room for them.
-            let _ = unsent.extend_from_slice(bytes);
+            append(unsent, bytes);
         }
         self.end.note_move(polls);
     }

@@ -8,6 +8,7 @@ ghost use Rattle.std.specs.Prelude.{◌≡◌, ◌-◌, ◌<◌, ◌≤◌, ◌+
 ghost use Rattle.std.specs.Prelude.{true};
 ghost use Rattle.std.specs.Bool.{OnFalse, OnTrue};
 ghost use Rattle.std.specs.List.{Contains};
+ghost use Rattle.std.specs.Vec.{vec_capacity};
 ghost use Rattle.slab.specs.Slab.{Updates, get};
 ghost use Rattle.ports.specs.Calls.{IsGiven, IsTaken};
 ghost use Rattle.ports.specs.declared.answers.Put.TheVariants.{Took};
@@ -290,10 +291,11 @@ impl Connections {
     }
 
     /// Has the open connection with a number take all of some bytes, for which it has room, after so many polls.
-    pub fn take_all(&mut self, number: u64, bytes: &[u8], polls: u64)
-        requires some { 0 < length bytes.now }
-        requires room { length bytes.now ≤ room_at number self.old }
-        ensures writes { WritesTo number bytes.now (Ok (Took (length bytes.now))) self.old self.new }
+    pub fn take_all(&mut self, number: u64, bytes: &mut Vec<u8>, polls: u64)
+        requires some { 0 < length bytes.old.items }
+        requires room { length bytes.old.items ≤ room_at number self.old }
+        ensures writes { WritesTo number bytes.old.items (Ok (Took (length bytes.old.items))) self.old self.new }
+        ensures capacity { vec_capacity bytes.old ≤ vec_capacity bytes.new }
         ensures sockets { sockets_of self.new ≡ sockets_of self.old }
     {
         let Some(at) = place_of(self.opened.as_slice(), number) else {

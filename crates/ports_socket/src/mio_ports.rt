@@ -5,6 +5,7 @@
 //! is reported.
 ghost use Rattle.std.specs.Prelude.{◌≡◌, ◌<◌, ◌≤◌, List, [], ◌∷◌, ℕ, length, map, IfOk, None, Ok};
 ghost use Rattle.std.specs.List.{All, concat};
+ghost use Rattle.std.specs.Vec.{vec_capacity};
 ghost use Rattle.sl_io.specs.Counts.{CountsFailure};
 ghost use Rattle.ports.specs.Calls.{Tells, given, whole_write, IsGiven, IsTaken};
 ghost use Rattle.ports.specs.Calls.Call.{Next, Read, Write, Shut};
@@ -182,16 +183,19 @@ impl Ports for MioPorts {
         self.sockets.make_room(port, most)
     }
 
-    fn write_pieces(&mut self, port: u64, bytes: &[u8], size: usize)
-        requires room { length bytes.now ≤ room_at port self.old.sockets.connections }
+    /// The buffer of the bytes is kept and an empty one given for it, if none wait at the port. Else they are copied.
+    fn write_pieces(&mut self, port: u64, bytes: &mut Vec<u8>, size: usize)
+        requires room { length bytes.old.items ≤ room_at port self.old.sockets.connections }
         requires size { 0 < size }
-        ensures call { (pieces : List (List ℕ)) → bytes.now ≡ concat pieces → All (λ p. length p ≡ size) pieces →
-            Tells None None (map (whole_write port) pieces) }
+        ensures call { (pieces : List (List ℕ)) → bytes.old.items ≡ concat pieces →
+            All (λ p. length p ≡ size) pieces → Tells None None (map (whole_write port) pieces) }
+        ensures capacity { vec_capacity bytes.old ≤ vec_capacity bytes.new }
         ensures failures { self.new.failures ≡ self.old.failures }
         ensures peers { self.new.sockets.peers ≡ self.old.sockets.peers }
-        ensures writes { 0 < length bytes.now → WritesTo port bytes.now (Ok (Took (length bytes.now)))
+        ensures writes { 0 < length bytes.old.items →
+            WritesTo port bytes.old.items (Ok (Took (length bytes.old.items)))
             self.old.sockets.connections self.new.sockets.connections }
-        ensures nothing { bytes.now ≡ [] → self.new ≡ self.old }
+        ensures nothing { bytes.old.items ≡ [] → self.new ≡ self.old }
         ensures sockets { sockets_of self.new.sockets.connections ≡ sockets_of self.old.sockets.connections }
     {
         if !bytes.is_empty() {

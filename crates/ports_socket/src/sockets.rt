@@ -1,6 +1,7 @@
 //! Connections by numbers that are never used again, and what happens to them.
 ghost use Rattle.std.specs.Prelude.{◌≡◌, ◌<◌, ◌≤◌, [], IfNone, IfOk, IfSome, Ok, length, true};
 ghost use Rattle.std.specs.List.{Contains};
+ghost use Rattle.std.specs.Vec.{vec_capacity};
 ghost use Rattle.ports.specs.Calls.{IsGiven, IsTaken};
 ghost use Rattle.ports.specs.declared.answers.Put.TheVariants.{Took};
 ghost use Rattle.ports_socket.specs.Connections.{KeepsSockets, OnlySends, ReadsFrom, WritesTo, all_but, numbers};
@@ -402,12 +403,13 @@ impl Sockets {
     }
 
     /// Has a port take all of some bytes, for which it has room. They wait at that port, and at no other.
-    pub fn take_all(&mut self, port: u64, bytes: &[u8])
-        requires some { 0 < length bytes.now }
-        requires room { length bytes.now ≤ room_at port self.old.connections }
+    pub fn take_all(&mut self, port: u64, bytes: &mut Vec<u8>)
+        requires some { 0 < length bytes.old.items }
+        requires room { length bytes.old.items ≤ room_at port self.old.connections }
         ensures peers { self.new.peers ≡ self.old.peers }
-        ensures writes { WritesTo port bytes.now (Ok (Took (length bytes.now)))
+        ensures writes { WritesTo port bytes.old.items (Ok (Took (length bytes.old.items)))
             self.old.connections self.new.connections }
+        ensures capacity { vec_capacity bytes.old ≤ vec_capacity bytes.new }
         ensures sockets { sockets_of self.new.connections ≡ sockets_of self.old.connections }
     {
         self.connections.take_all(port, bytes, self.polls);

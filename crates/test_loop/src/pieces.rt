@@ -35,7 +35,8 @@ fn each_piece_is_a_write_of_its_own(rt: HostRuntime) -> Result<(), Fail> {
     let mut ports = ports(rt.alloc())?;
     let room = (ports.make_room(1, 6), ports.make_room(2, 6));
     assert_eq!(rt; room, (6, 0));
-    ports.write_pieces(1, b"abcdef", 3);
+    let mut pieces = b"abcdef".to_vec(rt.alloc())?;
+    ports.write_pieces(1, &mut pieces, 3);
     assert!(rt; are_writes(&ports));
     Ok(())
 }

@@ -132,7 +132,7 @@ impl Ports for Wires {
     }
 
     /// There is no room for any.
-    fn write_pieces(&mut self, _port: u64, _bytes: &[u8], _size: usize) {}
+    fn write_pieces(&mut self, _port: u64, _bytes: &mut Vec<u8>, _size: usize) {}
 
     fn shut(&mut self, port: u64) {
         match port {

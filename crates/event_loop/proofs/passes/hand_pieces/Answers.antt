@@ -18,9 +18,9 @@ pub returns-then-filled-gt0-clause-hands : goal.returns-then-filled-gt0-clause-h
 returns-then-filled-gt0-clause-hands g c = λ config w offers.
     let calls = g.P.Ports.calls in
     hands-filled config w c.args.client.now c.args.port (calls c.args.ports.now) (calls c.make_room-room.new.self)
-    (calls c.write_pieces.new.self) c.clear.new.self.items c.fill-filled.new.out.items c.as_slice.result.now
-    c.fill-filled.result c.fill-filled.new.self c.make_room-room.ensures.calls c.clear.ensures.items
-    c.as_slice.ensures.value (c.fill-filled.ensures.fills config w offers) c.write_pieces.ensures.call
+    (calls c.write_pieces.new.self) c.clear.new.self.items c.fill-filled.new.out.items c.fill-filled.result
+    c.fill-filled.new.self c.make_room-room.ensures.calls c.clear.ensures.items
+    (c.fill-filled.ensures.fills config w offers) c.write_pieces.ensures.call
 
 pub returns-else-filled-gt0-clause-hands : goal.returns-else-filled-gt0-clause-hands
 returns-else-filled-gt0-clause-hands g c = λ config w offers.

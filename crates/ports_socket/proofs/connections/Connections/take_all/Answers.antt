@@ -17,7 +17,7 @@ returns-in_default-clause-writes c =
     let none : room_at c.args.number (values (connections_at slots places)) ≡ 0 =
     room-none c.args.number (connections_at slots places)
     (subst (AreOthers c.args.number) (sym (numbers-there slots places c.self.invariant.there)) others) in
-    let room : length c.args.bytes.now ≤ room_at c.args.number (values (connections_at slots places)) =
+    let room : length c.args.bytes.now.items ≤ room_at c.args.number (values (connections_at slots places)) =
     rw c.self.view_is c.requires.room in
     absurd (omega (arith, none, room, c.requires.some))
 
@@ -42,9 +42,9 @@ take_all-requires-clause-room c =
     let kept : room_at c.args.number (values (connections_at slots places)) ≡ room_in h.connection.unsent =
     room-kept slots places c.index.result.now.key h c.args.number c.self.invariant
     (sym c.in-Some-get_mut.ensures.value) is.opened is.number in
-    let room : length c.args.bytes.now ≤ room_at c.args.number (values (connections_at slots places)) =
+    let room : length c.args.bytes.now.items ≤ room_at c.args.number (values (connections_at slots places)) =
     rw c.self.view_is c.requires.room in
-    subst (λ n. length c.args.bytes.now ≤ n) kept room
+    subst (λ n. length c.args.bytes.now.items ≤ n) kept room
 
 pub invariant_of-self-2 : goal.invariant_of-self-2
 invariant_of-self-2 c =
@@ -71,8 +71,8 @@ returns-clause-writes c =
     (sym c.in-Some-get_mut.ensures.value) in
     rw (← c.self.view_is)
     (kept-writes slots places c.index.result.now.key h c.self.invariant (sym c.in-Some-get_mut.ensures.value) is.opened
-    c.args.number is.number c.take_all.new.self c.take_all.ensures.socket c.args.bytes.now _
-    (taken_all (waiting_in h.connection.unsent) c.args.bytes.now (waiting_in c.take_all.new.self.unsent)
+    c.args.number is.number c.take_all.new.self c.take_all.ensures.socket c.args.bytes.now.items _
+    (taken_all (waiting_in h.connection.unsent) c.args.bytes.now.items (waiting_in c.take_all.new.self.unsent)
     c.take_all.ensures.taken) c.take_all.ensures.ahead)
 
 pub returns-clause-sockets : goal.returns-clause-sockets
