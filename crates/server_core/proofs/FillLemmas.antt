@@ -1,5 +1,6 @@
 -- Packets that are handed one after the other.
-use Rattle.std.proofs.Common.{◌≡◌, ℕ, zero, suc, ◌+◌, true, false, Bool, if◌then◌else◌, List, [], ◌∷◌, ◌++◌, length, refl, sym, ap}
+use Rattle.std.proofs.Common.{◌≡◌, ℕ, zero, suc, ◌+◌, true, false, Bool, if◌then◌else◌, List, [], ◌∷◌, ◌++◌, length}
+use Rattle.std.proofs.Common.{refl, sym, ap}
 use Rattle.std.proofs.Common.{subst, ◌∙◌, arith, Option, Some, None, Result, option_map, unwrap_or, slice_get}
 use Rattle.std.proofs.Common.{add-one, ap₂, append-nil, append_assoc, length-append}
 use Rattle.std.specs.Prelude.{All, ◌≢◌}
@@ -173,7 +174,8 @@ pub hands-next : (config : Config) (h : List Arrival) (a : Option OpenClient) (m
     → IsHanded config h m r mid last → OnlySends r → r.places ≡ m.places
     → HandsPackets h a (Some (offered_open_of config h r)) (n + 1) out last
 hands-next config h a m r n out mid last before is only places =
-    let waits : (offered h (client_in config h m)).waiting ≡ is.packet = ap (λ (c : Client). c.waiting) (sym is.offers) in
+    let waits : (offered h (client_in config h m)).waiting ≡ is.packet =
+    ap (λ (c : Client). c.waiting) (sym is.offers) in
     let taken : client_in config h r ≡ taking h 520 (session_view config m) (offered h (client_in config h m)) =
     sym (taking-all config h (session_view config m) r is.packet is.size only)
     ∙ ap (taking h 520 (session_view config m)) is.offers in

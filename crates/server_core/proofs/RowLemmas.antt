@@ -14,7 +14,8 @@ use Rattle.server_core.specs.Marks.{Elsewhere, KeepsRows, RoomBy, asked, asked_o
 
 -- ---- one row is written
 
-set-here : (rs : List BitRow) (place : ℕ) (r : BitRow) → place < length rs → slice_get (slice_set rs place r) place ≡ Some r
+set-here : (rs : List BitRow) (place : ℕ) (r : BitRow) → place < length rs
+    → slice_get (slice_set rs place r) place ≡ Some r
 set-here [] place r lt = absurd (omega (arith, lt))
 set-here (x ∷ rs) zero r lt = refl
 set-here (x ∷ rs) (suc place) r lt = set-here rs place r (omega (arith, lt))
@@ -52,7 +53,8 @@ module _ (At : ℕ → Type 0) where
   keeps-on before now place old new there lt writes keeps = record {
     bits = λ slot at other. both (other == place)
         (λ yes. let e : other ≡ place = eqb-true other place yes in
-        ap (λ (o : Option BitRow). bit_by o slot) (ap (slice_get (slice_set now place new)) e ∙ set-here now place new lt)
+        ap (λ (o : Option BitRow). bit_by o slot)
+        (ap (slice_get (slice_set now place new)) e ∙ set-here now place new lt)
         ∙ writes.bits slot at
         ∙ ap (λ (o : Option BitRow). bit_by o slot) (sym (ap (slice_get now) e ∙ there))
         ∙ keeps.bits slot at other)
@@ -77,7 +79,8 @@ bit-here now place slot new lt = ap (λ (o : Option BitRow). bit_by o slot) (set
 
 pub bit-there : (now : List BitRow) (place other slot : ℕ) (new : BitRow) → other ≢ place
     → bit_by (slice_get (slice_set now place new) other) slot ≡ bit_by (slice_get now other) slot
-bit-there now place other slot new apart = ap (λ (o : Option BitRow). bit_by o slot) (set-there now place other new apart)
+bit-there now place other slot new apart =
+    ap (λ (o : Option BitRow). bit_by o slot) (set-there now place other new apart)
 
 -- ---- what is asked_of of stations
 
@@ -122,7 +125,8 @@ pub record Adds (slot : ℕ) (cs : List Entry) (i : ℕ) (before now : List BitR
 
 module _ (slot : ℕ) (cs : List Entry) (i : ℕ) (before now : List BitRow) (c d : Entry) (lt : i < length cs)
     (is : c ≡ slice_index_or cs i d) (adds : Adds slot cs i before now) where
-  pub adds-set : (old new : BitRow) → is_some c.action ≡ true → c.station < length now → slice_get now c.station ≡ Some old
+  pub adds-set : (old new : BitRow) → is_some c.action ≡ true → c.station < length now
+      → slice_get now c.station ≡ Some old
       → bit_of new slot ≡ true → Writes (Elsewhere slot) old new
       → Adds slot cs (i + 1) before (slice_set now c.station new)
   adds-set old new acts inside there here writes = record {
@@ -157,7 +161,8 @@ or-false true b e = refl
 or-false false b e = e
 
 -- At the end all are added.
-pub adds-all : (slot : ℕ) (cs : List Entry) (i : ℕ) (before now : List BitRow) → length cs ≤ i → Adds slot cs i before now
+pub adds-all : (slot : ℕ) (cs : List Entry) (i : ℕ) (before now : List BitRow) → length cs ≤ i
+    → Adds slot cs i before now
     → (place : ℕ) → place < length now
     → bit_by (slice_get now place) slot ≡ (bit_by (slice_get before place) slot || asked_of place cs)
 adds-all slot cs i before now le adds place within =

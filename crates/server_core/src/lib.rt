@@ -5,6 +5,7 @@ mod arrivals;
 pub mod client;
 mod clients;
 pub mod events;
+mod filling;
 mod marks;
 mod reviewing;
 pub mod server;

@@ -294,6 +294,7 @@ impl Server {
         ensures fills { (config : ProtocolConfig) (w : World) → IsOffered config w client.now found self.old →
             IsFilled config w client.now out.old.items out.new.items result self.new }
         ensures most { result.count ≤ most }
+        ensures unmarked { 0 < result.count → result.found ≡ Ok Idle → mark_at self.new client.now ≡ Some false }
         ensures len { vec_len out.new ≡ vec_len out.old + result.count * 520 }
         ensures room { vec_capacity out.old ≤ vec_capacity out.new }
         ensures others { LeavesOthers client.now self.old self.new }

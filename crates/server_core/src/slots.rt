@@ -1,37 +1,33 @@
 //! What the server does with the session in a slot, and with its marks.
-ghost use Rattle.std.specs.Prelude.{◌≡◌, ◌≢◌, ◌≤◌, ◌<◌, ◌&&◌, IfOk, OnOk, OnErr, List, [], length, not, take, Some};
-ghost use Rattle.std.specs.Prelude.{true, false, Ok, is_ok, is_some, IsSome, option_map, ◌+◌, ◌*◌, ◌^◌, ◌++◌, ℕ};
-ghost use Rattle.std.specs.Prelude.{vec_capacity, vec_len, IfSome, None};
+ghost use Rattle.std.specs.Prelude.{◌≡◌, ◌≢◌, ◌≤◌, ◌<◌, IfOk, OnErr, List, length, not, take, Some};
+ghost use Rattle.std.specs.Prelude.{true, false, Ok, is_ok, is_some, IsSome, option_map, ◌+◌, ◌*◌, ℕ};
+ghost use Rattle.std.specs.Prelude.{vec_capacity, vec_len, None};
 ghost use Rattle.std.specs.Result.{result_ok};
 ghost use Rattle.protocol.specs.Catalog.{Config as ProtocolConfig};
 ghost use Rattle.protocol.specs.History.{Arrival};
 ghost use Rattle.protocol.specs.Client.{Client as ProtocolClient, received, offered, after_take, is_ending, is_nothing};
-ghost use Rattle.protocol.specs.Client.{taken_of};
 ghost use Rattle.slab.specs.Slab.{get};
 ghost use Rattle.server_core.specs.Rows.{bit_of};
-ghost use Rattle.session_state.specs.Sessions.{SessionValue, client_in, session_view, Comes, HasPlaces, HasFirsts};
+ghost use Rattle.session_state.specs.Sessions.{SessionValue, client_in, session_view, Comes, HasPlaces};
 ghost use Rattle.session_state.specs.declared.session.State.TheVariants.{Starting, Ending};
 ghost use Rattle.session_state.specs.declared.session.Settled.TheVariants.{Rest, Start};
-ghost use Rattle.transfer.specs.Choosing.{IsHanded};
 ghost use Rattle.transfer.specs.Cursors.{ArePassed};
 ghost use Rattle.server_core.specs.Refusals.{is_idle, receipt, receipt_in, offer_of};
 ghost use Rattle.server_core.specs.Reloads.{HasHistory};
 ghost use Rattle.server_core.specs.Marks.{AreMarked, Elsewhere, IsIdle, Keeps, KeepsRequests};
 ghost use Rattle.server_core.specs.declared.client.Offer.TheVariants.{Idle};
 ghost use Rattle.server_core.specs.ServerValues.{AreSettled, HoldsOf, IsSettled, SlotGoesOn, StayOpen, client_of_open};
-ghost use Rattle.server_core.specs.ServerValues.{goes_on, handing, open_client, open_client_of, taking};
-ghost use Rattle.server_core.specs.Handing.{HandsPackets, OnlySends, offered_open_of};
+ghost use Rattle.server_core.specs.ServerValues.{goes_on, handing, open_client, taking};
+ghost use Rattle.server_core.specs.Handing.{HandsPackets};
 
 use crate::client::{Filled, Gone, Offer, ReceiveRefusal};
+use crate::filling::hand_packets;
 use crate::marks::Marks;
 use catalog::Config;
 use session_state::{Session, Settled, State};
 use slab::Slab;
 use station_ring::Rings;
-use transfer::{Chosen, choose, choose_into, finds, start};
-
-/// How long a packet is.
-const PACKET: usize = 520;
+use transfer::{choose, finds, start};
 
 /// A session that settled goes on with its transfer, where one is to start.
 #[tactic(auto, using(crate::proofs::OfferLemmas::proceed_lemmas))]
@@ -110,7 +106,7 @@ fn fill(config: &Config, rings: &Rings, session: &mut Session)
 }
 
 /// Where nothing waits, what comes next is made to wait; and what is found then.
-fn offer(config: &Config, rings: &Rings, session: &mut Session) -> Offer
+pub(crate) fn offer(config: &Config, rings: &Rings, session: &mut Session) -> Offer
     requires { IsSettled config.now rings.now session.old }
     ensures client { (h : List Arrival) → HoldsOf config.now rings.now h
         → client_in config.now h session.new ≡ offered h (client_in config.now h session.old) }
@@ -164,7 +160,7 @@ fn is_ready(rings: &Rings, session: &mut Session) -> bool
 
 /// The first bytes that wait, 1 to all of them, were handed. It answers whether a transfer started.
 #[tactic(auto, using(crate::proofs::OfferLemmas::proceed_lemmas))]
-fn took(config: &Config, rings: &Rings, session: &mut Session, count: usize) -> Settled
+pub(crate) fn took(config: &Config, rings: &Rings, session: &mut Session, count: usize) -> Settled
     requires settled { IsSettled config.now rings.now session.old }
     requires some { 0 < count }
     requires waiting { count ≤ length session.old.waiting }
@@ -177,184 +173,6 @@ fn took(config: &Config, rings: &Rings, session: &mut Session, count: usize) -> 
     let settled = session.took(config, count);
     proceed(config, rings, session, settled);
     settled
-}
-
-/// What packets that were handed one after the other led to.
-#[derive(Clone, Copy)]
-struct Filling {
-    /// How many they were.
-    count: usize,
-    /// Whether a transfer started after the last of them.
-    settled: Settled,
-    /// What the offer after it found.
-    found: Offer,
-}
-
-/// What packets that were handed after the first one led to.
-#[derive(Clone, Copy)]
-struct Handed {
-    /// How many they were.
-    count: usize,
-    /// What the offer after them found.
-    found: Offer,
-}
-
-/// Whether a whole packet waits.
-fn is_whole(session: &Session) -> bool
-    ensures { result ≡ true → length session.now.waiting ≡ 520 }
-{
-    session.waiting().len() == PACKET
-}
-
-/// Whether a session is in a transfer in which nothing waits and nothing is unread.
-fn only_sends(session: &Session) -> bool
-    ensures { result ≡ true → OnlySends session.now }
-{
-    match session.state() {
-        State::Transfer(_) => session.is_empty() && !session.has_unread(),
-        State::Negotiating => false,
-        State::Listing(_) => false,
-        State::Starting => false,
-        State::Ending => false,
-    }
-}
-
-/// What waits is appended to bytes that have room for it.
-fn append_waiting(session: &Session, out: &mut Vec<u8>)
-    requires room { vec_len out.old + length session.now.waiting ≤ vec_capacity out.old }
-    ensures bytes { out.new.items ≡ out.old.items ++ session.now.waiting }
-    ensures len { vec_len out.new ≡ vec_len out.old + length session.now.waiting }
-    ensures room { vec_capacity out.old ≤ vec_capacity out.new }
-{
-    let _appended = out.extend_from_slice(session.waiting());
-}
-
-/// A whole packet that waits is appended to bytes that have room for it, and is handed. It answers whether a transfer
-/// started.
-fn hand_first(config: &Config, rings: &Rings, session: &mut Session, out: &mut Vec<u8>) -> Settled
-    requires settled { IsSettled config.now rings.now session.old }
-    requires whole { length session.old.waiting ≡ 520 }
-    requires room { vec_len out.old + 520 ≤ vec_capacity out.old }
-    ensures hands { (h : List Arrival) → HoldsOf config.now rings.now h
-        → HandsPackets h (Some (open_client_of config.now h session.old))
-        (Some (offered_open_of config.now h session.new)) 1 out.old.items out.new.items }
-    ensures kept { result ≡ Rest → KeepsRequests session.old session.new }
-    ensures settled { IsSettled config.now rings.now session.new }
-    ensures len { vec_len out.new ≡ vec_len out.old + 520 }
-    ensures room { vec_capacity out.old ≤ vec_capacity out.new }
-{
-    append_waiting(session, out);
-    took(config, rings, session, PACKET)
-}
-
-/// The packet that comes next in a transfer is appended to bytes that have room for it, and is handed, without waiting
-/// in the session. Where there is none, it answers what an offer found.
-fn hand_next(
-    config: &Config,
-    rings: &Rings,
-    session: &mut Session,
-    out: &mut Vec<u8>,
-) -> Option<Offer>
-    requires settled { IsSettled config.now rings.now session.old }
-    requires sends { OnlySends session.old }
-    requires room { vec_len out.old + 520 ≤ vec_capacity out.old }
-    ensures handed { result ≡ None → (h : List Arrival) → HoldsOf config.now rings.now h
-        → IsHanded config.now h session.old session.new out.old.items out.new.items }
-    ensures sends { result ≡ None → OnlySends session.new }
-    ensures offered { IfSome result (λ found. (h : List Arrival) → HoldsOf config.now rings.now h
-        → client_in config.now h session.new ≡ offered h (client_in config.now h session.old)) }
-    ensures found { IfSome result (λ found. (h : List Arrival) → HoldsOf config.now rings.now h
-        → found ≡ offer_of (client_in config.now h session.new)) }
-    ensures idle { IfSome result (λ found. found ≡ Idle → IsIdle config.now rings.now session.new) }
-    ensures kept { KeepsRequests session.old session.new }
-    ensures places { session.new.places ≡ session.old.places }
-    ensures settled { IsSettled config.now rings.now session.new }
-    ensures unchanged { IfSome result (λ found. out.new ≡ out.old) }
-    ensures len { result ≡ None → vec_len out.new ≡ vec_len out.old + 520 }
-    ensures room { vec_capacity out.old ≤ vec_capacity out.new }
-{
-    match choose_into(session, config, rings, out) {
-        Chosen::Packet => None,
-        Chosen::Nothing => Some(Offer::Idle),
-        Chosen::Complete => Some(Offer::Bytes),
-    }
-}
-
-/// The packets that come next in a transfer are appended to bytes and handed one after the other, at most so many; and
-/// what comes next is made to wait.
-fn hand_more(
-    config: &Config,
-    rings: &Rings,
-    session: &mut Session,
-    most: usize,
-    out: &mut Vec<u8>,
-) -> Handed
-    requires settled { IsSettled config.now rings.now session.old }
-    requires sends { 0 < most → OnlySends session.old }
-    requires room { vec_len out.old + most * 520 ≤ vec_capacity out.old }
-    ensures most { result.count ≤ most }
-    ensures hands { (h : List Arrival) → HoldsOf config.now rings.now h
-        → HandsPackets h (Some (offered_open_of config.now h session.old))
-        (Some (open_client_of config.now h session.new)) result.count out.old.items out.new.items }
-    ensures found { (h : List Arrival) → HoldsOf config.now rings.now h
-        → result.found ≡ offer_of (client_in config.now h session.new) }
-    ensures idle { result.found ≡ Idle → IsIdle config.now rings.now session.new }
-    ensures kept { KeepsRequests session.old session.new }
-    ensures settled { IsSettled config.now rings.now session.new }
-    ensures len { vec_len out.new ≡ vec_len out.old + result.count * 520 }
-    ensures room { vec_capacity out.old ≤ vec_capacity out.new }
-{
-    let mut count = 0;
-    'packets: while count < most {
-        match hand_next(config, rings, session, out) {
-            None => count += 1,
-            Some(found) => return Handed { count, found },
-        }
-    }
-    let found = offer(config, rings, session);
-    Handed { count, found }
-}
-
-/// A whole packet that waits, and those that come next in a transfer, are appended to bytes and handed one after the
-/// other, at most so many.
-fn hand_packets(
-    config: &Config,
-    rings: &Rings,
-    session: &mut Session,
-    most: usize,
-    out: &mut Vec<u8>,
-) -> Filling
-    requires settled { IsSettled config.now rings.now session.old }
-    requires room { vec_len out.old + most * 520 ≤ vec_capacity out.old }
-    ensures most { result.count ≤ most }
-    ensures some { 0 < result.count → length session.old.waiting ≡ 520 }
-    ensures hands { (h : List Arrival) → HoldsOf config.now rings.now h
-        → HandsPackets h (Some (open_client_of config.now h session.old))
-        (Some (open_client_of config.now h session.new)) result.count out.old.items out.new.items }
-    ensures found { 0 < result.count → (h : List Arrival) → HoldsOf config.now rings.now h
-        → result.found ≡ offer_of (client_in config.now h session.new) }
-    ensures idle { result.found ≡ Idle → IsIdle config.now rings.now session.new }
-    ensures kept { result.settled ≡ Rest → KeepsRequests session.old session.new }
-    ensures unchanged { result.count ≡ 0 → session.new ≡ session.old }
-    ensures settled { IsSettled config.now rings.now session.new }
-    ensures len { vec_len out.new ≡ vec_len out.old + result.count * 520 }
-    ensures room { vec_capacity out.old ≤ vec_capacity out.new }
-{
-    if most == 0 || !is_whole(session) {
-        return Filling {
-            count: 0,
-            settled: Settled::Rest,
-            found: Offer::Bytes,
-        };
-    }
-    let settled = hand_first(config, rings, session, out);
-    let left = if only_sends(session) { most - 1 } else { 0 };
-    let more = hand_more(config, rings, session, left, out);
-    Filling {
-        count: more.count + 1,
-        settled,
-        found: more.found,
-    }
 }
 
 /// Bytes come from a client.
@@ -550,6 +368,7 @@ pub fn fill_in(
         → result_ok found ≡ option_map offer_of (client_of_open (open_client config.now h (Some (get slots.old slot))))
         → result_ok result.found
         ≡ option_map offer_of (client_of_open (open_client config.now h (Some (get slots.new slot)))) }
+    ensures idle { 0 < result.count → result.found ≡ Ok Idle → bit_of marks.new.marked slot ≡ false }
     ensures len { vec_len out.new ≡ vec_len out.old + result.count * 520 }
     ensures room { vec_capacity out.old ≤ vec_capacity out.new }
 {

@@ -1,7 +1,7 @@
 -- What an offer in a transfer leads to.
-use Rattle.std.proofs.Common.{◌≡◌, ℕ, ◌+◌, ◌≤◌, Bool, true, false, ◌&&◌, if◌then◌else◌, List, [], ◌∷◌, filter_map, length}
-use Rattle.std.proofs.Common.{drop, drop-cons, get_or, add-one, suc, ◌<◌, Option, Some, None, codes, refl, sym, ap}
-use Rattle.std.proofs.Common.{subst, ◌∙◌}
+use Rattle.std.proofs.Common.{◌≡◌, ℕ, ◌+◌, ◌≤◌, Bool, true, false, ◌&&◌, if◌then◌else◌, List, [], ◌∷◌, filter_map}
+use Rattle.std.proofs.Common.{length, drop, drop-cons, get_or, add-one, suc, ◌<◌, Option, Some, None, codes, refl, sym}
+use Rattle.std.proofs.Common.{ap, subst, ◌∙◌}
 use Rattle.std.specs.List.{list_all}
 use Rattle.protocol.specs.Packet.{packet}
 use Rattle.protocol.specs.Catalog.{Config, Station}

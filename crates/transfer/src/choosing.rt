@@ -3,8 +3,8 @@
 //! The position in the definitions' history from which a transfer goes on stays a number in the session's state, since
 //! the definitions have it. It only rises when a packet is chosen, so what was unwanted stays unwanted.
 //!
-//! What is done for each packet is marked to be inlined into `choose` and `choose_into`, which takes 80 instructions of a
-//! packet's 400.
+//! What is done for each packet is marked to be inlined into `choose` and `choose_into`, which takes 80 instructions of
+//! a packet's 400.
 //!
 //! Where `choose` answers Nothing the session is as it was but for its cursors (`but_for_cursors`). No client can tell
 //! the difference: the client that the session is doesn't depend on them.

@@ -1,4 +1,4 @@
-use Rattle.std.proofs.Common.{refl, ◌∙◌, arith, append-nil, sym, subst, []}
+use Rattle.std.proofs.Common.{refl, ◌∙◌, ap, arith, append-nil, sym, subst, [], Some}
 use Rattle.protocol.specs.World.{step}
 use Rattle.protocol.specs.World.Event.{Take}
 use Rattle.server_core.specs.Filling.Fills.{none}
@@ -8,7 +8,7 @@ use Rattle.server_core.proofs.CurrentLemmas.{current-goes}
 use Rattle.server_core.proofs.FillLemmas.{filled-there, handing-over, slot-goes}
 use Rattle.server_core.proofs.SessionLemmas.{found}
 use Rattle.server_core.proofs.SlotLemmas.{written-table}
-use Rattle.server_core.proofs.SpareLemmas.{bits-elsewhere, leaves-others, serving-with}
+use Rattle.server_core.proofs.SpareLemmas.{bits-elsewhere, leaves-others, mark-there, serving-with}
 use Rattle.server_core.proofs.server.Server.fill.Goals as goal
 
 pub fill_in-requires-clause-there : goal.fill_in-requires-clause-there
@@ -69,3 +69,11 @@ returns-clause-others c =
     refl (λ other apart. refl)
     (bits-elsewhere c.self.inside.clients c.self.inside.marks c.fill_in.new.marks c.args.client.now c.in-Some.slot
     c.self.invariant.0 there c.fill_in.ensures.others))
+
+pub returns-clause-unmarked : goal.returns-clause-unmarked
+returns-clause-unmarked c = λ some idle.
+    mark-there c.self.inside.config c.self.inside.rings
+    (record c.self.inside.clients { slots = c.fill_in.new.slots }) c.fill_in.new.marks c.args.client.now
+    (written-table c.self.inside.clients c.fill_in.new.slots c.self.invariant.0 c.fill_in.ensures.kept) c.in-Some.slot
+    (sym c.in-Some.ensures)
+    ∙ ap Some (c.fill_in.ensures.idle some idle)

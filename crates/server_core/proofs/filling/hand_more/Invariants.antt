@@ -3,7 +3,7 @@ use Rattle.protocol.specs.History.{Arrival}
 use Rattle.server_core.specs.Handing.{HandsPackets, OnlySends, offered_open_of}
 use Rattle.server_core.specs.Marks.{KeepsRequests}
 use Rattle.server_core.specs.ServerValues.{HoldsOf, IsSettled}
-use Rattle.server_core.proofs.slots.hand_more.Given as goal
+use Rattle.server_core.proofs.filling.hand_more.Given as goal
 
 abbrev pub invariant-packets : goal.invariant-packets
 invariant-packets l = record {

@@ -1,5 +1,5 @@
 use Rattle.server_core.proofs.FillLemmas.{first-handed}
-use Rattle.server_core.proofs.slots.hand_first.Goals as goal
+use Rattle.server_core.proofs.filling.hand_first.Goals as goal
 
 pub returns-clause-hands : goal.returns-clause-hands
 returns-clause-hands c = λ h holds.

@@ -3,7 +3,7 @@ use Rattle.server_core.specs.Handing.{HandsPackets, offered_open_of}
 use Rattle.server_core.specs.ServerValues.{open_client_of}
 use Rattle.server_core.proofs.FillLemmas.{hands-last, hands-next, hands-none}
 use Rattle.server_core.proofs.MarkLemmas.{keeps-twice}
-use Rattle.server_core.proofs.slots.hand_more.Goals as goal
+use Rattle.server_core.proofs.filling.hand_more.Goals as goal
 
 pub packets-init : goal.packets-init
 packets-init c = record {

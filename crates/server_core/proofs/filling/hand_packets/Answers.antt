@@ -2,7 +2,7 @@ use Rattle.std.proofs.Common.{Some}
 use Rattle.server_core.specs.Handing.{offered_open_of}
 use Rattle.server_core.specs.ServerValues.{open_client_of}
 use Rattle.server_core.proofs.FillLemmas.{hands-join, hands-none}
-use Rattle.server_core.proofs.slots.hand_packets.Goals as goal
+use Rattle.server_core.proofs.filling.hand_packets.Goals as goal
 
 pub returns-then-most-eq0-clause-hands : goal.returns-then-most-eq0-clause-hands
 returns-then-most-eq0-clause-hands c = λ h holds.
