@@ -19,7 +19,10 @@ use Rattle.session_state.specs.Sessions.{SessionValue, but_for_cursors, client_i
 use Rattle.session_state.specs.declared.session.State.{State}
 use Rattle.session_state.specs.declared.session.State.TheVariants.{Negotiating, Listing, Starting, Transfer, Ending}
 use Rattle.transfer.specs.Choosing.{IsHanded, is_transfer}
+use Rattle.transfer.specs.Runs.{AreHanded}
+use Rattle.transfer.specs.Runs.AreHanded.{none as none-handed, more as more-handed}
 use Rattle.transfer.specs.Sleeping.{Sleeps}
+use Rattle.transfer.proofs.StartLemmas.{client-same}
 use Rattle.catalog.specs.Places.{view_in, Seen}
 use Rattle.station_ring.specs.HeldRecords.{RingsValue}
 use Rattle.server_core.specs.Clients.{IsTable, slot_in}
@@ -169,7 +172,7 @@ taking-all config h v s packet size only =
     ∙ all-taken config h v s packet size only
 
 -- A packet that was handed as it was chosen is one that waited and was taken.
-pub hands-next : (config : Config) (h : List Arrival) (a : Option OpenClient) (m r : SessionValue) (n : ℕ)
+hands-next : (config : Config) (h : List Arrival) (a : Option OpenClient) (m r : SessionValue) (n : ℕ)
     (out mid last : List ℕ) → HandsPackets h a (Some (offered_open_of config h m)) n out mid
     → IsHanded config h m r mid last → OnlySends r → r.places ≡ m.places
     → HandsPackets h a (Some (offered_open_of config h r)) (n + 1) out last
@@ -184,6 +187,32 @@ hands-next config h a m r n out mid last before is only places =
     (ap₂ (λ (p : Seen) (q : Client). let t : Option OpenClient =
     Some (record { view = view_in config p; client = offered h q }) in t) places taken)
     (is.bytes ∙ ap (λ l. mid ++ l) (sym waits))
+
+-- Packets that were handed as they were chosen are so many that waited and were taken.
+hands-each : (config : Config) (h : List Arrival) (a : Option OpenClient) (m : SessionValue) (k : ℕ)
+    (out mid : List ℕ) → HandsPackets h a (Some (offered_open_of config h m)) k out mid → OnlySends m → (t : State)
+    (n : ℕ) (last : List ℕ) → AreHanded config h m mid t n last
+    → HandsPackets h a (Some (offered_open_of config h (record m { state = t }))) (k + n) out last
+hands-each config h a m k out mid before only _ _ _ none-handed =
+    let same : k ≡ k + 0 = omega arith in
+    subst (λ i. HandsPackets h a (Some (offered_open_of config h m)) i out mid) same before
+hands-each config h a m k out mid before only _ _ _ (more-handed t t' n mid' last handed sends is) =
+    let all : k + n + 1 ≡ k + (n + 1) = omega arith in
+    subst (λ i. HandsPackets h a (Some (offered_open_of config h (record m { state = t' }))) i out last) all
+    (hands-next config h a (record m { state = t }) (record m { state = t' }) (k + n) out mid' last
+    (hands-each config h a m k out mid before only t n mid' handed) is
+    (record { sends = sends; nothing = only.nothing; read = only.read }) refl)
+
+pub hands-run : (config : Config) (h : List Arrival) (a : Option OpenClient) (m r : SessionValue) (k n : ℕ)
+    (out mid last : List ℕ) → HandsPackets h a (Some (offered_open_of config h m)) k out mid → OnlySends m
+    → AreHanded config h m mid r.state n last → but_for_cursors r ≡ but_for_cursors (record m { state = r.state })
+    → HandsPackets h a (Some (offered_open_of config h r)) (k + n) out last
+hands-run config h a m r k n out mid last before only handed same =
+    subst (λ o. HandsPackets h a o (k + n) out last)
+    (sym (ap₂ (λ (p : Seen) (q : Client). let t : Option OpenClient =
+    Some (record { view = view_in config p; client = offered h q }) in t)
+    (ap (λ (s : SessionValue). s.places) same) (client-same config h r (record m { state = r.state }) same)))
+    (hands-each config h a m k out mid before only r.state n last handed)
 
 -- Where nothing is handed any more, what comes next was made to wait.
 pub hands-last : (config : Config) (h : List Arrival) (a : Option OpenClient) (m r : SessionValue) (n : ℕ)

@@ -3,9 +3,9 @@ ghost use Rattle.std.specs.Prelude.{◌≡◌, ◌≤◌, ◌<◌, ◌+◌, ◌*
 ghost use Rattle.std.specs.Prelude.{vec_capacity, vec_len};
 ghost use Rattle.protocol.specs.Client.{offered};
 ghost use Rattle.protocol.specs.History.{Arrival};
-ghost use Rattle.session_state.specs.Sessions.{client_in};
+ghost use Rattle.session_state.specs.Sessions.{but_for_cursors, client_in};
 ghost use Rattle.session_state.specs.declared.session.Settled.TheVariants.{Rest};
-ghost use Rattle.transfer.specs.Choosing.{IsHanded};
+ghost use Rattle.transfer.specs.Runs.{AreHanded};
 ghost use Rattle.server_core.specs.Handing.{HandsPackets, OnlySends, offered_open_of};
 ghost use Rattle.server_core.specs.Marks.{IsIdle, KeepsRequests};
 ghost use Rattle.server_core.specs.Refusals.{offer_of};
@@ -88,36 +88,58 @@ fn hand_first(config: &Config, rings: &Rings, session: &mut Session, out: &mut V
     took(config, rings, session, PACKET)
 }
 
-/// The packet that comes next in a transfer is appended to bytes that have room for it, and is handed, without waiting
-/// in the session. Where there is none, it answers what an offer found.
+/// What came next in a transfer.
+#[derive(Clone, Copy)]
+struct Next {
+    /// How many packets were handed.
+    count: usize,
+    /// What an offer found, where none was.
+    found: Option<Offer>,
+}
+
+/// Packets that come next in a transfer, one or more and at most so many, are appended to bytes that have room for
+/// them, and are handed one after the other, without waiting in the session. Where there is none, it answers what an
+/// offer found.
 fn hand_next(
     config: &Config,
     rings: &Rings,
     session: &mut Session,
+    most: usize,
     out: &mut Vec<u8>,
-) -> Option<Offer>
+) -> Next
     requires settled { IsSettled config.now rings.now session.old }
     requires sends { OnlySends session.old }
-    requires room { vec_len out.old + 520 ≤ vec_capacity out.old }
-    ensures handed { result ≡ None → (h : List Arrival) → HoldsOf config.now rings.now h
-        → IsHanded config.now h session.old session.new out.old.items out.new.items }
-    ensures sends { result ≡ None → OnlySends session.new }
-    ensures offered { IfSome result (λ found. (h : List Arrival) → HoldsOf config.now rings.now h
+    requires some { 0 < most }
+    requires room { vec_len out.old + most * 520 ≤ vec_capacity out.old }
+    ensures most { result.count ≤ most }
+    ensures some { result.found ≡ None → 0 < result.count }
+    ensures none { IfSome result.found (λ found. result.count ≡ 0) }
+    ensures handed { result.found ≡ None → (h : List Arrival) → HoldsOf config.now rings.now h
+        → AreHanded config.now h session.old out.old.items session.new.state result.count out.new.items }
+    ensures same { result.found ≡ None → but_for_cursors session.new
+        ≡ but_for_cursors (record session.old { state = session.new.state }) }
+    ensures sends { result.found ≡ None → OnlySends session.new }
+    ensures offered { IfSome result.found (λ found. (h : List Arrival) → HoldsOf config.now rings.now h
         → client_in config.now h session.new ≡ offered h (client_in config.now h session.old)) }
-    ensures found { IfSome result (λ found. (h : List Arrival) → HoldsOf config.now rings.now h
+    ensures found { IfSome result.found (λ found. (h : List Arrival) → HoldsOf config.now rings.now h
         → found ≡ offer_of (client_in config.now h session.new)) }
-    ensures idle { IfSome result (λ found. found ≡ Idle → IsIdle config.now rings.now session.new) }
+    ensures idle { IfSome result.found (λ found. found ≡ Idle → IsIdle config.now rings.now session.new) }
     ensures kept { KeepsRequests session.old session.new }
     ensures places { session.new.places ≡ session.old.places }
     ensures settled { IsSettled config.now rings.now session.new }
-    ensures unchanged { IfSome result (λ found. out.new ≡ out.old) }
-    ensures len { result ≡ None → vec_len out.new ≡ vec_len out.old + 520 }
+    ensures unchanged { IfSome result.found (λ found. out.new ≡ out.old) }
+    ensures len { vec_len out.new ≡ vec_len out.old + result.count * 520 }
     ensures room { vec_capacity out.old ≤ vec_capacity out.new }
 {
-    match choose_into(session, config, rings, out) {
+    let handing = choose_into(session, config, rings, most, out);
+    let found = match handing.chosen {
         Chosen::Packet => None,
         Chosen::Nothing => Some(Offer::Idle),
         Chosen::Complete => Some(Offer::Bytes),
+    };
+    Next {
+        count: handing.count,
+        found,
     }
 }
 
@@ -147,8 +169,9 @@ fn hand_more(
 {
     let mut count = 0;
     'packets: while count < most {
-        match hand_next(config, rings, session, out) {
-            None => count += 1,
+        let next = hand_next(config, rings, session, most - count, out);
+        match next.found {
+            None => count += next.count,
             Some(found) => return Handed { count, found },
         }
     }

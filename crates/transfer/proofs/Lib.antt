@@ -20,3 +20,4 @@ pub mod SearchLemmas
 mod RefusedLemmas
 pub mod AloneLemmas
 pub mod SentLemmas
+pub mod RunLemmas

@@ -53,7 +53,7 @@ first-of : (a b : Bool) → (a && b) ≡ true → a ≡ true
 first-of true b e = refl
 first-of false b e = absurd cc
 
-wanted-passes : (c : Choice) (q : ℕ) (x : Held) → wants_held c q x ≡ true
+pub wanted-passes : (c : Choice) (q : ℕ) (x : Held) → wants_held c q x ≡ true
     → passes c.patterns (facts_of x.summary) ≡ true
 wanted-passes c q x e =
     first-of (passes c.patterns (facts_of x.summary)) _
@@ -63,7 +63,7 @@ same-held : (r : RingValue) (place : ℕ) (x y : Held) → held_at r place ≡ S
 same-held r place x y one other = let t : Some y ≡ Some x = sym other ∙ one in cc
 
 -- What a request has passed once its record ahead was sent: that one too.
-sent-passed : (r : RingValue) (q next : ℕ) (c : Choice) (x : Held) → q ≤ x.stamp → x.stamp < next
+pub sent-passed : (r : RingValue) (q next : ℕ) (c : Choice) (x : Held) → q ≤ x.stamp → x.stamp < next
     → held_at r c.cursor.ring_place ≡ Some x → RestsAt r q c c.cursor
     → HasPassed r next c (at_place (c.cursor.ring_place + 1) c.cursor.ended)
 sent-passed r q next c x late sent there rest = record {

@@ -6,3 +6,4 @@ pub mod Firsts
 pub mod Sleeping
 pub mod Filters
 pub mod Searches
+pub mod Runs

@@ -194,7 +194,7 @@ fn search_after(session: &Session, found: Candidate<'_>, next: u64) -> Cursor
 /// How far a request comes from the record after one whose stream passes its patterns. Where the next record is of that
 /// stream too, the patterns are not asked again.
 #[inline(always)]
-fn cursor_after(session: &Session, found: Candidate<'_>, next: u64) -> Cursor
+pub(crate) fn cursor_after(session: &Session, found: Candidate<'_>, next: u64) -> Cursor
     requires there { held_at found.ring.now found.place ≡ Some found.held.now }
     requires index { found.index < length (chosen_of session.now.mode) }
     ensures { (c : Choice) → slice_get (chosen_of session.now.mode) found.entry.index ≡ Some c

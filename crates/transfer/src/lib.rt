@@ -7,6 +7,7 @@ mod cursors;
 mod filters;
 mod handing;
 mod overview;
+mod runs;
 mod searching;
 mod sleeping;
 mod starting;
@@ -14,6 +15,6 @@ mod wanting;
 
 pub use choosing::{Chosen, choose, finds};
 pub use cursors::cursor;
-pub use handing::choose_into;
+pub use handing::{Handing, choose_into};
 pub use sleeping::{sleeping_goes_on, sleeping_is_idle};
 pub use starting::start;

@@ -1,44 +1,40 @@
-use Rattle.std.proofs.Common.{◌≡◌, ◌∙◌, ◌+◌, ℕ, List, None, ap, refl, sym, subst, filter_map}
+use Rattle.std.proofs.Common.{◌≡◌, ◌∙◌, ◌+◌, None, ap, arith, refl, sym, subst, filter_map}
 use Rattle.std.specs.List.{list_all}
 use Rattle.protocol.specs.History.{is_over, next}
 use Rattle.protocol.specs.Client.{offered}
-use Rattle.protocol.specs.Packet.{packet}
-use Rattle.station_ring.specs.Rings.{number_at}
 use Rattle.session_state.specs.declared.session.State.TheVariants.{Transfer}
 use Rattle.session_state.specs.Choices.{chosen_of, request_in}
 use Rattle.session_state.specs.Sessions.{SessionValue, but_for_cursors}
 use Rattle.transfer.specs.Choosing.{answer_of}
+use Rattle.transfer.specs.Runs.{AreHanded}
 use Rattle.transfer.proofs.StartLemmas.{client-same, requests-same}
 use Rattle.transfer.proofs.PassedLemmas.{ended-passes, ended-reached, passed-all, same-next}
-use Rattle.transfer.proofs.ChooseLemmas.{leads-on, packet-offered}
+use Rattle.transfer.proofs.ChooseLemmas.{leads-on}
 use Rattle.transfer.specs.Sleeping.{Sleeps}
 use Rattle.transfer.proofs.SleepLemmas.{all-reached, sleeps-so}
 use Rattle.transfer.proofs.handing.choose_into.Goals as goal
 
 pub returns-in-Some-clause-handed : goal.returns-in-Some-clause-handed
 returns-in-Some-clause-handed c = λ transfers passed h holds chosen.
-    let found = c.in-Some.found in
-    let before = passed-all c.args.rings.now c.args.session.now passed c.in-Transfer.next (sym c.in-Transfer.ensures) in
-    let sent : List ℕ = packet (number_at found.ring.now found.place) found.held.now.bytes in
-    record {
-      packet = sent;
-      bytes = c.hand.ensures.bytes;
-      size = c.hand.ensures.size;
-      offers = packet-offered c.arrivals_by_place.ensures c.args.config.now h c.args.rings.now c.args.session.now
-          c.found_next.new.session (record (c.hand.new.session) { waiting = sent }) c.in-Transfer.next found.place
-          found.ring.now found.held.now c.codes_are_distinct.ensures holds (sym c.in-Transfer.ensures)
-          c.requires.nothing c.found_next.ensures.same (c.in-Some.ensures.position before c.args.config.now h holds)
-          c.in-Some.ensures.held c.hand.ensures.capacity
-          (ap (λ (s : SessionValue). record s { waiting = sent }) c.hand.ensures.session);
-    }
+    let rings = c.args.rings.now in
+    let s = c.args.session.now in
+    let last = c.hand_run-run.result.last in
+    let before = passed-all rings s passed c.in-Transfer.next (sym c.in-Transfer.ensures) in
+    let handed = c.hand_run-run.ensures.run.handed c.in-Transfer.next (c.in-Some.ensures.late before)
+    (c.found_next.ensures.rest before) c.args.config.now h holds c.codes_are_distinct.ensures
+    (c.in-Some.ensures.position before c.args.config.now h holds) s (sym c.in-Transfer.ensures) c.requires.nothing
+    (sym (requests-same c.args.config.now c.found_next.new.session s c.found_next.ensures.same)) in
+    subst (λ t. AreHanded c.args.config.now h s c.args.out.now.items t c.hand_run-run.result.count
+    c.hand_run-run.new.out.items)
+    (sym (ap (λ (n : SessionValue). n.state) c.pass_run.ensures.session)) handed
 
 pub returns-in-Some-clause-same : goal.returns-in-Some-clause-same
 returns-in-Some-clause-same c = λ chosen.
-    c.hand.ensures.session
-    ∙ ap (λ (s : SessionValue). record s { state = Transfer (c.in-Some.found.held.now.stamp + 1) })
+    c.pass_run.ensures.session
+    ∙ ap (λ (s : SessionValue). record s { state = Transfer (c.hand_run-run.result.last.held.now.stamp + 1) })
     c.found_next.ensures.same
     ∙ ap (λ t. but_for_cursors (record (c.args.session.now) { state = t }))
-    (sym (ap (λ (s : SessionValue). s.state) c.hand.ensures.session))
+    (sym (ap (λ (s : SessionValue). s.state) c.pass_run.ensures.session))
 
 pub returns-in-Some-clause-answer : goal.returns-in-Some-clause-answer
 returns-in-Some-clause-answer c = λ h q holds state passed.
@@ -55,8 +51,12 @@ returns-in-Some-clause-answer c = λ h q holds state passed.
 pub returns-in-Some-clause-passed : goal.returns-in-Some-clause-passed
 returns-in-Some-clause-passed c = λ passed.
     let before = passed-all c.args.rings.now c.args.session.now passed c.in-Transfer.next (sym c.in-Transfer.ensures) in
-    c.hand.ensures.passed c.in-Transfer.next (c.in-Some.ensures.late before) c.found_next.ensures.looked
-    (c.found_next.ensures.rest before)
+    let rests = c.found_next.ensures.rest before in
+    let low = c.in-Some.ensures.late before in
+    let run = c.hand_run-run.ensures.run in
+    let late = run.late c.in-Transfer.next low rests in
+    c.pass_run.ensures.passed c.in-Transfer.next (omega (arith, low, late)) c.found_next.ensures.looked rests
+    (run.sent c.in-Transfer.next low rests)
 
 pub returns-in-None-clause-client : goal.returns-in-None-clause-client
 returns-in-None-clause-client c = λ transfers passed h holds other.
