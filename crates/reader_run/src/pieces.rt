@@ -1,6 +1,6 @@
 //! A round of a reading: what is asked is sent, a piece is read, and what it gives is written.
-ghost use Rattle.std.specs.Prelude.{◌≡◌, ◌≢◌, ◌+◌, ◌<◌, ◌≤◌, ◌++◌, List, ℕ, [], drop, length, take, IfErr, IfNone, IfOk};
-ghost use Rattle.std.specs.Prelude.{IfSome, MatchOption, OnErr, OnOk};
+ghost use Rattle.std.specs.Prelude.{◌≡◌, ◌≢◌, ◌+◌, ◌<◌, ◌≤◌, ◌++◌, List, ℕ, [], drop, length, take, IfErr, IfNone};
+ghost use Rattle.std.specs.Prelude.{IfOk, IfSome, MatchOption, OnErr, OnOk};
 ghost use Rattle.std.specs.Io.KnownBytes.{Appends, Consumes, Keeps};
 ghost use Rattle.sl_io.specs.Counts.{IsMore, StopsWriting};
 ghost use Rattle.slreader.specs.declared.fault.ReaderFault.TheVariants.{Limit};
@@ -266,8 +266,8 @@ fn take_block<O: Sink, P: RecordSink>(
     }
 }
 
-/// Sends what is asked, reads once, and writes what that gives, whatever was listed before. Answers whether the transfer
-/// is over: then what was asked last is sent too, since an answer may come before its command was sent.
+/// Sends what is asked, reads once, and writes what that gives, whatever was listed before. Answers whether the
+/// transfer is over: then what was asked last is sent too, since an answer may come before its command was sent.
 pub(crate) fn read_once<R: Source, W: Sink, O: Sink, P: RecordSink>(
     core: &mut ReaderCore,
     output: &mut Output,

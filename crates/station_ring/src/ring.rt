@@ -1,10 +1,10 @@
 //! Rings of records.
 //!
 //! The block of a ring's records is allocated when the ring is made. A push into a full ring writes the record over the
-//! oldest one, so that its bytes are copied once, and moves no other. A place is reached by arithmetic from the count of
-//! pushes, and a number by its distance from the oldest number, modulo 2^24. The ring lends the number of a place too
-//! (`number_at`), which a packet needs, and tells its invariant by a call of its own (`holds_its_last`). Its stamps are
-//! those of the caller, and rise.
+//! oldest one, so that its bytes are copied once, and moves no other. A place is reached by arithmetic from the count
+//! of pushes, and a number by its distance from the oldest number, modulo 2^24. The ring lends the number of a place
+//! too (`number_at`), which a packet needs, and tells its invariant by a call of its own (`holds_its_last`). Its stamps
+//! are those of the caller, and rise.
 ghost use Rattle.std.specs.Prelude.{◌≡◌, ℕ, ◌+◌, ◌-◌, ◌%◌, ◌^◌, ◌<◌, ◌≤◌, [], ◌∷◌, ◌++◌, length, slice_get, All};
 ghost use Rattle.std.specs.Prelude.{IfOk};
 ghost use Rattle.std.specs.Option.{option_map, option_copied};
