@@ -124,9 +124,9 @@ def main():
         alone, crowded = each(config), each(config, IDLE)
         plain, logged = taken(config), taken(config, "--log")
         good = [
-            told(alone, 2_500, f"instructions, a packet handed on, {READERS} readers"),
+            told(alone, 430, f"instructions, a packet handed on, {READERS} readers"),
             told(crowded, int(alone * 1.3), f"the same with {IDLE} idle clients"),
-            told(plain, 1_500, "instructions, a record of a flood that nobody reads"),
+            told(plain, 1_300, "instructions, a record of a flood that nobody reads"),
             told(logged, int(plain * 1.05), "the same with --log"),
             told(writes, 1, "write calls for 16 packets"),
             told(reads, 1, "read calls for 16 records"),
