@@ -10,12 +10,13 @@ use Rattle.serving.specs.declared.ahead.NumbersAhead.{NumbersAhead as Numbers}
 
 -- how far they are ahead at most
 abbrev pub room : ℕ
-room = 16384
+room = 131072
 
 -- how far the kept number is after the first one, where so many records of the station came: by more than the 1,024
--- that a turn brings at most, and by twice as many once it has many
+-- that a turn brings at most, and by so much more the more it has that all seldom wait for the disk
 unfoldable pub ahead : ℕ → ℕ
-ahead count = if nat_lt count 8192 then 1024 * (count / 1024 + 2) else 8192 * (count / 8192 + 2)
+ahead count = if nat_lt count 8192 then 1024 * (count / 1024 + 2)
+    else (if nat_lt count 65536 then 8192 * (count / 8192 + 2) else 65536 * (count / 65536 + 2))
 
 -- the number that is kept of a station, by its first one and by how many of its records came
 abbrev pub number_ahead : (first count : ℕ) → ℕ

@@ -1,9 +1,9 @@
 //! Numbers that are kept for a later run.
 //!
-//! There are two steps, 1,024 and 8,192 records. A turn brings at most 1,024 records, and a kept number has to be
-//! further ahead than that. A restart of a young station then uses up few numbers, 2,048, so a station comes round
-//! after 8,192 runs of few records. From 8,192 records of a station on the step is 8,192: else a server would wait for
-//! its disk each 1,024 records of each busy station.
+//! There are three steps, 1,024, 8,192 and 65,536 records. A turn brings at most 1,024 records, and a kept number has to
+//! be further ahead than that. A restart of a young station then uses up few numbers, 2,048, so a station comes round
+//! after 8,192 runs of few records. From 8,192 records of a station on the step is 8,192, and from 65,536 on that: else
+//! a server would wait for its disk again and again in a flood.
 ghost use Rattle.std.specs.Prelude.{◌≡◌, ◌≤◌, ◌+◌, ◌%◌, ℕ, length, slice_get};
 ghost use Rattle.protocol.specs.Packet.{numbers};
 ghost use Rattle.protocol.specs.Catalog.{Config as ProtocolConfig};
@@ -20,6 +20,9 @@ const STEP: u64 = 1_024;
 
 /// From so many records of a station on, its number is kept anew each time that so many more came.
 const LATER_STEP: u64 = 8_192;
+
+/// From so many on, each time that so many more came.
+const LAST_STEP: u64 = 65_536;
 
 /// Numbers are those below this one.
 const NUMBERS: u32 = 0x100_0000;
@@ -69,8 +72,13 @@ fn number_ahead(next: Seq, count: u64) -> Seq
 /// How far it is ahead of the next one.
 fn gap(count: u64) -> u32
     ensures ahead { count + result ≡ ahead count }
-    ensures few { result ≤ 16384 }
+    ensures few { result ≤ 131072 }
 {
-    let step = if count < LATER_STEP { STEP } else { LATER_STEP };
-    (2 * step - count % step) as u32
+    if count < LATER_STEP {
+        (2 * STEP - count % STEP) as u32
+    } else if count < LAST_STEP {
+        (2 * LATER_STEP - count % LATER_STEP) as u32
+    } else {
+        (2 * LAST_STEP - count % LAST_STEP) as u32
+    }
 }

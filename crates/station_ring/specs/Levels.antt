@@ -7,13 +7,15 @@ use Rattle.protocol.specs.History.{Arrival, count_of}
 use Rattle.station_ring.specs.Rings.{RingValue}
 use Rattle.station_ring.specs.HeldRecords.{RingsValue, AreBehind}
 
--- the level of so many records: it rises each 1,024 of them, and from 8,192 on each 8,192
+-- the level of so many records: it rises each 1,024 of them, from 8,192 on each 8,192, and from 65,536 on each 65,536
 unfoldable pub level : ℕ → ℕ
-level count = if nat_lt count 8192 then count / 1024 else count / 8192 + 7
+level count = if nat_lt count 8192 then count / 1024
+    else (if nat_lt count 65536 then count / 8192 + 7 else count / 65536 + 14)
 
 -- The last of so many records raised the level.
 unfoldable pub is_raise : ℕ → Bool
-is_raise count = if nat_lt count 8192 then count % 1024 == 0 else count % 8192 == 0
+is_raise count = if nat_lt count 8192 then count % 1024 == 0
+    else (if nat_lt count 65536 then count % 8192 == 0 else count % 65536 == 0)
 
 -- the levels of all rings together, by how many records were pushed to each
 abbrev pub raises_of : List RingValue → ℕ

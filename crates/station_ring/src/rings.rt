@@ -20,8 +20,11 @@ use std::marker::Model;
 /// How many records of a station raise its level each time, as long as there are fewer than the next number.
 const RAISE_EVERY: u64 = 1_024;
 
-/// From so many records of a station on, so many raise its level each time.
+/// From so many records of a station on, so many raise its level each time, up to the next number.
 const RAISE_LATER: u64 = 8_192;
+
+/// From so many records of a station on, so many raise its level each time.
+const RAISE_LAST: u64 = 65_536;
 
 /// A ring for each station of a configuration, at the station's place, how many records arrived at all of them, and how
 /// far they have come: the levels of all stations together.
@@ -215,12 +218,13 @@ fn push_at(
 fn is_raise(count: u64) -> bool
     ensures { result ≡ is_raise count }
 {
-    let every = if count < RAISE_LATER {
-        RAISE_EVERY
+    if count < RAISE_LATER {
+        count % RAISE_EVERY == 0
+    } else if count < RAISE_LAST {
+        count % RAISE_LATER == 0
     } else {
-        RAISE_LATER
-    };
-    count % every == 0
+        count % RAISE_LAST == 0
+    }
 }
 
 /// The position of the oldest held record, or that of the next arrival where none is held.
