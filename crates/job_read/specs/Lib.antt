@@ -1,6 +1,7 @@
 pub mod Asking
 pub mod Endings
 pub mod Hearing
+pub mod KeepTimes
 pub mod Notices
 pub mod Places
 pub mod Together

@@ -1,12 +1,5 @@
 //! What is told of the lines that a reader lists: each want that is refused, and each jump in the numbers of a station
 //! of which all records are asked for.
-//!
-//! When a state is kept is asked before a read (`is_due`), and the answer may wait. The program's keeper answers at
-//! once if a second has passed since it kept the last one. Otherwise it looks at the connection (a peek with a timeout)
-//! up to the end of that second: if something comes it is read first, and if nothing came the state is kept. So it is
-//! kept once a second however many packets come, and the end of a burst is not left until the next packet. No thread is
-//! needed, no clock below `job_read`, and no read that ends without bytes, which would have changed what readers of
-//! bytes promise.
 ghost use Rattle.std.specs.Prelude.{◌≡◌, ◌==◌, ◌++◌, ◌∷◌, [], map, not, length, option_map, Option, IfOk, OnErr, OnOk};
 ghost use Rattle.std.specs.Prelude.{if◌then◌else◌, take};
 ghost use Rattle.std.specs.Io.{WritesAtMost};

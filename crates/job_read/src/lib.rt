@@ -10,6 +10,7 @@ mod course;
 mod endings;
 mod following;
 mod hearing;
+mod keep_time;
 mod line;
 mod notices;
 mod patience;

@@ -154,6 +154,11 @@ impl Patience {
         self.course.set(course);
     }
 
+    /// Whether its server owes something: an answer, or the rest of a packet.
+    pub fn is_owed(&self) -> bool {
+        self.course.get().is_owed()
+    }
+
     /// What it means now that nothing comes.
     fn silence(&self) -> Silence {
         silence_now(self.between, &self.course.get())

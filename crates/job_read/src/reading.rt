@@ -150,7 +150,14 @@ where
 {
     let present = RefCell::new(None);
     let mut servers = ServersInTurn::new(rt, reading, &present);
-    let mut keeper = StateKeeper::new(rt, state, &reading.wants, output, &present);
+    let mut keeper = StateKeeper::new(
+        rt,
+        state,
+        &reading.wants,
+        output,
+        &present,
+        &reading.patience,
+    );
     let read = follow_any(rt, reading, tally, &mut servers, out, records, &mut keeper);
     match read {
         Ok(()) => Ok(()),

@@ -4,6 +4,8 @@ ghost use Rattle.sl_io.specs.Counts.{CountsFailure};
 
 use crate::archiving::{Lasting, site_of};
 use crate::clock::milliseconds;
+use crate::keep_time::{KeepTime, keep_time};
+use crate::patience::Patience;
 use crate::silence::is_silent;
 use incidents::{Failure, Incident, Site, StateRefusal};
 use job_base::{place_of, replace};
@@ -19,9 +21,6 @@ use std::io::ErrorKind;
 use std::net::Net;
 use std::rt::{Clock, Files};
 use std::{fs, io};
-
-/// How many milliseconds lie at least between two times that a state is kept.
-const EVERY: u64 = 1_000;
 
 /// The length of a record, in bytes.
 const RECORD: u64 = 512;
@@ -294,7 +293,7 @@ impl<'a> Unkept<'a> {
 }
 
 /// Keeps the state of a reader in its file, if it has one, at most once a second while packets come, and once nothing
-/// came up to the end of that second.
+/// came after a whole packet up to the end of that second.
 #[derive(Drop)]
 pub struct StateKeeper<'r, 'a, 'w, R: Net> {
     rt: &'r R,
@@ -306,6 +305,8 @@ pub struct StateKeeper<'r, 'a, 'w, R: Net> {
     lengths: Option<Vec<FileLength>>,
     /// The connection that is read.
     present: &'r RefCell<Option<R::Stream>>,
+    /// What its server owes.
+    patience: &'r Patience,
     /// When the state was kept last, in milliseconds.
     kept: u64,
     unkept: Option<Unkept<'a>>,
@@ -320,6 +321,7 @@ impl<'r, 'a, 'w, R: Net> StateKeeper<'r, 'a, 'w, R> {
         wants: &'r [Want<'w>],
         output: Option<SameFile<'a>>,
         present: &'r RefCell<Option<R::Stream>>,
+        patience: &'r Patience,
     ) -> StateKeeper<'r, 'a, 'w, R> {
         StateKeeper {
             rt,
@@ -328,6 +330,7 @@ impl<'r, 'a, 'w, R: Net> StateKeeper<'r, 'a, 'w, R> {
             output,
             lengths: None,
             present,
+            patience,
             kept: 0,
             unkept: None,
             failures: 0,
@@ -398,10 +401,11 @@ where
             return false;
         }
         let passed = self.now().saturating_sub(self.kept);
-        if passed < EVERY && !self.is_silent(EVERY - passed) {
-            return false;
+        match keep_time(passed, self.patience.is_owed()) {
+            KeepTime::Now => true,
+            KeepTime::AfterRead => false,
+            KeepTime::AfterSilence(left) => self.is_silent(left),
         }
-        true
     }
 
     fn flush(&mut self, records: &P) -> Result<(), KeepFault> {
