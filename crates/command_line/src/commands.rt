@@ -12,7 +12,7 @@ use std::alloc::{AllocError, Global};
 
 /// What `--version` prints after the program's name: the version, and the logic of the toolchain with which each
 /// function was proved before the program was built.
-pub const VERSION: &str = "0.1.0 (each function proved, logic dac8208d650f15bf)";
+pub const VERSION: &str = "0.2.0 (each function proved, logic dac8208d650f15bf)";
 
 /// What the help of the whole program ends with.
 const MORE_HELP: &str = "`seedlinkd --help faults` lists the faults by their numbers";
