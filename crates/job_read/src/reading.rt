@@ -18,7 +18,7 @@ use job_base::{
     ErrorOutput, ReasonKeeper, ServerAddress, server_of, tell_incident, times_of, unopened,
 };
 use protocol::reason::Reason;
-use reader_run::{Break, Gathered, Nowhere, RecordSink};
+use reader_run::{Break, Gathered, ListingFault, Nowhere, RecordSink};
 use record_archive::FileLength;
 use record_check::Times;
 use sl_io::{Outer, Sink};
@@ -121,7 +121,7 @@ fn opened_twice<'a, R: Files<File = File>>(
 fn list_on<'a, R, O: Sink + Drop, P: RecordSink + Lasting>(
     rt: &R,
     reading: &Reading<'a, '_>,
-    state: Option<StateFile<'a>>,
+    state: Option<Box<StateFile<'a>>>,
     output: Option<SameFile<'a>>,
     out: O,
     records: &mut P,
@@ -140,7 +140,7 @@ fn list_after<'a, R, O: Sink + Drop, P: RecordSink + Lasting>(
     rt: &R,
     reading: &Reading<'a, '_>,
     tally: &mut Tally,
-    state: Option<StateFile<'a>>,
+    state: Option<Box<StateFile<'a>>>,
     output: Option<SameFile<'a>>,
     out: O,
     records: &mut P,
@@ -161,26 +161,31 @@ where
     let read = follow_any(rt, reading, tally, &mut servers, out, records, &mut keeper);
     match read {
         Ok(()) => Ok(()),
-        Err(Break::Server(_)) if reading.patience.is_over() => Ok(()),
-        Err(end) => Err(ended_by(end, servers.server(), keeper.site())),
+        Err(Break::Server(incident)) => server_ended(incident, reading),
+        Err(Break::Listing(fault)) => Err(met_at(fault, servers.server(), keeper.site())),
     }
 }
 
-/// Why a reading ended before its end: what no server mended, or what a listing met at a server, or where the state
-/// could not be kept.
-fn ended_by<'a>(
-    end: Break<Incident<'a>>,
+/// How a reading ended that no server mended: at its end, if nothing more came of its window.
+fn server_ended<'a>(incident: Incident<'a>, reading: &Reading<'_, '_>) -> Result<(), Incident<'a>> {
+    if reading.patience.is_over() {
+        Ok(())
+    } else {
+        Err(incident)
+    }
+}
+
+/// What a listing met at a server, or where the state could not be kept.
+fn met_at<'a>(
+    fault: ListingFault,
     server: Result<ServerAddress<'a>, Incident<'a>>,
     site: Option<Site<'a>>,
 ) -> Incident<'a> {
-    match end {
-        Break::Server(incident) => incident,
-        Break::Listing(fault) => match server {
-            Ok(server) => Failure::Packets(fault)
-                .at_server(server.word)
-                .at_state(site),
-            Err(incident) => incident,
-        },
+    match server {
+        Ok(server) => Failure::Packets(fault)
+            .at_server(server.word)
+            .at_state(site),
+        Err(incident) => incident,
     }
 }
 
@@ -188,7 +193,7 @@ fn ended_by<'a>(
 fn tally_after(
     alloc: Global,
     wants: &[Want<'_>],
-    state: &Option<StateFile<'_>>,
+    state: &Option<Box<StateFile<'_>>>,
 ) -> Result<Tally, AllocError> {
     match state {
         Some(state) => Tally::after(alloc, wants, state.before()),
@@ -200,7 +205,7 @@ fn tally_after(
 fn list_lines<'a, R: Files + Print + Eprint + Clock + Net + AllocGlobal>(
     rt: &R,
     reading: &Reading<'a, '_>,
-    state: Option<StateFile<'a>>,
+    state: Option<Box<StateFile<'a>>>,
 ) -> Result<(), Incident<'a>> {
     let lines = Outer::new(io::writer(rt));
     list_on(rt, reading, state, None, lines, &mut Nowhere::new())
@@ -210,7 +215,7 @@ fn list_lines<'a, R: Files + Print + Eprint + Clock + Net + AllocGlobal>(
 fn list_records<'a, R: Files + Print + Eprint + Clock + Net + AllocGlobal>(
     rt: &R,
     reading: &Reading<'a, '_>,
-    state: Option<StateFile<'a>>,
+    state: Option<Box<StateFile<'a>>>,
 ) -> Result<(), Incident<'a>> {
     let lines = Outer::new(ErrorOutput::new(rt));
     let mut records = Gathered::new(rt.alloc(), Outer::new(io::writer(rt)));
@@ -221,7 +226,7 @@ fn list_records<'a, R: Files + Print + Eprint + Clock + Net + AllocGlobal>(
 fn list_and_add<'a, R: Files<File = File> + Print + Eprint + Clock + Net + AllocGlobal>(
     rt: &R,
     reading: &Reading<'a, '_>,
-    state: Option<StateFile<'a>>,
+    state: Option<Box<StateFile<'a>>>,
     path: &'a str,
 ) -> Result<(), Incident<'a>> {
     if !is_plain(rt, path) {
@@ -240,7 +245,7 @@ fn list_and_add<'a, R: Files<File = File> + Print + Eprint + Clock + Net + Alloc
 fn list_and_append<'a, R: Files<File = File> + Print + Eprint + Clock + Net + AllocGlobal>(
     rt: &R,
     reading: &Reading<'a, '_>,
-    state: Option<StateFile<'a>>,
+    state: Option<Box<StateFile<'a>>>,
     path: &'a str,
 ) -> Result<(), Incident<'a>> {
     let (file, same) = opened_twice(rt, path)?;
@@ -260,7 +265,7 @@ fn list_and_append<'a, R: Files<File = File> + Print + Eprint + Clock + Net + Al
 fn list_and_go_on<'a, R: Files<File = File> + Print + Eprint + Clock + Net + AllocGlobal>(
     rt: &R,
     reading: &Reading<'a, '_>,
-    mut state: StateFile<'a>,
+    mut state: Box<StateFile<'a>>,
     path: &'a str,
 ) -> Result<(), Incident<'a>> {
     drop_file(opened_to_add(rt, path)?);
@@ -291,7 +296,7 @@ fn is_plain<R: Files>(rt: &R, path: &str) -> bool {
 fn list_and_archive<'a, R: Files<File = File> + Print + Eprint + Clock + Net + AllocGlobal>(
     rt: &R,
     reading: &Reading<'a, '_>,
-    state: Option<StateFile<'a>>,
+    state: Option<Box<StateFile<'a>>>,
     top: &'a str,
 ) -> Result<(), Incident<'a>> {
     let lengths = lengths_in(rt.alloc(), &state)?;
@@ -308,7 +313,7 @@ fn list_and_archive<'a, R: Files<File = File> + Print + Eprint + Clock + Net + A
 /// The lengths of files that a state tells of, if there is one.
 fn lengths_in<'a>(
     alloc: Global,
-    state: &Option<StateFile<'a>>,
+    state: &Option<Box<StateFile<'a>>>,
 ) -> Result<Option<Vec<FileLength>>, Incident<'a>> {
     let Some(state) = state else {
         return Ok(None);
@@ -342,10 +347,13 @@ fn patience_of(options: ReadOptions<'_>, count: usize) -> Patience {
 fn state_in<'a, R: Files<File = File> + AllocGlobal>(
     rt: &R,
     path: Option<&'a str>,
-) -> Result<Option<StateFile<'a>>, Incident<'a>> {
-    match path {
-        Some(path) => Ok(Some(StateFile::open(rt, path)?)),
-        None => Ok(None),
+) -> Result<Option<Box<StateFile<'a>>>, Incident<'a>> {
+    let Some(path) = path else {
+        return Ok(None);
+    };
+    match Box::new(rt.alloc(), StateFile::open(rt, path)?) {
+        Ok(file) => Ok(Some(file)),
+        Err(_) => Err(Incident::from(Failure::OutOfMemory)),
     }
 }
 

@@ -297,7 +297,7 @@ impl<'a> Unkept<'a> {
 #[derive(Drop)]
 pub struct StateKeeper<'r, 'a, 'w, R: Net> {
     rt: &'r R,
-    file: Option<StateFile<'a>>,
+    file: Option<Box<StateFile<'a>>>,
     wants: &'r [Want<'w>],
     /// The file to which records are added, if they are, once more.
     output: Option<SameFile<'a>>,
@@ -317,7 +317,7 @@ impl<'r, 'a, 'w, R: Net> StateKeeper<'r, 'a, 'w, R> {
     /// A keeper that has kept nothing yet.
     pub fn new(
         rt: &'r R,
-        file: Option<StateFile<'a>>,
+        file: Option<Box<StateFile<'a>>>,
         wants: &'r [Want<'w>],
         output: Option<SameFile<'a>>,
         present: &'r RefCell<Option<R::Stream>>,
