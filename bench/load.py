@@ -74,12 +74,13 @@ def fill(port, stations, count):
     feed.close()
 
 
-def flood(port, records):
-    """Feeds so many records to station GE WLF at once, and waits until they are taken. How many seconds that took."""
+def flood(port, records, times=1):
+    """Feeds so many records to station GE WLF at once, so many times, and waits until they are taken. How many seconds that took."""
     whole = b"".join(record(it) for it in range(records))
     feed = dial(port)
     start = time.monotonic()
-    feed.sendall(whole)
+    for _ in range(times):
+        feed.sendall(whole)
     feed.shutdown(socket.SHUT_WR)
     while feed.recv(1):
         pass

@@ -33,6 +33,7 @@ ROUNDS = 15
 STATIONS = 255
 HELD = 256
 FLOOD = 200_000
+FLOODS = 10
 
 
 def measured(words, readers, idle):
@@ -135,7 +136,7 @@ def print_flood(config):
         with tempfile.TemporaryDirectory() as folder:
             for name, options in zip(seen, ([], ["--numbers", f"{folder}/numbers"])):
                 with RunningProgram(serve_words(config, *options)) as program:
-                    seen[name].append(FLOOD / load.flood(program.ports[1], FLOOD))
+                    seen[name].append(FLOOD * FLOODS / load.flood(program.ports[1], FLOOD, FLOODS))
     plain = statistics.median(seen["records a second of a flood"])
     for name, rates in seen.items():
         print(f"{statistics.median(rates):12.0f} {'':8} {statistics.median(rates) / plain:7.2f}  {name}", flush=True)
