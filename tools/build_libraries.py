@@ -26,7 +26,7 @@ from concurrent.futures import FIRST_COMPLETED, ThreadPoolExecutor, wait
 TOP = os.path.dirname(os.path.dirname(os.path.realpath(__file__)))
 MEMORY_OF_A_BUILD = 5 << 30
 PROCESSORS = len(os.sched_getaffinity(0))
-USUAL = 30 * 60 * 4 / PROCESSORS  # seconds that the whole program takes, as it is known before anything is done
+USUAL = 40 * 60 * 4 / PROCESSORS  # seconds that the whole program takes, as it is known before anything is done
 TRUSTED = 60  # seconds for which that counts as much as what was seen since
 
 started = {}  # the processes that run, by their ids, each the first of a session of its own

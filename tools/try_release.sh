@@ -4,7 +4,7 @@
 #     tools/try_release.sh [--anew]
 #
 # If the program is built here from the sources of the release (./seedlinkd --build), the clone takes that one, since a build takes
-# half an hour. With --anew the clone builds its own. The same bytes need the same toolchain, tar, gzip and strip.
+# forty minutes. With --anew the clone builds its own. The same bytes need the same toolchain, tar, gzip and strip.
 set -eu
 top=$(cd "$(dirname "$(readlink -f "$0")")/.." && pwd)
 fail() {
