@@ -75,9 +75,21 @@ pub fn serve_sockets<'a, R: Files<File = File> + Eprint + Clock + Net + AllocGlo
     request: ServeRequest<'a>,
 ) -> Result<(), Incident<'a>> {
     let doors = doors_of(rt.alloc(), &request.options)?;
-    let served = served_by(rt, &request.options)?;
-    let listening = listen(rt, doors)?;
+    match Box::new(rt.alloc(), served_by(rt, &request.options)?) {
+        Ok(served) => serve_doors(rt, request, doors, served),
+        Err(_) => Err(no_memory()),
+    }
+}
+
+/// The same, where it is to be.
+fn serve_doors<'a, R: Files<File = File> + Eprint + Clock + Net + AllocGlobal>(
+    rt: &R,
+    request: ServeRequest<'a>,
+    doors: ServerDoors<'a>,
+    served: Box<Served<'a>>,
+) -> Result<(), Incident<'a>> {
     let room = room_for_visits(&request, &served);
+    let listening = listen(rt, doors)?;
     match SharedLines::new(rt.alloc(), StandardError::open(rt), room) {
         Ok(lines) => serve_at(rt, listening, request, served, &lines),
         Err(_) => Err(no_memory()),
@@ -98,7 +110,7 @@ fn serve_at<'a, R: Files<File = File> + Clock + AllocGlobal, D: Device + Drop>(
     rt: &R,
     listening: Listening<'a>,
     request: ServeRequest<'a>,
-    served: Served<'a>,
+    served: Box<Served<'a>>,
     lines: &SharedLines<D>,
 ) -> Result<(), Incident<'a>> {
     if request.options.is_logged {
@@ -127,7 +139,7 @@ fn run<'a, R: Files<File = File> + Clock + AllocGlobal, D: Device + Drop>(
     ports: MioPorts,
     status: Option<StatusPorts>,
     request: ServeRequest<'a>,
-    served: Served<'a>,
+    served: Box<Served<'a>>,
     lines: &SharedLines<D>,
 ) -> Result<MioPorts, Incident<'a>> {
     match status {
@@ -136,7 +148,7 @@ fn run<'a, R: Files<File = File> + Clock + AllocGlobal, D: Device + Drop>(
             if request.options.is_logged {
                 run_logged(rt, ports, request, served, lines, None)
             } else {
-                let Served { config, files, .. } = served;
+                let Served { config, files, .. } = Box::into_inner(served);
                 serve_by(rt, request, config, files, ports, lines, None)
             }
         }
@@ -149,7 +161,7 @@ fn run_watched<'a, 'l, R: Files<File = File> + Clock + AllocGlobal, D: Device + 
     ports: MioPorts,
     status: StatusPorts,
     request: ServeRequest<'a>,
-    served: Served<'a>,
+    served: Box<Served<'a>>,
     lines: &'l SharedLines<D>,
 ) -> Result<MioPorts, Incident<'a>> {
     let Ok(counts) = SharedCounts::new(rt.alloc(), served.config.max_connections()) else {
@@ -193,7 +205,7 @@ fn run_logged<'a, 'l, R: Files<File = File> + Clock + AllocGlobal, D: Device + D
     rt: &'l R,
     ports: MioPorts,
     request: ServeRequest<'a>,
-    served: Served<'a>,
+    served: Box<Served<'a>>,
     lines: &'l SharedLines<D>,
     status: Option<StatusDesk<'l>>,
 ) -> Result<MioPorts, Incident<'a>> {
@@ -210,7 +222,7 @@ fn run_logged<'a, 'l, R: Files<File = File> + Clock + AllocGlobal, D: Device + D
     let Ok(logged) = ports_that_log(rt, most, ports, log, counts) else {
         return Err(no_memory());
     };
-    let Served { config, files, .. } = served;
+    let Served { config, files, .. } = Box::into_inner(served);
     let logged = serve_by(rt, request, config, files, logged, lines, status)?;
     let (ports, _journal) = logged.into_parts();
     Ok(ports)
