@@ -1,9 +1,9 @@
 //! Numbers that are kept for a later run.
 //!
-//! There are three steps, 1,024, 8,192 and 65,536 records. A turn brings at most 1,024 records, and a kept number has to
-//! be further ahead than that. A restart of a young station then uses up few numbers, 2,048, so a station comes round
-//! after 8,192 runs of few records. From 8,192 records of a station on the step is 8,192, and from 65,536 on that: else
-//! a server would wait for its disk again and again in a flood.
+//! There are three steps, 1,024, 8,192 and 65,536 records. A turn brings at most 1,024 records, and a kept number has
+//! to be further ahead than that. A restart of a young station then uses up few numbers, 2,048, so a station comes
+//! round after 8,192 runs of few records. From 8,192 records of a station on the step is 8,192, and from 65,536 on it
+//! is 65,536: else a server would wait for its disk again and again in a flood.
 ghost use Rattle.std.specs.Prelude.{◌≡◌, ◌≤◌, ◌+◌, ◌%◌, ℕ, length, slice_get};
 ghost use Rattle.protocol.specs.Packet.{numbers};
 ghost use Rattle.protocol.specs.Catalog.{Config as ProtocolConfig};
