@@ -1,7 +1,7 @@
 -- How far a connection is, by the bytes that went over it, and what it means that the server is silent there.
 -- SeedLink 3: each command but END has an answer; after END data packets of 520 bytes come. Left out: the answer to a
 -- command in more than one line, of which the last one counts.
-use Rattle.std.specs.Prelude.{◌≡◌, ℕ, ◌+◌, ◌-◌, ◌*◌, ◌%◌, Bool, true, false, ◌&&◌, ◌||◌, not, ◌==◌, nat_lt, min}
+use Rattle.std.specs.Prelude.{◌≡◌, ℕ, ◌+◌, ◌-◌, ◌*◌, ◌%◌, Bool, true, false, ◌&&◌, ◌||◌, not, ◌==◌, nat_le, nat_lt, min}
 use Rattle.std.specs.Prelude.{if◌then◌else◌, List, [], ◌∷◌, Option, Some, None, option_map, is_some}
 use Rattle.job_read.specs.declared.course.SentCommand.{SentCommand}
 use Rattle.job_read.specs.declared.course.SentCommand.TheVariants.{Begun, E, En, End, Other}
@@ -98,3 +98,9 @@ shorter (Some a) (Some b) = Some (min a b)
 -- milliseconds of seconds, at most 2^64 - 1
 abbrev pub milliseconds_of : ℕ → ℕ
 milliseconds_of seconds = min (seconds * 1000) 18446744073709551615
+
+-- a read that ends after one time has ended by another one
+abbrev pub is_within : Option ℕ → Option ℕ → Bool
+is_within (Some a) (Some b) = nat_le a b
+is_within None (Some b) = false
+is_within one None = true

@@ -138,15 +138,14 @@ pub fn site_of<'a>(failure: FileFailure, top: &'a str) -> Site<'a> {
 
 /// Why records could not be added to an archive, if that is what ended the reading: at the file that took no more, as
 /// far as that is known.
-pub fn at_archive<'r, 'a, R: Files<File = File> + Clock>(
+pub fn at_archive<'a>(
     incident: Incident<'a>,
-    archive: DiskArchive<'r, R>,
+    failure: Option<FileFailure>,
     top: &'a str,
 ) -> Incident<'a>
     ensures { result.failure ≡ incident.entry.failure }
 {
-    let mut archive = archive;
-    match archive.take_failure() {
+    match failure {
         Some(failure) => Incident {
             failure: incident.failure,
             site: site_of(failure, top),
@@ -156,22 +155,14 @@ pub fn at_archive<'r, 'a, R: Files<File = File> + Clock>(
 }
 
 impl<'r, R: Files<File = File> + Eprint + Clock> ToldArchive<'r, R> {
-    /// Says how many records have no place, if more have none than was told, and no more records come.
-    pub fn end(self) -> DiskArchive<'r, R> {
-        let ToldArchive {
-            rt: _,
-            archive,
-            _locks: _,
-            mut teller,
-            count,
-            failures: _,
-        } = self;
-        let archive = archive.into_inner();
-        let unplaced = archive.unplaced();
-        if count.is_less(unplaced) {
-            teller.tell(&Notice::Unplaced(unplaced));
+    /// No more records come: says how many have no place, if more have none than was told, and answers why the last
+    /// one could not be added, if that is so.
+    pub fn end(&mut self) -> Option<FileFailure> {
+        let unplaced = self.archive.get_mut().unplaced();
+        if self.count.is_less(unplaced) {
+            self.teller.tell(&Notice::Unplaced(unplaced));
         }
-        archive
+        self.archive.get_mut().take_failure()
     }
 
     /// Tells of a torn file, and how many records have no place, if that is due.
@@ -255,8 +246,8 @@ pub fn output_at<'r, 'a: 'r, R: Files<File = File> + Clock + AllocGlobal>(
 
 impl<'r, R: Files<File = File> + Clock> ToldOutput<'r, R> {
     /// What the system says of the last call that failed.
-    pub fn into_reason(self) -> Option<io::Error> {
-        let failure = self.output.into_inner().take_failure()?;
+    pub fn take_reason(&mut self) -> Option<io::Error> {
+        let failure = self.output.get_mut().take_failure()?;
         Some(failure.reason)
     }
 }

@@ -5,12 +5,12 @@ ghost use Rattle.std.specs.Io.{ReadsAtMost};
 ghost use Rattle.job_read.specs.Asking.{left_after};
 
 use crate::clock::milliseconds;
+use crate::inlet::Inlet;
 use crate::patience::{Patience, shorter};
 use std::cell::Cell;
 use std::io::{self, ErrorKind, Read};
 use std::net::OpenStream;
 use std::rt::Clock;
-use std::time::Duration;
 
 /// How many milliseconds a connection lasts on which a want was refused.
 const HOUR: u64 = 3_600_000;
@@ -66,22 +66,22 @@ impl Renewal {
 /// Reads what comes at a connection until it is over.
 #[derive(Drop)]
 pub struct RenewedReader<'r, R, S> {
-    inner: S,
+    inlet: &'r Inlet<S>,
     rt: &'r R,
     renewal: &'r Renewal,
     patience: &'r Patience,
 }
 
 impl<'r, R, S> RenewedReader<'r, R, S> {
-    /// What is read from `inner`.
+    /// What comes at `inlet`.
     pub fn new(
-        inner: S,
+        inlet: &'r Inlet<S>,
         rt: &'r R,
         renewal: &'r Renewal,
         patience: &'r Patience,
     ) -> RenewedReader<'r, R, S> {
         RenewedReader {
-            inner,
+            inlet,
             rt,
             renewal,
             patience,
@@ -105,22 +105,7 @@ impl<'r, R: Clock, S> RenewedReader<'r, R, S> {
     }
 }
 
-/// Reads what comes at a connection within so many milliseconds.
-fn read_within<S: Read + OpenStream>(
-    stream: &mut S,
-    block: &mut [u8],
-    left: u64,
-) -> io::Result<usize>
-    ensures { ReadsAtMost result block.new }
-{
-    // Where the time can't be set the read waits on.
-    let _ = stream.set_read_timeout(Some(Duration::from_millis(left)));
-    let read = stream.read(block);
-    let _ = stream.set_read_timeout(None);
-    read
-}
-
-impl<'r, R: Clock, S: Read + OpenStream> Read for RenewedReader<'r, R, S> {
+impl<'r, R: Clock, S: Read + OpenStream + Drop> Read for RenewedReader<'r, R, S> {
     fn read(&mut self, block: &mut [u8]) -> io::Result<usize> {
         let count = self.read_in_time(block)?;
         self.patience.receive(count);
@@ -128,19 +113,18 @@ impl<'r, R: Clock, S: Read + OpenStream> Read for RenewedReader<'r, R, S> {
     }
 }
 
-impl<'r, R: Clock, S: Read + OpenStream> RenewedReader<'r, R, S> {
+impl<'r, R: Clock, S: Read + OpenStream + Drop> RenewedReader<'r, R, S> {
     /// Reads what comes before the connection is over.
     fn read_in_time(&mut self, block: &mut [u8]) -> io::Result<usize>
         ensures { ReadsAtMost result block.new }
     {
         let begun = milliseconds(self.rt);
         for _ in 0..u64::MAX {
-            let left = match self.left(begun) {
-                None => return self.inner.read(block),
-                Some(0) => break,
-                Some(left) => left,
-            };
-            match read_within(&mut self.inner, block, left) {
+            let left = self.left(begun);
+            if left == Some(0) {
+                break;
+            }
+            match self.inlet.read(block, left) {
                 Err(reason) if reason.kind() == ErrorKind::WouldBlock => {}
                 read => return read,
             }

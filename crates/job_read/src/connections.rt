@@ -9,6 +9,7 @@ ghost use Rattle.job_read.specs.Places.{place_after};
 
 use crate::asking::RenewedReader;
 use crate::endings::unlisted;
+use crate::inlet::Inlet;
 use crate::places::Places;
 use crate::reading::Reading;
 use crate::sides::{AnswerCounter, CommandWriter};
@@ -17,8 +18,7 @@ use job_base::{ServerAddress, connection, unconnected};
 use ports_socket::notice_silence;
 use reader_run::{ListingFault, Servers};
 use sl_io::Outer;
-use std::cell::RefCell;
-use std::io::{self, ErrorKind};
+use std::io::{self, ErrorKind, Read};
 use std::net::{Net, OpenStream, SocketAddr, TcpStream};
 use std::os::fd::AsRawFd;
 use std::rt::Clock;
@@ -31,21 +31,21 @@ pub struct ServersInTurn<'r, 'a, 'w, R: Net> {
     reading: &'r Reading<'a, 'w>,
     places: Places,
     /// The connection that is read.
-    present: &'r RefCell<Option<R::Stream>>,
+    inlet: &'r Inlet<R::Stream>,
 }
 
-impl<'r, 'a, 'w, R: Eprint + Clock + Net> ServersInTurn<'r, 'a, 'w, R> {
+impl<'r, 'a, 'w, R: Eprint + Clock + Net + AllocGlobal> ServersInTurn<'r, 'a, 'w, R> {
     /// No connection was made yet.
     pub fn new(
         rt: &'r R,
         reading: &'r Reading<'a, 'w>,
-        present: &'r RefCell<Option<R::Stream>>,
+        inlet: &'r Inlet<R::Stream>,
     ) -> ServersInTurn<'r, 'a, 'w, R> {
         ServersInTurn {
             rt,
             reading,
             places: Places::new(reading.servers.len()),
-            present,
+            inlet,
         }
     }
 
@@ -79,24 +79,17 @@ type ConnectionReader<'r, R, S> = Outer<AnswerCounter<RenewedReader<'r, R, S>>>;
 /// What comes over a connection, and where commands go.
 type Connected<'r, R, S> = (ConnectionReader<'r, R, S>, Outer<CommandWriter<'r, S>>);
 
-/// Keeps a connection as the one that is read. `None` is kept when it is over.
-fn hold<S: Drop>(present: &RefCell<Option<S>>, stream: Option<S>) {
-    if let Ok(mut held) = present.try_borrow_mut() {
-        *held = stream;
-    }
-}
-
 /// Both sides of a connection, which ends if the server's machine is gone.
-fn sides<'r, R, S: OpenStream + AsRawFd + Drop>(
+fn sides<'r, R: AllocGlobal, S: Read + OpenStream + AsRawFd + Drop>(
     stream: S,
-    present: &RefCell<Option<S>>,
+    inlet: &'r Inlet<S>,
     rt: &'r R,
     reading: &'r Reading<'_, '_>,
 ) -> io::Result<Connected<'r, R, S>> {
     notice_silence(&stream)?;
     let writer = stream.try_clone()?;
-    hold(present, Some(stream.try_clone()?));
-    let reader = RenewedReader::new(stream, rt, &reading.renewal, &reading.patience);
+    inlet.open(rt.alloc(), stream)?;
+    let reader = RenewedReader::new(inlet, rt, &reading.renewal, &reading.patience);
     Ok((
         Outer::new(AnswerCounter::new(reader)),
         Outer::new(CommandWriter::new(writer, &reading.patience)),
@@ -124,20 +117,20 @@ fn connection_within<'a, R: Net>(
 }
 
 /// A connection to a server.
-fn connected<'r, 'a, R: Net>(
+fn connected<'r, 'a, R: Net + AllocGlobal>(
     rt: &'r R,
     server: ServerAddress<'a>,
-    present: &RefCell<Option<R::Stream>>,
+    inlet: &'r Inlet<R::Stream>,
     reading: &'r Reading<'_, '_>,
 ) -> Result<Connected<'r, R, R::Stream>, Incident<'a>> {
     let stream = connection_within(rt, server, reading.patience.limit())?;
-    match sides(stream, present, rt, reading) {
+    match sides(stream, inlet, rt, reading) {
         Ok(sides) => Ok(sides),
         Err(reason) => Err(unconnected(server, reason)),
     }
 }
 
-impl<'r, 'a, 'w, R: Eprint + Clock + Net> Servers for ServersInTurn<'r, 'a, 'w, R> {
+impl<'r, 'a, 'w, R: Eprint + Clock + Net + AllocGlobal> Servers for ServersInTurn<'r, 'a, 'w, R> {
     type Reader = ConnectionReader<'r, R, R::Stream>;
 
     type Writer = Outer<CommandWriter<'r, R::Stream>>;
@@ -151,7 +144,7 @@ impl<'r, 'a, 'w, R: Eprint + Clock + Net> Servers for ServersInTurn<'r, 'a, 'w, 
         self.reading.patience.begin();
         for _ in 0..u64::MAX {
             let server = self.server()?;
-            match connected(self.rt, server, self.present, self.reading) {
+            match connected(self.rt, server, self.inlet, self.reading) {
                 Ok(sides) => return Ok(sides),
                 Err(incident) => self.go_on_after(incident)?,
             }
@@ -165,7 +158,7 @@ impl<'r, 'a, 'w, R: Eprint + Clock + Net> Servers for ServersInTurn<'r, 'a, 'w, 
         reader: ConnectionReader<'r, R, R::Stream>,
         _writer: Outer<CommandWriter<'r, R::Stream>>,
     ) -> Result<(), Incident<'a>> {
-        hold(self.present, None);
+        self.inlet.close();
         if fault == ListingFault::Read && self.reading.renewal.is_over(self.rt) {
             // The same server is asked again, for what was refused too.
             return Ok(());
@@ -189,6 +182,6 @@ impl<'r, 'a, 'w, R: Eprint + Clock + Net> Servers for ServersInTurn<'r, 'a, 'w, 
         _reader: ConnectionReader<'r, R, R::Stream>,
         _writer: Outer<CommandWriter<'r, R::Stream>>,
     ) {
-        hold(self.present, None);
+        self.inlet.close();
     }
 }

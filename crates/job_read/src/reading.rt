@@ -7,6 +7,7 @@ use crate::asking::Renewal;
 use crate::connections::ServersInTurn;
 use crate::endings::goes_on;
 use crate::following::follow_any;
+use crate::inlet::Inlet;
 use crate::patience::{Patience, pause, silence_between, time_limit};
 use crate::places::Places;
 use crate::states::{SameFile, StateFile, StateKeeper};
@@ -22,9 +23,8 @@ use reader_run::{Break, Gathered, ListingFault, Nowhere, RecordSink};
 use record_archive::FileLength;
 use record_check::Times;
 use sl_io::{Outer, Sink};
-use slreader::{Tally, Want};
+use slreader::{Tally, Want, Window};
 use std::alloc::{AllocError, Global};
-use std::cell::RefCell;
 use std::fs::{File, OpenOptions};
 use std::net::Net;
 use std::rt::{Clock, Files};
@@ -148,16 +148,9 @@ fn list_after<'a, R, O: Sink + Drop, P: RecordSink + Lasting>(
 where
     R: Files + Eprint + Clock + Net + AllocGlobal,
 {
-    let present = RefCell::new(None);
-    let mut servers = ServersInTurn::new(rt, reading, &present);
-    let mut keeper = StateKeeper::new(
-        rt,
-        state,
-        &reading.wants,
-        output,
-        &present,
-        &reading.patience,
-    );
+    let inlet = Inlet::new();
+    let mut servers = ServersInTurn::new(rt, reading, &inlet);
+    let mut keeper = StateKeeper::new(rt, state, &reading.wants, output, &inlet, &reading.patience);
     let read = follow_any(rt, reading, tally, &mut servers, out, records, &mut keeper);
     match read {
         Ok(()) => Ok(()),
@@ -277,7 +270,7 @@ fn list_and_go_on<'a, R: Files<File = File> + Print + Eprint + Clock + Net + All
     let lines = Outer::new(io::writer(rt));
     match list_on(rt, reading, Some(state), None, lines, &mut records) {
         Ok(()) => Ok(()),
-        Err(incident) => Err(incident.at_output(path, records.into_reason())),
+        Err(incident) => Err(incident.at_output(path, records.take_reason())),
     }
 }
 
@@ -303,10 +296,10 @@ fn list_and_archive<'a, R: Files<File = File> + Print + Eprint + Clock + Net + A
     let mut archive = archive_at(rt, top, lengths, &reading.wants)?;
     let lines = Outer::new(io::writer(rt));
     let read = list_on(rt, reading, state, None, lines, &mut archive);
-    let archive = archive.end();
+    let failure = archive.end();
     match read {
         Ok(()) => Ok(()),
-        Err(incident) => Err(at_archive(incident, archive, top)),
+        Err(incident) => Err(at_archive(incident, failure, top)),
     }
 }
 
@@ -370,14 +363,20 @@ pub fn read_servers<'a, R: Files<File = File> + Print + Eprint + Clock + Net + A
 ) -> Result<(), Incident<'a>> {
     let servers = servers_of(rt.alloc(), servers)?;
     let moments = Moments::read(rt.alloc(), options)?;
+    read_between(rt, servers, wants, moments.window(), options, is_verbose)
+}
+
+/// The same, in a window.
+fn read_between<'a, R: Files<File = File> + Print + Eprint + Clock + Net + AllocGlobal>(
+    rt: &R,
+    servers: Vec<ServerAddress<'a>>,
+    wants: &[&'a str],
+    window: Window<'_>,
+    options: ReadOptions<'a>,
+    is_verbose: bool,
+) -> Result<(), Incident<'a>> {
     let listed = wants_text(rt, options.wants_file)?;
-    let wants = wants_of(
-        rt.alloc(),
-        wants,
-        listed.as_slice(),
-        moments.window(),
-        options,
-    )?;
+    let wants = wants_of(rt.alloc(), wants, listed.as_slice(), window, options)?;
     let patience = patience_of(options, servers.len());
     let reading = Reading {
         servers,

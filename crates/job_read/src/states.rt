@@ -4,9 +4,9 @@ ghost use Rattle.sl_io.specs.Counts.{CountsFailure};
 
 use crate::archiving::{Lasting, site_of};
 use crate::clock::milliseconds;
-use crate::keep_time::{KeepTime, keep_time};
+use crate::inlet::Inlet;
+use crate::keep_time::{EVERY, KeepTime, keep_time};
 use crate::patience::Patience;
-use crate::silence::is_silent;
 use incidents::{Failure, Incident, Site, StateRefusal};
 use job_base::{place_of, replace};
 use reader_run::{KeepFault, Keeper, ListingFault, RecordSink};
@@ -15,7 +15,6 @@ use record_archive::{FileFailure, FileLength, ONE_FILE};
 use sl_io::{Outer, ReadFault, read_all};
 use slreader::{LastPacket, Tally, Want};
 use std::alloc::{AllocError, Global};
-use std::cell::RefCell;
 use std::fs::{File, OpenOptions, TryLockError};
 use std::io::ErrorKind;
 use std::net::Net;
@@ -293,7 +292,7 @@ impl<'a> Unkept<'a> {
 }
 
 /// Keeps the state of a reader in its file, if it has one, at most once a second while packets come, and once nothing
-/// came after a whole packet up to the end of that second.
+/// came for a second after a whole packet.
 #[derive(Drop)]
 pub struct StateKeeper<'r, 'a, 'w, R: Net> {
     rt: &'r R,
@@ -304,7 +303,7 @@ pub struct StateKeeper<'r, 'a, 'w, R: Net> {
     /// The lengths of files when they were made to last, if files are written.
     lengths: Option<Vec<FileLength>>,
     /// The connection that is read.
-    present: &'r RefCell<Option<R::Stream>>,
+    inlet: &'r Inlet<R::Stream>,
     /// What its server owes.
     patience: &'r Patience,
     /// When the state was kept last, in milliseconds.
@@ -320,7 +319,7 @@ impl<'r, 'a, 'w, R: Net> StateKeeper<'r, 'a, 'w, R> {
         file: Option<Box<StateFile<'a>>>,
         wants: &'r [Want<'w>],
         output: Option<SameFile<'a>>,
-        present: &'r RefCell<Option<R::Stream>>,
+        inlet: &'r Inlet<R::Stream>,
         patience: &'r Patience,
     ) -> StateKeeper<'r, 'a, 'w, R> {
         StateKeeper {
@@ -329,7 +328,7 @@ impl<'r, 'a, 'w, R: Net> StateKeeper<'r, 'a, 'w, R> {
             wants,
             output,
             lengths: None,
-            present,
+            inlet,
             patience,
             kept: 0,
             unkept: None,
@@ -352,17 +351,6 @@ impl<'r, 'a, 'w, R: Net> StateKeeper<'r, 'a, 'w, R> {
         self.unkept = Some(unkept);
         self.failures = self.failures.wrapping_add(1);
         Err(KeepFault)
-    }
-
-    /// Whether the connection brings nothing for so many milliseconds. One that can't be asked brings nothing.
-    fn is_silent(&self, milliseconds: u64) -> bool {
-        match self.present.try_borrow() {
-            Ok(present) => match present.as_ref() {
-                Some(stream) => is_silent(stream, milliseconds),
-                None => true,
-            },
-            Err(_) => true,
-        }
     }
 }
 
@@ -404,7 +392,7 @@ where
         match keep_time(passed, self.patience.is_owed()) {
             KeepTime::Now => true,
             KeepTime::AfterRead => false,
-            KeepTime::AfterSilence(left) => self.is_silent(left),
+            KeepTime::AfterSilence => self.inlet.is_silent(EVERY),
         }
     }
 
