@@ -3,10 +3,10 @@ ghost use Rattle.std.specs.Prelude.{None};
 
 use crate::centre::told;
 use crate::reading::{PIECE, sent, wants_of, words_of};
+use continued_files::{ContinuedFiles, Unnamed};
+use disk_files::{DiskFiles, FilePlace};
 use reader_run::{NothingKept, Nowhere, RecordSink, SinkFault, Times, read_further};
-use record_archive::{
-    Archive, ArchiveFault, ContinuedFiles, DiskFiles, FilePlace, StationCodes, Unnamed,
-};
+use record_archive::{Archive, ArchiveFault, StationCodes};
 use sl_io::{MemorySource, WriteFault};
 use slreader::{GivenPacket, Tally, Want};
 use std::alloc::Global;

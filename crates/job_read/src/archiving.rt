@@ -5,14 +5,12 @@ use crate::clock::milliseconds;
 use crate::notices::{ErrorTeller, Notice, Teller};
 use crate::torn::tell_torn;
 use crate::unplaced::UnplacedCount;
+use continued_files::{ContinuedFiles, FileLength, FolderFault, RecordFiles, Unnamed};
+use disk_files::{ContinuedOutput, DiskFiles, FileFailure, FilePlace, ONE_FILE};
 use incidents::{Failure, FoundFault, FoundFile, Incident, Site};
 use job_base::{descriptor_limit, unopened};
 use reader_run::{Gathered, Nowhere, RecordSink, SinkFault};
-use record_archive::{
-    Archive, ArchiveFault, ContinuedFiles, ContinuedOutput, DiskFiles, FileFailure, FileLength,
-    FilePlace, FolderFault, ONE_FILE, RecordFiles, StationCodes, StationLocks, TopFault, Unnamed,
-    lock_stations,
-};
+use record_archive::{Archive, ArchiveFault, StationCodes, StationLocks, TopFault, lock_stations};
 use sl_io::WriteFault;
 use slreader::{GivenPacket, Want};
 use std::alloc::{AllocError, Global};

@@ -14,13 +14,13 @@ use crate::states::{SameFile, StateFile, StateKeeper};
 use crate::wants::{wants_of, wants_text};
 use crate::windows::Moments;
 use command_line::ReadOptions;
+use continued_files::FileLength;
 use incidents::{Failure, Incident, Site};
 use job_base::{
     ErrorOutput, ReasonKeeper, ServerAddress, server_of, tell_incident, times_of, unopened,
 };
 use protocol::reason::Reason;
 use reader_run::{Break, Gathered, ListingFault, Nowhere, RecordSink};
-use record_archive::FileLength;
 use record_check::Times;
 use sl_io::{Outer, Sink};
 use slreader::{Tally, Want, Window};

@@ -9,7 +9,7 @@ use Rattle.std.specs.Str.Parse.{ParsesUnsigned}
 use Rattle.std.proofs.lemmas.Fmt.{IsAscii-decimal, parse-decimal}
 use Rattle.std.proofs.lemmas.Str.{IsUtf8-from_ascii}
 use Rattle.std.proofs.Common.{subst}
-use Rattle.record_archive.specs.Lengths.{LengthValue}
+use Rattle.continued_files.specs.Lengths.{LengthValue}
 use Rattle.reader_state.specs.States.{AreLengths, IsLength, Lacks, file_words, files_text}
 use Rattle.reader_state.proofs.ByteLemmas.{decimal-lacks, lacks-append}
 

@@ -1,6 +1,6 @@
 -- The lines of stations, and those of files.
 use Rattle.std.proofs.Common.{◌≡◌, ◌∙◌, ℕ, List, [], ◌∷◌, ◌++◌, refl, subst, sym, append-nil}
-use Rattle.record_archive.specs.Lengths.{LengthValue}
+use Rattle.continued_files.specs.Lengths.{LengthValue}
 use Rattle.reader_state.specs.States.{Lacks, files_part, files_text}
 
 -- What is cut at the first `#` are the lines of stations, and what follows the end of that line those of files.

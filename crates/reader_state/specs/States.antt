@@ -10,7 +10,7 @@ use Rattle.std.specs.Prelude.{FitsSigned}
 use Rattle.std.specs.Int.{w64}
 use Rattle.std.specs.Int.Signed.{mag}
 use Rattle.protocol.specs.Packet.{digits}
-use Rattle.record_archive.specs.Lengths.{LengthValue}
+use Rattle.continued_files.specs.Lengths.{LengthValue}
 use Rattle.slreader.specs.Wants.{WantValue}
 use Rattle.slreader.specs.Tallies.{TallyValue}
 use Rattle.slreader.specs.Lasts.{LastValue, is_named, last_at, lasts_of}

@@ -1,13 +1,13 @@
 //! The lines of files.
 ghost use Rattle.std.specs.Prelude.{◌≡◌, ◌++◌, ◌<◌, ◌^◌, ℕ, List, MatchResult, OnOk, Some};
 ghost use Rattle.std.specs.Fmt.{decimal};
-ghost use Rattle.record_archive.specs.Lengths.{LengthValue};
+ghost use Rattle.continued_files.specs.Lengths.{LengthValue};
 ghost use Rattle.reader_state.specs.States.{AreLengths, IsLength, file_line, file_words, files_text};
 ghost use Rattle.reader_state.specs.declared.reading.StateFault.TheVariants.{OutOfMemory};
 
 use crate::line::{put_count, put_word};
 use crate::reading::{StateFault, cut};
-use record_archive::FileLength;
+use continued_files::FileLength;
 use std::alloc::{AllocError, Global};
 
 /// Adds the line of a file.

@@ -1,6 +1,6 @@
 //! What a state says.
 use crate::writing::put_state;
-use record_archive::FileLength;
+use continued_files::FileLength;
 use slreader::LastPacket;
 use std::alloc::{AllocError, Global};
 use std::marker::Model;

@@ -4,7 +4,7 @@ ghost use Rattle.reader_state.specs.States.{files_part, lasts_after, others_of, 
 
 use crate::files::put_files;
 use crate::line::put_line;
-use record_archive::FileLength;
+use continued_files::FileLength;
 use slreader::{LastPacket, Tally, Want, last_at};
 use std::alloc::{AllocError, Global};
 

@@ -1,5 +1,2 @@
 mod PlaceLemmas
 mod PutLemmas
-mod WalkLemmas
-mod RunLemmas
-mod MemoryLemmas

@@ -3,10 +3,3 @@ pub mod Stations
 pub mod Places
 pub mod Archives
 pub mod Stores
-pub mod Files
-pub mod Lengths
-pub mod Puts
-pub mod MemoryRecords
-pub mod Walks
-pub mod Runs
-pub mod Opened

@@ -6,17 +6,15 @@
 ghost use Rattle.std.specs.Prelude.{◌≡◌, ◌∷◌, [], OnErr, OnOk};
 ghost use Rattle.std.specs.Result.{result_ok};
 ghost use Rattle.protocol.specs.Record.{header_of};
-ghost use Rattle.record_archive.specs.Files.{MakesSafe};
+ghost use Rattle.continued_files.specs.Files.{MakesSafe};
 ghost use Rattle.record_archive.specs.Archives.{CountsUnplaced, Fails, HoldsMore};
 
-use crate::continued::ContinuedFiles;
-use crate::disk_files::{DiskFiles, FileFailure};
-use crate::files::RecordFiles;
-use crate::folders::{FolderFault, Folders};
-use crate::lengths::FileLength;
+use crate::folders::Folders;
 use crate::placing::{ArchiveFault, Placed, put_record};
 use crate::stations::StationCodes;
 use crate::streams::KnownStreams;
+use continued_files::{ContinuedFiles, FileLength, FolderFault, RecordFiles};
+use disk_files::{DiskFiles, FileFailure};
 use mseed_header::Header;
 use std::alloc::Global;
 use std::fs::File;
@@ -101,16 +99,16 @@ impl<F: RecordFiles> Archive<ContinuedFiles<F>> {
 impl<'a, R: Files<File = File> + Clock> Archive<ContinuedFiles<DiskFiles<'a, R>>> {
     /// Records of another piece come next. Of each file it is looked then whether its path still names it.
     pub fn begin(&mut self) {
-        self.folders.begin();
+        self.folders.files_mut().begin();
     }
 
     /// The path of a file whose torn end was put aside, once.
     pub fn take_torn(&mut self) -> Option<String> {
-        self.folders.take_torn()
+        self.folders.files_mut().take_torn()
     }
 
     /// What the system says of the last call that failed, once.
     pub fn take_failure(&mut self) -> Option<FileFailure> {
-        self.folders.take_failure()
+        self.folders.files_mut().take_failure()
     }
 }

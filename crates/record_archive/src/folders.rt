@@ -5,10 +5,7 @@ ghost use Rattle.sl_io.specs.Counts.{CountsFailure};
 ghost use Rattle.record_archive.specs.Archives.{Put, PutsNothing, PutsOne};
 
 use crate::place::Place;
-
-/// A folder can't be made, or a file can't be opened or takes no more.
-#[derive(Clone, Copy, Drop)]
-pub struct FolderFault;
+use continued_files::FolderFault;
 
 /// Folders with files, to which records are added. They may tell what was put into them. The count of failures is a
 /// number below 2^64 that goes on at 0 after 2^64 - 1: a call fails only with one failure more.

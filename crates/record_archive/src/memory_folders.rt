@@ -4,8 +4,9 @@ ghost use Rattle.sl_io.specs.Counts.{CountsFailure};
 ghost use Rattle.record_archive.specs.Archives.{Put, PutsNothing, PutsOne};
 ghost use Rattle.record_archive.specs.Stores.{stored};
 
-use crate::folders::{FolderFault, Folders};
+use crate::folders::Folders;
 use crate::place::Place;
+use continued_files::FolderFault;
 use std::alloc::{AllocError, Global};
 
 /// A record that was put, and where.

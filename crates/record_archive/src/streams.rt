@@ -13,6 +13,7 @@ ghost use Rattle.record_archive.specs.Places.{HasPlace, IsKnown, IsOfStream, Str
 use crate::path::{has_place, put_file, put_folder};
 use crate::place::Place;
 use crate::stations::{StationCodes, is_wanted};
+use continued_files::place_after;
 use mseed_header::{Header, Kind};
 use record_check::kind_letter;
 use sl_time::{DayOfYear, Tick, day_of, of_btime};
@@ -176,14 +177,6 @@ pub(crate) struct KnownStreams {
     /// The place of that of the last record.
     last: usize,
     ghost known: { All (IsKnown stations.items) all.items },
-}
-
-/// The place after one of so many; the first after the last.
-pub(crate) fn place_after(place: usize, count: usize) -> usize {
-    match place.checked_add(1) {
-        Some(next) if next < count => next,
-        _ => 0,
-    }
 }
 
 impl KnownStreams {

@@ -1,6 +1,6 @@
 -- The lines that are to come are those of the other files.
 use Rattle.std.proofs.Common.{◌≡◌, ◌++◌, List, length}
-use Rattle.record_archive.specs.Lengths.{LengthValue}
+use Rattle.continued_files.specs.Lengths.{LengthValue}
 use Rattle.reader_state.specs.States.{AreLengths, files_text}
 use Rattle.reader_state.proofs.files.files_in.Given as goal
 

@@ -1,0 +1,3 @@
+mod WalkLemmas
+mod RunLemmas
+mod MemoryLemmas

@@ -1,0 +1,19 @@
+//! Files of records in which readers go on one after the other, each stopped anywhere, so that each record stands in
+//! its file once. Where the files lie is left to a trait.
+#![tactic(auto)]
+
+mod continued;
+mod files;
+mod law;
+mod lengths;
+mod memory_files;
+mod turns;
+mod walk;
+
+pub use continued::{ContinuedFiles, Unnamed};
+pub use files::{FolderFault, RecordFiles};
+pub use law::each_record_stands_once;
+pub use lengths::FileLength;
+pub use memory_files::{MemoryFiles, NamedRecord};
+pub use turns::place_after;
+pub use walk::Walk;

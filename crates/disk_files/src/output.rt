@@ -1,0 +1,68 @@
+//! One file to which records are put.
+ghost use Rattle.std.specs.Prelude.{◌≡◌, OnOk, codes};
+ghost use Rattle.continued_files.specs.Files.{MakesSafe, TellsSame};
+ghost use Rattle.continued_files.specs.Puts.{StandsAfter};
+
+use crate::disk_files::{DiskFiles, FileFailure};
+use continued_files::{ContinuedFiles, FileLength, FolderFault, RecordFiles};
+use std::fs::File;
+use std::rt::{Clock, Files};
+
+/// The name of the one file.
+pub const ONE_FILE: &str = "-";
+
+/// One file to which records are put. Each stands in it once, though it is handed again to a reader that goes on after
+/// one that was stopped.
+#[derive(Drop)]
+pub struct ContinuedOutput<F: RecordFiles> {
+    files: ContinuedFiles<F>,
+}
+
+impl<F: RecordFiles> ContinuedOutput<F> {
+    /// The file of these that is named `-`.
+    pub fn new(files: ContinuedFiles<F>) -> ContinuedOutput<F>
+        ensures { result.files ≡ files }
+    {
+        ContinuedOutput { files }
+    }
+
+    /// The files.
+    pub fn into_files(self) -> ContinuedFiles<F>
+        ensures { result ≡ self.files }
+    {
+        self.files
+    }
+
+    /// Makes all records last that were put so far, and then tells how many of them don't come again.
+    pub fn last(&mut self) -> Result<Vec<FileLength>, FolderFault>
+        ensures safe { OnOk result (MakesSafe (F.records self.new.files.files) (F.safe self.new.files.files)) }
+    {
+        self.files.last()
+    }
+
+    /// Hands a record to the file.
+    pub fn put(&mut self, bytes: &[u8; 512]) -> Result<(), FolderFault>
+        ensures stands { OnOk result (StandsAfter (codes "-") bytes.now
+            (F.records self.old.files.files) (F.records self.new.files.files)) }
+        ensures safe { TellsSame (F.safe self.old.files.files) (F.safe self.new.files.files) }
+    {
+        self.files.hand(ONE_FILE, bytes)
+    }
+}
+
+impl<'a, R: Files<File = File> + Clock> ContinuedOutput<DiskFiles<'a, R>> {
+    /// Records of another piece come next. It is looked then whether the path still names the file.
+    pub fn begin(&mut self) {
+        self.files.files_mut().begin();
+    }
+
+    /// The path of the file, if its torn end was put aside, once.
+    pub fn take_torn(&mut self) -> Option<String> {
+        self.files.files_mut().take_torn()
+    }
+
+    /// What the system says of the last call that failed, once.
+    pub fn take_failure(&mut self) -> Option<FileFailure> {
+        self.files.files_mut().take_failure()
+    }
+}

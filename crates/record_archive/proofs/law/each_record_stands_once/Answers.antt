@@ -1,5 +1,0 @@
-use Rattle.record_archive.proofs.RunLemmas.{holds-once}
-use Rattle.record_archive.proofs.law.each_record_stands_once.Goals as goal
-
-pub returns : goal.returns
-returns c = λ s m distinct reaches. holds-once s m distinct reaches
