@@ -193,36 +193,20 @@ fn place_in(config: &Config, station: &Station) -> Option<usize>
     config.place_of(station.network(), station.code())
 }
 
-/// The lines of a station of the old configuration that the new one does not have.
-fn put_gone(
+/// What changes of a station, by its places in the old and the new configuration.
+fn put_admission_at(
     alloc: Global,
     text: &mut Vec<u8>,
     tables: &Tables<'_>,
-    place: usize,
     station: &Station,
+    old: Option<usize>,
+    new: Option<usize>,
 ) -> Result<(), AllocError>
-    ensures { OnOk result (text.new.items ≡ text.old.items ++ old_lines (table_view tables.now.old.now)
-        (table_view tables.now.new.now) place station.now.station None) }
+    ensures { OnOk result (text.new.items ≡ text.old.items ++ admission_lines station.now.station
+        (admitted (table_view tables.now.old.now) old) (admitted (table_view tables.now.new.now) new)) }
 {
-    let old = admitted(alloc, tables.old, Some(place))?;
-    put_line(text, station, b" is gone")?;
-    put_admission(alloc, text, station, old.as_slice(), &[])
-}
-
-/// The lines of a station that both configurations have.
-fn put_kept(
-    alloc: Global,
-    text: &mut Vec<u8>,
-    tables: &Tables<'_>,
-    place: usize,
-    station: &Station,
-    other: usize,
-) -> Result<(), AllocError>
-    ensures { OnOk result (text.new.items ≡ text.old.items ++ old_lines (table_view tables.now.old.now)
-        (table_view tables.now.new.now) place station.now.station (Some other)) }
-{
-    let old = admitted(alloc, tables.old, Some(place))?;
-    let new = admitted(alloc, tables.new, Some(other))?;
+    let old = admitted(alloc, tables.old, old)?;
+    let new = admitted(alloc, tables.new, new)?;
     put_admission(alloc, text, station, old.as_slice(), new.as_slice())
 }
 
@@ -239,8 +223,11 @@ fn put_old(
         (table_view tables.now.new.now) place station.now.station (place_in new.now station.now.station)) }
 {
     match place_in(new, station) {
-        Some(other) => put_kept(alloc, text, tables, place, station, other),
-        None => put_gone(alloc, text, tables, place, station),
+        Some(other) => put_admission_at(alloc, text, tables, station, Some(place), Some(other)),
+        None => {
+            put_line(text, station, b" is gone")?;
+            put_admission_at(alloc, text, tables, station, Some(place), None)
+        }
     }
 }
 
@@ -248,20 +235,19 @@ fn put_old(
 fn put_new(
     alloc: Global,
     text: &mut Vec<u8>,
-    table: &Table,
+    tables: &Tables<'_>,
     place: usize,
     station: &Station,
     old: &Config,
 ) -> Result<(), AllocError>
-    ensures { OnOk result (text.new.items ≡ text.old.items
-        ++ new_lines (table_view table.now) place station.now.station (place_in old.now station.now.station)) }
+    ensures { OnOk result (text.new.items ≡ text.old.items ++ new_lines (table_view tables.now.new.now)
+        place station.now.station (place_in old.now station.now.station)) }
 {
     match place_in(old, station) {
         Some(_) => Ok(()),
         None => {
-            let new = admitted(alloc, table, Some(place))?;
             put_line(text, station, b" is new")?;
-            put_admission(alloc, text, station, &[], new.as_slice())
+            put_admission_at(alloc, text, tables, station, None, Some(place))
         }
     }
 }
@@ -289,15 +275,15 @@ fn put_olds(
 fn put_news(
     alloc: Global,
     text: &mut Vec<u8>,
-    table: &Table,
+    tables: &Tables<'_>,
     stations: &[Station],
     old: &Config,
 ) -> Result<(), AllocError>
     ensures { OnOk result (text.new.items ≡ text.old.items
-        ++ news_from (table_view table.now) old.now 0 (map (λ e. e.station) stations.now)) }
+        ++ news_from (table_view tables.now.new.now) old.now 0 (map (λ e. e.station) stations.now)) }
 {
     for (place, station) in stations.iter().enumerate() {
-        put_new(alloc, text, table, place, station, old)?;
+        put_new(alloc, text, tables, place, station, old)?;
     }
     Ok(())
 }
@@ -336,7 +322,7 @@ fn changes_between(
 {
     let mut lines = Vec::new(alloc);
     put_olds(alloc, &mut lines, tables, old.stations(), new)?;
-    put_news(alloc, &mut lines, tables.new, new.stations(), old)?;
+    put_news(alloc, &mut lines, tables, new.stations(), old)?;
     put_refusal(&mut lines, old.is_same_but_for_access(new))?;
     if lines.is_empty() {
         put(&mut lines, b"nothing changes\n")?;

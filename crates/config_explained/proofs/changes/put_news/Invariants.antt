@@ -6,5 +6,5 @@ use Rattle.config_explained.proofs.changes.put_news.Given as goal
 
 abbrev pub invariant-loop-place : goal.invariant-loop-place
 invariant-loop-place l =
-    l.fn.text.items ++ news_from (table_view l.table) l.old 0 (map (λ e. e.station) l.stations)
-    ≡ l.text.items ++ news_left (table_view l.table) l.old l.stations l.place
+    l.fn.text.items ++ news_from (table_view l.tables.new.now) l.old 0 (map (λ e. e.station) l.stations)
+    ≡ l.text.items ++ news_left (table_view l.tables.new.now) l.old l.stations l.place
