@@ -59,7 +59,7 @@ pub struct ServedFiles<'a> {
     /// Its configuration once more, for whoever compares a new one with it, and the text of that.
     pub in_force: Config,
     pub text: Vec<u8>,
-    pub numbers: Option<NumberFile<'a>>,
+    pub numbers: Option<Box<NumberFile<'a>>>,
 }
 
 /// Reads the files that the words name. The keys of the configuration that are not known are named. A configuration
@@ -77,7 +77,7 @@ pub fn served_by<'a, R: Files<File = File> + Eprint + AllocGlobal>(
     let open = open_for(rt.alloc(), options, &config, text.as_slice())?;
     tell_missing(rt, config.max_connections());
     let numbers = match options.numbers {
-        Some(path) => Some(NumberFile::open(rt, path, &mut config)?),
+        Some(path) => Some(numbers_at(rt, path, &mut config)?),
         None => None,
     };
     match config.copy(rt.alloc()) {
@@ -91,6 +91,18 @@ pub fn served_by<'a, R: Files<File = File> + Eprint + AllocGlobal>(
             },
         }),
         Err(_) => Err(Failure::OutOfMemory.in_file(options.config)),
+    }
+}
+
+/// The file of numbers that a word names, with which a configuration begins.
+fn numbers_at<'a, R: Files<File = File> + AllocGlobal>(
+    rt: &R,
+    path: &'a str,
+    config: &mut Config,
+) -> Result<Box<NumberFile<'a>>, Incident<'a>> {
+    match Box::new(rt.alloc(), NumberFile::open(rt, path, config)?) {
+        Ok(file) => Ok(file),
+        Err(_) => Err(Incident::from(Failure::OutOfMemory)),
     }
 }
 

@@ -61,7 +61,7 @@ pub struct Operator<'r, 'a, 'l, R, D> {
     began: Duration,
     reread: Pace,
     report: Pace,
-    numbers: Option<NumberFile<'a>>,
+    numbers: Option<Box<NumberFile<'a>>>,
     /// The descriptor for these files, which nobody else gets.
     spare: Spare,
     /// How the last keep of numbers went, and where the first one failed, if it did.

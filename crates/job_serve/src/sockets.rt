@@ -24,7 +24,7 @@ struct Listening<'a> {
     clients: ServerAddress<'a>,
     feeds: ServerAddress<'a>,
     ports: MioPorts,
-    status: Option<StatusPorts>,
+    status: Option<Box<StatusPorts>>,
 }
 
 /// Listens for clients and for feeds, of which those are taken that are admitted, and for whoever asks for the status.
@@ -137,7 +137,7 @@ fn start_line(listening: &Listening<'_>, served: &Served<'_>) -> StartLine {
 fn run<'a, R: Files<File = File> + Clock + AllocGlobal, D: Device + Drop>(
     rt: &R,
     ports: MioPorts,
-    status: Option<StatusPorts>,
+    status: Option<Box<StatusPorts>>,
     request: ServeRequest<'a>,
     served: Box<Served<'a>>,
     lines: &SharedLines<D>,
@@ -159,7 +159,7 @@ fn run<'a, R: Files<File = File> + Clock + AllocGlobal, D: Device + Drop>(
 fn run_watched<'a, 'l, R: Files<File = File> + Clock + AllocGlobal, D: Device + Drop>(
     rt: &'l R,
     ports: MioPorts,
-    status: StatusPorts,
+    status: Box<StatusPorts>,
     request: ServeRequest<'a>,
     served: Box<Served<'a>>,
     lines: &'l SharedLines<D>,

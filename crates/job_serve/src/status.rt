@@ -1,6 +1,7 @@
 //! The status port of a server: between its turns it is looked at, and what is asked is answered.
 use crate::counts::SharedCounts;
 use crate::opening::Served;
+use crate::operator::no_memory;
 use access_list::AccessList;
 use catalog::Config;
 use command_line::{ServeOptions, VERSION};
@@ -62,13 +63,24 @@ pub fn status_door<'a>(
 pub fn listen_for_status<'a, R: Net + AllocGlobal>(
     rt: &R,
     door: Option<StatusDoor<'a>>,
-) -> Result<Option<StatusPorts>, Incident<'a>> {
+) -> Result<Option<Box<StatusPorts>>, Incident<'a>> {
     let Some(door) = door else {
         return Ok(None);
     };
+    match Box::new(rt.alloc(), listen_at(rt, door)?) {
+        Ok(ports) => Ok(Some(ports)),
+        Err(_) => Err(no_memory()),
+    }
+}
+
+/// Listens where a status port is to be.
+fn listen_at<'a, R: Net + AllocGlobal>(
+    rt: &R,
+    door: StatusDoor<'a>,
+) -> Result<StatusPorts, Incident<'a>> {
     let StatusDoor { address, list } = door;
     match StatusPorts::listen(rt, rt.alloc(), address.endpoint.socket_address(), list) {
-        Ok(ports) => Ok(Some(ports)),
+        Ok(ports) => Ok(ports),
         Err(reason) => Err(Incident::of_listening(
             address.word,
             address.word,
@@ -80,8 +92,8 @@ pub fn listen_for_status<'a, R: Net + AllocGlobal>(
 /// A status port, and what is seen of the server.
 #[derive(Drop)]
 pub struct StatusDesk<'l> {
-    ports: StatusPorts,
-    watch: Watch,
+    ports: Box<StatusPorts>,
+    watch: Box<Watch>,
     counts: &'l SharedCounts,
     began: Option<Tick>,
     silent_after: u64,
@@ -105,17 +117,25 @@ fn tick_of(now: Duration) -> Option<Tick> {
     Some(Tick::new(ticks))
 }
 
+/// What is seen of the stations of a configuration.
+fn watch_of(alloc: Global, config: &Config) -> Result<Box<Watch>, AllocError> {
+    match Box::new(alloc, Watch::new(alloc, config)?) {
+        Ok(watch) => Ok(watch),
+        Err(_) => Err(AllocError),
+    }
+}
+
 impl<'l> StatusDesk<'l> {
     /// A desk at a port that is listened on, for a server of that configuration that begins now. Only memory can lack.
     pub fn new(
         rt: &impl Clock,
         alloc: Global,
-        ports: StatusPorts,
+        ports: Box<StatusPorts>,
         served: &Served<'_>,
         silent: Option<usize>,
         counts: &'l SharedCounts,
     ) -> Result<StatusDesk<'l>, AllocError> {
-        let watch = Watch::new(alloc, &served.config)?;
+        let watch = watch_of(alloc, &served.config)?;
         let began = match rt.since_1970() {
             Ok(now) => tick_of(now),
             Err(_) => None,
