@@ -1,10 +1,10 @@
 //! When a state is kept. That is asked before each read that follows packets which are not kept yet.
 //!
-//! If a second has passed since the last one was kept, it is kept at once. Before that it is kept if nothing comes for a
-//! second. So it is kept once a second however many packets come, and at the latest a second after the end of a burst.
-//! That wait is the read of what comes next (`Inlet::is_silent`), so it costs no call of its own. While the rest of a
-//! packet is to come the next read brings it. No thread is needed, no clock below `job_read`, and no read that ends
-//! without bytes, which would have changed what readers of bytes promise.
+//! If a second has passed since the last one was kept, it is kept at once. Before that it is kept if nothing comes for
+//! a second. So it is kept once a second however many packets come, and at the latest a second after the end of a
+//! burst. That wait is the read of what comes next (`Inlet::is_silent`), so it costs no call of its own. While the rest
+//! of a packet is to come the next read brings it. No thread is needed, no clock below `job_read`, and no read that
+//! ends without bytes, which would have changed what readers of bytes promise.
 ghost use Rattle.std.specs.Prelude.{◌≡◌};
 ghost use Rattle.job_read.specs.KeepTimes.{keep_time};
 
