@@ -86,13 +86,26 @@ fn mistake_in(name: &str, arguments: &ArgMatches<'_>) -> &'static str {
     }
 }
 
-/// The text that says so, with how the command is used.
-pub fn mistake_text(alloc: Global, matches: &ArgMatches<'_>) -> Result<String, AllocError> {
-    let Some((name, arguments)) = matches.subcommand() else {
-        return String::from_str(alloc, "error: the command line is invalid\n");
-    };
+/// The error that says so, with how the command is used.
+fn mistake_error(
+    alloc: Global,
+    name: &str,
+    arguments: &ArgMatches<'_>,
+) -> Result<clap::Error, AllocError> {
     let mut command = command_named(alloc, name)?;
-    let error = command.error(ErrorKind::ArgumentConflict, mistake_in(name, arguments))?;
+    command.error(ErrorKind::ArgumentConflict, mistake_in(name, arguments))
+}
+
+/// The text that says so.
+pub fn mistake_text(alloc: Global, matches: &ArgMatches<'_>) -> Result<String, AllocError> {
+    match matches.subcommand() {
+        Some((name, arguments)) => text_of(alloc, mistake_error(alloc, name, arguments)?),
+        None => String::from_str(alloc, "error: the command line is invalid\n"),
+    }
+}
+
+/// The text of an error of `clap`.
+pub fn text_of(alloc: Global, error: clap::Error) -> Result<String, AllocError> {
     match error.to_string(alloc) {
         Ok(text) => Ok(text),
         Err(_) => Err(AllocError),

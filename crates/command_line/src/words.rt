@@ -17,7 +17,7 @@ use crate::faults::{asks_for_faults, faults_text};
 use crate::job::{
     CheckOptions, FeedOptions, Job, ReadOptions, Request, ServeOptions, ViewOptions, WordsFault,
 };
-use crate::mistakes::mistake_text;
+use crate::mistakes::{mistake_text, text_of};
 use clap::ArgMatches;
 use clap::error::ErrorKind;
 use periods::Period;
@@ -337,22 +337,15 @@ fn job_in<'a>(alloc: Global, matches: &ArgMatches<'a>) -> Result<Option<Job<'a>>
     let Some((name, arguments)) = matches.subcommand() else {
         return Ok(None);
     };
-    if name == "check" {
-        check_job(alloc, arguments)
-    } else if name == "replay" {
-        Ok(replay_job(arguments))
-    } else if name == "view" {
-        Ok(view_job(arguments))
-    } else if name == "serve" {
-        Ok(serve_job(arguments))
-    } else if name == "feed" {
-        feed_job(alloc, arguments)
-    } else if name == "read" {
-        read_job(alloc, arguments)
-    } else if name == "status" {
-        Ok(status_job(arguments))
-    } else {
-        Ok(None)
+    match name {
+        "check" => check_job(alloc, arguments),
+        "replay" => Ok(replay_job(arguments)),
+        "view" => Ok(view_job(arguments)),
+        "serve" => Ok(serve_job(arguments)),
+        "feed" => feed_job(alloc, arguments),
+        "read" => read_job(alloc, arguments),
+        "status" => Ok(status_job(arguments)),
+        _ => Ok(None),
     }
 }
 
@@ -392,10 +385,7 @@ fn refusal_text(alloc: Global, error: clap::Error, words: &[String]) -> Result<S
     if is_shown(error.kind()) && asks_for_faults(words) {
         return faults_text(alloc);
     }
-    match error.to_string(alloc) {
-        Ok(text) => Ok(text),
-        Err(_) => Err(AllocError),
-    }
+    text_of(alloc, error)
 }
 
 /// What the user is told of words that `clap` refuses.
