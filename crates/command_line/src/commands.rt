@@ -168,10 +168,7 @@ fn with_subcommand<'a>(command: Built<'a>, subcommand: Built<'a>) -> Built<'a>
     ensures { (app sub : App) → Builds command.entry app → Builds subcommand.entry sub
         → Builds result (with_subcommand app sub.top) }
 {
-    match (command, subcommand) {
-        (Ok(command), Ok(subcommand)) => command.subcommand(subcommand),
-        _ => Err(AllocError),
-    }
+    command?.subcommand(subcommand?)
 }
 
 /// The program as it is built, step by step.
