@@ -24,6 +24,19 @@ pub struct Request {
     pub from: usize,
 }
 
+/// Whether a record is one of the moments that an action asks for.
+fn is_within(action: &Action, facts: &Facts) -> bool {
+    let is_late = match action.begin {
+        Some(begin) => facts.end >= begin,
+        None => true,
+    };
+    let is_early = match action.end {
+        Some(end) => facts.start <= end,
+        None => true,
+    };
+    is_late && is_early
+}
+
 /// The six hexadecimal digits of a number.
 pub fn push_digits(text: &mut Vec<u8>, number: usize) -> Result<(), AllocError> {
     for unit in [0x100000, 0x10000, 0x1000, 0x100, 0x10, 1] {
@@ -47,23 +60,32 @@ impl History {
         }
     }
 
+    /// The station of the codes in a record.
+    fn site_of(&self, facts: &Facts) -> Option<usize> {
+        for (place, site) in self.sites.iter().enumerate() {
+            if *site.network == *facts.network && *site.code == *facts.code {
+                return Some(place);
+            }
+        }
+        None
+    }
+
     /// A record comes. It counts if it has facts and a station has its codes; the answer says whether.
     pub fn add(&mut self, arrival: &Arrival) -> Result<bool, AllocError> {
         let Some(facts) = arrival.facts else {
             return Ok(false);
         };
-        let found = self.sites.iter().position(|site| *site.network == *facts.network
-            && *site.code == *facts.code);
-        if let Some(site) = found {
-            let before = self.count(site);
-            self.came.push(Came {
-                site,
-                before,
-                facts,
-                bytes: arrival.bytes,
-            })?;
-        }
-        Ok(found.is_some())
+        let Some(site) = self.site_of(&facts) else {
+            return Ok(false);
+        };
+        let before = self.count(site);
+        self.came.push(Came {
+            site,
+            before,
+            facts,
+            bytes: arrival.bytes,
+        })?;
+        Ok(true)
     }
 
     /// The next position.
@@ -72,24 +94,28 @@ impl History {
     }
 
     fn capacity(&self, site: usize) -> usize {
-        self.sites.get(site).map_or(0, |site| site.capacity)
+        match self.sites.get(site) {
+            Some(site) => site.capacity,
+            None => 0,
+        }
     }
 
     /// How many records of a station came.
     fn count(&self, site: usize) -> usize {
-        let last = self
-            .came
-            .as_slice()
-            .iter()
-            .rev()
-            .find(|came| came.site == site);
-        last.map_or(0, |came| came.before.saturating_add(1))
+        for came in self.came.iter().rev() {
+            if came.site == site {
+                return came.before.saturating_add(1);
+            }
+        }
+        0
     }
 
     /// The number of a station's record that has so many before it.
     fn number(&self, site: usize, before: usize) -> usize {
-        let first = self.sites.get(site).map_or(0, |site| site.first);
-        first.saturating_add(before) % 0x1000000
+        match self.sites.get(site) {
+            Some(site) => site.first.saturating_add(before) % 0x1000000,
+            None => 0,
+        }
     }
 
     /// Whether the record at a position is one of a station, and fewer later ones came than are held.
@@ -115,13 +141,12 @@ impl History {
 
     /// The oldest held record of a station, or the next to arrive.
     fn oldest(&self, site: usize) -> usize {
-        let mut found = None;
         for position in 0..self.end() {
-            if found.is_none() && self.is_held_of(site, position) {
-                found = Some(position);
+            if self.is_held_of(site, position) {
+                return position;
             }
         }
-        found.unwrap_or(self.end())
+        self.end()
     }
 
     /// Where a DATA or FETCH with a number begins.
@@ -129,13 +154,12 @@ impl History {
         if number == self.number(site, self.count(site)) {
             return self.end();
         }
-        let mut found = None;
         for position in 0..self.end() {
             if self.is_held_as(site, position, number) {
-                found = Some(position);
+                return position;
             }
         }
-        found.unwrap_or(self.oldest(site))
+        self.oldest(site)
     }
 
     /// The position of the first record that an action wants.
@@ -155,41 +179,59 @@ impl History {
         self.is_held_of(request.site, position)
             && position >= request.from
             && let_pass(request.patterns.as_slice(), &came.facts)
-            && action.begin.is_none_or(|begin| came.facts.end >= begin)
-            && action.end.is_none_or(|end| came.facts.start <= end)
+            && is_within(&action, &came.facts)
+    }
+
+    /// Whether some request wants the record at a position.
+    fn is_wanted_by_one(&self, requests: &[Request], position: usize) -> bool {
+        for request in requests {
+            if self.is_wanted(request, position) {
+                return true;
+            }
+        }
+        false
     }
 
     /// The first position from one on that some request wants.
     pub fn next(&self, requests: &[Request], from: usize) -> Option<usize> {
-        let mut found = None;
         for position in from..self.end() {
-            let is_wanted = requests.iter().any(|r| self.is_wanted(r, position));
-            if found.is_none() && is_wanted {
-                found = Some(position);
+            if self.is_wanted_by_one(requests, position) {
+                return Some(position);
             }
         }
-        found
+        None
     }
 
     /// Whether a record of a station is held that starts after a moment.
     fn starts_after(&self, site: usize, end: u64) -> bool {
-        let all = self.came.as_slice();
-        all.iter().enumerate().any(|(place, came)| self.is_held_of(site, place)
-            && came.facts.start > end)
+        for (place, came) in self.came.iter().enumerate() {
+            if came.facts.start > end && self.is_held_of(site, place) {
+                return true;
+            }
+        }
+        false
     }
 
     /// Whether a request wants nothing more to come.
-    pub fn is_ending(&self, request: &Request) -> bool {
+    fn is_ending(&self, request: &Request) -> bool {
         let Some(action) = request.action else {
             return true;
         };
-        match action.verb {
-            Verb::Data => false,
-            Verb::Fetch => true,
-            Verb::Time => action
-                .end
-                .is_some_and(|end| self.starts_after(request.site, end)),
+        match (action.verb, action.end) {
+            (Verb::Fetch, _) => true,
+            (Verb::Time, Some(end)) => self.starts_after(request.site, end),
+            _ => false,
         }
+    }
+
+    /// Whether all requests want nothing more to come.
+    pub fn are_ending(&self, requests: &[Request]) -> bool {
+        for request in requests {
+            if !self.is_ending(request) {
+                return false;
+            }
+        }
+        true
     }
 
     /// The packet of the record at a position.

@@ -1,5 +1,7 @@
 //! Moments in units of 0.0001 s from the beginning of 1900 on.
 
+use crate::words::parted;
+
 const DAY: u64 = 86_400;
 
 fn is_leap(year: u64) -> bool {
@@ -53,21 +55,30 @@ fn number(text: &[u8]) -> Option<u64> {
     if text.is_empty() { None } else { Some(value) }
 }
 
-/// The moment of `year,month,day` and up to three of hour, minute and second, where the calendar has it.
-pub fn of_text(parts: &[Vec<u8>]) -> Option<u64> {
-    if parts.len() < 3 || parts.len() > 6 {
-        return None;
-    }
+/// The numbers between commas, and how many there are; none where one is no number, or there are more than six.
+fn numbers_of(text: &[u8]) -> Option<([u64; 6], usize)> {
     let mut numbers = [0; 6];
-    for (place, part) in parts.iter().enumerate() {
-        let value = number(part.as_slice())?;
-        if let Some(slot) = numbers.get_mut(place) {
-            *slot = value;
+    let mut left = text;
+    for place in 0..6 {
+        let (part, rest) = parted(left, b',');
+        numbers[place] = number(part)?;
+        match rest {
+            Some(rest) => left = rest,
+            None => return Some((numbers, place.saturating_add(1))),
         }
     }
-    let [year, month, day, hour, minute, second] = numbers;
-    let is_day = day >= 1 && day <= days_of_month(year, month) && (1900..=2100).contains(&year);
-    if !is_day || hour > 23 || minute > 59 || second > 59 {
+    None
+}
+
+/// Whether the calendar has a day.
+fn is_day(year: u64, month: u64, day: u64) -> bool {
+    day >= 1 && day <= days_of_month(year, month) && year >= 1900 && year <= 2100
+}
+
+/// The moment of `year,month,day` and up to three of hour, minute and second, where the calendar has it.
+pub fn of_text(text: &[u8]) -> Option<u64> {
+    let ([year, month, day, hour, minute, second], count) = numbers_of(text)?;
+    if count < 3 || !is_day(year, month, day) || hour > 23 || minute > 59 || second > 59 {
         return None;
     }
     let seconds = hour * 3600 + minute * 60 + second;

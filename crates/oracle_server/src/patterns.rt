@@ -1,16 +1,17 @@
 //! The patterns of SELECT.
 use crate::records::Facts;
+use crate::words::parted;
 
-/// What a pattern asks of a record, without its `!`.
-#[derive(Drop)]
-struct Shape {
-    location: Option<[u8; 2]>,
-    channel: Option<[u8; 3]>,
-    kind: Option<u8>,
+/// What a pattern asks of a record, without its `!`. What is left off is empty.
+#[derive(Clone, Copy, Drop)]
+struct Shape<'a> {
+    location: &'a [u8],
+    channel: &'a [u8],
+    kind: &'a [u8],
 }
 
 fn is_kind(byte: u8) -> bool {
-    b"DECOTL".iter().any(|kind| *kind == byte)
+    matches!(byte, b'D' | b'E' | b'C' | b'O' | b'T' | b'L')
 }
 
 /// Whether a location or a channel may have a byte: letters, digits and `?`, and a location `-`.
@@ -20,24 +21,27 @@ fn may_have(byte: u8, is_location: bool) -> bool {
 }
 
 fn may_be(code: &[u8], is_location: bool) -> bool {
-    code.iter().all(|byte| may_have(*byte, is_location))
+    for byte in code {
+        if !may_have(*byte, is_location) {
+            return false;
+        }
+    }
+    true
 }
 
-fn read_shape(text: &[u8]) -> Option<Shape> {
-    let (location, channel, kind) = match text {
-        [kind] | [b'.', kind] => (None, None, Some(*kind)),
-        [a, b, c] => (None, Some([*a, *b, *c]), None),
-        [a, b, c, b'.', kind] => (None, Some([*a, *b, *c]), Some(*kind)),
-        [l, m, a, b, c] => (Some([*l, *m]), Some([*a, *b, *c]), None),
-        [l, m, a, b, c, b'.', kind] => (Some([*l, *m]), Some([*a, *b, *c]), Some(*kind)),
+/// The location, the channel and the type of a text by its length, whatever they are.
+fn shape_of(text: &[u8]) -> Option<Shape<'_>> {
+    let (codes, kind) = match parted(text, b'.') {
+        (codes, Some(kind)) if kind.len() == 1 => (codes, kind),
+        (kind, None) if kind.len() == 1 => (b"".as_slice(), kind),
+        (codes, None) if !codes.is_empty() => (codes, b"".as_slice()),
         _ => return None,
     };
-    let is_read = kind.is_none_or(is_kind)
-        && location.is_none_or(|code: [u8; 2]| may_be(&code, true))
-        && channel.is_none_or(|code: [u8; 3]| may_be(&code, false));
-    if !is_read {
-        return None;
-    }
+    let (location, channel) = match codes.len() {
+        0 | 3 => (b"".as_slice(), codes),
+        5 => codes.split_at(2),
+        _ => return None,
+    };
     Some(Shape {
         location,
         channel,
@@ -45,8 +49,16 @@ fn read_shape(text: &[u8]) -> Option<Shape> {
     })
 }
 
+fn is_right(shape: Shape<'_>) -> bool {
+    let is_type = match shape.kind {
+        [kind] => is_kind(*kind),
+        _ => true,
+    };
+    is_type && may_be(shape.location, true) && may_be(shape.channel, false)
+}
+
 /// The pattern without its `!`, and whether it had one.
-fn parted(text: &[u8]) -> (bool, &[u8]) {
+fn without_sign(text: &[u8]) -> (bool, &[u8]) {
     match text {
         [b'!', rest @ ..] => (true, rest),
         _ => (false, text),
@@ -54,29 +66,40 @@ fn parted(text: &[u8]) -> (bool, &[u8]) {
 }
 
 pub fn is_pattern(text: &[u8]) -> bool {
-    let (_, rest) = parted(text);
-    read_shape(rest).is_some()
+    let (_, rest) = without_sign(text);
+    match shape_of(rest) {
+        Some(shape) => is_right(shape),
+        None => false,
+    }
 }
 
 /// Whether wildcards fit a code that is padded with spaces.
 fn fits(wanted: &[u8], code: &[u8], is_location: bool) -> bool {
-    wanted.iter().enumerate().all(|(place, byte)| {
+    for (place, byte) in wanted.iter().enumerate() {
         let letter = code.get(place).copied().unwrap_or(b' ');
-        *byte == b'?' || *byte == letter || (is_location && *byte == b'-' && letter == b' ')
-    })
+        let is_space = is_location && *byte == b'-' && letter == b' ';
+        if *byte != b'?' && *byte != letter && !is_space {
+            return false;
+        }
+    }
+    true
 }
 
+/// Whether each part of a pattern fits a record.
+fn are_fitting(shape: Shape<'_>, facts: &Facts) -> bool {
+    let is_type = match shape.kind {
+        [kind] => *kind == facts.kind,
+        _ => true,
+    };
+    is_type
+        && fits(shape.location, facts.location, true)
+        && fits(shape.channel, facts.channel, false)
+}
+
+/// Whether a valid pattern, without its `!`, matches a record.
 fn matches_record(text: &[u8], facts: &Facts) -> bool {
-    match read_shape(text) {
-        Some(shape) => {
-            shape
-                .location
-                .is_none_or(|wanted| fits(&wanted, facts.location, true))
-                && shape
-                    .channel
-                    .is_none_or(|wanted| fits(&wanted, facts.channel, false))
-                && shape.kind.is_none_or(|wanted| wanted == facts.kind)
-        }
+    match shape_of(text) {
+        Some(shape) => are_fitting(shape, facts),
         None => false,
     }
 }
@@ -86,7 +109,7 @@ pub fn let_pass(patterns: &[Vec<u8>], facts: &Facts) -> bool {
     let mut is_asked = false;
     let mut is_matched = false;
     for pattern in patterns {
-        let (is_refusing, text) = parted(pattern.as_slice());
+        let (is_refusing, text) = without_sign(pattern.as_slice());
         let matches = matches_record(text, facts);
         if is_refusing && matches {
             return false;

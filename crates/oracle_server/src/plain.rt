@@ -46,9 +46,10 @@ impl Plain {
 
     /// How many bytes a client may send.
     pub fn room(&self, client: usize) -> usize {
-        self.visitors
-            .get(client)
-            .map_or(0, |visitor| visitor.room())
+        match self.visitors.get(client) {
+            Some(visitor) => visitor.room(),
+            None => 0,
+        }
     }
 
     pub fn receive(&mut self, client: usize, bytes: &[u8]) -> Result<(), AllocError> {

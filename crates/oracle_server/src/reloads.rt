@@ -13,7 +13,7 @@ pub struct Reload {
 }
 
 /// What else than the lists of addresses differs.
-#[derive(Clone, Copy, Drop, PartialEq, Eq)]
+#[derive(Clone, Copy, Drop)]
 enum Difference {
     Nothing,
     Title,
@@ -67,9 +67,9 @@ fn push_site(text: &mut Vec<u8>, site: &Site, difference: Difference) -> Result<
     push_word(text, b"network", site.network)?;
     push_word(text, b"code", site.code)?;
     push_word(text, b"description", site.description)?;
-    let capacity = more(site.capacity, difference == Difference::Capacity);
+    let capacity = more(site.capacity, matches!(difference, Difference::Capacity));
     push_number(text, b"capacity", capacity)?;
-    let first = more(site.first, difference == Difference::First);
+    let first = more(site.first, matches!(difference, Difference::First));
     push_first(text, first % 0x1000000)
 }
 
@@ -78,13 +78,15 @@ fn push_head(
     centre: &Centre,
     difference: Difference,
 ) -> Result<(), AllocError> {
-    let title = if difference == Difference::Title {
-        b"Another"
-    } else {
-        centre.title
+    let title = match difference {
+        Difference::Title => b"Another",
+        _ => centre.title,
     };
     push_word(text, b"title", title)?;
-    let connections = more(centre.connections, difference == Difference::Connections);
+    let connections = more(
+        centre.connections,
+        matches!(difference, Difference::Connections),
+    );
     push_number(text, b"max_connections", connections)
 }
 
@@ -134,10 +136,9 @@ pub fn next_reload(
         return Ok(Reload { text, seen: None });
     };
     push_all(&mut text, centre, lists, difference)?;
-    let seen = if difference == Difference::Nothing {
-        Some(lists.seen)
-    } else {
-        None
+    let seen = match difference {
+        Difference::Nothing => Some(lists.seen),
+        _ => None,
     };
     Ok(Reload { text, seen })
 }

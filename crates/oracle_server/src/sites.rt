@@ -39,7 +39,10 @@ pub struct Centre {
 impl Centre {
     /// Who may use the stations by the text.
     pub fn seen(&self) -> Seen {
-        self.lists.first().map_or(&[], |lists| lists.seen)
+        match self.lists.first() {
+            Some(lists) => lists.seen,
+            None => &[],
+        }
     }
 }
 
@@ -53,7 +56,7 @@ pub fn address(place: usize) -> Ipv4Addr {
 }
 
 /// Three stations, of which the first is hidden from two addresses, and two have one code.
-pub const ISLAND: Centre = Centre {
+pub static ISLAND: Centre = Centre {
     text: CENTRE,
     title: b"Test Centre",
     connections: 8,
@@ -122,7 +125,7 @@ pub const ISLAND: Centre = Centre {
 };
 
 /// Two stations with lists of their own; the third address may use none.
-pub const PAIR: Centre = Centre {
+pub static PAIR: Centre = Centre {
     text: br#"title = "P"
 access = "0.0.0.0/0"
 
@@ -194,7 +197,7 @@ access = "10.0.0.7, 172.16.0.0/12"
 };
 
 /// Four stations, two of one code; the server's list leaves out the second address, and one station is for nobody.
-pub const COAST: Centre = Centre {
+pub static COAST: Centre = Centre {
     text: br#"title = "Coast"
 access = "10.0.0.0/255.0.0.0 192.168.1.1"
 
@@ -345,7 +348,7 @@ access = "172.16.0.9/255.255.255.255, 192.168.0.0/16"
 };
 
 /// Three stations that hold many records.
-pub const HILLS: Centre = Centre {
+pub static HILLS: Centre = Centre {
     text: br#"title = "Hills"
 
 [[station]]

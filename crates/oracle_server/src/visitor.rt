@@ -6,6 +6,7 @@ use crate::sites::Seen;
 use crate::words::{Action, Command, command_of};
 use std::alloc::{AllocError, Global};
 use std::collections::VecDeque;
+use std::mem;
 
 /// How many stations a client may name.
 const STATIONS: usize = 255;
@@ -16,8 +17,8 @@ const PATTERNS: usize = 64;
 /// How many patterns the stations of a client may have together.
 const TOGETHER: usize = 1024;
 
-#[derive(Clone, Copy, Drop, PartialEq, Eq)]
-pub enum Stage {
+#[derive(Clone, Copy, Drop)]
+enum Stage {
     /// It asks and is answered.
     Asking,
     Transfer,
@@ -53,26 +54,37 @@ pub struct Visitor {
 /// Adds a pattern to those of a station, or takes all of these away. False if it is not valid, or if there is no room
 /// while all stations have so many together.
 fn is_changed(
+    alloc: Global,
     patterns: &mut Vec<Vec<u8>>,
     together: usize,
-    pattern: Option<Vec<u8>>,
+    pattern: Option<&[u8]>,
 ) -> Result<bool, AllocError> {
     let Some(text) = pattern else {
         patterns.clear();
         return Ok(true);
     };
     let has_room = patterns.len() < PATTERNS && together < TOGETHER;
-    if !has_room || !is_pattern(text.as_slice()) {
+    if !has_room || !is_pattern(text) {
         return Ok(false);
     }
-    patterns.push(text)?;
+    patterns.push(text.to_vec(alloc)?)?;
     Ok(true)
 }
 
 /// Whether one of the three addresses may use a station.
 fn may_use(seen: Seen, site: usize, address: usize) -> bool {
-    let addresses = seen.get(site);
-    addresses.is_some_and(|them| them.get(address).copied().unwrap_or(false))
+    match seen.get(site) {
+        Some(addresses) => addresses.get(address).copied().unwrap_or(false),
+        None => false,
+    }
+}
+
+/// Whether a word is a code, where one is given.
+fn is_meant(word: Option<&[u8]>, code: &[u8]) -> bool {
+    match word {
+        Some(word) => *word == *code,
+        None => true,
+    }
 }
 
 fn line_of(alloc: Global, parts: &[&[u8]]) -> Result<Vec<u8>, AllocError> {
@@ -111,7 +123,7 @@ impl Visitor {
 
     /// What waits is still handed. What it sent is forgotten, and nothing else comes to wait.
     pub fn cut(&mut self) {
-        if self.stage != Stage::Closed {
+        if !matches!(self.stage, Stage::Closed) {
             self.stage = Stage::Over;
         }
         self.unread.clear();
@@ -178,21 +190,22 @@ impl Visitor {
         code: Option<&[u8]>,
         network: Option<&[u8]>,
     ) -> Option<usize> {
-        let mut found = None;
         for (place, site) in history.sites.iter().enumerate() {
-            let is_meant = code.is_none_or(|code| *code == *site.code)
-                && network.is_none_or(|network| *network == *site.network);
-            if found.is_none() && is_meant && self.sees(place) {
-                found = Some(place);
+            if is_meant(code, site.code) && is_meant(network, site.network) && self.sees(place) {
+                return Some(place);
             }
         }
-        found
+        None
     }
 
     /// The place of a station among those that were named.
     fn named(&self, site: usize) -> Option<usize> {
-        let requests = self.requests.as_slice();
-        requests.iter().position(|request| request.site == site)
+        for (place, request) in self.requests.iter().enumerate() {
+            if request.site == site {
+                return Some(place);
+            }
+        }
+        None
     }
 
     /// How many stations were named.
@@ -238,15 +251,15 @@ impl Visitor {
         self.answer_whether(current.is_some())
     }
 
-    fn select(&mut self, pattern: Option<Vec<u8>>) -> Result<(), AllocError> {
+    fn select(&mut self, pattern: Option<&[u8]>) -> Result<(), AllocError> {
         let together = self.together();
         let mut is_done = false;
         if !self.is_multi {
-            is_done = is_changed(&mut self.patterns, together, pattern)?;
+            is_done = is_changed(self.alloc, &mut self.patterns, together, pattern)?;
         } else if let Some(place) = self.current
             && let Some(request) = self.requests.get_mut(place)
         {
-            is_done = is_changed(&mut request.patterns, together, pattern)?;
+            is_done = is_changed(self.alloc, &mut request.patterns, together, pattern)?;
         }
         self.answer_whether(is_done)
     }
@@ -293,19 +306,37 @@ impl Visitor {
         self.answer_whether(is_done)
     }
 
+    /// Whether something is asked for of a station that was named.
+    fn has_action(&self) -> bool {
+        for request in self.requests.as_slice() {
+            if request.action.is_some() {
+                return true;
+            }
+        }
+        false
+    }
+
     fn finish(&mut self, history: &History) -> Result<(), AllocError> {
-        let requests = self.requests.as_slice();
-        if requests.iter().any(|request| request.action.is_some()) {
+        if self.has_action() {
             self.begin(history);
             return Ok(());
         }
         self.answer_whether(false)
     }
 
+    /// The line is over, and what it asks is done.
     fn obey(&mut self, history: &History, title: &[u8]) -> Result<(), AllocError> {
-        let asked = command_of(self.alloc, self.line.as_slice())?;
-        self.line.clear();
-        if self.stage == Stage::Transfer && !matches!(&asked, Command::Bye) {
+        let line = mem::replace(&mut self.line, Vec::new(self.alloc));
+        self.carry_out(history, title, command_of(line.as_slice()))
+    }
+
+    fn carry_out(
+        &mut self,
+        history: &History,
+        title: &[u8],
+        asked: Command<'_>,
+    ) -> Result<(), AllocError> {
+        if matches!(self.stage, Stage::Transfer) && !matches!(asked, Command::Bye) {
             return Ok(());
         }
         match asked {
@@ -317,10 +348,7 @@ impl Visitor {
                 Ok(())
             }
             Command::End => self.finish(history),
-            Command::Station(code, network) => {
-                let network = network.as_ref().map(|word| word.as_slice());
-                self.name_station(history, code.as_slice(), network)
-            }
+            Command::Station(code, network) => self.name_station(history, code, network),
             Command::Select(pattern) => self.select(pattern),
             Command::Act(action) => self.act(history, action),
             Command::Other => self.answer_whether(false),
@@ -335,8 +363,11 @@ impl Visitor {
     /// Reads on while it may: until an answer waits, and always in a transfer.
     fn read(&mut self, history: &History, title: &[u8]) -> Result<(), AllocError> {
         for _ in 0..self.unread.len() {
-            let is_reading = self.stage == Stage::Transfer
-                || (self.stage == Stage::Asking && self.is_idle());
+            let is_reading = match self.stage {
+                Stage::Transfer => true,
+                Stage::Asking => self.is_idle(),
+                _ => false,
+            };
             if !is_reading {
                 return Ok(());
             }
@@ -381,10 +412,10 @@ impl Visitor {
             self.answers.push_back(line)?;
             return Ok(());
         }
-        if self.stage == Stage::Transfer {
-            self.offer_packet(history)?;
+        match self.stage {
+            Stage::Transfer => self.offer_packet(history),
+            _ => Ok(()),
         }
-        Ok(())
     }
 
     /// The next packet that is wanted waits, or the end.
@@ -394,7 +425,7 @@ impl Visitor {
             self.answers
                 .push_back(history.packet(self.alloc, position)?)?;
             self.position = position.saturating_add(1);
-        } else if requests.iter().all(|request| history.is_ending(request)) {
+        } else if history.are_ending(requests) {
             self.answers.push_back(b"END".to_vec(self.alloc)?)?;
             self.stage = Stage::Over;
         }

@@ -1,8 +1,7 @@
 //! The lines of a client, as the profile lists them.
 use crate::moments;
-use std::alloc::{AllocError, Global};
 
-#[derive(Clone, Copy, Drop, PartialEq, Eq)]
+#[derive(Clone, Copy, Drop)]
 pub enum Verb {
     Data,
     Fetch,
@@ -18,48 +17,50 @@ pub struct Action {
     pub end: Option<u64>,
 }
 
-#[derive(Drop)]
-pub enum Command {
+#[derive(Clone, Copy, Drop)]
+pub enum Command<'a> {
     Nothing,
     Hello,
     Cat,
     Bye,
     End,
     /// A code, and a network where one is named.
-    Station(Vec<u8>, Option<Vec<u8>>),
+    Station(&'a [u8], Option<&'a [u8]>),
     /// A pattern, or none.
-    Select(Option<Vec<u8>>),
+    Select(Option<&'a [u8]>),
     Act(Action),
     Other,
 }
 
-/// The pieces between separators.
-pub fn pieces(alloc: Global, text: &[u8], separator: u8) -> Result<Vec<Vec<u8>>, AllocError> {
-    let mut all = Vec::new(alloc);
-    let mut piece = Vec::new(alloc);
-    for byte in text {
+/// What comes before the first separator, and what after it, where there is one.
+pub fn parted(text: &[u8], separator: u8) -> (&[u8], Option<&[u8]>) {
+    for (place, byte) in text.iter().enumerate() {
         if *byte == separator {
-            all.push(piece)?;
-            piece = Vec::new(alloc);
-        } else {
-            piece.push(*byte)?;
+            return (&text[..place], Some(&text[place + 1..]));
         }
     }
-    all.push(piece)?;
-    Ok(all)
+    (text, None)
 }
 
-fn upper(byte: u8) -> u8 {
-    if matches!(byte, b'a'..=b'z') {
-        byte.saturating_sub(32)
-    } else {
-        byte
+/// The first three words of a line, empty where there are fewer, and how many it has.
+fn words_of(line: &[u8]) -> ([&[u8]; 3], usize) {
+    let mut words: [&[u8]; 3] = [b""; 3];
+    let mut count: usize = 0;
+    let mut left = line;
+    for _ in 0..=line.len() {
+        let (word, rest) = parted(left, b' ');
+        if !word.is_empty() {
+            if let Some(slot) = words.get_mut(count) {
+                *slot = word;
+            }
+            count = count.saturating_add(1);
+        }
+        match rest {
+            Some(rest) => left = rest,
+            None => return (words, count),
+        }
     }
-}
-
-/// Whether a word is a name, in letters of either case.
-fn is_named(word: &[u8], name: &[u8]) -> bool {
-    word.len() == name.len() && word.iter().zip(name).all(|(a, b)| upper(*a) == *b)
+    (words, count)
 }
 
 /// A number of 1 to 6 hexadecimal digits.
@@ -69,66 +70,64 @@ fn hexadecimal(text: &[u8]) -> Option<usize> {
     }
     let mut value: usize = 0;
     for byte in text {
-        let digit = b"0123456789ABCDEF".iter().position(|d| *d == upper(*byte))?;
-        value = value.saturating_mul(16).saturating_add(digit);
+        let digit = match *byte {
+            b'0'..=b'9' => byte.saturating_sub(b'0'),
+            b'A'..=b'F' => byte.saturating_sub(b'A').saturating_add(10),
+            b'a'..=b'f' => byte.saturating_sub(b'a').saturating_add(10),
+            _ => return None,
+        };
+        value = value.saturating_mul(16).saturating_add(usize::from(digit));
     }
     Some(value)
 }
 
-fn moment(alloc: Global, text: &[u8]) -> Result<Option<u64>, AllocError> {
-    let parts = pieces(alloc, text, b',')?;
-    Ok(moments::of_text(parts.as_slice()))
+/// The moment that a word is, or nothing where there is no word; none where the word is no moment.
+fn moment_in(word: &[u8]) -> Option<Option<u64>> {
+    if word.is_empty() {
+        return Some(None);
+    }
+    Some(Some(moments::of_text(word)?))
 }
 
-/// An action with its words; Other where a word is none.
-fn acting(
-    alloc: Global,
-    verb: Verb,
-    number: Option<&Vec<u8>>,
-    begin: Option<&Vec<u8>>,
-    end: Option<&Vec<u8>>,
-) -> Result<Command, AllocError> {
-    let mut action = Action {
+/// The same of a number.
+fn number_in(word: &[u8]) -> Option<Option<usize>> {
+    if word.is_empty() {
+        return Some(None);
+    }
+    Some(Some(hexadecimal(word)?))
+}
+
+/// An action with its words; none where a word is wrong.
+fn action_of(verb: Verb, number: &[u8], begin: &[u8], end: &[u8]) -> Option<Action> {
+    Some(Action {
         verb,
-        number: None,
-        begin: None,
-        end: None,
-    };
-    if let Some(text) = number {
-        action.number = hexadecimal(text.as_slice());
-    }
-    if let Some(text) = begin {
-        action.begin = moment(alloc, text.as_slice())?;
-    }
-    if let Some(text) = end {
-        action.end = moment(alloc, text.as_slice())?;
-    }
-    let is_read = number.is_some() == action.number.is_some()
-        && begin.is_some() == action.begin.is_some()
-        && end.is_some() == action.end.is_some();
-    Ok(if is_read {
-        Command::Act(action)
-    } else {
-        Command::Other
+        number: number_in(number)?,
+        begin: moment_in(begin)?,
+        end: moment_in(end)?,
     })
 }
 
-fn copied(alloc: Global, word: Option<&Vec<u8>>) -> Result<Option<Vec<u8>>, AllocError> {
-    match word {
-        Some(word) => Ok(Some(word.as_slice().to_vec(alloc)?)),
-        None => Ok(None),
+fn acting<'a>(action: Option<Action>) -> Command<'a> {
+    match action {
+        Some(action) => Command::Act(action),
+        None => Command::Other,
     }
 }
 
+/// A word, where there is one.
+fn given(word: &[u8]) -> Option<&[u8]> {
+    if word.is_empty() { None } else { Some(word) }
+}
+
 /// A command of one word.
-fn alone(name: &[u8]) -> Command {
-    if is_named(name, b"HELLO") {
+fn alone<'a>(name: &[u8]) -> Command<'a> {
+    if name.eq_ignore_ascii_case(b"HELLO") {
         Command::Hello
-    } else if is_named(name, b"CAT") {
+    } else if name.eq_ignore_ascii_case(b"CAT") {
         Command::Cat
-    } else if is_named(name, b"BYE") {
+    } else if name.eq_ignore_ascii_case(b"BYE") {
         Command::Bye
-    } else if is_named(name, b"END") {
+    } else if name.eq_ignore_ascii_case(b"END") {
         Command::End
     } else {
         Command::Other
@@ -136,44 +135,32 @@ fn alone(name: &[u8]) -> Command {
 }
 
 /// A command whose name and up to two more words are given.
-fn asked(alloc: Global, name: &[u8], words: &[Vec<u8>]) -> Result<Command, AllocError> {
-    let first = words.get(1);
-    let second = words.get(2);
-    if is_named(name, b"DATA") {
-        acting(alloc, Verb::Data, first, second, None)
-    } else if is_named(name, b"FETCH") {
-        acting(alloc, Verb::Fetch, first, second, None)
-    } else if is_named(name, b"TIME") {
-        acting(alloc, Verb::Time, None, first, second)
-    } else if is_named(name, b"SELECT") && second.is_none() {
-        Ok(Command::Select(copied(alloc, first)?))
-    } else if is_named(name, b"STATION") {
-        let network = copied(alloc, second)?;
-        Ok(match copied(alloc, first)? {
-            Some(code) => Command::Station(code, network),
-            None => Command::Other,
-        })
-    } else if first.is_none() {
-        Ok(alone(name))
+fn asked<'a>(name: &[u8], first: &'a [u8], second: &'a [u8]) -> Command<'a> {
+    if name.eq_ignore_ascii_case(b"DATA") {
+        acting(action_of(Verb::Data, first, second, b""))
+    } else if name.eq_ignore_ascii_case(b"FETCH") {
+        acting(action_of(Verb::Fetch, first, second, b""))
+    } else if name.eq_ignore_ascii_case(b"TIME") {
+        acting(action_of(Verb::Time, b"", first, second))
+    } else if name.eq_ignore_ascii_case(b"SELECT") && second.is_empty() {
+        Command::Select(given(first))
+    } else if name.eq_ignore_ascii_case(b"STATION") && !first.is_empty() {
+        Command::Station(first, given(second))
+    } else if first.is_empty() {
+        alone(name)
     } else {
-        Ok(Command::Other)
+        Command::Other
     }
 }
 
 /// The command of a line.
-pub fn command_of(alloc: Global, line: &[u8]) -> Result<Command, AllocError> {
+pub fn command_of(line: &[u8]) -> Command<'_> {
     if line.len() > 256 {
-        return Ok(Command::Other);
+        return Command::Other;
     }
-    let mut words = Vec::new(alloc);
-    for piece in pieces(alloc, line, b' ')? {
-        if !piece.is_empty() {
-            words.push(piece)?;
-        }
-    }
-    match words.as_slice() {
-        [] => Ok(Command::Nothing),
-        [name, ..] if words.len() <= 3 => asked(alloc, name.as_slice(), words.as_slice()),
-        _ => Ok(Command::Other),
+    match words_of(line) {
+        (_, 0) => Command::Nothing,
+        ([name, first, second], 1..=3) => asked(name, first, second),
+        _ => Command::Other,
     }
 }
